@@ -1,0 +1,5 @@
+pub mod Case
+pub mod World
+pub mod Chain
+pub mod Generated
+pub mod Lines
