@@ -1,0 +1,56 @@
+ghost use Rattle.std.specs.Prelude.{◌≡◌, ◌^◌, ◌+◌, ◌<◌, ◌≤◌, List, length, map, slice_get, All, vec_len};
+ghost use Rattle.uspec_lexer.specs.Token.{Token as PlainToken};
+ghost use Rattle.uspec_lexer.specs.Span.{token_at, IsWithin};
+ghost use Rattle.uspec_lexer.specs.View.{plain};
+
+use super::token::{Token, TokenKind};
+use pc_common::Place;
+use std::marker::Model;
+
+/// Where a token stands, without its bytes.
+#[derive(Clone, Copy, Debug)]
+pub(crate) struct Span {
+    pub(crate) kind: TokenKind,
+    /// In bytes from the file's start.
+    pub(crate) at: u32,
+    pub(crate) len: u32,
+}
+
+/// The tokens of a text, whose bytes they borrow.
+#[derive(Drop)]
+pub struct Tokens<'a> {
+    bytes: &'a [u8],
+    spans: Vec<Span>,
+}
+
+impl<'a> Model for Tokens<'a> {
+    ghost Value = { List PlainToken };
+
+    ghost view = { λ s. map (token_at s.bytes.now) s.spans.items };
+
+    ghost invariant = { λ s. All (IsWithin s.bytes.now) s.spans.items × length s.spans.items < 2 ^ 63 };
+}
+
+impl<'a> Tokens<'a> {
+    /// How many tokens there are. Takes no memory.
+    pub fn len(&self) -> usize
+        ensures value { result ≡ length self.now }
+        ensures bound { length self.now < 2 ^ 63 }
+    {
+        self.spans.len()
+    }
+
+    /// The token at `k`, from 0. Takes no memory.
+    pub fn get(&self, k: usize) -> Token<'a>
+        requires { k < length self.now }
+        ensures { slice_get self.now k ≡ Some (plain result) }
+    {
+        let span = self.spans[k];
+        let from = span.at as usize;
+        Token {
+            kind: span.kind,
+            at: Place { offset: span.at },
+            piece: &self.bytes[from..from + span.len as usize],
+        }
+    }
+}
