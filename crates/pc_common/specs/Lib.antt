@@ -7,3 +7,5 @@ pub mod Faults
 pub mod Held
 pub mod Shelf
 pub mod Pieces
+pub mod Status
+pub mod LineColumn
