@@ -9,3 +9,4 @@ pub mod Shelf
 pub mod Pieces
 pub mod Status
 pub mod LineColumn
+pub mod Schedule

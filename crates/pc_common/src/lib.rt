@@ -23,6 +23,8 @@ mod sink;
 mod status;
 mod sure_files;
 mod sure_sink;
+#[cfg(test)]
+mod tests;
 mod writing;
 
 pub use failed::Failed;

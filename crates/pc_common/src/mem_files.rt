@@ -1,7 +1,8 @@
-ghost use Rattle.std.specs.Prelude.{◌≡◌, ◌<◌, true, is_some, IfOk, None, refl};
+ghost use Rattle.std.specs.Prelude.{◌≡◌, ◌<◌, ◌≤◌, ◌++◌, ◌&&◌, true, not, is_some, is_ok, IsTrue, IsSome, IsOk, IfOk, OnOk, None, Some, length, take, min, refl};
 ghost use Rattle.pc_common.specs.Held.{held_bytes};
 ghost use Rattle.pc_common.specs.Shelf.{left_of};
 ghost use Rattle.pc_common.specs.Faults.{is_none_listed};
+ghost use Rattle.pc_common.specs.Schedule.{after_call, is_next_listed};
 
 use super::failed::Failed;
 use super::files::Files;
@@ -71,7 +72,18 @@ impl Files for MemFiles {
 
     ghost calm_told = { λ files calm. refl };
 
-    fn start(&mut self, name: &str) -> Result<(), Failed> {
+    fn start(&mut self, name: &str) -> Result<(), Failed>
+        ensures exact { let holds = is_some (held_bytes self.old.shelf.held name.now) in
+            is_ok result ≡ (not (is_next_listed self.old.schedule) && holds) }
+        ensures counted { self.new.schedule ≡ after_call self.old.schedule (is_ok result) }
+        ensures count { self.old.schedule.faults ≤ self.new.schedule.faults }
+        ensures same_held { self.new.shelf.held ≡ self.old.shelf.held }
+        ensures same_step { self.new.step ≡ self.old.step }
+        ensures starts { is_some self.new.shelf.started ≡ is_ok result }
+        ensures sure { IsTrue (is_none_listed self.old.schedule.fails) →
+            IsSome (held_bytes self.old.shelf.held name.now) → IsOk result }
+        ensures whole { OnOk result (held_bytes self.old.shelf.held name.now ≡ Some (left_of self.new.shelf)) }
+    {
         let is_due = self.schedule.is_due();
         match self.shelf.place_of(name) {
             Some(file) if !is_due => {
@@ -85,7 +97,18 @@ impl Files for MemFiles {
         }
     }
 
-    fn read(&mut self, buf: &mut [u8]) -> Result<usize, Failed> {
+    fn read(&mut self, buf: &mut [u8]) -> Result<usize, Failed>
+        ensures exact { is_ok result ≡ not (is_next_listed self.old.schedule) }
+        ensures counted { self.new.schedule ≡ after_call self.old.schedule (is_ok result) }
+        ensures count { self.old.schedule.faults ≤ self.new.schedule.faults }
+        ensures same_held { self.new.shelf.held ≡ self.old.shelf.held }
+        ensures same_step { self.new.step ≡ self.old.step }
+        ensures starts { IsTrue (is_some self.old.shelf.started) → is_some self.new.shelf.started ≡ is_ok result }
+        ensures sure { IsTrue (is_none_listed self.old.schedule.fails) → IsOk result }
+        ensures moved { let left = left_of self.old.shelf in
+            IfOk result (λ n. n ≡ min self.old.step (min (length buf.old) (length left))) }
+        ensures bytes { IfOk result (λ n. left_of self.old.shelf ≡ take n buf.new ++ left_of self.new.shelf) }
+    {
         if self.schedule.is_due() {
             self.shelf.close();
             return Err(self.schedule.fault());

@@ -1,4 +1,5 @@
-ghost use Rattle.std.specs.Prelude.{◌≡◌, ◌≤◌, ◌<◌, ◌++◌, [], true, length, take, min, ◌-◌, IfOk, vec_len};
+ghost use Rattle.std.specs.Prelude.{◌≡◌, ◌≤◌, ◌<◌, ◌++◌, [], true, length, take, min, ◌-◌, ◌==◌, ◌&&◌, ◌||◌, not, nat_lt, is_ok, IfOk, OnErr, vec_len};
+ghost use Rattle.pc_common.specs.Schedule.{after_call, is_next_listed};
 
 use super::failed::Failed;
 use super::memory::Memory;
@@ -88,7 +89,22 @@ impl Sink for MemSink {
 
     ghost faults = { λ sink. sink.schedule.faults };
 
-    fn write(&mut self, piece: &[u8]) -> Result<usize, Failed> {
+    fn write(&mut self, piece: &[u8]) -> Result<usize, Failed>
+        ensures exact { let room_left = nat_lt self.old.used (vec_len self.old.room) in
+            let takes = length piece.now == 0 || room_left in
+            is_ok result ≡ (not (is_next_listed self.old.schedule) && takes) }
+        ensures moved { let spare = vec_len self.old.room - self.old.used in
+            IfOk result (λ n. n ≡ min self.old.step (min (length piece.now) spare)) }
+        ensures counted { self.new.schedule ≡ after_call self.old.schedule (is_ok result) }
+        ensures count { self.old.schedule.faults ≤ self.new.schedule.faults }
+        ensures same_room { vec_len self.new.room ≡ vec_len self.old.room }
+        ensures same_step { self.new.step ≡ self.old.step }
+        ensures moves { 0 < length piece.now → IfOk result (λ n. 0 < n) }
+        ensures bytes { IfOk result (λ n. take self.new.used self.new.room.items
+            ≡ take self.old.used self.old.room.items ++ take n piece.now) }
+        ensures nothing { OnErr result (take self.new.used self.new.room.items
+            ≡ take self.old.used self.old.room.items) }
+    {
         if self.schedule.is_due() {
             return Err(self.schedule.fault());
         }

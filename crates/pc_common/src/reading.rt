@@ -6,15 +6,19 @@ use super::failed::Failed;
 use super::files::Files;
 use super::memory::Memory;
 use std::alloc::{AllocError, Global};
+use thiserror::Error;
 
 /// Why a file could not be read whole.
-#[derive(Clone, Copy, Debug, PartialEq, Eq)]
+#[derive(Clone, Copy, Debug, PartialEq, Eq, Error)]
 pub enum ReadEnd {
     /// A call of the files failed.
+    #[error("the file could not be read")]
     ReadFault,
     /// The file holds more bytes than the limit.
+    #[error("the file is larger than its limit")]
     TooLarge,
     /// Memory was refused.
+    #[error("out of memory")]
     Memory,
 }
 

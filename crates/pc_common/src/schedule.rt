@@ -1,6 +1,6 @@
-ghost use Rattle.std.specs.Prelude.{◌≡◌, ◌≤◌, ◌+◌, ◌==◌, ◌-◌, ◌^◌, min, false, length, IsTrue};
-ghost use Rattle.std.specs.List.{list_any};
-ghost use Rattle.pc_common.specs.Faults.{Rose, is_listed, is_none_listed, one_more};
+ghost use Rattle.std.specs.Prelude.{◌≡◌, ◌≤◌, false, IsTrue};
+ghost use Rattle.pc_common.specs.Faults.{Rose, is_none_listed, one_more};
+ghost use Rattle.pc_common.specs.Schedule.{is_next_listed};
 
 use super::failed::Failed;
 use super::listed::Listed;
@@ -30,7 +30,7 @@ impl Schedule {
 
     /// Counts a call, and answers whether it is to fail.
     pub fn is_due(&mut self) -> bool
-        ensures listed { result ≡ is_listed self.old.fails (one_more self.old.calls) }
+        ensures listed { result ≡ is_next_listed self.old }
         ensures counted { self.new ≡ record self.old { calls = one_more self.old.calls } }
         ensures calm { IsTrue (is_none_listed self.old.fails) → result ≡ false }
     {

@@ -52,7 +52,7 @@ impl Shelf {
     pub fn open_sure(&mut self, name: &str)
         ensures held { self.new.held ≡ self.old.held }
         ensures started { is_some self.new.started ≡ true }
-        ensures whole { Some (left_of self.new) ≡ sure_bytes self.old.held name.now }
+        ensures whole { sure_bytes self.old.held name.now ≡ Some (left_of self.new) }
     {
         let file = self.place_of(name).unwrap_or(self.held.len());
         self.open(file);

@@ -1,4 +1,4 @@
-ghost use Rattle.std.specs.Prelude.{◌≡◌, true, is_some, None, refl};
+ghost use Rattle.std.specs.Prelude.{◌≡◌, ◌++◌, true, is_some, IsOk, IfOk, None, Some, Ok, length, take, min, refl};
 ghost use Rattle.pc_common.specs.Held.{sure_bytes};
 ghost use Rattle.pc_common.specs.Shelf.{left_of};
 
@@ -39,12 +39,22 @@ impl Files for SureFiles {
 
     ghost calm_told = { λ files calm. refl };
 
-    fn start(&mut self, name: &str) -> Result<(), Failed> {
+    fn start(&mut self, name: &str) -> Result<(), Failed>
+        ensures sure { IsOk result }
+        ensures same_held { self.new.shelf.held ≡ self.old.shelf.held }
+        ensures starts { is_some self.new.shelf.started ≡ true }
+        ensures whole { sure_bytes self.old.shelf.held name.now ≡ Some (left_of self.new.shelf) }
+    {
         self.shelf.open_sure(name);
         Ok(())
     }
 
-    fn read(&mut self, buf: &mut [u8]) -> Result<usize, Failed> {
+    fn read(&mut self, buf: &mut [u8]) -> Result<usize, Failed>
+        ensures moved { result ≡ Ok (min (length buf.old) (length (left_of self.old.shelf))) }
+        ensures same_held { self.new.shelf.held ≡ self.old.shelf.held }
+        ensures starts { is_some self.new.shelf.started ≡ is_some self.old.shelf.started }
+        ensures bytes { IfOk result (λ n. left_of self.old.shelf ≡ take n buf.new ++ left_of self.new.shelf) }
+    {
         Ok(self.shelf.next(buf, usize::MAX))
     }
 }
