@@ -1,5 +1,5 @@
 -- The file at a place, where its name is the one that is looked for.
-use Rattle.std.proofs.Common.{◌≡◌, ◌<◌, ◌∙◌, sym, refl, ap, suc, [], Some, true, length, drop, get_or, ℕ, List, ◌∷◌, arith}
+use Rattle.std.proofs.Common.{◌≡◌, ◌<◌, ◌∙◌, sym, refl, ap, suc, [], Some, true, length, drop, get_or, ℕ, List, ◌∷◌}
 use Rattle.std.specs.Prelude.{slice_get}
 use Rattle.std.specs.Option.{option_map_or}
 use Rattle.std.specs.Str.{bytes_eq}

@@ -22,3 +22,8 @@ cut_in_next {before} {between} {next} piece whole cut = record {
   bytes = cut.bytes ∙ ap (λ xs. xs ++ take cut.shown next) whole ∙ append_assoc before piece (take cut.shown next)
       ∙ ap (λ xs. before ++ xs) (sym (take-append-add piece next cut.shown));
 }
+
+-- where all of both went out, so did both as one piece
+pub both_whole : (before : List ℕ) {between after : List ℕ} (piece next : List ℕ) →
+    between ≡ before ++ piece → after ≡ between ++ next → after ≡ before ++ (piece ++ next)
+both_whole before piece next first second = second ∙ ap (λ xs. xs ++ next) first ∙ append_assoc before piece next

@@ -1,5 +1,5 @@
 -- A count that rose in one of two calls rose over both.
-use Rattle.std.proofs.Common.{◌≡◌, ◌≢◌, ◌<◌, ◌≤◌, ℕ, arith}
+use Rattle.std.proofs.Common.{◌≤◌, ℕ, arith}
 use Rattle.pc_common.specs.Faults.{Rose}
 
 -- it rose in the first call, and did not fall after

@@ -1,5 +1,5 @@
 -- What is left of the file that a shelf has started.
-use Rattle.std.specs.Prelude.{ℕ, List, [], Option, drop}
+use Rattle.std.specs.Prelude.{ℕ, List, [], drop}
 use Rattle.std.specs.Option.{option_map_or}
 use Rattle.pc_common.specs.Held.{bytes_at}
 use Rattle.pc_common.specs.declared.shelf.Shelf.{Shelf}

@@ -1,4 +1,4 @@
-ghost use Rattle.std.specs.Prelude.{◌≡◌, ◌≢◌, ◌≤◌, ◌<◌, ◌↔◌, List, ℕ, Err, None, Some, length, vec_len, IsTrue, IfOk, OnOk};
+ghost use Rattle.std.specs.Prelude.{◌≡◌, ◌≢◌, ◌≤◌, ◌<◌, ◌+◌, ◌++◌, ◌↔◌, List, ℕ, Err, None, Some, length, vec_len, IsTrue, IfOk, OnOk};
 ghost use Rattle.pc_common.specs.declared.reading.ReadEnd.TheVariants.{ReadFault, TooLarge};
 ghost use Rattle.pc_common.specs.Faults.{Rose};
 
@@ -63,6 +63,10 @@ pub fn read_all<F: Files>(
         F.holds files.old name.now ≡ Some bytes.items) }
     ensures too_large { result ≡ Err TooLarge → IsTrue (F.told files.old) →
         (bytes : List ℕ) × (F.holds files.old name.now ≡ Some bytes) × (limit < length bytes) }
+    // exactly one byte past the limit was read
+    ensures stops { result ≡ Err TooLarge → IsTrue (F.told files.old) →
+        (read : List ℕ) × (length read ≡ limit + 1)
+        × (F.holds files.old name.now ≡ Some (read ++ F.left files.new)) }
     ensures cause { result ≡ Err ReadFault → Rose (F.faults files.old) (F.faults files.new) }
     ensures sure { IsTrue (F.calm files.old) →
         (result ≡ Err ReadFault) ↔ (F.holds files.old name.now ≡ None) }
@@ -89,6 +93,9 @@ fn read_rest<F: Files>(
     ensures within { IfOk result (λ bytes. vec_len bytes ≤ limit) }
     ensures whole { IfOk result (λ bytes. IsTrue (F.told files.old) → F.left files.old ≡ bytes.items) }
     ensures too_large { result ≡ Err TooLarge → IsTrue (F.told files.old) → limit < length (F.left files.old) }
+    ensures stops { result ≡ Err TooLarge → IsTrue (F.told files.old) →
+        (read : List ℕ) × (length read ≡ limit + 1)
+        × (F.left files.old ≡ read ++ F.left files.new) }
     ensures cause { result ≡ Err ReadFault → Rose (F.faults files.old) (F.faults files.new) }
     ensures sure { IsTrue (F.calm files.old) → result ≢ Err ReadFault }
 {

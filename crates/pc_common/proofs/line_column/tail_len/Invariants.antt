@@ -1,5 +1,5 @@
 -- From `start` on no byte is LF.
-use Rattle.std.proofs.Common.{◌≡◌, ◌≤◌, ◌<◌, ℕ, length, get_or, not, nat_eq, true}
+use Rattle.std.proofs.Common.{◌≡◌, ◌≤◌, ◌<◌, ℕ, length, get_or, not, true}
 use Rattle.std.specs.Prelude.{◌==◌}
 use Rattle.pc_common.proofs.line_column.tail_len.Given as goal
 

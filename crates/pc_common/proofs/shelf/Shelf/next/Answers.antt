@@ -1,4 +1,4 @@
-use Rattle.std.proofs.Common.{rules, arith, ◌≡◌, ◌∙◌, ap, sym, drop, [], List, ℕ, Option}
+use Rattle.std.proofs.Common.{arith, ◌≡◌, ◌∙◌, ap, sym, drop, [], Option}
 use Rattle.std.specs.Option.{option_map_or}
 use Rattle.pc_common.specs.Held.{bytes_at}
 use Rattle.pc_common.specs.Shelf.{left_of}

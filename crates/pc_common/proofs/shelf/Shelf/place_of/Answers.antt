@@ -1,4 +1,4 @@
-use Rattle.std.proofs.Common.{rules, ◌≡◌, ◌∙◌, sym, arith}
+use Rattle.std.proofs.Common.{rules, ◌∙◌, sym}
 use Rattle.pc_common.proofs.HeldLemmas.{found_at}
 use Rattle.pc_common.proofs.shelf.Shelf.place_of.Goals as goal
 
