@@ -1,5 +1,5 @@
 -- Chains of a relation: from one thing to another by at least one step.
-use Rattle.std.specs.Prelude.{List, [], ◌∷◌}
+use Rattle.std.specs.Prelude.{List, [], ◌∷◌, ◌⊎◌, ◌≡◌}
 
 -- each step of the way from a over the listed things to b is in R
 abbrev pub Leads : {N : Type 0} → (N → N → Type 0) → N → List N → N → Type 0

@@ -1,7 +1,7 @@
 -- The world that a graph generates: its nodes, with all pairs that a chain of its edges joins.
 use Rattle.std.specs.Prelude.{◌≡◌, ◌↔◌, List, IsTrue}
 use Rattle.std.specs.List.{list_any}
-use Rattle.pc_common.specs.World.{Node, Edge, World, same_edge, has_edge}
+use Rattle.pc_common.specs.World.{Node, Edge, World, same_edge, has_edge, IsWorld}
 use Rattle.pc_common.specs.Chain.{Chain}
 
 -- the edge from a to b is listed
