@@ -1,0 +1,4 @@
+mod Digits
+pub mod Pieces
+pub mod Spelling
+mod Spans
