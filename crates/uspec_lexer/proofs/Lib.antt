@@ -1,4 +1,5 @@
 mod Digits
 pub mod Pieces
 pub mod Spelling
+pub mod Order
 mod Spans
