@@ -32,8 +32,7 @@ told_first bytes blank a b ts p from = from_earlier bytes a b ts (omega (arith, 
 told_first bytes comment a b ts p from = from_earlier bytes a b ts (omega (arith, piece-rises bytes comment a b p)) from
 told_first bytes (token kind) a b ts p from =
     let rises : a ≤ b = omega (arith, piece-rises bytes (token kind) a b p) in
-    let end : b ≡ a + length (slice_range bytes a b) = sym (length-slice_range bytes a b rises (piece-within bytes (token kind) a b p)) in
-    (
+    let end : b ≡ a + length (slice_range bytes a b) = sym (length-slice_range bytes a b rises (piece-within bytes (token kind) a b p)) in (
       omega arith,
       record { stands = subst (IsPiece bytes (token kind) a) end p; is = ap (slice_range bytes a) end },
       subst (λ e. AreTokensFrom bytes e ts) end from,

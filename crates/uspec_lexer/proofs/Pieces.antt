@@ -26,9 +26,9 @@ run-unique P bytes a b c r s =
     ⊎_elim
     (λ less. absurd (r.longest (omega (arith, s.within)) (s.inside b (omega (arith, r.some)) less)))
     (λ rest. ⊎_elim
-      (λ less. absurd (s.longest (omega (arith, r.within)) (r.inside c (omega (arith, s.some)) less)))
-      (λ rest'. omega arith)
-      (order c b))
+    (λ less. absurd (s.longest (omega (arith, r.within)) (r.inside c (omega (arith, s.some)) less)))
+    (λ rest'. omega arith)
+    (order c b))
     (order b c)
 
 block-unique : (bytes : List ℕ) (a b c : ℕ) → IsBlockComment bytes a b → IsBlockComment bytes a c → b ≡ c
@@ -36,9 +36,9 @@ block-unique bytes a b c p q =
     ⊎_elim
     (λ less. absurd (q.first (b - 2) (omega (arith, p.room)) (omega (arith, p.room)) p.closes))
     (λ rest. ⊎_elim
-      (λ less. absurd (p.first (c - 2) (omega (arith, q.room)) (omega (arith, q.room)) q.closes))
-      (λ rest'. omega arith)
-      (order c b))
+    (λ less. absurd (p.first (c - 2) (omega (arith, q.room)) (omega (arith, q.room)) q.closes))
+    (λ rest'. omega arith)
+    (order c b))
     (order b c)
 
 text-unique : (bytes : List ℕ) (a b c : ℕ) → IsText bytes a b → IsText bytes a c → b ≡ c
@@ -46,9 +46,9 @@ text-unique bytes a b c p q =
     ⊎_elim
     (λ less. absurd ((q.inside (b - 1) (omega (arith, p.room)) (omega (arith, p.room))).2 p.closes))
     (λ rest. ⊎_elim
-      (λ less. absurd ((p.inside (c - 1) (omega (arith, q.room)) (omega (arith, q.room))).2 q.closes))
-      (λ rest'. omega arith)
-      (order c b))
+    (λ less. absurd ((p.inside (c - 1) (omega (arith, q.room)) (omega (arith, q.room))).2 q.closes))
+    (λ rest'. omega arith)
+    (order c b))
     (order b c)
 
 comment-unique : (bytes : List ℕ) (a b c : ℕ) → IsPiece bytes comment a b → IsPiece bytes comment a c → b ≡ c

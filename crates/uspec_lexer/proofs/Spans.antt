@@ -44,7 +44,7 @@ lexed_to-next bytes form a b spans spans' before p new =
     let rises : a ≤ b = omega (arith, piece-rises bytes (plain_form form) a b p) in
     let within = piece-within bytes (plain_form form) a b p in
     let same : map (token_at bytes) spans ++ told bytes (plain_form form) a b ≡ map (token_at bytes) (spans ++ kept_of form a b) =
-        ap (λ ts. map (token_at bytes) spans ++ ts) (sym (kept-told bytes form a b rises)) ∙ sym (map-append (token_at bytes) spans (kept_of form a b)) in
+    ap (λ ts. map (token_at bytes) spans ++ ts) (sym (kept-told bytes form a b rises)) ∙ sym (map-append (token_at bytes) spans (kept_of form a b)) in
     subst (LexedTo bytes b) (sym new) (record {
       within = within;
       few = omega (arith, before.few, piece-rises bytes (plain_form form) a b p, length-append spans (kept_of form a b), kept-few form a b);

@@ -49,7 +49,7 @@ fn keep(spans: &mut Vec<Span>, at: usize, piece: Piece) -> Result<(), Memory>
 #[cfg(test)]
 mod tests {
     use super::*;
-    use crate::TokenKind::{Name, Number, Symbol, Text};
+    use crate::token::TokenKind::{self, Name, Number, Symbol, Text};
 
     /// A text of the table, and its tokens: each with its kind, its place and how many bytes it has.
     type Row = (&'static [u8], &'static [(TokenKind, u32, usize)]);
@@ -61,29 +61,46 @@ mod tests {
         (b"Bob's_2nd x'", &[(Name, 0, 9), (Name, 10, 2)]),
         (b"12ab", &[(Number(12), 0, 2), (Name, 2, 2)]),
         (b"0007", &[(Number(7), 0, 4)]),
-        (b"18446744073709551615", &[(Number(18446744073709551615), 0, 20)]),
-        (b"00018446744073709551615", &[(Number(18446744073709551615), 0, 23)]),
+        (
+            b"18446744073709551615",
+            &[(Number(18446744073709551615), 0, 20)],
+        ),
+        (
+            b"00018446744073709551615",
+            &[(Number(18446744073709551615), 0, 23)],
+        ),
         (b"\"\"", &[(Text, 0, 2)]),
         (b"\"a ~'%(*\"b", &[(Text, 0, 9), (Name, 9, 1)]),
-        (b"()[],;:.~", &[
-            (Symbol, 0, 1),
-            (Symbol, 1, 1),
-            (Symbol, 2, 1),
-            (Symbol, 3, 1),
-            (Symbol, 4, 1),
-            (Symbol, 5, 1),
-            (Symbol, 6, 1),
-            (Symbol, 7, 1),
-            (Symbol, 8, 1),
-        ]),
-        (b"/\\\\/=>->", &[(Symbol, 0, 2), (Symbol, 2, 2), (Symbol, 4, 2), (Symbol, 6, 2)]),
+        (
+            b"()[],;:.~",
+            &[
+                (Symbol, 0, 1),
+                (Symbol, 1, 1),
+                (Symbol, 2, 1),
+                (Symbol, 3, 1),
+                (Symbol, 4, 1),
+                (Symbol, 5, 1),
+                (Symbol, 6, 1),
+                (Symbol, 7, 1),
+                (Symbol, 8, 1),
+            ],
+        ),
+        (
+            b"/\\\\/=>->",
+            &[
+                (Symbol, 0, 2),
+                (Symbol, 2, 2),
+                (Symbol, 4, 2),
+                (Symbol, 6, 2),
+            ],
+        ),
         (b"% all of it \xFF", &[]),
         (b"a//b\nc", &[(Name, 0, 1), (Name, 5, 1)]),
         (b"a%b\r\nc", &[(Name, 0, 1), (Name, 5, 1)]),
         (b"(**)x", &[(Name, 4, 1)]),
         (b"(* (* *)x", &[(Name, 8, 1)]),
         (b"(*)*)x", &[(Name, 5, 1)]),
-        (b"( *", &[(Symbol, 0, 1)]),
+        (b"((**)", &[(Symbol, 0, 1)]),
     ];
 
     const FAULTS: &[(&'static [u8], u32)] = &[
@@ -129,7 +146,11 @@ mod tests {
         for (text, at) in FAULTS {
             assert!(rt; text.len() < 100);
             let fault = tokens(rt.alloc(), text).err();
-            assert_eq!(rt; fault, Some(LexFault::Lexical(Place { offset: *at })), "{text:?}");
+            assert_eq!(rt;
+                fault,
+                Some(LexFault::Lexical(Place { offset: *at })),
+                "{text:?}"
+            );
         }
     }
 }

@@ -53,7 +53,9 @@ fn value_of(digits: &[u8]) -> Option<u64>
 {
     let mut value: u64 = 0;
     for digit in digits {
-        value = value.checked_mul(10)?.checked_add(u64::from(*digit - b'0'))?;
+        value = value
+            .checked_mul(10)?
+            .checked_add(u64::from(*digit - b'0'))?;
     }
     Some(value)
 }
@@ -127,27 +129,45 @@ pub(crate) fn piece_at(bytes: &[u8], at: usize) -> Option<Piece>
 {
     let first = bytes[at];
     if is_blank(first) {
-        return Some(Piece { form: Form::Blank, end: at + 1 });
+        return Some(Piece {
+            form: Form::Blank,
+            end: at + 1,
+        });
     }
     if is_letter(first) {
         let end = Class::NameByte.run_end(bytes, at);
-        return Some(Piece { form: Form::Token(TokenKind::Name), end });
+        return Some(Piece {
+            form: Form::Token(TokenKind::Name),
+            end,
+        });
     }
     if Class::Digit.has(first) {
         return number_at(bytes, at);
     }
     if first == b'"' {
         let end = text_end(bytes, at)?;
-        return Some(Piece { form: Form::Token(TokenKind::Text), end });
+        return Some(Piece {
+            form: Form::Token(TokenKind::Text),
+            end,
+        });
     }
     if opens_line(bytes, at) {
         let end = Class::LineByte.run_end(bytes, at);
-        return Some(Piece { form: Form::Comment, end });
+        return Some(Piece {
+            form: Form::Comment,
+            end,
+        });
     }
     if opens_block(bytes, at) {
         let end = block_comment_end(bytes, at)?;
-        return Some(Piece { form: Form::Comment, end });
+        return Some(Piece {
+            form: Form::Comment,
+            end,
+        });
     }
     let end = symbol_end(bytes, at)?;
-    Some(Piece { form: Form::Token(TokenKind::Symbol), end })
+    Some(Piece {
+        form: Form::Token(TokenKind::Symbol),
+        end,
+    })
 }
