@@ -1,9 +1,9 @@
 -- The tokens that a text spells: each is a piece of the text, none begins before the one ahead of it ends, and there
 -- are no more of them than bytes.
-use Rattle.std.proofs.Common.{◌≡◌, ℕ, zero, suc, ◌+◌, ◌-◌, ◌<◌, ◌≤◌, List, [], ◌∷◌, ◌++◌, length, drop, Some, sym, ap, ◌∙◌, subst, arith, length-append, length-drop}
+use Rattle.std.proofs.Common.{◌≡◌, ℕ, zero, suc, ◌+◌, ◌-◌, ◌<◌, ◌≤◌, List, [], ◌∷◌, ◌++◌, length, drop, Some, sym, ap, subst, arith, length-append, length-drop}
 use Rattle.std.specs.Prelude.{⊤, slice_get, slice_range}
 use Rattle.std.proofs.lemmas.List.{length-take-le}
-use Rattle.uspec_lexer.specs.Token.{Kind, Token, name, number, text, symbol}
+use Rattle.uspec_lexer.specs.Token.{Token, number}
 use Rattle.uspec_lexer.specs.Piece.{Form, blank, comment, token, IsPiece}
 use Rattle.uspec_lexer.specs.Spells.{Piece, Joined, told, tokens_of, Spells}
 use Rattle.uspec_lexer.proofs.Pieces.{piece-rises, piece-within}

@@ -1,11 +1,11 @@
 -- At each place stands one piece at most.
-use Rattle.std.proofs.Common.{◌≡◌, ◌≢◌, ℕ, ◌+◌, ◌-◌, ◌<◌, ◌≤◌, ◌⊎◌, List, length, get_or, sym, ap, ◌∙◌, refl, subst, arith, ⊎_elim, inl, inr}
+use Rattle.std.proofs.Common.{◌≡◌, ◌≢◌, ℕ, ◌+◌, ◌-◌, ◌<◌, ◌≤◌, ◌⊎◌, List, length, get_or, sym, ap, ◌∙◌, refl, arith, ⊎_elim, inl, inr}
 use Rattle.std.specs.Prelude.{slice_range}
 use Rattle.std.proofs.str.Laws.{order}
 use Rattle.std.proofs.lemmas.List.{get_or_past}
 use Rattle.uspec_lexer.specs.Token.{Kind, name, number, text, symbol}
 use Rattle.uspec_lexer.specs.Bytes.{IsBlank, IsDigit, IsLetter, IsShortSymbol, IsLongSymbol, number_value}
-use Rattle.uspec_lexer.specs.Piece.{Form, blank, comment, token, IsRun, OpensLine, IsLineComment, OpensBlock, ClosesBlock, IsBlockComment, IsText, IsNumber, IsSymbol, IsPiece, NoPiece}
+use Rattle.uspec_lexer.specs.Piece.{Form, blank, comment, token, IsRun, OpensLine, OpensBlock, IsBlockComment, IsText, IsNumber, IsSymbol, IsPiece, NoPiece}
 
 -- a number begins with a digit
 first_digit : (bytes : List ℕ) (a b value : ℕ) → IsNumber bytes a b value → IsDigit (get_or bytes a 0)

@@ -1,11 +1,11 @@
 -- What the loop of `tokens` keeps: the spans so far are those of the tokens before a place.
 use Rattle.std.proofs.Common.{◌≡◌, ℕ, ◌+◌, ◌-◌, ◌≤◌, List, [], ◌∷◌, ◌++◌, length, map, sym, ap, ◌∙◌, refl, subst, arith, length-append}
-use Rattle.std.specs.Prelude.{All, slice_range, Some}
+use Rattle.std.specs.Prelude.{All, slice_range}
 use Rattle.std.proofs.lemmas.List.{append-nil, map-append}
 use Rattle.std.proofs.lemmas.List.Elements.{All-push}
 use Rattle.uspec_lexer.specs.Token.{Token as PlainToken}
 use Rattle.uspec_lexer.specs.Span.{token_at, kind_of, IsWithin}
-use Rattle.uspec_lexer.specs.Scan.{plain_form, kept_of, IsPieceAt}
+use Rattle.uspec_lexer.specs.Scan.{plain_form, kept_of}
 use Rattle.uspec_lexer.specs.Spells.{told, SpellsBetween}
 use Rattle.uspec_lexer.specs.Piece.{IsPiece}
 use Rattle.uspec_lexer.specs.declared.scan.Form.{Form}

@@ -1,6 +1,6 @@
 -- The classes of bytes, and the value of digits. Bytes are read by place, 0 past a text's end: no class that
 -- a piece begins with holds 0.
-use Rattle.std.specs.Prelude.{◌≡◌, ◌≢◌, ℕ, ◌+◌, ◌-◌, ◌*◌, ◌<◌, ◌≤◌, ◌⊎◌, List, fold}
+use Rattle.std.specs.Prelude.{◌≡◌, ◌≢◌, ℕ, ◌+◌, ◌-◌, ◌*◌, ◌≤◌, ◌⊎◌, List, fold}
 
 -- space, tab, CR, LF
 abbrev pub IsBlank : ℕ → Type 0

@@ -1,6 +1,6 @@
 -- What a text spells: pieces put together from its start to its end, and those of them that are tokens.
 use Rattle.std.specs.Prelude.{◌≡◌, ℕ, ◌<◌, List, [], ◌∷◌, ◌++◌, length, slice_range}
-use Rattle.uspec_lexer.specs.Token.{Token, Kind}
+use Rattle.uspec_lexer.specs.Token.{Token}
 use Rattle.uspec_lexer.specs.Piece.{Form, blank, comment, token, IsPiece, NoPiece}
 
 pub record Piece : Type 0 where

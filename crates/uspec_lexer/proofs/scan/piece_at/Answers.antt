@@ -1,4 +1,4 @@
-use Rattle.std.proofs.Common.{rules, sym, subst, arith}
+use Rattle.std.proofs.Common.{rules, sym, subst}
 use Rattle.uspec_lexer.specs.Scan.{IsPieceAt}
 use Rattle.uspec_lexer.proofs.Pieces.{no_form}
 use Rattle.uspec_lexer.proofs.scan.piece_at.Goals as goal
