@@ -42,8 +42,8 @@ tokens_of-from : (bytes : List ℕ) (a z : ℕ) (ps : List Piece) → Joined byt
 tokens_of-from bytes a z [] j = tt
 tokens_of-from bytes a z (p ∷ ps) j = told_first bytes p.form a p.end (tokens_of bytes p.end ps) j.0 (tokens_of-from bytes p.end z ps j.1)
 
-pub spells-from : (bytes : List ℕ) (ts : List Token) → Spells bytes ts → AreTokensFrom bytes 0 ts
-spells-from bytes ts s = subst (AreTokensFrom bytes 0) (sym s.2) (tokens_of-from bytes 0 (length bytes) s.0 s.1)
+pub spells-from : {bytes : List ℕ} {ts : List Token} → Spells bytes ts → AreTokensFrom bytes 0 ts
+spells-from {bytes} s = subst (AreTokensFrom bytes 0) (sym s.tokens) (tokens_of-from bytes 0 (length bytes) s.pieces s.joined)
 
 from-get : (bytes : List ℕ) (a : ℕ) (ts : List Token) (k : ℕ) (t : Token) → AreTokensFrom bytes a ts → slice_get ts k ≡ Some t → (a ≤ t.at) × IsTokenOf bytes t
 from-get bytes a [] k t from got = absurd (cc)
@@ -55,8 +55,8 @@ from-get bytes a (x ∷ xs) (suc k) t from got =
     (omega (arith, from.0, rest.0), rest.1)
 
 -- each token is a piece of the text
-pub spells-get : (bytes : List ℕ) (ts : List Token) (k : ℕ) (t : Token) → Spells bytes ts → slice_get ts k ≡ Some t → IsTokenOf bytes t
-spells-get bytes ts k t s got = (from-get bytes 0 ts k t (spells-from bytes ts s) got).1
+pub spells-get : {bytes : List ℕ} {ts : List Token} (k : ℕ) {t : Token} → Spells bytes ts → slice_get ts k ≡ Some t → IsTokenOf bytes t
+spells-get {bytes} {ts} k {t} s got = (from-get bytes 0 ts k t (spells-from s) got).1
 
 from-rises : (bytes : List ℕ) (a : ℕ) (ts : List Token) (j k : ℕ) (t u : Token) → AreTokensFrom bytes a ts → slice_get ts j ≡ Some t → slice_get ts k ≡ Some u → j < k → t.at + length t.piece ≤ u.at
 from-rises bytes a [] j k t u from got got' lt = absurd (cc)
@@ -68,17 +68,17 @@ from-rises bytes a (x ∷ xs) (suc j) (suc k) t u from got got' lt =
     from-rises bytes (x.at + length x.piece) xs j k t u from.2 got got' (omega arith)
 
 -- a token begins where every earlier one has ended
-pub spells-rises : (bytes : List ℕ) (ts : List Token) (j k : ℕ) (t u : Token) → Spells bytes ts → slice_get ts j ≡ Some t → slice_get ts k ≡ Some u → j < k → t.at + length t.piece ≤ u.at
-spells-rises bytes ts j k t u s got got' lt = from-rises bytes 0 ts j k t u (spells-from bytes ts s) got got' lt
+pub spells-rises : {bytes : List ℕ} {ts : List Token} (j k : ℕ) {t u : Token} → Spells bytes ts → slice_get ts j ≡ Some t → slice_get ts k ≡ Some u → j < k → t.at + length t.piece ≤ u.at
+spells-rises {bytes} {ts} j k {t} {u} s got got' lt = from-rises bytes 0 ts j k t u (spells-from s) got got' lt
 
 -- a token has a byte, and lies inside the text
-pub token-within : (bytes : List ℕ) (t : Token) → IsTokenOf bytes t → (0 < length t.piece) × (t.at + length t.piece ≤ length bytes)
-token-within bytes t is =
+pub token-within : {bytes : List ℕ} {t : Token} → IsTokenOf bytes t → (0 < length t.piece) × (t.at + length t.piece ≤ length bytes)
+token-within {bytes} {t} is =
     (omega (arith, piece-rises bytes (token t.kind) t.at (t.at + length t.piece) is.stands), piece-within bytes (token t.kind) t.at (t.at + length t.piece) is.stands)
 
 -- a number fits 64 bits
-pub token-number : (bytes : List ℕ) (t : Token) (value : ℕ) → IsTokenOf bytes t → t.kind ≡ number value → value ≤ 18446744073709551615
-token-number bytes t value is kind = (subst (λ k. IsPiece bytes (token k) t.at (t.at + length t.piece)) kind is.stands).fits
+pub token-number : {bytes : List ℕ} {t : Token} {value : ℕ} → IsTokenOf bytes t → t.kind ≡ number value → value ≤ 18446744073709551615
+token-number {bytes} {t} is kind = (subst (λ k. IsPiece bytes (token k) t.at (t.at + length t.piece)) kind is.stands).fits
 
 told_few : (bytes : List ℕ) (form : Form) (a b : ℕ) → length (told bytes form a b) ≤ 1
 told_few bytes blank a b = omega arith
@@ -91,5 +91,6 @@ tokens_of-few bytes a z (p ∷ ps) j =
     omega (arith, length-append (told bytes p.form a p.end) (tokens_of bytes p.end ps), told_few bytes p.form a p.end, piece-rises bytes p.form a p.end j.0, tokens_of-few bytes p.end z ps j.1)
 
 -- there are no more tokens than bytes
-pub spells-length : (bytes : List ℕ) (ts : List Token) → Spells bytes ts → length ts ≤ length bytes
-spells-length bytes ts s = omega (arith, ap length s.2, tokens_of-few bytes 0 (length bytes) s.0 s.1)
+pub spells-length : {bytes : List ℕ} {ts : List Token} → Spells bytes ts → length ts ≤ length bytes
+spells-length {bytes} s =
+    omega (arith, ap length s.tokens, tokens_of-few bytes 0 (length bytes) s.pieces s.joined)

@@ -15,11 +15,15 @@ tokens_of-push : (bytes : List ℕ) (a b : ℕ) (ps : List Piece) (p : Piece) �
 tokens_of-push bytes a b [] p e = append-nil (told bytes p.form a p.end) ∙ ap (λ i. told bytes p.form i p.end) e
 tokens_of-push bytes a b (q ∷ qs) p j = ap (λ ts. told bytes q.form a q.end ++ ts) (tokens_of-push bytes q.end b qs p j.1) ∙ sym (append_assoc (told bytes q.form a q.end) (tokens_of bytes q.end qs) (told bytes p.form b p.end))
 
--- the tokens behind the first ones
+-- one more piece brings its token
 pub spells-push : (bytes : List ℕ) (a b c : ℕ) (form : Form) (ts : List Token) → SpellsBetween bytes a b ts → IsPiece bytes form b c → SpellsBetween bytes a c (ts ++ told bytes form b c)
 spells-push bytes a b c form ts s h =
     let p : Piece = record { form = form; end = c } in
-    (s.0 ++ p ∷ [], joined-push bytes a b s.0 p s.1 h, ap (λ us. us ++ told bytes form b c) s.2 ∙ sym (tokens_of-push bytes a b s.0 p s.1))
+    record {
+      pieces = s.pieces ++ p ∷ [];
+      joined = joined-push bytes a b s.pieces p s.joined h;
+      tokens = ap (λ us. us ++ told bytes form b c) s.tokens ∙ sym (tokens_of-push bytes a b s.pieces p s.joined);
+    }
 
 joined-rises : (bytes : List ℕ) (a z : ℕ) (ps : List Piece) → Joined bytes a ps z → a ≤ z
 joined-rises bytes a z [] e = omega arith
@@ -46,16 +50,16 @@ joined-stops bytes a k z (p ∷ ps) (q ∷ qs) i none j =
     joined-stops bytes p.end k z ps qs i.1 none (subst (λ e. Joined bytes e qs z) (sym same.1) j.1)
 
 -- a text spells one list of tokens at most
-pub spells-unique : (bytes : List ℕ) (ts us : List Token) → Spells bytes ts → Spells bytes us → ts ≡ us
-spells-unique bytes ts us s t =
-    s.2 ∙ ap (tokens_of bytes 0) (joined-unique bytes 0 (length bytes) s.0 t.0 s.1 t.1) ∙ sym t.2
+pub spells-unique : {bytes : List ℕ} {ts us : List Token} → Spells bytes ts → Spells bytes us → ts ≡ us
+spells-unique {bytes} s t =
+    s.tokens ∙ ap (tokens_of bytes 0) (joined-unique bytes 0 (length bytes) s.pieces t.pieces s.joined t.joined) ∙ sym t.tokens
 
 -- a text that spells tokens has no lexical fault
-pub spells-no_fault : (bytes : List ℕ) (ts : List Token) (k : ℕ) → Spells bytes ts → ¬ IsLexicalFault bytes k
-spells-no_fault bytes ts k s f =
-    absurd (omega (arith, f.0, joined-stops bytes 0 k (length bytes) f.1.0 s.0 f.1.1 f.2 s.1))
+pub spells-no_fault : {bytes : List ℕ} {ts : List Token} {k : ℕ} → Spells bytes ts → IsLexicalFault bytes k → ⊥
+spells-no_fault {bytes} {k = k} s f =
+    omega (arith, f.inside, joined-stops bytes 0 k (length bytes) f.pieces s.pieces f.joined f.none_begins s.joined)
 
 -- a text has one lexical fault at most
-pub lexical_fault-unique : (bytes : List ℕ) (j k : ℕ) → IsLexicalFault bytes j → IsLexicalFault bytes k → j ≡ k
-lexical_fault-unique bytes j k f g =
-    omega (arith, joined-stops bytes 0 j k f.1.0 g.1.0 f.1.1 f.2 g.1.1, joined-stops bytes 0 k j g.1.0 f.1.0 g.1.1 g.2 f.1.1)
+pub lexical_fault-unique : {bytes : List ℕ} {j k : ℕ} → IsLexicalFault bytes j → IsLexicalFault bytes k → j ≡ k
+lexical_fault-unique {bytes} {j} {k} f g =
+    omega (arith, joined-stops bytes 0 j k f.pieces g.pieces f.joined f.none_begins g.joined, joined-stops bytes 0 k j g.pieces f.pieces g.joined g.none_begins f.joined)

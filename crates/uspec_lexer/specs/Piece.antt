@@ -1,4 +1,5 @@
--- The pieces that a text is cut into, each from a place up to the place behind its last byte.
+-- The pieces that a text is cut into, each from a place up to the place behind its last byte: of those that may begin
+-- at a place, the longest.
 use Rattle.std.specs.Prelude.{◌≡◌, ℕ, ◌+◌, ◌-◌, ◌<◌, ◌≤◌, ◌⊎◌, List, length, slice_index, slice_range}
 use Rattle.uspec_lexer.specs.Token.{Kind, name, number, text, symbol}
 use Rattle.uspec_lexer.specs.Bytes.{IsBlank, IsDigit, IsLetter, IsNameByte, IsTextByte, IsLineByte, IsShortSymbol, IsLongSymbol, number_value}

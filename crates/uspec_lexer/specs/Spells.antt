@@ -25,13 +25,18 @@ tokens_of bytes a [] = []
 tokens_of bytes a (p ∷ ps) = told bytes p.form a p.end ++ tokens_of bytes p.end ps
 
 -- from a to z stand pieces whose tokens are these
-abbrev pub SpellsBetween : List ℕ → ℕ → ℕ → List Token → Type 0
-SpellsBetween bytes a z ts = (ps : List Piece) × Joined bytes a ps z × (ts ≡ tokens_of bytes a ps)
+pub record SpellsBetween (bytes : List ℕ) (a z : ℕ) (ts : List Token) : Type 0 where
+  pub pieces : List Piece
+  pub joined : Joined bytes a pieces z
+  pub tokens : ts ≡ tokens_of bytes a pieces
 
 -- the whole text spells these tokens
 abbrev pub Spells : List ℕ → List Token → Type 0
 Spells bytes ts = SpellsBetween bytes 0 (length bytes) ts
 
--- pieces go up to k, and none begins at k
-abbrev pub IsLexicalFault : List ℕ → ℕ → Type 0
-IsLexicalFault bytes k = (k < length bytes) × ((ps : List Piece) × Joined bytes 0 ps k) × NoPiece bytes k
+-- pieces go up to k, and none begins there
+pub record IsLexicalFault (bytes : List ℕ) (k : ℕ) : Type 0 where
+  pub inside : k < length bytes
+  pub pieces : List Piece
+  pub joined : Joined bytes 0 pieces k
+  pub none_begins : NoPiece bytes k

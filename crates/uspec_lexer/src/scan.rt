@@ -7,7 +7,7 @@ use super::class::{Class, is_blank, is_letter, is_text_byte};
 use super::token::TokenKind;
 
 /// What a piece of a text is.
-#[derive(Clone, Copy, Debug)]
+#[derive(Clone, Copy)]
 pub(crate) enum Form {
     Blank,
     Comment,
@@ -15,7 +15,7 @@ pub(crate) enum Form {
 }
 
 /// A piece whose first byte is known, with the place behind its last one.
-#[derive(Clone, Copy, Debug)]
+#[derive(Clone, Copy)]
 pub(crate) struct Piece {
     pub(crate) form: Form,
     /// In bytes from the file's start.
