@@ -2,4 +2,5 @@ mod Digits
 pub mod Pieces
 pub mod Spelling
 pub mod Order
+pub mod Totality
 mod Spans

@@ -21,7 +21,7 @@ no_form bytes a no_blank no_letter no_digit no_quote no_line no_block no_symbol 
 no_form bytes a no_blank no_letter no_digit no_quote no_line no_block no_symbol (token symbol) b p = no_symbol b p
 
 -- the longest run from a place is one
-run-unique : (P : ℕ → Type 0) (bytes : List ℕ) (a b c : ℕ) → IsRun P bytes a b → IsRun P bytes a c → b ≡ c
+pub run-unique : (P : ℕ → Type 0) (bytes : List ℕ) (a b c : ℕ) → IsRun P bytes a b → IsRun P bytes a c → b ≡ c
 run-unique P bytes a b c r s =
     ⊎_elim
     (λ less. absurd (r.longest (omega (arith, s.within)) (s.inside b (omega (arith, r.some)) less)))
@@ -114,6 +114,26 @@ same_rank f (token symbol) c d p (inl q) = absurd (omega arith)
 same_rank f (token symbol) c d p (inr q) = absurd (omega arith)
 same_rank f g c d p q = absurd (omega arith)
 
+-- where a piece of one kind would have to stand and none does, no piece stands
+pub only_number : (bytes : List ℕ) (a : ℕ) → IsDigit (get_or bytes a 0) → ((b value : ℕ) → ¬ IsNumber bytes a b value) → NoPiece bytes a
+unfolding Begins rank kind_rank
+only_number bytes a digit none (token (number value)) b p = none b value p
+only_number bytes a digit none form b p =
+    absurd (omega (arith, same_rank form (token (number 0)) _ (get_or bytes (a + 1) 0) (begins bytes form a b p) digit))
+
+pub only_text : (bytes : List ℕ) (a : ℕ) → get_or bytes a 0 ≡ 0x22 → ((b : ℕ) → ¬ IsText bytes a b) → NoPiece bytes a
+unfolding Begins rank kind_rank
+only_text bytes a quote none (token text) b p = none b p
+only_text bytes a quote none form b p =
+    absurd (omega (arith, same_rank form (token text) _ (get_or bytes (a + 1) 0) (begins bytes form a b p) quote))
+
+pub only_block : (bytes : List ℕ) (a : ℕ) → OpensBlock bytes a → ((b : ℕ) → ¬ IsBlockComment bytes a b) → NoPiece bytes a
+unfolding Begins rank kind_rank
+only_block bytes a opens none comment b (inl p) = omega arith
+only_block bytes a opens none comment b (inr p) = none b p
+only_block bytes a opens none form b p =
+    absurd (omega (arith, same_rank form comment _ _ (begins bytes form a b p) (inr (inr opens))))
+
 -- at each place stands one piece at most
 pub piece-unique : (bytes : List ℕ) (f g : Form) (a b c : ℕ) → IsPiece bytes f a b → IsPiece bytes g a c → (f ≡ g) × (b ≡ c)
 unfolding rank kind_rank
@@ -129,7 +149,7 @@ piece-unique bytes f g a b c p q =
     absurd (omega (arith, same_rank f g _ _ (begins bytes f a b p) (begins bytes g a c q)))
 
 -- a byte that isn't 0 stands inside the text
-inside_text : (bytes : List ℕ) (i : ℕ) → 0 < get_or bytes i 0 → i < length bytes
+pub inside_text : (bytes : List ℕ) (i : ℕ) → 0 < get_or bytes i 0 → i < length bytes
 inside_text bytes i h = ⊎_elim (λ lt. lt) (λ past. absurd (omega (arith, get_or_past bytes i 0 past))) (order i (length bytes))
 
 -- a piece has a byte

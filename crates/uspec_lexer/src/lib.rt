@@ -15,8 +15,8 @@
 //! are the pieces that are neither blanks nor comments. Where no piece begins, or the one that begins
 //! can't be completed, stands the text's lexical fault.
 //!
-//! `specs/Spells.antt` says this of whole texts, as a relation. `proofs/Spelling.antt` shows that a text
-//! spells at most one list of tokens, has at most one fault, and never both.
+//! `specs/Spells.antt` says this of whole texts, as a relation. Each text spells tokens or has a fault
+//! (`proofs/Totality.antt`), one list or one fault, and never both (`proofs/Spelling.antt`).
 #![tactic(auto)]
 
 mod class;
