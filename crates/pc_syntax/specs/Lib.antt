@@ -1,0 +1,4 @@
+pub mod Written
+pub mod Predicates
+pub mod Truth
+pub mod Observable
