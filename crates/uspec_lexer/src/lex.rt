@@ -1,4 +1,4 @@
-ghost use Rattle.std.specs.Prelude.{◌≡◌, ◌^◌, ◌<◌, ◌≤◌, ◌++◌, length, map, IfOk, IfErr, OnOk, All, vec_len};
+ghost use Rattle.std.specs.Prelude.{◌≡◌, ◌^◌, ◌<◌, ◌≤◌, ◌++◌, length, IfOk, IfErr, OnOk};
 ghost use Rattle.uspec_lexer.specs.Spells.{Spells};
 ghost use Rattle.uspec_lexer.specs.Scan.{kept};
 ghost use Rattle.uspec_lexer.specs.Fault.{IsRefusal};

@@ -1,5 +1,5 @@
-ghost use Rattle.std.specs.Prelude.{◌≡◌, ◌≢◌, ℕ, ◌+◌, ◌<◌, ◌≤◌, ◌↔◌, IsTrue, length, slice_index, MatchOption, All, EachIndex};
-ghost use Rattle.uspec_lexer.specs.Bytes.{IsDigit, IsLetter, number_value};
+ghost use Rattle.std.specs.Prelude.{◌≡◌, ℕ, ◌+◌, ◌<◌, ◌↔◌, IsTrue, length, slice_index, MatchOption, EachIndex};
+ghost use Rattle.uspec_lexer.specs.Bytes.{IsDigit, number_value};
 ghost use Rattle.uspec_lexer.specs.Piece.{IsText, OpensLine, OpensBlock, IsBlockComment, IsSymbol};
 ghost use Rattle.uspec_lexer.specs.Scan.{IsPieceAt};
 
@@ -20,6 +20,14 @@ pub(crate) struct Piece {
     pub(crate) form: Form,
     /// In bytes from the file's start.
     pub(crate) end: usize,
+}
+
+impl Piece {
+    fn new(form: Form, end: usize) -> Self
+        ensures { result ≡ record { form = form; end = end } }
+    {
+        Piece { form, end }
+    }
 }
 
 /// The byte at `k`, or NUL behind the end: no piece has a NUL where it is asked for.
@@ -116,10 +124,7 @@ fn number_at(bytes: &[u8], at: usize) -> Option<Piece>
 {
     let end = Class::Digit.run_end(bytes, at);
     let value = value_of(&bytes[at..end])?;
-    Some(Piece {
-        form: Form::Token(TokenKind::Number(value)),
-        end,
-    })
+    Some(Piece::new(Form::Token(TokenKind::Number(value)), end))
 }
 
 /// The piece that begins at `at`: the longest one.
@@ -129,45 +134,27 @@ pub(crate) fn piece_at(bytes: &[u8], at: usize) -> Option<Piece>
 {
     let first = bytes[at];
     if is_blank(first) {
-        return Some(Piece {
-            form: Form::Blank,
-            end: at + 1,
-        });
+        return Some(Piece::new(Form::Blank, at + 1));
     }
     if is_letter(first) {
         let end = Class::NameByte.run_end(bytes, at);
-        return Some(Piece {
-            form: Form::Token(TokenKind::Name),
-            end,
-        });
+        return Some(Piece::new(Form::Token(TokenKind::Name), end));
     }
     if Class::Digit.has(first) {
         return number_at(bytes, at);
     }
     if first == b'"' {
         let end = text_end(bytes, at)?;
-        return Some(Piece {
-            form: Form::Token(TokenKind::Text),
-            end,
-        });
+        return Some(Piece::new(Form::Token(TokenKind::Text), end));
     }
     if opens_line(bytes, at) {
         let end = Class::LineByte.run_end(bytes, at);
-        return Some(Piece {
-            form: Form::Comment,
-            end,
-        });
+        return Some(Piece::new(Form::Comment, end));
     }
     if opens_block(bytes, at) {
         let end = block_comment_end(bytes, at)?;
-        return Some(Piece {
-            form: Form::Comment,
-            end,
-        });
+        return Some(Piece::new(Form::Comment, end));
     }
     let end = symbol_end(bytes, at)?;
-    Some(Piece {
-        form: Form::Token(TokenKind::Symbol),
-        end,
-    })
+    Some(Piece::new(Form::Token(TokenKind::Symbol), end))
 }
