@@ -1,0 +1,4 @@
+pub mod Reading
+pub mod Symbols
+pub mod Stack
+pub mod Progress

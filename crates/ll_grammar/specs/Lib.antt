@@ -1,0 +1,5 @@
+pub mod Rules
+pub mod Texts
+pub mod FirstFault
+pub mod Predictable
+pub mod Steps

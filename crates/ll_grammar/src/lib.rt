@@ -1,0 +1,9 @@
+//! Recognises the texts of a context-free grammar, one token in view, and names the first fault of
+//! any other list of tokens.
+#![tactic(auto)]
+
+mod fault;
+mod grammar;
+
+pub use fault::{first_fault, Fault};
+pub use grammar::{push_body, Grammar, Kind, Step, Symbol};
