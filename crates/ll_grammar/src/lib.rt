@@ -4,6 +4,8 @@
 
 mod fault;
 mod grammar;
+#[cfg(test)]
+mod tests;
 
 pub use fault::{first_fault, Fault};
 pub use grammar::{push_body, Grammar, Kind, Step, Symbol};
