@@ -1,9 +1,9 @@
 -- The first fault of tokens is one, and it is the same for each statement of the same language.
-use Rattle.std.proofs.Common.{◌≡◌, ℕ, ◌+◌, ◌<◌, ◌≤◌, ◌↔◌, Bool, true, List, ◌++◌, Some, length, take, drop, slice_get, refl, sym, ap, subst, ◌∙◌, append_assoc, arith}
+use Rattle.std.proofs.Common.{◌≡◌, ℕ, ◌+◌, ◌<◌, ◌≤◌, ◌↔◌, Bool, true, List, ◌++◌, Option, Some, None, Result, Ok, Err, IfOk, length, take, drop, slice_get, refl, sym, ap, subst, ◌∙◌, append_assoc, arith}
 use Rattle.std.proofs.Math.Seq.{take-length}
 use Rattle.std.proofs.lemmas.List.{take-append-drop, take-take}
 use Rattle.ll_grammar.specs.Texts.{IsText, IsViable, IsDeepAt, NoneDeep}
-use Rattle.ll_grammar.specs.FirstFault.{IsFaultAt, IsAccepted, IsFirstFault}
+use Rattle.ll_grammar.specs.FirstFault.{IsFaultAt, IsAccepted, IsFirstFault, IsAnswer}
 use Rattle.ll_grammar.specs.declared.fault.Fault.{Fault}
 use Rattle.ll_grammar.specs.declared.fault.Fault.TheVariants.{Syntax, Depth}
 
@@ -66,6 +66,13 @@ module _ {C : Type 0} (Marked : List C → List Bool → Type 0) (cs : List C) w
     fault.0.through (omega arith) (viable-text (IsText Marked) cs (k + 1) accepted.0)
   no_fault (Depth k) accepted fault = accepted.1 k fault.0.0 fault.0
 
+  -- so tokens have one answer
+  pub one_answer : (first second : Option Fault) → IsAnswer Marked cs first → IsAnswer Marked cs second → first ≡ second
+  one_answer None None first second = refl
+  one_answer None (Some fault) first second = absurd (no_fault fault first second)
+  one_answer (Some fault) None first second = absurd (no_fault fault second first)
+  one_answer (Some j) (Some k) first second = ap Some (one_fault j k first second)
+
 -- two statements of the texts have the same syntax faults
 pub fault-along : {C : Type 0} (Text Other : List C → Type 0) → ((cs : List C) → Text cs → Other cs) → ((cs : List C) → Other cs → Text cs)
   → (cs : List C) (k : ℕ) → IsFaultAt Text cs k → IsFaultAt Other cs k
@@ -93,3 +100,12 @@ module _ {C : Type 0} (Marked Other : List C → List Bool → Type 0)
       (λ ds (marks, other). (marks, from ds marks other)) cs k fault, none_deep-along k none)
   first_fault-along (Depth k) ((within, rest, marks, marked, at), none) =
     ((within, rest, marks, to _ marks marked, at), none_deep-along k none)
+
+  pub answer-along : (found : Option Fault) → IsAnswer Marked cs found → IsAnswer Other cs found
+  answer-along None accepted = accepted-along accepted
+  answer-along (Some fault) first = first_fault-along fault first
+
+  -- of a call that may run out of memory
+  pub if_ok-along : {E : Type 0} (result : Result (Option Fault) E) → IfOk result (IsAnswer Marked cs) → IfOk result (IsAnswer Other cs)
+  if_ok-along (Ok found) answer = answer-along found answer
+  if_ok-along (Err e) answer = answer

@@ -4,4 +4,3 @@ pub mod Stack
 pub mod Progress
 pub mod Faults
 pub mod Meanings
-pub mod Tables

@@ -5,7 +5,7 @@ use Rattle.ll_grammar.specs.Rules.{Rules, Reads, Derives}
 use Rattle.ll_grammar.specs.Rules.Reads.{done, class as r_class, ends as r_ends, begins as r_begins}
 use Rattle.ll_grammar.specs.declared.grammar.Symbol.{Symbol}
 use Rattle.ll_grammar.specs.declared.grammar.Symbol.TheVariants.{Class, Part}
-use Rattle.ll_grammar.proofs.Reading.{reads-append}
+use Rattle.ll_grammar.specs.Tables.{reads-append}
 
 -- the tokens, with their marks, are those of the symbols in a row, where `M` says what are those of a part
 pub data Each {C N : Type 0} (M : N → List C → List Bool → Type 0) : List (Symbol C N) → List C → List Bool → Type 0 where
@@ -90,8 +90,11 @@ reads_of_each (part reads each) = reads-append reads (reads_of_each each)
 pub derives-end : {C N : Type 0} {g : Rules C N} (n : N) → IsTrue (g.may_end n) → Derives g n [] []
 derives-end n h = r_ends h done
 
--- a part by one of its rules
+-- a part by one of its rules; the two equations are where the tokens and marks are bracketed otherwise
 pub derives-begin : {C N : Type 0} {g : Rules C N} (n : N) (c : C) (body : List (Symbol C N)) → g.behind n c ≡ Some body
-  → {cs : List C} {marks : List Bool} → Each (Derives g) body cs marks → Derives g n (c ∷ cs) (g.deep n c ∷ marks)
-derives-begin {C} {N} {g} n c body e {cs} {marks} each =
-  r_begins body e (subst (λ (s : List (Symbol C N)). Reads g s cs marks) (sym (append-nil body)) (reads_of_each each))
+  → {cs ds : List C} {marks others : List Bool} → Each (Derives g) body cs marks → ds ≡ c ∷ cs → others ≡ g.deep n c ∷ marks
+  → Derives g n ds others
+derives-begin {C} {N} {g} n c body e {cs = cs} {marks = marks} {others = others} each tokens all_marks =
+  subst (λ (x : List C). Derives g n x others) (sym tokens)
+    (subst (λ (x : List Bool). Derives g n (c ∷ cs) x) (sym all_marks)
+      (r_begins body e (subst (λ (s : List (Symbol C N)). Reads g s cs marks) (sym (append-nil body)) (reads_of_each each))))

@@ -4,19 +4,9 @@ use Rattle.ll_grammar.specs.Rules.{Rules, Reads, Begins}
 use Rattle.ll_grammar.specs.Rules.Reads.{done, class as r_class, ends as r_ends, begins as r_begins}
 use Rattle.ll_grammar.specs.Rules.Begins.{nothing, class as b_class, ends as b_ends, begins as b_begins}
 use Rattle.ll_grammar.specs.Predictable.{HasTexts}
+use Rattle.ll_grammar.specs.Tables.{reads-append}
 use Rattle.ll_grammar.specs.declared.grammar.Symbol.{Symbol}
 use Rattle.ll_grammar.specs.declared.grammar.Symbol.TheVariants.{Class, Part}
-
--- two lists of symbols, one behind the other, read their texts one behind the other
-pub reads-append : {C N : Type 0} {g : Rules C N} {front back : List (Symbol C N)} {cs ds : List C} {ms ns : List Bool}
-  → Reads g front cs ms → Reads g back ds ns → Reads g (front ++ back) (cs ++ ds) (ms ++ ns)
-reads-append done behind = behind
-reads-append (r_class front) behind = r_class (reads-append front behind)
-reads-append (r_ends e front) behind = r_ends e (reads-append front behind)
-reads-append {C} {N} {g} {back = back} {ds = ds} {ns = ns} (r_begins {rest = rest} {cs = cs} {marks = marks} body e front) behind =
-  r_begins body e
-    (subst (λ (symbols : List (Symbol C N)). Reads g symbols (cs ++ ds) (marks ++ ns)) (append_assoc body rest back)
-      (reads-append front behind))
 
 -- each list of symbols reads some text
 pub some_text : {C N : Type 0} (g : Rules C N) → HasTexts g → (symbols : List (Symbol C N))

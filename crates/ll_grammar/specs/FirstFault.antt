@@ -1,5 +1,5 @@
 -- The first fault of a list of tokens, against any statement of what its texts are.
-use Rattle.std.specs.Prelude.{◌≡◌, ◌+◌, ◌<◌, ◌≤◌, ℕ, Bool, List, ◌++◌, length, take}
+use Rattle.std.specs.Prelude.{◌≡◌, ◌+◌, ◌<◌, ◌≤◌, ℕ, Bool, List, ◌++◌, Option, Some, None, length, take}
 use Rattle.ll_grammar.specs.Texts.{IsText, IsViable, IsDeepAt, NoneDeep}
 use Rattle.ll_grammar.specs.declared.fault.Fault.{Fault}
 use Rattle.ll_grammar.specs.declared.fault.Fault.TheVariants.{Syntax, Depth}
@@ -20,3 +20,8 @@ IsAccepted Marked cs = IsText Marked cs × NoneDeep Marked cs (length cs)
 abbrev pub IsFirstFault : {C : Type 0} → (List C → List Bool → Type 0) → List C → Fault → Type 0
 IsFirstFault Marked cs (Syntax k) = IsFaultAt (IsText Marked) cs k × NoneDeep Marked cs k
 IsFirstFault Marked cs (Depth k) = IsDeepAt Marked cs k × NoneDeep Marked cs k
+
+-- What is to be answered: None for accepted tokens, else their first fault.
+abbrev pub IsAnswer : {C : Type 0} → (List C → List Bool → Type 0) → List C → Option Fault → Type 0
+IsAnswer Marked cs None = IsAccepted Marked cs
+IsAnswer Marked cs (Some fault) = IsFirstFault Marked cs fault

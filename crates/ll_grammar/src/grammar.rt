@@ -6,9 +6,9 @@ ghost use Rattle.ll_grammar.specs.Steps.{IsStep};
 use std::alloc::AllocError;
 
 /// The class of a token, a terminal of the grammar.
-pub trait Kind: Copy + 'static {
+pub trait TokenClass: Copy + 'static {
     /// Whether the two are the same class.
-    fn is(self, other: Self) -> bool
+    fn is_same(self, other: Self) -> bool
         ensures { IsTrue result ↔ (self ≡ other) };
 }
 
@@ -25,7 +25,7 @@ pub enum Step {
     Deep,
 }
 
-pub trait Grammar<C: Kind>: Copy + 'static {
+pub trait Grammar<C: TokenClass>: Copy + 'static {
     ghost rules: { Rules C Self };
 
     ghost follow: { Self → C → Bool };

@@ -8,4 +8,4 @@ mod grammar;
 mod tests;
 
 pub use fault::{first_fault, Fault};
-pub use grammar::{push_body, Grammar, Kind, Step, Symbol};
+pub use grammar::{push_body, Grammar, TokenClass, Step, Symbol};

@@ -10,23 +10,23 @@ use Rattle.ll_grammar.proofs.fault.read.Goals as goal
 pub loop-symbol-init : goal.loop-symbol-init
 loop-symbol-init g c = record { ready = c.requires; same = λ step after read. read }
 
-pub returns-then-is : goal.returns-then-is
-returns-then-is g c =
+pub returns-then-is_same : goal.returns-then-is_same
+returns-then-is_same g c =
   let items = c.loop-symbol.stack.items in
   let below = c.pop.new.self.items in
   let top : IsTop items below (Class c.in-Class.expected) = record { is = cc c.in-Some.ensures.items } in
   c.loop-symbol.invariant.same Pushed (reverse below)
     (at_class g.N.Grammar.rules g.N.Grammar.follow c.args.class items below c.loop-symbol.invariant.ready c.in-Class.expected top
-      (c.is.ensures.0 c.if-is.true))
+      (c.is_same.ensures.0 c.if-is_same.true))
 
-pub returns-else-is : goal.returns-else-is
-returns-else-is g c =
+pub returns-else-is_same : goal.returns-else-is_same
+returns-else-is_same g c =
   let items = c.loop-symbol.stack.items in
   let below = c.pop.new.self.items in
   let top : IsTop items below (Class c.in-Class.expected) = record { is = cc c.in-Some.ensures.items } in
   c.loop-symbol.invariant.same Absent (reverse below)
     (at_other_class g.N.Grammar.rules g.N.Grammar.follow c.args.class items below c.loop-symbol.invariant.ready c.in-Class.expected top
-      (λ same. let yes = c.is.ensures.1 same in absurd (cc)) (reverse below))
+      (λ same. let yes = c.is_same.ensures.1 same in absurd (cc)) (reverse below))
 
 pub returns-then-not-may_end : goal.returns-then-not-may_end
 returns-then-not-may_end g c =

@@ -1,14 +1,25 @@
--- The LL(1) condition by computation, over a list of all classes.
-use Rattle.std.proofs.Common.{◌≡◌, ℕ, zero, suc, ◌+◌, ◌<◌, ◌≤◌, Bool, true, false, not, ◌&&◌, ◌||◌, List, [], ◌∷◌, Option, Some, None, IsTrue, IsSome, is_some, slice_get, ◌++◌, subst, sym, refl, nat_lt, arith}
+-- The two laws of a grammar by computation: the LL(1) condition over a list of all classes, and that each part has
+-- a text by a rank of the parts. They stand here, and not among the proofs, since an impl gives them as its laws.
+use Rattle.std.proofs.Common.{◌≡◌, ℕ, zero, suc, ◌+◌, ◌<◌, ◌≤◌, Bool, true, false, not, ◌&&◌, ◌||◌, List, [], ◌∷◌, Option, Some, None, IsTrue, IsSome, is_some, slice_get, ◌++◌, append_assoc, subst, sym, refl, nat_lt, arith}
 use Rattle.std.proofs.lemmas.Bool.{ltb-true}
 use Rattle.std.proofs.lemmas.List.{append-nil}
 use Rattle.std.specs.List.{list_all}
-use Rattle.ll_grammar.proofs.Reading.{reads-append}
 use Rattle.ll_grammar.specs.Rules.{Rules, Reads}
 use Rattle.ll_grammar.specs.Rules.Reads.{done, class as r_class, ends as r_ends, begins as r_begins}
 use Rattle.ll_grammar.specs.Predictable.{MayFollow, IsFollowed, IsPredictable, HasTexts}
 use Rattle.ll_grammar.specs.declared.grammar.Symbol.{Symbol}
 use Rattle.ll_grammar.specs.declared.grammar.Symbol.TheVariants.{Class, Part}
+
+-- two lists of symbols, one behind the other, read their texts one behind the other
+pub reads-append : {C N : Type 0} {g : Rules C N} {front back : List (Symbol C N)} {cs ds : List C} {ms ns : List Bool}
+  → Reads g front cs ms → Reads g back ds ns → Reads g (front ++ back) (cs ++ ds) (ms ++ ns)
+reads-append done behind = behind
+reads-append (r_class front) behind = r_class (reads-append front behind)
+reads-append (r_ends e front) behind = r_ends e (reads-append front behind)
+reads-append {C} {N} {g} {back = back} {ds = ds} {ns = ns} (r_begins {rest = rest} {cs = cs} {marks = marks} body e front) behind =
+  r_begins body e
+    (subst (λ (symbols : List (Symbol C N)). Reads g symbols (cs ++ ds) (marks ++ ns)) (append_assoc body rest back)
+      (reads-append front behind))
 
 both : (a b : Bool) → (a && b) ≡ true → (a ≡ true) × (b ≡ true)
 both true b e = (refl, e)
