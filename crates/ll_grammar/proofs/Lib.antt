@@ -4,3 +4,4 @@ pub mod Stack
 pub mod Progress
 pub mod Faults
 pub mod Meanings
+pub mod Shallow

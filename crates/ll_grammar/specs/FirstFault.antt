@@ -25,3 +25,9 @@ IsFirstFault Marked cs (Depth k) = IsDeepAt Marked cs k × NoneDeep Marked cs k
 abbrev pub IsAnswer : {C : Type 0} → (List C → List Bool → Type 0) → List C → Option Fault → Type 0
 IsAnswer Marked cs None = IsAccepted Marked cs
 IsAnswer Marked cs (Some fault) = IsFirstFault Marked cs fault
+
+-- The same for a language with no bound on depth, stated by its texts alone.
+abbrev pub IsSyntaxAnswer : {C : Type 0} → (List C → Type 0) → List C → Option Fault → Type 0
+IsSyntaxAnswer Text cs None = Text cs
+IsSyntaxAnswer Text cs (Some (Syntax k)) = IsFaultAt Text cs k
+IsSyntaxAnswer Text cs (Some (Depth k)) = ⊥

@@ -41,3 +41,7 @@ pub data Begins {C N : Type 0} (g : Rules C N) : List (Symbol C N) → List C �
     → IsTrue (g.may_end n) → Begins g rest cs → Begins g (Part n ∷ rest) cs
   begins : {n : N} {c : C} {rest : List (Symbol C N)} {cs : List C} (body : List (Symbol C N))
     → g.behind n c ≡ Some body → Begins g (body ++ rest) cs → Begins g (Part n ∷ rest) (c ∷ cs)
+
+-- The tokens begin a text of the start part.
+abbrev pub BeginsText : {C N : Type 0} → Rules C N → N → List C → Type 0
+BeginsText g start cs = Begins g (Part start ∷ []) cs

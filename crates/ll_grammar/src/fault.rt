@@ -5,17 +5,29 @@ ghost use Rattle.ll_grammar.specs.Predictable.{IsReady};
 ghost use Rattle.ll_grammar.specs.Steps.{IsRead};
 ghost use Rattle.ll_grammar.specs.FirstFault.{IsAnswer};
 
+use crate::grammar::{Grammar, Step, Symbol, TokenClass};
 use std::alloc::{AllocError, Global};
 
-use crate::grammar::{Grammar, TokenClass, Step, Symbol};
-
+/// A fault of a list of tokens, at a token's place from 0.
 #[derive(Clone, Copy, Debug, PartialEq, Eq)]
 pub enum Fault {
+    /// Some text begins with the tokens before this place, and none with those through it.
+    /// The end of the tokens counts as one more token: there the place is their number.
     Syntax(usize),
+    /// Some text begins with the tokens through this place, and the last of them stands too deep.
     Depth(usize),
 }
 
-pub fn first_fault<C: TokenClass, N: Grammar<C>>(alloc: Global, start: N, classes: &[C]) -> Result<Option<Fault>, AllocError>
+/// The first fault of the tokens as a text of the part `start`, or `None` where they are such a text
+/// with no token too deep. `Err` is for want of memory alone.
+///
+/// Each token is looked at once. No call nests: what is still to be read waits on a stack, which
+/// holds at most the symbols of the bodies that the tokens have begun.
+pub fn first_fault<C: TokenClass, N: Grammar<C>>(
+    alloc: Global,
+    start: N,
+    classes: &[C],
+) -> Result<Option<Fault>, AllocError>
     ensures { IfOk result (IsAnswer (Derives N.rules start) classes.now) }
 {
     let mut stack = Vec::new(alloc);
@@ -30,9 +42,14 @@ pub fn first_fault<C: TokenClass, N: Grammar<C>>(alloc: Global, start: N, classe
     Ok(if is_over(&stack) { None } else { Some(Fault::Syntax(classes.len())) })
 }
 
+// The token against the top of the stack. A part that does not begin with it, but may end, is done
+// and leaves it to the symbol below. To end a part that does begin with it would be wrong only where
+// the token could follow the part too, and the LL(1) condition rules that out.
 fn read<C: TokenClass, N: Grammar<C>>(stack: &mut Vec<Symbol<C, N>>, class: C) -> Result<Step, AllocError>
     requires { IsReady N.rules N.follow (reverse stack.old.items) }
-    ensures { IfOk result (λ step. IsRead N.rules N.follow (reverse stack.old.items) class step (reverse stack.new.items)) }
+    ensures {
+        IfOk result (λ step. IsRead N.rules N.follow (reverse stack.old.items) class step (reverse stack.new.items))
+    }
 {
     while let Some(symbol) = stack.pop() {
         match symbol {
@@ -52,6 +69,7 @@ fn read<C: TokenClass, N: Grammar<C>>(stack: &mut Vec<Symbol<C, N>>, class: C) -
     Ok(Step::Absent)
 }
 
+// Whether the text may end here: each part that still waits may have no token.
 fn is_over<C: TokenClass, N: Grammar<C>>(stack: &[Symbol<C, N>]) -> bool
     ensures { result ≡ list_all (can_be_empty N.rules) stack.now }
 {
