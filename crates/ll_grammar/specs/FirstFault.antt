@@ -1,5 +1,5 @@
 -- The first fault of a list of tokens, against any statement of what its texts are.
-use Rattle.std.specs.Prelude.{◌≡◌, ◌+◌, ◌<◌, ◌≤◌, ℕ, Bool, List, ◌++◌, Option, Some, None, length, take}
+use Rattle.std.specs.Prelude.{◌≡◌, ◌+◌, ◌<◌, ◌≤◌, ℕ, Bool, List, Option, Some, None, length, take}
 use Rattle.ll_grammar.specs.Texts.{IsText, IsViable, IsDeepAt, NoneDeep}
 use Rattle.ll_grammar.specs.declared.fault.Fault.{Fault}
 use Rattle.ll_grammar.specs.declared.fault.Fault.TheVariants.{Syntax, Depth}

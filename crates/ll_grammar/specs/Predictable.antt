@@ -1,5 +1,5 @@
 -- The condition under which one token in view decides: LL(1).
-use Rattle.std.specs.Prelude.{◌≡◌, Bool, List, [], ◌∷◌, Option, Some, None, IsTrue, IsSome}
+use Rattle.std.specs.Prelude.{◌≡◌, Bool, List, [], ◌∷◌, Some, None, IsTrue, IsSome}
 use Rattle.ll_grammar.specs.Rules.{Rules, Reads}
 use Rattle.ll_grammar.specs.declared.grammar.Symbol.{Symbol}
 use Rattle.ll_grammar.specs.declared.grammar.Symbol.TheVariants.{Class, Part}
@@ -9,8 +9,8 @@ abbrev pub MayFollow : {C N : Type 0} → Rules C N → (N → C → Bool) → N
 MayFollow g follow m [] AtEnd = AtEnd
 MayFollow g follow m (Class c ∷ rest) AtEnd = IsTrue (follow m c)
 MayFollow {C} g follow m (Part n ∷ rest) AtEnd =
-  ((c : C) → IsSome (g.behind n c) → IsTrue (follow m c))
-  × (IsTrue (g.may_end n) → MayFollow g follow m rest AtEnd)
+    ((c : C) → IsSome (g.behind n c) → IsTrue (follow m c))
+    × (IsTrue (g.may_end n) → MayFollow g follow m rest AtEnd)
 
 -- Each part among the symbols has its followers in the table; `AtEnd m` is what a part `m` owes of what comes after them all.
 abbrev pub IsFollowed : {C N : Type 0} → Rules C N → (N → C → Bool) → (N → Type 0) → List (Symbol C N) → Type 0
@@ -21,7 +21,7 @@ IsFollowed g follow AtEnd (Part m ∷ rest) = MayFollow g follow m rest (AtEnd m
 pub record IsPredictable {C N : Type 0} (g : Rules C N) (follow : N → C → Bool) : Type 0 where
   -- the table of followers is closed under the rules: what follows a part follows the last parts of its bodies
   pub closed : (n : N) (c : C) (body : List (Symbol C N)) → g.behind n c ≡ Some body
-    → IsFollowed g follow (λ m. (d : C) → IsTrue (follow n d) → IsTrue (follow m d)) body
+      → IsFollowed g follow (λ m. (d : C) → IsTrue (follow n d) → IsTrue (follow m d)) body
   -- a part that may be without tokens begins with no class that may follow it
   pub apart : (n : N) (c : C) → IsTrue (g.may_end n) → IsTrue (follow n c) → g.behind n c ≡ None
 

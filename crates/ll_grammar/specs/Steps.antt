@@ -17,9 +17,9 @@ IsStep (Some body) deep old Deep new = deep ≡ true
 
 -- What the symbols `before` read behind a token that is not too deep, the symbols `after` read.
 pub record Passes {C N : Type 0} (g : Rules C N) (follow : N → C → Bool)
-  (before : List (Symbol C N)) (c : C) (after : List (Symbol C N)) : Type 0 where
+    (before : List (Symbol C N)) (c : C) (after : List (Symbol C N)) : Type 0 where
   pub only : (rest : List C) (marks : List Bool) → Reads g before (c ∷ rest) marks
-    → (others : List Bool) × (marks ≡ false ∷ others) × Reads g after rest others
+      → (others : List Bool) × (marks ≡ false ∷ others) × Reads g after rest others
   pub each : (rest : List C) (others : List Bool) → Reads g after rest others → Reads g before (c ∷ rest) (false ∷ others)
   pub ready : IsReady g follow after
 
@@ -28,4 +28,4 @@ abbrev pub IsRead : {C N : Type 0} → Rules C N → (N → C → Bool) → List
 IsRead {C} g follow before c Absent after = (rest : List C) (marks : List Bool) → Reads g before (c ∷ rest) marks → ⊥
 IsRead g follow before c Pushed after = Passes g follow before c after
 IsRead {C} g follow before c Deep after =
-  (rest : List C) × (marks : List Bool) × Reads g before (c ∷ rest) (true ∷ marks)
+    (rest : List C) × (marks : List Bool) × Reads g before (c ∷ rest) (true ∷ marks)

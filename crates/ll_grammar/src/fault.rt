@@ -39,22 +39,31 @@ pub fn first_fault<C: TokenClass, N: Grammar<C>>(
             Step::Deep => return Ok(Some(Fault::Depth(at))),
         }
     }
-    Ok(if is_over(&stack) { None } else { Some(Fault::Syntax(classes.len())) })
+    Ok(if is_over(&stack) {
+        None
+    } else {
+        Some(Fault::Syntax(classes.len()))
+    })
 }
 
 // The token against the top of the stack. A part that does not begin with it, but may end, is done
 // and leaves it to the symbol below. To end a part that does begin with it would be wrong only where
 // the token could follow the part too, and the LL(1) condition rules that out.
-fn read<C: TokenClass, N: Grammar<C>>(stack: &mut Vec<Symbol<C, N>>, class: C) -> Result<Step, AllocError>
+fn read<C: TokenClass, N: Grammar<C>>(
+    stack: &mut Vec<Symbol<C, N>>,
+    class: C,
+) -> Result<Step, AllocError>
     requires { IsReady N.rules N.follow (reverse stack.old.items) }
-    ensures {
-        IfOk result (λ step. IsRead N.rules N.follow (reverse stack.old.items) class step (reverse stack.new.items))
-    }
+    ensures { IfOk result (λ step. IsRead N.rules N.follow (reverse stack.old.items) class step (reverse stack.new.items)) }
 {
     while let Some(symbol) = stack.pop() {
         match symbol {
             Symbol::Class(expected) => {
-                return Ok(if expected.is_same(class) { Step::Pushed } else { Step::Absent });
+                return Ok(if expected.is_same(class) {
+                    Step::Pushed
+                } else {
+                    Step::Absent
+                });
             }
             Symbol::Part(part) => match part.push(class, stack)? {
                 Step::Absent => {

@@ -45,9 +45,7 @@ pub trait Grammar<C: TokenClass>: Copy + 'static {
     /// Where it does not, leaves the stack as it was. `Deep` is for a token with which the part
     /// begins: any other is `Absent` at every depth. `Err` is for want of memory alone.
     fn push(self, class: C, stack: &mut Vec<Symbol<C, Self>>) -> Result<Step, AllocError>
-        ensures {
-            IfOk result (λ step. IsStep (rules.behind self class) (rules.deep self class) stack.old.items step stack.new.items)
-        };
+        ensures { IfOk result (λ step. IsStep (rules.behind self class) (rules.deep self class) stack.old.items step stack.new.items) };
 
     /// Whether the part may have no token at all.
     fn may_end(self) -> bool
@@ -62,7 +60,10 @@ pub trait Grammar<C: TokenClass>: Copy + 'static {
 
 /// Puts the body of a rule on the stack, its first symbol on top, and answers `Pushed`.
 /// `Err` is for want of memory; then some of the body may be on the stack.
-pub fn push_body<C: Copy, N: Copy>(stack: &mut Vec<Symbol<C, N>>, body: &[Symbol<C, N>]) -> Result<Step, AllocError>
+pub fn push_body<C: Copy, N: Copy>(
+    stack: &mut Vec<Symbol<C, N>>,
+    body: &[Symbol<C, N>],
+) -> Result<Step, AllocError>
     ensures pushed { IfOk result (λ step. step ≡ Step.Pushed) }
     ensures items { OnOk result (stack.new.items ≡ stack.old.items ++ reverse body.now) }
 {

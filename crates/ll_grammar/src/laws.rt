@@ -11,14 +11,15 @@ use crate::grammar::{Grammar, TokenClass};
 /// with: the viable prefixes.
 pub fn viable_prefixes<C: TokenClass, N: Grammar<C>>(start: N, classes: &[C])
     ensures { BeginsText N.rules start classes.now ↔ IsViable (IsText (Derives N.rules start)) classes.now }
-{
-}
+{}
 
 /// Tokens have no two answers: they are accepted or have a first fault, and that is one.
-pub fn one_answer<C: TokenClass, N: Grammar<C>>(start: N, classes: &[C], first: Option<Fault>, second: Option<Fault>)
-    ensures {
-        IsAnswer (Derives N.rules start) classes.now first → IsAnswer (Derives N.rules start) classes.now second
-            → first ≡ second
-    }
-{
-}
+pub fn one_answer<C: TokenClass, N: Grammar<C>>(
+    start: N,
+    classes: &[C],
+    first: Option<Fault>,
+    second: Option<Fault>,
+)
+    ensures { IsAnswer (Derives N.rules start) classes.now first → IsAnswer (Derives N.rules start) classes.now second
+        → first ≡ second }
+{}

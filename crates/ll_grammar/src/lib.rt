@@ -17,6 +17,6 @@ mod laws;
 #[cfg(test)]
 mod tests;
 
-pub use fault::{first_fault, Fault};
-pub use grammar::{push_body, Grammar, Step, Symbol, TokenClass};
+pub use fault::{Fault, first_fault};
+pub use grammar::{Grammar, Step, Symbol, TokenClass, push_body};
 pub use laws::{one_answer, viable_prefixes};

@@ -9,8 +9,8 @@ ghost use Rattle.ll_grammar.specs.declared.grammar.Symbol.{Symbol};
 ghost use Rattle.ll_grammar.specs.declared.grammar.Symbol.TheVariants.{Class, Part};
 ghost use Rattle.ll_grammar.specs.Tables.{predictable_by, texts_by, is_predictable_part, is_ranked_part};
 
-use crate::fault::{first_fault, Fault};
-use crate::grammar::{push_body, Grammar, Step, Symbol, TokenClass};
+use crate::fault::{Fault, first_fault};
+use crate::grammar::{Grammar, Step, Symbol, TokenClass, push_body};
 use std::alloc::AllocError;
 use std::test::Fail;
 
@@ -38,40 +38,42 @@ enum Phrase {
 
 impl Grammar<Bracket> for Phrase {
     ghost rules = { record {
-        behind = λ (n : Phrase) (c : Bracket). elim n as (λ _. Option (List (Symbol Bracket Phrase))) [
-            Items d ↦ elim c as (λ _. Option (List (Symbol Bracket Phrase))) [
-                Open ↦ Some (Part (Items (d + 1)) ∷ Class Close ∷ Part (More d) ∷ [])
-                | Word ↦ Some (Part (More d) ∷ [])
-                | _ ↦ None ]
-            | More d ↦ elim c as (λ _. Option (List (Symbol Bracket Phrase))) [
-                Semicolon ↦ Some (Part (Item d) ∷ Part (More d) ∷ [])
-                | _ ↦ None ]
-            | Item d ↦ elim c as (λ _. Option (List (Symbol Bracket Phrase))) [
-                Open ↦ Some (Part (Items (d + 1)) ∷ Class Close ∷ [])
-                | Word ↦ Some []
-                | _ ↦ None ] ];
-        may_end = λ (n : Phrase). elim n as (λ _. Bool) [ Item d ↦ false | _ ↦ true ];
-        deep = λ (n : Phrase) (c : Bracket). elim n as (λ _. Bool) [
-            Items d ↦ elim c as (λ _. Bool) [ Open ↦ nat_le 2 d | _ ↦ false ]
-            | More d ↦ false
-            | Item d ↦ elim c as (λ _. Bool) [ Open ↦ nat_le 2 d | _ ↦ false ] ]
+      behind = λ (n : Phrase) (c : Bracket). elim n as (λ _. Option (List (Symbol Bracket Phrase))) [
+        | Items d ↦ elim c as (λ _. Option (List (Symbol Bracket Phrase))) [
+          | Open ↦ Some (Part (Items (d + 1)) ∷ Class Close ∷ Part (More d) ∷ [])
+          | Word ↦ Some (Part (More d) ∷ [])
+          | _ ↦ None
+        ]
+        | More d ↦ elim c as (λ _. Option (List (Symbol Bracket Phrase))) [
+          | Semicolon ↦ Some (Part (Item d) ∷ Part (More d) ∷ [])
+          | _ ↦ None
+        ]
+        | Item d ↦ elim c as (λ _. Option (List (Symbol Bracket Phrase))) [
+          | Open ↦ Some (Part (Items (d + 1)) ∷ Class Close ∷ [])
+          | Word ↦ Some []
+          | _ ↦ None
+        ]
+      ];
+      may_end = λ (n : Phrase). elim n as (λ _. Bool) [ Item d ↦ false | _ ↦ true ];
+      deep = λ (n : Phrase) (c : Bracket). elim n as (λ _. Bool) [
+        | Items d ↦ elim c as (λ _. Bool) [ Open ↦ nat_le 2 d | _ ↦ false ]
+        | More d ↦ false
+        | Item d ↦ elim c as (λ _. Bool) [ Open ↦ nat_le 2 d | _ ↦ false ]
+      ];
     } };
 
     ghost follow = { λ (n : Phrase) (c : Bracket). elim c as (λ _. Bool) [
-        Close ↦ true
-        | Semicolon ↦ elim n as (λ _. Bool) [ Item d ↦ true | _ ↦ false ]
-        | _ ↦ false ] };
+      | Close ↦ true
+      | Semicolon ↦ elim n as (λ _. Bool) [ Item d ↦ true | _ ↦ false ]
+      | _ ↦ false
+    ] };
 
-    ghost predictable = {
-        predictable_by Self.rules Self.follow (Open ∷ Close ∷ Semicolon ∷ Word ∷ [])
-            (λ (c : Bracket). elim c as (λ _. ℕ) [ Open ↦ 0 | Close ↦ 1 | Semicolon ↦ 2 | Word ↦ 3 ])
-            (elim [ Open ↦ refl | Close ↦ refl | Semicolon ↦ refl | Word ↦ refl ])
-            (elim [ Items d ↦ refl | More d ↦ refl | Item d ↦ refl ])
-    };
+    ghost predictable = { predictable_by Self.rules Self.follow (Open ∷ Close ∷ Semicolon ∷ Word ∷ [])
+        (λ (c : Bracket). elim c as (λ _. ℕ) [ Open ↦ 0 | Close ↦ 1 | Semicolon ↦ 2 | Word ↦ 3 ])
+        (elim [ Open ↦ refl | Close ↦ refl | Semicolon ↦ refl | Word ↦ refl ])
+        (elim [ Items d ↦ refl | More d ↦ refl | Item d ↦ refl ]) };
 
-    ghost has_texts = {
-        texts_by Self.rules (λ (n : Phrase). Word) (λ (n : Phrase). 0) (elim [ Items d ↦ refl | More d ↦ refl | Item d ↦ refl ])
-    };
+    ghost has_texts = { texts_by Self.rules (λ (n : Phrase). Word) (λ (n : Phrase). 0) (elim [ Items d ↦ refl | More d ↦ refl | Item d ↦ refl ]) };
 
     fn may_end(self) -> bool {
         match self {
@@ -80,7 +82,11 @@ impl Grammar<Bracket> for Phrase {
         }
     }
 
-    fn push(self, class: Bracket, stack: &mut Vec<Symbol<Bracket, Phrase>>) -> Result<Step, AllocError> {
+    fn push(
+        self,
+        class: Bracket,
+        stack: &mut Vec<Symbol<Bracket, Phrase>>,
+    ) -> Result<Step, AllocError> {
         match self {
             Phrase::Items(open) => match class {
                 Bracket::Open => {
@@ -102,7 +108,10 @@ impl Grammar<Bracket> for Phrase {
             Phrase::More(open) => match class {
                 Bracket::Semicolon => push_body(
                     stack,
-                    &[Symbol::Part(Phrase::Item(open)), Symbol::Part(Phrase::More(open))],
+                    &[
+                        Symbol::Part(Phrase::Item(open)),
+                        Symbol::Part(Phrase::More(open)),
+                    ],
                 ),
                 _ => Ok(Step::Absent),
             },
@@ -113,7 +122,10 @@ impl Grammar<Bracket> for Phrase {
                     }
                     push_body(
                         stack,
-                        &[Symbol::Part(Phrase::Items(open + 1)), Symbol::Class(Bracket::Close)],
+                        &[
+                            Symbol::Part(Phrase::Items(open + 1)),
+                            Symbol::Class(Bracket::Close),
+                        ],
                     )
                 }
                 Bracket::Word => push_body(stack, &[]),
@@ -145,7 +157,9 @@ fn texts_have_no_fault(rt: HostRuntime) -> Result<(), Fail> {
 }
 
 #[test]
-fn a_syntax_fault_stands_at_the_first_token_that_no_text_goes_on_with(rt: HostRuntime) -> Result<(), Fail> {
+fn a_syntax_fault_stands_at_the_first_token_that_no_text_goes_on_with(
+    rt: HostRuntime,
+) -> Result<(), Fail> {
     assert_eq!(rt; fault(&rt, b";")?, Some(Fault::Syntax(0)));
     assert_eq!(rt; fault(&rt, b"xx")?, Some(Fault::Syntax(1)));
     assert_eq!(rt; fault(&rt, b"x;]")?, Some(Fault::Syntax(2)));

@@ -9,8 +9,8 @@ abbrev pub invariant-loop-symbol : goal.invariant-loop-symbol
 invariant-loop-symbol g l = record {
   ready : IsReady g.N.Grammar.rules g.N.Grammar.follow (reverse l.stack.items);
   same : (step : Step) (after : _)
-    → IsRead g.N.Grammar.rules g.N.Grammar.follow (reverse l.stack.items) l.class step after
-    → IsRead g.N.Grammar.rules g.N.Grammar.follow (reverse l.initial.stack.items) l.class step after
+      → IsRead g.N.Grammar.rules g.N.Grammar.follow (reverse l.stack.items) l.class step after
+      → IsRead g.N.Grammar.rules g.N.Grammar.follow (reverse l.initial.stack.items) l.class step after;
 }
 
 abbrev pub decreases-loop-symbol : goal.decreases-loop-symbol

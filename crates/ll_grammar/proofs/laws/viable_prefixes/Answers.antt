@@ -5,4 +5,5 @@ use Rattle.ll_grammar.proofs.laws.viable_prefixes.Goals as goal
 pub returns : goal.returns
 returns g c = (
   λ begins. (let (rest, marks, reads) = reads_of_begins g.met.N.Grammar.has_texts begins in (rest, (marks, reads))),
-  λ (rest, (marks, reads)). begins_of_reads reads c.args.classes.now rest refl)
+  λ (rest, (marks, reads)). begins_of_reads reads c.args.classes.now rest refl,
+)
