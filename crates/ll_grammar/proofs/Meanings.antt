@@ -22,7 +22,8 @@ pub record IsKept {C N : Type 0} (g : Rules C N) (M : N → List C → List Bool
       (λ body. (cs : List C) (marks : List Bool) → Each M body cs marks → M n (c ∷ cs) (g.deep n c ∷ marks))
 
 -- tokens of two rows of symbols, parted
-record IsParted {C N : Type 0} (M : N → List C → List Bool → Type 0) (front back : List (Symbol C N)) (cs : List C) (marks : List Bool) : Type 0 where
+record IsParted {C N : Type 0} (M : N → List C → List Bool → Type 0)
+    (front back : List (Symbol C N)) (cs : List C) (marks : List Bool) : Type 0 where
   pub before : List C
   pub before_marks : List Bool
   pub after : List C

@@ -36,7 +36,8 @@ taken {C} cs i c within here rest =
 
 falses : (i : ℕ) (others : List Bool) → replicate (i + 1) false ++ others ≡ replicate i false ++ (false ∷ others)
 falses i others =
-    ap (λ (front : List Bool). front ++ others) (sym (replicate_more i false)) ∙ append_assoc (replicate i false) (false ∷ []) others
+    ap (λ (front : List Bool). front ++ others) (sym (replicate_more i false))
+    ∙ append_assoc (replicate i false) (false ∷ []) others
 
 -- the mark at a place behind as many others
 slice_get-replicate : (i : ℕ) (b : Bool) (others : List Bool) → slice_get (replicate i false ++ (b ∷ others)) i ≡ Some b
@@ -53,10 +54,13 @@ begun g follow start cs = record {
 }
 
 -- symbols that may all be without tokens read none
-empty : {C N : Type 0} (g : Rules C N) (symbols : List (Symbol C N)) → list_all (can_be_empty g) symbols ≡ true → Reads g symbols [] []
+empty : {C N : Type 0} (g : Rules C N) (symbols : List (Symbol C N))
+    → list_all (can_be_empty g) symbols ≡ true → Reads g symbols [] []
 empty g [] all = done
 empty g (Class c ∷ rest) all = absurd (cc)
-empty g (Part n ∷ rest) all = let (may, others) = both (g.may_end n) (list_all (can_be_empty g) rest) all in r_ends may (empty g rest others)
+empty g (Part n ∷ rest) all =
+    let (may, others) = both (g.may_end n) (list_all (can_be_empty g) rest) all in
+    r_ends may (empty g rest others)
   where
     both : (a b : Bool) → (a && b) ≡ true → (a ≡ true) × (b ≡ true)
     both true b e = (refl, e)
@@ -73,7 +77,9 @@ all_empty (r_begins body h reads) e = absurd (cc)
 pub list_all-reverse : {X : Type 0} (p : X → Bool) (xs : List X) → list_all p (reverse xs) ≡ list_all p xs
 list_all-reverse p [] = refl
 list_all-reverse {X} p (x ∷ xs) =
-    ap (λ (ys : List X). list_all p ys) (reverse-append (x ∷ []) xs) ∙ list_all-append p (reverse xs) (x ∷ []) ∙ swapped (p x) (list_all p (reverse xs)) (list_all p xs) (list_all-reverse p xs)
+    ap (λ (ys : List X). list_all p ys) (reverse-append (x ∷ []) xs)
+    ∙ list_all-append p (reverse xs) (x ∷ [])
+    ∙ swapped (p x) (list_all p (reverse xs)) (list_all p xs) (list_all-reverse p xs)
   where
     swapped : (a b c : Bool) → b ≡ c → (b && (a && true)) ≡ (a && c)
     swapped true true c e = e
@@ -81,7 +87,8 @@ list_all-reverse {X} p (x ∷ xs) =
     swapped false true c e = refl
     swapped false false c e = refl
 
-module _ {C N : Type 0} (g : Rules C N) (follow : N → C → Bool) (start : N) (cs : List C) (i : ℕ) (symbols : List (Symbol C N)) (reading : IsReading g follow start cs i symbols) where
+module _ {C N : Type 0} (g : Rules C N) (follow : N → C → Bool) (start : N) (cs : List C) (i : ℕ)
+    (symbols : List (Symbol C N)) (reading : IsReading g follow start cs i symbols) where
   -- the tokens before i begin some text
   viable : HasTexts g → IsViable (IsText (Derives g start)) (take i cs)
   viable texts =

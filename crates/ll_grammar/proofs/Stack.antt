@@ -23,15 +23,18 @@ absent : {C N : Type 0} (found : Option (List (Symbol C N))) (deep : Bool) (belo
 absent None deep below new step = (refl, step)
 absent (Some body) deep below new step = absurd step
 
-module _ {C N : Type 0} (g : Rules C N) (follow : N → C → Bool) (c : C) (items below : List (Symbol C N)) (ready : IsReady g follow (reverse items)) where
+module _ {C N : Type 0} (g : Rules C N) (follow : N → C → Bool) (c : C) (items below : List (Symbol C N))
+    (ready : IsReady g follow (reverse items)) where
   pub at_bottom : items ≡ [] → (after : List (Symbol C N)) → IsRead g follow (reverse items) c Absent after
   at_bottom e after =
-      subst (λ (symbols : List (Symbol C N)). IsRead g follow (reverse symbols) c Absent after) (sym e) (read-nothing g follow c after)
+      subst (λ (s : List (Symbol C N)). IsRead g follow (reverse s) c Absent after) (sym e)
+      (read-nothing g follow c after)
 
   module _ (d : C) (top : IsTop items below (Class d)) where
     pub at_class : d ≡ c → IsRead g follow (reverse items) c Pushed (reverse below)
     at_class same =
-        let ready' : IsReady g follow (Class d ∷ reverse below) = subst (λ (s : List (Symbol C N)). IsReady g follow s) (popped top) ready in
+        let ready' : IsReady g follow (Class d ∷ reverse below) =
+        subst (λ (s : List (Symbol C N)). IsReady g follow s) (popped top) ready in
         subst (λ (s : List (Symbol C N)). IsRead g follow s c Pushed (reverse below)) (sym (popped top))
         (subst (λ (x : C). IsRead g follow (Class x ∷ reverse below) c Pushed (reverse below)) (sym same)
         (read-class g follow c (reverse below) ready'))
@@ -55,12 +58,14 @@ module _ {C N : Type 0} (g : Rules C N) (follow : N → C → Bool) (c : C) (ite
     -- a part that ends leaves symbols that are ready
     pub ready_below : IsStep (g.behind n c) (g.deep n c) below Absent new → IsReady g follow (reverse new)
     ready_below step =
-        subst (λ (s : List (Symbol C N)). IsReady g follow (reverse s)) (sym (absent (g.behind n c) (g.deep n c) below new step).1)
+        subst (λ (s : List (Symbol C N)). IsReady g follow (reverse s))
+        (sym (absent (g.behind n c) (g.deep n c) below new step).1)
         ready_part.1
 
     -- and what they do with the token is what all do
     pub at_end : IsStep (g.behind n c) (g.deep n c) below Absent new → g.may_end n ≡ true
-        → (step : Step) (after : List (Symbol C N)) → IsRead g follow (reverse new) c step after → IsRead g follow (reverse items) c step after
+        → (step : Step) (after : List (Symbol C N)) → IsRead g follow (reverse new) c step after
+        → IsRead g follow (reverse items) c step after
     at_end absence ends step after read =
         let (none, same) = absent (g.behind n c) (g.deep n c) below new absence in
         subst (λ (s : List (Symbol C N)). IsRead g follow s c step after) (sym (popped top))
@@ -76,7 +81,8 @@ module _ {C N : Type 0} (g : Rules C N) (follow : N → C → Bool) (c : C) (ite
     begun predictable texts (Some body) deep e m Absent is present = absurd is
     begun predictable texts (Some body) deep e m Pushed is present =
         let after : reverse new ≡ body ++ reverse below =
-        ap reverse is.1 ∙ reverse-append below (reverse body) ∙ ap (λ (b : List (Symbol C N)). b ++ reverse below) (reverse-reverse body) in
+        ap reverse is.1 ∙ reverse-append below (reverse body)
+        ∙ ap (λ (b : List (Symbol C N)). b ++ reverse below) (reverse-reverse body) in
         subst (λ (s : List (Symbol C N)). IsRead g follow (Part n ∷ reverse below) c Pushed s) (sym after)
         (read-begins g follow n c (reverse below) body predictable ready_part e (m ∙ is.0))
     begun predictable texts (Some body) deep e m Deep is present =

@@ -12,7 +12,8 @@ MayFollow {C} g follow m (Part n ∷ rest) AtEnd =
     ((c : C) → IsSome (g.behind n c) → IsTrue (follow m c))
     × (IsTrue (g.may_end n) → MayFollow g follow m rest AtEnd)
 
--- Each part among the symbols has its followers in the table; `AtEnd m` is what a part `m` owes of what comes after them all.
+-- Each part among the symbols has its followers in the table.
+-- `AtEnd m` is what a part `m` owes of what comes after all of them.
 abbrev pub IsFollowed : {C N : Type 0} → Rules C N → (N → C → Bool) → (N → Type 0) → List (Symbol C N) → Type 0
 IsFollowed g follow AtEnd [] = Unit {0}
 IsFollowed g follow AtEnd (Class c ∷ rest) = IsFollowed g follow AtEnd rest

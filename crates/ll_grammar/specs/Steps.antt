@@ -7,7 +7,8 @@ use Rattle.ll_grammar.specs.declared.grammar.Step.{Step}
 use Rattle.ll_grammar.specs.declared.grammar.Step.TheVariants.{Absent, Pushed, Deep}
 
 -- The step of a part at a token: what stands behind it is on the stack, the next symbol on top.
-abbrev pub IsStep : {C N : Type 0} → Option (List (Symbol C N)) → Bool → List (Symbol C N) → Step → List (Symbol C N) → Type 0
+abbrev pub IsStep : {C N : Type 0} → Option (List (Symbol C N)) → Bool → List (Symbol C N) → Step
+    → List (Symbol C N) → Type 0
 IsStep None deep old Absent new = new ≡ old
 IsStep None deep old Pushed new = ⊥
 IsStep None deep old Deep new = ⊥

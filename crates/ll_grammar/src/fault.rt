@@ -47,14 +47,15 @@ pub fn first_fault<C: TokenClass, N: Grammar<C>>(
 }
 
 // The token against the top of the stack. A part that does not begin with it, but may end, is done
-// and leaves it to the symbol below. To end a part that does begin with it would be wrong only where
-// the token could follow the part too, and the LL(1) condition rules that out.
+// and leaves it to the symbol below. A part that begins with it is not ended, though it may be able
+// to: by the LL(1) condition no text goes on behind such an end with this token.
 fn read<C: TokenClass, N: Grammar<C>>(
     stack: &mut Vec<Symbol<C, N>>,
     class: C,
 ) -> Result<Step, AllocError>
     requires { IsReady N.rules N.follow (reverse stack.old.items) }
-    ensures { IfOk result (λ step. IsRead N.rules N.follow (reverse stack.old.items) class step (reverse stack.new.items)) }
+    ensures { IfOk result (λ step.
+        IsRead N.rules N.follow (reverse stack.old.items) class step (reverse stack.new.items)) }
 {
     while let Some(symbol) = stack.pop() {
         match symbol {

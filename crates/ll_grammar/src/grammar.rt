@@ -45,7 +45,8 @@ pub trait Grammar<C: TokenClass>: Copy + 'static {
     /// Where it does not, leaves the stack as it was. `Deep` is for a token with which the part
     /// begins: any other is `Absent` at every depth. `Err` is for want of memory alone.
     fn push(self, class: C, stack: &mut Vec<Symbol<C, Self>>) -> Result<Step, AllocError>
-        ensures { IfOk result (λ step. IsStep (rules.behind self class) (rules.deep self class) stack.old.items step stack.new.items) };
+        ensures { IfOk result (λ step.
+            IsStep (rules.behind self class) (rules.deep self class) stack.old.items step stack.new.items) };
 
     /// Whether the part may have no token at all.
     fn may_end(self) -> bool

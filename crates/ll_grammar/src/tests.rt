@@ -11,6 +11,7 @@ ghost use Rattle.ll_grammar.specs.Tables.{predictable_by, texts_by, is_predictab
 
 use crate::fault::{Fault, first_fault};
 use crate::grammar::{Grammar, Step, Symbol, TokenClass, push_body};
+use crate::laws::{one_answer, viable_prefixes};
 use std::alloc::AllocError;
 use std::test::Fail;
 
@@ -73,7 +74,8 @@ impl Grammar<Bracket> for Phrase {
         (elim [ Open ↦ refl | Close ↦ refl | Semicolon ↦ refl | Word ↦ refl ])
         (elim [ Items d ↦ refl | More d ↦ refl | Item d ↦ refl ]) };
 
-    ghost has_texts = { texts_by Self.rules (λ (n : Phrase). Word) (λ (n : Phrase). 0) (elim [ Items d ↦ refl | More d ↦ refl | Item d ↦ refl ]) };
+    ghost has_texts = { texts_by Self.rules (λ (n : Phrase). Word) (λ (n : Phrase). 0)
+        (elim [ Items d ↦ refl | More d ↦ refl | Item d ↦ refl ]) };
 
     fn may_end(self) -> bool {
         match self {
@@ -185,5 +187,17 @@ fn the_third_open_bracket_is_too_deep(rt: HostRuntime) -> Result<(), Fail> {
 fn the_earlier_fault_is_named(rt: HostRuntime) -> Result<(), Fail> {
     assert_eq!(rt; fault(&rt, b"[[x[")?, Some(Fault::Syntax(3)));
     assert_eq!(rt; fault(&rt, b"[[[;;")?, Some(Fault::Depth(2)));
+    Ok(())
+}
+
+#[test]
+fn the_laws_can_be_called(_rt: HostRuntime) -> Result<(), Fail> {
+    viable_prefixes(Phrase::Items(0), &[Bracket::Open]);
+    one_answer(
+        Phrase::Items(0),
+        &[Bracket::Open],
+        Some(Fault::Syntax(1)),
+        None,
+    );
     Ok(())
 }
