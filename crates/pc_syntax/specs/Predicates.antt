@@ -84,7 +84,7 @@ predicate_rows =
     ∷ row (codes "HasDependency") has_dependency (takes_plain ∷ takes_op ∷ takes_op ∷ [])
     ∷ []
 
-abbrev find_row : List Row → List ℕ → Option Row
+abbrev pub find_row : List Row → List ℕ → Option Row
 find_row [] name = None
 find_row (r ∷ rs) name = if same_name r.name name then Some r else find_row rs name
 

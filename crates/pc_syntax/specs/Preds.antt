@@ -1,7 +1,7 @@
 -- The predicates by their variants: which row of the table each is.
-use Rattle.std.specs.Prelude.{ℕ, List, [], ◌∷◌, Option, option_map}
+use Rattle.std.specs.Prelude.{ℕ, List, [], ◌∷◌, Option, option_map, codes}
 use Rattle.pc_syntax.specs.Predicates
-use Rattle.pc_syntax.specs.Predicates.{Predicate, always, never, is_any_read, is_any_write, is_any_fence, access_type, on_core, same_core, same_thread, same_microop, same_instruction, same_intra, program_order, same_virtual_address, same_physical_address, same_virtual_tag, same_physical_tag, same_index, same_data, data_from_initial, data_from_final, has_dependency, takes_op, takes_core, takes_plain, row_named}
+use Rattle.pc_syntax.specs.Predicates.{Predicate, always, never, is_any_read, is_any_write, is_any_fence, access_type, on_core, same_core, same_thread, same_microop, same_instruction, same_intra, program_order, same_virtual_address, same_physical_address, same_virtual_tag, same_physical_tag, same_index, same_data, data_from_initial, data_from_final, has_dependency, takes_op, takes_core, takes_plain, row_named, Row}
 use Rattle.pc_syntax.specs.declared.pred.Pred.{Pred}
 use Rattle.pc_syntax.specs.declared.pred.Pred.TheVariants.{True, False, IsAnyRead, IsAnyWrite, IsAnyFence, AccessType, OnCore, SameCore, SameThread, SameMicroop, SameInstruction, SameIntra, ProgramOrder, SameVirtualAddress, SamePhysicalAddress, SameVirtualTag, SamePhysicalTag, SameIndex, SameData, DataFromInitialStateAtPA, DataFromFinalStateAtPA, HasDependency}
 use Rattle.pc_syntax.specs.declared.pred.Takes.{Takes}
@@ -55,6 +55,58 @@ pred_of data_from_initial = DataFromInitialStateAtPA
 pred_of data_from_final = DataFromFinalStateAtPA
 pred_of has_dependency = HasDependency
 
+-- the name, as models spell it
+abbrev pub pred_name : Pred → List ℕ
+pred_name True = codes "True"
+pred_name False = codes "False"
+pred_name IsAnyRead = codes "IsAnyRead"
+pred_name IsAnyWrite = codes "IsAnyWrite"
+pred_name IsAnyFence = codes "IsAnyFence"
+pred_name AccessType = codes "AccessType"
+pred_name OnCore = codes "OnCore"
+pred_name SameCore = codes "SameCore"
+pred_name SameThread = codes "SameThread"
+pred_name SameMicroop = codes "SameMicroop"
+pred_name SameInstruction = codes "SameInstruction"
+pred_name SameIntra = codes "SameIntra"
+pred_name ProgramOrder = codes "ProgramOrder"
+pred_name SameVirtualAddress = codes "SameVirtualAddress"
+pred_name SamePhysicalAddress = codes "SamePhysicalAddress"
+pred_name SameVirtualTag = codes "SameVirtualTag"
+pred_name SamePhysicalTag = codes "SamePhysicalTag"
+pred_name SameIndex = codes "SameIndex"
+pred_name SameData = codes "SameData"
+pred_name DataFromInitialStateAtPA = codes "DataFromInitialStateAtPA"
+pred_name DataFromFinalStateAtPA = codes "DataFromFinalStateAtPA"
+pred_name HasDependency = codes "HasDependency"
+
+-- in the order of the table
+abbrev pub all_preds : List Pred
+all_preds =
+    True
+    ∷ False
+    ∷ IsAnyRead
+    ∷ IsAnyWrite
+    ∷ IsAnyFence
+    ∷ AccessType
+    ∷ OnCore
+    ∷ SameCore
+    ∷ SameThread
+    ∷ SameMicroop
+    ∷ SameInstruction
+    ∷ SameIntra
+    ∷ ProgramOrder
+    ∷ SameVirtualAddress
+    ∷ SamePhysicalAddress
+    ∷ SameVirtualTag
+    ∷ SamePhysicalTag
+    ∷ SameIndex
+    ∷ SameData
+    ∷ DataFromInitialStateAtPA
+    ∷ DataFromFinalStateAtPA
+    ∷ HasDependency
+    ∷ []
+
 -- the predicate whose row has this name, if there is one
 abbrev pub pred_named : List ℕ → Option Pred
 pred_named name = option_map (λ r. pred_of r.predicate) (row_named name)
@@ -77,3 +129,7 @@ abbrev pub takes_meant : Takes → Predicates.Takes
 takes_meant Op = takes_op
 takes_meant Core = takes_core
 takes_meant Plain = takes_plain
+
+-- the predicate's row in the table
+abbrev pub row_of : Pred → Row
+row_of p = record { name = pred_name p; predicate = predicate_of p; takes = takes_of p }
