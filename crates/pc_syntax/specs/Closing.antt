@@ -1,6 +1,6 @@
 -- What closing makes of an expanded formula: each variable is the slot of its first binding, each
 -- stage name its number, each predicate its row.
-use Rattle.std.specs.Prelude.{◌≡◌, ℕ, List, [], ◌∷◌, None, map, unwrap_or, option_map}
+use Rattle.std.specs.Prelude.{Some, None, ◌≡◌, ℕ, List, [], ◌∷◌, None, map, unwrap_or, option_map}
 use Rattle.pc_syntax.specs.declared.term.Word.{Word}
 use Rattle.pc_syntax.specs.declared.term.Arg.{Arg}
 use Rattle.pc_syntax.specs.declared.term.Arg.TheVariants.{Word as word_arg, Number as number_arg}
@@ -18,7 +18,7 @@ use Rattle.pc_syntax.specs.Preds.{pred_named, takes_of}
 use Rattle.pc_syntax.specs.Written.{Written, not_, and_, or_, implies_, forall_, exists_, static_, nodes_, edges_, expand_, bind_}
 use Rattle.pc_syntax.specs.Truth.{stage_of}
 use Rattle.pc_syntax.specs.Closed.{PlainClosed, closed_not, closed_and, closed_or, closed_implies, closed_forall, closed_exists, closed_static, closed_nodes, closed_edges, closed_bind}
-use Rattle.pc_syntax.specs.Scope.{Scope, slot_in, bound_in}
+use Rattle.pc_syntax.specs.Scope.{Scope, binding_of, quantified_in, bound_in}
 use Rattle.pc_syntax.specs.NameFaults.{name_fault}
 
 -- What follows is total: it takes 0 for the slot of a name without binding and for the number of a
@@ -26,12 +26,17 @@ use Rattle.pc_syntax.specs.NameFaults.{name_fault}
 -- has none of these.
 
 abbrev pub slot_of : Scope → Word → ℕ
-slot_of scope w = unwrap_or (slot_in scope w.name) 0
+slot_of scope w = elim (binding_of scope w.name) [ None ↦ 0 | Some b ↦ b.slot ]
 
 -- an argument that has a value
 abbrev pub closing_of_value : Scope → Arg → ClosedArg
 closing_of_value scope (word_arg w) = Slot (slot_of scope w)
 closing_of_value scope (number_arg n at) = Core n
+
+-- the arguments that names are bound to
+abbrev pub closing_of_bound : Scope → List (List ℕ) → List Arg → List ClosedArg
+closing_of_bound scope (n ∷ ns) (a ∷ as_) = closing_of_value scope a ∷ closing_of_bound scope ns as_
+closing_of_bound scope _ _ = []
 
 -- an argument where this is taken
 abbrev pub closing_of_arg : Scope → Takes → Arg → ClosedArg
@@ -63,14 +68,14 @@ closing_of stages scope (not_ p) = closed_not (closing_of stages scope p)
 closing_of stages scope (and_ p q) = closed_and (closing_of stages scope p) (closing_of stages scope q)
 closing_of stages scope (or_ p q) = closed_or (closing_of stages scope p) (closing_of stages scope q)
 closing_of stages scope (implies_ p q) = closed_implies (closing_of stages scope p) (closing_of stages scope q)
-closing_of stages scope (forall_ at sort name p) = closed_forall sort (closing_of stages ((name, sort) ∷ scope) p)
-closing_of stages scope (exists_ at sort name p) = closed_exists sort (closing_of stages ((name, sort) ∷ scope) p)
+closing_of stages scope (forall_ at sort name p) = closed_forall sort (closing_of stages (quantified_in scope name sort) p)
+closing_of stages scope (exists_ at sort name p) = closed_exists sort (closing_of stages (quantified_in scope name sort) p)
 closing_of stages scope (static_ pred args) = closing_of_static scope (unwrap_or (pred_named pred.name) True) args
 closing_of stages scope (nodes_ ts) = closed_nodes (map (closing_of_node stages scope) ts)
 closing_of stages scope (edges_ ts) = closed_edges (map (closing_of_edge stages scope) ts)
 closing_of stages scope (expand_ at name args) = closed_nodes []
 closing_of stages scope (bind_ at names args p) =
-    closed_bind (map (closing_of_value scope) args) (closing_of stages (bound_in scope names args) p)
+    closed_bind (closing_of_bound scope names args) (closing_of stages (bound_in scope names args) p)
 
 -- c is what closing makes of the expanded formula e, which has no name fault in the scope
 pub record IsClosingOf (stages : List StageItem) (scope : Scope) (e : Written) (c : PlainClosed) : Type 0 where

@@ -1,7 +1,5 @@
 -- What expansion makes of a formula, and what an expanded formula is.
-use Rattle.std.specs.Prelude.{◌≡◌, ℕ, Bool, true, not, List, [], ◌∷◌, length, map, IsTrue, ◌&&◌, if◌then◌else◌}
-use Rattle.std.specs.List.{list_any}
-use Rattle.std.specs.Coded.{Coded-set, coded_ℕ, coded_bool}
+use Rattle.std.specs.Prelude.{◌≡◌, ℕ, List, [], ◌∷◌, map, if◌then◌else◌}
 use Rattle.pc_syntax.specs.Predicates.{same_name}
 use Rattle.pc_syntax.specs.Written.{Written, not_, and_, or_, implies_, forall_, exists_, static_, nodes_, edges_, expand_, bind_, MacroAt}
 
@@ -31,12 +29,7 @@ expansion_of (m ∷ ms) (expand_ at name args) =
 abbrev pub IsExpansionOf : List MacroAt → Written → Written → Type 0
 IsExpansionOf ms w e = e ≡ expansion_of ms w
 
--- no two names are equal
-abbrev pub are_distinct : List (List ℕ) → Bool
-are_distinct [] = true
-are_distinct (n ∷ ns) = not (list_any (same_name n) ns) && are_distinct ns
-
--- no expansion is left, and each binding has as many names as arguments, no two of them equal
+-- no expansion is left
 abbrev pub IsExpanded : Written → Type 0
 IsExpanded (not_ p) = IsExpanded p
 IsExpanded (and_ p q) = IsExpanded p × IsExpanded q
@@ -48,8 +41,7 @@ IsExpanded (static_ pred args) = Unit {0}
 IsExpanded (nodes_ ts) = Unit {0}
 IsExpanded (edges_ ts) = Unit {0}
 IsExpanded (expand_ at name args) = ⊥
-IsExpanded (bind_ at names args p) =
-    (length names ≡ length args) × IsTrue (are_distinct names) × IsExpanded p
+IsExpanded (bind_ at names args p) = IsExpanded p
 
 pub IsExpanded-prop : (w : Written) → IsProp (IsExpanded w)
 IsExpanded-prop (not_ p) = IsExpanded-prop p
@@ -62,5 +54,4 @@ IsExpanded-prop (static_ pred args) = hlevel
 IsExpanded-prop (nodes_ ts) = hlevel
 IsExpanded-prop (edges_ ts) = hlevel
 IsExpanded-prop (expand_ at name args) = hlevel
-IsExpanded-prop (bind_ at names args p) =
-    hlevel (Coded-set coded_ℕ (length names) (length args), Coded-set coded_bool (are_distinct names) true, IsExpanded-prop p)
+IsExpanded-prop (bind_ at names args p) = IsExpanded-prop p

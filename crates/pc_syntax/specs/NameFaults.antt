@@ -16,7 +16,7 @@ use Rattle.pc_syntax.specs.Predicates.{same_name, Takes, takes_op, takes_core, t
 use Rattle.pc_syntax.specs.Written.{Written, not_, and_, or_, implies_, forall_, exists_, static_, nodes_, edges_, expand_, bind_, MacroAt}
 use Rattle.pc_syntax.specs.Truth.{stage_of}
 use Rattle.pc_syntax.specs.Expansion.{parameter_names}
-use Rattle.pc_syntax.specs.Scope.{Scope, sort_in, bound_in}
+use Rattle.pc_syntax.specs.Scope.{Scope, binding_of, quantified_in, bound_in}
 use Rattle.pc_syntax.specs.Fault.{Fault, first_fault}
 
 -- the wrong sort where this one is wanted
@@ -28,7 +28,7 @@ sort_fault at _ _ = Some (WrongSort, at)
 -- a variable of this sort is asked for
 abbrev pub variable_fault : Scope → Sort → Word → Option Fault
 variable_fault scope wanted w =
-    elim (sort_in scope w.name) [ None ↦ Some (Unbound, w.at) | Some found ↦ sort_fault w.at wanted found ]
+    elim (binding_of scope w.name) [ None ↦ Some (Unbound, w.at) | Some b ↦ sort_fault w.at wanted b.sort ]
 
 -- a core number is over 63
 abbrev pub core_fault : ℕ → Place → Option Fault
@@ -81,7 +81,7 @@ edge_fault stages scope t = option_or (node_fault stages scope t.from) (node_fau
 
 -- an argument of an expansion is a variable of either sort or a core number
 abbrev pub value_fault : Scope → Arg → Option Fault
-value_fault scope (word_arg w) = elim (sort_in scope w.name) [ None ↦ Some (Unbound, w.at) | Some found ↦ None ]
+value_fault scope (word_arg w) = elim (binding_of scope w.name) [ None ↦ Some (Unbound, w.at) | Some b ↦ None ]
 value_fault scope (number_arg n at) = core_fault n at
 
 -- more than 32 variables are in the scope
@@ -100,9 +100,9 @@ name_fault stages ms scope (and_ p q) = option_or (name_fault stages ms scope p)
 name_fault stages ms scope (or_ p q) = option_or (name_fault stages ms scope p) (name_fault stages ms scope q)
 name_fault stages ms scope (implies_ p q) = option_or (name_fault stages ms scope p) (name_fault stages ms scope q)
 name_fault stages ms scope (forall_ at sort name p) =
-    let inside : Scope = (name, sort) ∷ scope in option_or (scope_fault at inside) (name_fault stages ms inside p)
+    let inside = quantified_in scope name sort in option_or (scope_fault at inside) (name_fault stages ms inside p)
 name_fault stages ms scope (exists_ at sort name p) =
-    let inside : Scope = (name, sort) ∷ scope in option_or (scope_fault at inside) (name_fault stages ms inside p)
+    let inside = quantified_in scope name sort in option_or (scope_fault at inside) (name_fault stages ms inside p)
 name_fault stages ms scope (static_ pred args) = static_fault scope pred args
 name_fault stages ms scope (nodes_ ts) = first_fault (node_fault stages scope) ts
 name_fault stages ms scope (edges_ ts) = first_fault (edge_fault stages scope) ts

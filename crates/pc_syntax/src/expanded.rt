@@ -3,8 +3,7 @@ ghost use Rattle.pc_syntax.specs.Expansion.{IsExpanded, IsExpanded-prop};
 
 use super::formula::Formula;
 
-/// A formula with each macro in its place: it has no `Expand`, and each `Bind` has as many names as
-/// arguments, no two of them equal.
+/// A formula with each macro in its place: it has no `Expand`.
 #[derive(Drop)]
 pub struct Expanded {
     pub body: Formula,
