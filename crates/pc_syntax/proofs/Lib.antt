@@ -1,1 +1,2 @@
 pub mod PredLaws
+pub mod ExpansionLaws

@@ -1,6 +1,6 @@
 -- What closing makes of an expanded formula: each variable is the slot of its first binding, each
 -- stage name its number, each predicate its row.
-use Rattle.std.specs.Prelude.{Some, None, ◌≡◌, ℕ, List, [], ◌∷◌, None, map, unwrap_or, option_map}
+use Rattle.std.specs.Prelude.{◌≡◌, ℕ, List, [], ◌∷◌, Some, None, map, unwrap_or, option_map}
 use Rattle.pc_syntax.specs.declared.term.Word.{Word}
 use Rattle.pc_syntax.specs.declared.term.Arg.{Arg}
 use Rattle.pc_syntax.specs.declared.term.Arg.TheVariants.{Word as word_arg, Number as number_arg}
@@ -8,7 +8,7 @@ use Rattle.pc_syntax.specs.declared.term.NodeTerm.{NodeTerm}
 use Rattle.pc_syntax.specs.declared.term.EdgeTerm.{EdgeTerm}
 use Rattle.pc_syntax.specs.declared.model.StageItem.{StageItem}
 use Rattle.pc_syntax.specs.declared.pred.Pred.{Pred}
-use Rattle.pc_syntax.specs.declared.pred.Pred.TheVariants.{True}
+use Rattle.pc_syntax.specs.declared.pred.Pred.TheVariants.{True, False}
 use Rattle.pc_syntax.specs.declared.closed_term.ClosedArg.{ClosedArg}
 use Rattle.pc_syntax.specs.declared.closed_term.ClosedArg.TheVariants.{Slot, Core, Plain}
 use Rattle.pc_syntax.specs.declared.closed_term.ClosedNode.{ClosedNode}
@@ -62,7 +62,7 @@ closing_of_edge stages scope t =
 abbrev pub closing_of_static : Scope → Pred → List Arg → PlainClosed
 closing_of_static scope pred args = closed_static pred (closing_of_args scope (takes_of pred) args)
 
--- an expansion, which no expanded formula has, is taken as the empty list of nodes
+-- an expansion, which no expanded formula has, is taken as False
 abbrev pub closing_of : List StageItem → Scope → Written → PlainClosed
 closing_of stages scope (not_ p) = closed_not (closing_of stages scope p)
 closing_of stages scope (and_ p q) = closed_and (closing_of stages scope p) (closing_of stages scope q)
@@ -73,7 +73,7 @@ closing_of stages scope (exists_ at sort name p) = closed_exists sort (closing_o
 closing_of stages scope (static_ pred args) = closing_of_static scope (unwrap_or (pred_named pred.name) True) args
 closing_of stages scope (nodes_ ts) = closed_nodes (map (closing_of_node stages scope) ts)
 closing_of stages scope (edges_ ts) = closed_edges (map (closing_of_edge stages scope) ts)
-closing_of stages scope (expand_ at name args) = closed_nodes []
+closing_of stages scope (expand_ at name args) = closed_static False []
 closing_of stages scope (bind_ at names args p) =
     closed_bind (closing_of_bound scope names args) (closing_of stages (bound_in scope names args) p)
 
