@@ -1,5 +1,5 @@
 -- Expansion keeps the truth, the size, the height and the first name fault of a formula.
-use Rattle.std.proofs.Common.{◌≡◌, ℕ, ◌+◌, max, Bool, true, false, not, ◌&&◌, ◌||◌, List, [], ◌∷◌, ◌++◌, Option, Some, None, length, map, cond, refl, sym, ap, ◌∙◌}
+use Rattle.std.proofs.Common.{◌≡◌, ◌+◌, max, Bool, true, false, not, ◌&&◌, ◌||◌, List, [], ◌∷◌, ◌++◌, cond, refl}
 use Rattle.std.specs.List.{list_any, list_all}
 use Rattle.std.specs.Option.{option_or}
 use Rattle.pc_syntax.specs.declared.model.StageItem.{StageItem}
@@ -9,7 +9,6 @@ use Rattle.pc_syntax.specs.Truth.{Environment, Setting, bound_to, range_of, is_t
 use Rattle.pc_syntax.specs.Expansion.{parameter_names, expansion_of, IsExpanded}
 use Rattle.pc_syntax.specs.Sizes.{size_of, height_of}
 use Rattle.pc_syntax.specs.Scope.{Scope, quantified_in, bound_in}
-use Rattle.pc_syntax.specs.Fault.{Fault, first_fault}
 use Rattle.pc_syntax.specs.NameFaults.{scope_fault, binding_fault, name_fault}
 
 -- what is read off the formula that a test chooses
@@ -121,6 +120,6 @@ expansion_faults stages (m ∷ ms) scope (expand_ at name args) =
     (bind_ at (parameter_names m) args (expansion_of ms m.body))
     (expansion_of ms (expand_ at name args))
     (λ i. option_or
-          (binding_fault scope at (parameter_names m) args)
-          (expansion_faults stages ms (bound_in scope (parameter_names m) args) m.body i))
+    (binding_fault scope at (parameter_names m) args)
+    (expansion_faults stages ms (bound_in scope (parameter_names m) args) m.body i))
     (expansion_faults stages ms scope (expand_ at name args))

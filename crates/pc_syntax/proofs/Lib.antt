@@ -1,2 +1,5 @@
 pub mod PredLaws
 pub mod ExpansionLaws
+pub mod NoFault
+pub mod Slots
+pub mod ClosingTruth
