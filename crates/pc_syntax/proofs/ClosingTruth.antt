@@ -42,7 +42,7 @@ valued slots None b h = elim h [ ]
 valued slots (Some v) b h =
     record { value = v; is_value = refl; in_slot = ap (λ m. unwrap_or m (a_core 0)) h.0; of_sort = h.1 }
 
-sorts_equal : (at : Place) (wanted found : Sort) → sort_fault at wanted found ≡ None → wanted ≡ found
+pub sorts_equal : (at : Place) (wanted found : Sort) → sort_fault at wanted found ≡ None → wanted ≡ found
 sorts_equal at Microop Microop h = refl
 sorts_equal at Microop Core h = cc
 sorts_equal at Core Microop h = cc
@@ -231,7 +231,7 @@ module _ (slots : List Meaning) (env : Environment) (scope : Scope) (fits : Fits
       (refl, slice_get-end held v values k same, here.1, moved)
 
 -- as many slots as bindings
-bound_length : (scope : Scope) (names : List (List ℕ)) (args : List Arg) (k : ℕ)
+pub bound_length : (scope : Scope) (names : List (List ℕ)) (args : List Arg) (k : ℕ)
     → length (closing_of_bound scope names args) ≡ length (bindings_from scope k names args)
 bound_length scope [] args k = refl
 bound_length scope (n ∷ ns) [] k = refl

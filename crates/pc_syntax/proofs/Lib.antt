@@ -3,3 +3,4 @@ pub mod ExpansionLaws
 pub mod NoFault
 pub mod Slots
 pub mod ClosingTruth
+pub mod ClosingShape
