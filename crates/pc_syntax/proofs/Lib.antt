@@ -4,3 +4,4 @@ pub mod NoFault
 pub mod Slots
 pub mod ClosingTruth
 pub mod ClosingShape
+pub mod ExpandedLaws

@@ -13,3 +13,4 @@ pub mod IsClosed
 pub mod Scope
 pub mod NameFaults
 pub mod Closing
+pub mod ModelFault

@@ -13,7 +13,8 @@ use Rattle.pc_syntax.specs.declared.term.NodeTerm.{NodeTerm}
 use Rattle.pc_syntax.specs.declared.term.EdgeTerm.{EdgeTerm}
 use Rattle.pc_syntax.specs.declared.model.StageItem.{StageItem}
 use Rattle.pc_syntax.specs.Predicates.{same_name, Takes, takes_op, takes_core, takes_plain, row_named}
-use Rattle.pc_syntax.specs.Written.{Written, not_, and_, or_, implies_, forall_, exists_, static_, nodes_, edges_, expand_, bind_, MacroAt}
+use Rattle.pc_syntax.specs.Written.{Written, not_, and_, or_, implies_, forall_, exists_, static_, nodes_, edges_, expand_, bind_, MacroAt, WrittenModel}
+use Rattle.pc_syntax.specs.Observable.{axioms_of, macros_of}
 use Rattle.pc_syntax.specs.Truth.{stage_of}
 use Rattle.pc_syntax.specs.Expansion.{parameter_names}
 use Rattle.pc_syntax.specs.Scope.{Scope, binding_of, quantified_in, bound_in}
@@ -115,3 +116,7 @@ name_fault stages (m ∷ ms) scope (expand_ at name args) =
     (binding_fault scope at (parameter_names m) args)
     (name_fault stages ms (bound_in scope (parameter_names m) args) m.body)
     else name_fault stages ms scope (expand_ at name args)
+
+-- the first name fault of a model: its axioms in order, each with all macros of the file
+abbrev pub first_name_fault : WrittenModel → Option Fault
+first_name_fault m = first_fault (name_fault m.stages (macros_of m) []) (axioms_of m)

@@ -6,11 +6,11 @@ use Rattle.pc_common.specs.World.{Node, World, IsWorld}
 use Rattle.pc_syntax.specs.Written.{Written, MacroAt, WrittenItem, axiom_, macro_, WrittenModel}
 use Rattle.pc_syntax.specs.Truth.{Setting, is_true}
 
-abbrev axiom_of : WrittenItem → List Written
+abbrev pub axiom_of : WrittenItem → List Written
 axiom_of (axiom_ at body) = body ∷ []
 axiom_of (macro_ m) = []
 
-abbrev macro_of : WrittenItem → List MacroAt
+abbrev pub macro_of : WrittenItem → List MacroAt
 macro_of (axiom_ at body) = []
 macro_of (macro_ m) = m ∷ []
 
