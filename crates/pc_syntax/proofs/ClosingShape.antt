@@ -1,5 +1,5 @@
 -- What closing makes of a formula without name faults keeps what closed formulas keep.
-use Rattle.std.proofs.Common.{◌≡◌, ℕ, suc, ◌+◌, ◌<◌, ◌≤◌, Bool, true, false, List, [], ◌∷◌, ◌++◌, Option, Some, None, length, map, cond, option_map, refl, sym, ap, subst, ◌∙◌, slice_get, unwrap_or, append_assoc, append-nil, arith, length-append, eqb-true, ltb-false, nat_lt}
+use Rattle.std.proofs.Common.{◌≡◌, ℕ, ◌+◌, ◌<◌, ◌≤◌, Bool, true, false, List, [], ◌∷◌, ◌++◌, Option, Some, None, length, map, cond, option_map, refl, sym, ap, subst, ◌∙◌, unwrap_or, append_assoc, append-nil, arith, length-append, eqb-true, ltb-false, nat_lt}
 use Rattle.std.proofs.lemmas.List.{length-map}
 use Rattle.std.proofs.lemmas.Option.{slice_get_within}
 use Rattle.std.specs.Option.{option_or}
@@ -113,16 +113,18 @@ module _ (sorts : List Sort) (scope : Scope) (fits : SortsFit sorts scope) where
   args_closed [] [] same f = tt
   args_closed [] (a ∷ as_) same f = absurd (omega arith)
   args_closed (t ∷ ts) [] same f = absurd (omega arith)
-  args_closed (t ∷ ts) (a ∷ as_) same f =
-      (arg_closed t a (none_first (argument_fault scope t a) (arguments_fault scope ts as_) f),
-       args_closed ts as_ (omega arith) (none_second (argument_fault scope t a) (arguments_fault scope ts as_) f))
+  args_closed (t ∷ ts) (a ∷ as_) same f = (
+    arg_closed t a (none_first (argument_fault scope t a) (arguments_fault scope ts as_) f),
+    args_closed ts as_ (omega arith) (none_second (argument_fault scope t a) (arguments_fault scope ts as_) f),
+  )
 
   static_closed : (pred : Word) (args : List Arg) (o : Option Pred)
       → ◌≡◌ {A = Option Fault}
-        (elim (option_map row_of o)
-         [ None ↦ Some (PredicateUnknown, pred.at)
-         | Some r ↦ option_or (arity_fault pred args r.takes) (arguments_fault scope r.takes args) ])
-        None
+      (elim (option_map row_of o) [
+        | None ↦ Some (PredicateUnknown, pred.at)
+        | Some r ↦ option_or (arity_fault pred args r.takes) (arguments_fault scope r.takes args)
+      ])
+      None
       → IsClosed sorts (closing_of_static scope (unwrap_or o True) args)
   static_closed pred args None f = cc
   static_closed pred args (Some p) f =
@@ -149,10 +151,11 @@ module _ (sorts : List Sort) (scope : Scope) (fits : SortsFit sorts scope) where
       let op = variable_fault scope Microop t.op in
       let core = location_fault scope t.core in
       let stage = stage_name_fault stages t.stage in
-      let rest = none_second op (option_or core stage) f in
-      (variable_closed Microop t.op (none_first op (option_or core stage) f),
-       location_closed t.core (none_first core stage rest),
-       stage_closed (stage_of stages t.stage.name) t.stage (below t.stage.name) (none_second core stage rest))
+      let rest = none_second op (option_or core stage) f in (
+        variable_closed Microop t.op (none_first op (option_or core stage) f),
+        location_closed t.core (none_first core stage rest),
+        stage_closed (stage_of stages t.stage.name) t.stage (below t.stage.name) (none_second core stage rest),
+      )
 
   nodes_closed : (stages : List StageItem) → StagesBelow stages → (ts : List NodeTerm)
       → first_fault (node_fault stages scope) ts ≡ None → FitNodes sorts (map (closing_of_node stages scope) ts)
@@ -169,10 +172,11 @@ module _ (sorts : List Sort) (scope : Scope) (fits : SortsFit sorts scope) where
       let from = node_fault stages scope t.from in
       let to = node_fault stages scope t.to in
       let rest = first_fault (edge_fault stages scope) ts in
-      let here = none_first (edge_fault stages scope t) rest f in
-      (node_closed stages below t.from (none_first from to here),
-       node_closed stages below t.to (none_second from to here),
-       edges_closed stages below ts (none_second (edge_fault stages scope t) rest f))
+      let here = none_first (edge_fault stages scope t) rest f in (
+        node_closed stages below t.from (none_first from to here),
+        node_closed stages below t.to (none_second from to here),
+        edges_closed stages below ts (none_second (edge_fault stages scope t) rest f),
+      )
 
   value_closed : (a : Arg) → value_fault scope a ≡ None
       → HasValue sorts (closing_of_value scope a) × (sort_of sorts (closing_of_value scope a) ≡ sort_of_arg scope a)
@@ -186,9 +190,10 @@ module _ (sorts : List Sort) (scope : Scope) (fits : SortsFit sorts scope) where
   values_closed [] args f = tt
   values_closed (n ∷ ns) [] f = tt
   values_closed (n ∷ ns) (a ∷ as_) f =
-      let rest = first_fault (value_fault scope) as_ in
-      ((value_closed a (none_first (value_fault scope a) rest f)).0,
-       values_closed ns as_ (none_second (value_fault scope a) rest f))
+      let rest = first_fault (value_fault scope) as_ in (
+        (value_closed a (none_first (value_fault scope a) rest f)).0,
+        values_closed ns as_ (none_second (value_fault scope a) rest f),
+      )
 
   -- the names of a binding, with slots from this one on
   bound_sorts : (names : List (List ℕ)) (args : List Arg) (held : List Sort) (k : ℕ)
@@ -203,48 +208,52 @@ module _ (sorts : List Sort) (scope : Scope) (fits : SortsFit sorts scope) where
       let is_sort : s ≡ sort_of_arg scope a = (value_closed a (none_first (value_fault scope a) others f)).1 in
       let next : length (held ++ s ∷ []) ≡ k + 1 = omega (arith, length-append held (s ∷ [])) in
       let rest =
-          bound_sorts ns as_ (held ++ s ∷ []) (k + 1) next (none_second (value_fault scope a) others f)
-          (SortsFit-more held (s ∷ []) scope h) in
-      (slice_get-end held s more k same ∙ ap Some is_sort,
-       subst
-       (λ (xs : List Sort). SortsFit xs (bindings_from scope (k + 1) ns as_ ++ scope))
-       (append_assoc held (s ∷ []) more) rest)
+      bound_sorts ns as_ (held ++ s ∷ []) (k + 1) next (none_second (value_fault scope a) others f)
+      (SortsFit-more held (s ∷ []) scope h) in (
+        slice_get-end held s more k same ∙ ap Some is_sort,
+        subst
+            (λ (xs : List Sort). SortsFit xs (bindings_from scope (k + 1) ns as_ ++ scope))
+            (append_assoc held (s ∷ []) more) rest,
+      )
 
 -- as many slots as bindings
 bound_sorts-length : (sorts : List Sort) (scope : Scope) (names : List (List ℕ)) (args : List Arg) → length sorts ≡ length scope
     → length (sorts ++ map (sort_of sorts) (closing_of_bound scope names args)) ≡ length (bound_in scope names args)
 bound_sorts-length sorts scope names args same =
     let more = map (sort_of sorts) (closing_of_bound scope names args) in
-    omega
-    (arith,
-     length-append sorts more,
-     length-map (closing_of_bound scope names args) (sort_of sorts),
-     bound_length scope names args (length scope),
-     length-append (bindings_from scope (length scope) names args) scope,
-     same)
+    omega (
+      arith,
+      length-append sorts more,
+      length-map (closing_of_bound scope names args) (sort_of sorts),
+      bound_length scope names args (length scope),
+      length-append (bindings_from scope (length scope) names args) scope,
+      same,
+    )
 
 bound_limit : (sorts : List Sort) (scope : Scope) (names : List (List ℕ)) (args : List Arg) → length sorts ≡ length scope
     → length (bound_in scope names args) ≤ 32 → length sorts + length (closing_of_bound scope names args) ≤ 32
 bound_limit sorts scope names args same limit =
-    omega
-    (arith,
-     bound_length scope names args (length scope),
-     length-append (bindings_from scope (length scope) names args) scope,
-     same,
-     limit)
+    omega (
+      arith,
+      bound_length scope names args (length scope),
+      length-append (bindings_from scope (length scope) names args) scope,
+      same,
+      limit,
+    )
 
 static_shape : (sorts : List Sort) (scope : Scope) → SortsFit sorts scope → (stages : List StageItem) (pred : Word) (args : List Arg)
     → name_fault stages [] scope (static_ pred args) ≡ None → IsClosed sorts (closing_of stages scope (static_ pred args))
 static_shape sorts scope fits stages pred args f =
     static_closed sorts scope fits pred args (pred_named pred.name)
     (subst
-     (λ (o : Option Row).
-      ◌≡◌ {A = Option Fault}
-      (elim o
-       [ None ↦ Some (PredicateUnknown, pred.at)
-       | Some r ↦ option_or (arity_fault pred args r.takes) (arguments_fault scope r.takes args) ])
-      None)
-     (row_named-pred_named pred.name) f)
+    (λ (o : Option Row).
+    ◌≡◌ {A = Option Fault}
+    (elim o [
+      | None ↦ Some (PredicateUnknown, pred.at)
+      | Some r ↦ option_or (arity_fault pred args r.takes) (arguments_fault scope r.takes args)
+    ])
+    None)
+    (row_named-pred_named pred.name) f)
 
 -- closing a formula without name faults gives a closed formula
 pub closing_closed : (stages : List StageItem) → StagesBelow stages → (sorts : List Sort) (scope : Scope)
@@ -253,33 +262,38 @@ pub closing_closed : (stages : List StageItem) → StagesBelow stages → (sorts
 closing_closed stages below sorts scope same fits (not_ p) f = closing_closed stages below sorts scope same fits p f
 closing_closed stages below sorts scope same fits (and_ p q) f =
     let a = name_fault stages [] scope p in
-    let b = name_fault stages [] scope q in
-    (closing_closed stages below sorts scope same fits p (none_first a b f),
-     closing_closed stages below sorts scope same fits q (none_second a b f))
+    let b = name_fault stages [] scope q in (
+      closing_closed stages below sorts scope same fits p (none_first a b f),
+      closing_closed stages below sorts scope same fits q (none_second a b f),
+    )
 closing_closed stages below sorts scope same fits (or_ p q) f =
     let a = name_fault stages [] scope p in
-    let b = name_fault stages [] scope q in
-    (closing_closed stages below sorts scope same fits p (none_first a b f),
-     closing_closed stages below sorts scope same fits q (none_second a b f))
+    let b = name_fault stages [] scope q in (
+      closing_closed stages below sorts scope same fits p (none_first a b f),
+      closing_closed stages below sorts scope same fits q (none_second a b f),
+    )
 closing_closed stages below sorts scope same fits (implies_ p q) f =
     let a = name_fault stages [] scope p in
-    let b = name_fault stages [] scope q in
-    (closing_closed stages below sorts scope same fits p (none_first a b f),
-     closing_closed stages below sorts scope same fits q (none_second a b f))
+    let b = name_fault stages [] scope q in (
+      closing_closed stages below sorts scope same fits p (none_first a b f),
+      closing_closed stages below sorts scope same fits q (none_second a b f),
+    )
 closing_closed stages below sorts scope same fits (forall_ at sort name p) f =
     let inside = quantified_in scope name sort in
-    let limit = within_limit at inside (none_first (scope_fault at inside) (name_fault stages [] inside p) f) in
-    (omega (arith, limit, same),
-     closing_closed stages below (sorts ++ sort ∷ []) inside (omega (arith, length-append sorts (sort ∷ []), same))
-     (slice_get-end sorts sort [] (length scope) same, SortsFit-more sorts (sort ∷ []) scope fits) p
-     (none_second (scope_fault at inside) (name_fault stages [] inside p) f))
+    let limit = within_limit at inside (none_first (scope_fault at inside) (name_fault stages [] inside p) f) in (
+      omega (arith, limit, same),
+      closing_closed stages below (sorts ++ sort ∷ []) inside (omega (arith, length-append sorts (sort ∷ []), same))
+          (slice_get-end sorts sort [] (length scope) same, SortsFit-more sorts (sort ∷ []) scope fits) p
+          (none_second (scope_fault at inside) (name_fault stages [] inside p) f),
+    )
 closing_closed stages below sorts scope same fits (exists_ at sort name p) f =
     let inside = quantified_in scope name sort in
-    let limit = within_limit at inside (none_first (scope_fault at inside) (name_fault stages [] inside p) f) in
-    (omega (arith, limit, same),
-     closing_closed stages below (sorts ++ sort ∷ []) inside (omega (arith, length-append sorts (sort ∷ []), same))
-     (slice_get-end sorts sort [] (length scope) same, SortsFit-more sorts (sort ∷ []) scope fits) p
-     (none_second (scope_fault at inside) (name_fault stages [] inside p) f))
+    let limit = within_limit at inside (none_first (scope_fault at inside) (name_fault stages [] inside p) f) in (
+      omega (arith, limit, same),
+      closing_closed stages below (sorts ++ sort ∷ []) inside (omega (arith, length-append sorts (sort ∷ []), same))
+          (slice_get-end sorts sort [] (length scope) same, SortsFit-more sorts (sort ∷ []) scope fits) p
+          (none_second (scope_fault at inside) (name_fault stages [] inside p) f),
+    )
 closing_closed stages below sorts scope same fits (static_ pred args) f = static_shape sorts scope fits stages pred args f
 closing_closed stages below sorts scope same fits (nodes_ ts) f = nodes_closed sorts scope fits stages below ts f
 closing_closed stages below sorts scope same fits (edges_ ts) f = edges_closed sorts scope fits stages below ts f
@@ -289,13 +303,14 @@ closing_closed stages below sorts scope same fits (bind_ at names args p) f =
     let body = name_fault stages [] inside p in
     let binding = none_first (binding_fault scope at names args) body f in
     let values = none_first (first_fault (value_fault scope) args) (scope_fault at inside) binding in
-    let limit = within_limit at inside (none_second (first_fault (value_fault scope) args) (scope_fault at inside) binding) in
-    (values_closed sorts scope fits names args values,
-     bound_limit sorts scope names args same limit,
-     closing_closed stages below (sorts ++ map (sort_of sorts) (closing_of_bound scope names args)) inside
-     (bound_sorts-length sorts scope names args same)
-     (bound_sorts sorts scope fits names args sorts (length scope) same values fits)
-     p (none_second (binding_fault scope at names args) body f))
+    let limit = within_limit at inside (none_second (first_fault (value_fault scope) args) (scope_fault at inside) binding) in (
+      values_closed sorts scope fits names args values,
+      bound_limit sorts scope names args same limit,
+      closing_closed stages below (sorts ++ map (sort_of sorts) (closing_of_bound scope names args)) inside
+          (bound_sorts-length sorts scope names args same)
+          (bound_sorts sorts scope fits names args sorts (length scope) same values fits)
+          p (none_second (binding_fault scope at names args) body f),
+    )
 
 -- a closed axiom keeps what the type of closed axioms keeps
 pub closed_axiom_closed : (stages : List StageItem) → stages_fault [] stages ≡ None → (e : Written)

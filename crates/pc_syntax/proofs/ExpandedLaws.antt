@@ -1,10 +1,9 @@
 -- The expansion of an axiom has no expansion left where the model has no macro fault.
-use Rattle.std.proofs.Common.{◌≡◌, ℕ, Bool, true, false, List, [], ◌∷◌, ◌++◌, Option, Some, None, cond, reverse, refl, sym, ap, subst, ◌∙◌, append_assoc, append-nil, All}
+use Rattle.std.proofs.Common.{◌≡◌, Bool, true, false, List, [], ◌∷◌, ◌++◌, Option, Some, None, cond, reverse, refl, sym, ap, subst, ◌∙◌, append_assoc, append-nil, All}
 use Rattle.std.specs.List.{flat_map}
 use Rattle.std.specs.Option.{option_or}
 use Rattle.std.proofs.lemmas.List.{reverse-append}
 use Rattle.std.proofs.lemmas.List.Elements.{All-nil, All-cons}
-use Rattle.pc_common.specs.declared.place.Place.{Place}
 use Rattle.pc_common.specs.declared.fault.FaultKind.TheVariants.{MacroUnknown}
 use Rattle.pc_syntax.specs.declared.term.Word.{Word}
 use Rattle.pc_syntax.specs.declared.term.Arg.{Arg}
@@ -13,7 +12,7 @@ use Rattle.pc_syntax.specs.Written.{Written, not_, and_, or_, implies_, forall_,
 use Rattle.pc_syntax.specs.Observable.{axiom_of, macro_of, axioms_of, macros_of}
 use Rattle.pc_syntax.specs.Expansion.{parameter_names, expansion_of, IsExpanded}
 use Rattle.pc_syntax.specs.Fault.{Fault}
-use Rattle.pc_syntax.specs.MacroFaults.{macro_called, macro_again, parameters_fault, count_fault, call_fault, body_fault, macro_fault, items_fault, first_macro_fault}
+use Rattle.pc_syntax.specs.MacroFaults.{macro_called, macro_again, parameters_fault, count_fault, body_fault, macro_fault, items_fault, first_macro_fault}
 use Rattle.pc_syntax.proofs.NoFault.{none_first, none_second}
 
 -- each macro's body names only macros before it
@@ -32,15 +31,18 @@ chosen false m rest name args v w here later f = later f
 pub expansion_expanded : (ms : List MacroAt) → NamesEarlier ms → (w : Written) → body_fault ms w ≡ None
     → IsExpanded (expansion_of ms w)
 expansion_expanded ms earlier (not_ p) f = expansion_expanded ms earlier p f
-expansion_expanded ms earlier (and_ p q) f =
-    (expansion_expanded ms earlier p (none_first (body_fault ms p) (body_fault ms q) f),
-     expansion_expanded ms earlier q (none_second (body_fault ms p) (body_fault ms q) f))
-expansion_expanded ms earlier (or_ p q) f =
-    (expansion_expanded ms earlier p (none_first (body_fault ms p) (body_fault ms q) f),
-     expansion_expanded ms earlier q (none_second (body_fault ms p) (body_fault ms q) f))
-expansion_expanded ms earlier (implies_ p q) f =
-    (expansion_expanded ms earlier p (none_first (body_fault ms p) (body_fault ms q) f),
-     expansion_expanded ms earlier q (none_second (body_fault ms p) (body_fault ms q) f))
+expansion_expanded ms earlier (and_ p q) f = (
+  expansion_expanded ms earlier p (none_first (body_fault ms p) (body_fault ms q) f),
+  expansion_expanded ms earlier q (none_second (body_fault ms p) (body_fault ms q) f),
+)
+expansion_expanded ms earlier (or_ p q) f = (
+  expansion_expanded ms earlier p (none_first (body_fault ms p) (body_fault ms q) f),
+  expansion_expanded ms earlier q (none_second (body_fault ms p) (body_fault ms q) f),
+)
+expansion_expanded ms earlier (implies_ p q) f = (
+  expansion_expanded ms earlier p (none_first (body_fault ms p) (body_fault ms q) f),
+  expansion_expanded ms earlier q (none_second (body_fault ms p) (body_fault ms q) f),
+)
 expansion_expanded ms earlier (forall_ at sort name p) f = expansion_expanded ms earlier p f
 expansion_expanded ms earlier (exists_ at sort name p) f = expansion_expanded ms earlier p f
 expansion_expanded ms earlier (static_ pred args) f = tt
@@ -80,8 +82,8 @@ after_names_earlier all earlier (macro_ m ∷ items) f h =
     let rest = items_fault all (m ∷ earlier) items in
     let here = none_first (macro_fault earlier m) rest f in
     let body =
-        none_second (parameters_fault [] m.parameters) (body_fault earlier m.body)
-        (none_second (macro_again earlier m.name) (option_or (parameters_fault [] m.parameters) (body_fault earlier m.body)) here) in
+    none_second (parameters_fault [] m.parameters) (body_fault earlier m.body)
+    (none_second (macro_again earlier m.name) (option_or (parameters_fault [] m.parameters) (body_fault earlier m.body)) here) in
     after_names_earlier all (m ∷ earlier) items (none_second (macro_fault earlier m) rest f) (body, h)
 
 axioms_fine : (all earlier : List MacroAt) (items : List WrittenItem) → items_fault all earlier items ≡ None
@@ -101,6 +103,6 @@ macros_name_earlier m f =
 -- in a model without macro faults the expansion of each axiom is expanded
 pub axioms_expanded : (m : WrittenModel) → first_macro_fault m ≡ None
     → All (λ w. body_fault (macros_of m) w ≡ None) (axioms_of m)
-      × ((w : Written) → body_fault (macros_of m) w ≡ None → IsExpanded (expansion_of (macros_of m) w))
+    × ((w : Written) → body_fault (macros_of m) w ≡ None → IsExpanded (expansion_of (macros_of m) w))
 axioms_expanded m f =
     (axioms_fine (macros_of m) [] m.items f, expansion_expanded (macros_of m) (macros_name_earlier m f))

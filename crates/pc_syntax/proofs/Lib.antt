@@ -5,3 +5,4 @@ pub mod Slots
 pub mod ClosingTruth
 pub mod ClosingShape
 pub mod ExpandedLaws
+mod Examples

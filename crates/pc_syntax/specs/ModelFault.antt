@@ -12,4 +12,4 @@ abbrev pub first_model_fault : WrittenModel → Option Fault
 first_model_fault m =
     option_or (first_stage_fault m)
     (option_or (first_macro_fault m)
-     (option_or (first_size_fault m) (first_name_fault m)))
+    (option_or (first_size_fault m) (first_name_fault m)))

@@ -17,6 +17,8 @@ mod formula;
 mod model;
 mod pred;
 mod term;
+#[cfg(test)]
+mod tests;
 
 pub use bound::{Bound, Env};
 pub use closed::Closed;
