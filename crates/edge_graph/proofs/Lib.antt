@@ -1,1 +1,3 @@
 pub mod Ranked
+pub mod Decide
+pub mod Widen

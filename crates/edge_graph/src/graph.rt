@@ -2,6 +2,7 @@
 
 
 
+mod chain;
 mod order;
 
 

@@ -1,0 +1,44 @@
+ghost use Rattle.std.specs.Prelude.{◌≡◌, ◌≢◌, ⊤, MatchBool, slice_set, ◌^◌, ◌+◌, ◌-◌, ◌<◌, ◌≤◌, ◌⊎◌, ℕ, List, [], ◌∷◌, length, slice_index, All, Contains, IsTrue, IfOk, MatchOption, vec_len, EachIndex, count_by, nat_eq};
+ghost use Rattle.edge_graph.specs.Joins.{IsBelow, Joins, Follows};
+ghost use Rattle.edge_graph.specs.Levels.{IsGrown, IsClosedAt, far, far_count};
+ghost use Rattle.std.specs.Bool.{OnTrue};
+
+use pc_common::Memory;
+use std::alloc::Global;
+
+/// The level of a node from which the target was not reached.
+pub const FAR: u32 = u32::MAX;
+
+/// Gives `from` the level after `level` where it has none and `to` is at `level`. Answers whether it did.
+fn raise(levels: &mut [u32], from: usize, to: usize, level: u32) -> bool
+    requires from_in { from < length levels.old }
+    requires to_in { to < length levels.old }
+    requires low { level + 1 < far }
+    ensures raised { OnTrue result ((levels.new ≡ slice_set levels.old from (level + 1)) × (slice_index levels.old from ≡ far) × (slice_index levels.old to ≡ level)) }
+    ensures kept { MatchBool result ⊤ ((levels.new ≡ levels.old) × (slice_index levels.old to ≡ level → slice_index levels.old from ≢ far)) }
+{
+    if levels[to] == level && levels[from] == FAR {
+        levels[from] = level + 1;
+        return true;
+    }
+    false
+}
+
+/// One turn of the search backwards: each node with an edge to a node at `level` that has no level
+/// itself gets the next one. Answers whether one did.
+fn widen(levels: &mut [u32], edges: &[(u32, u32)], level: u32) -> bool
+    requires inside { All (IsBelow (length levels.old)) edges.now }
+    requires low { level + 1 < far }
+    ensures grown { IsGrown edges.now level levels.old levels.new }
+    ensures closed { IsClosedAt edges.now level levels.new }
+    ensures fewer { OnTrue result (far_count levels.new < far_count levels.old) }
+    ensures same { MatchBool result ⊤ (levels.new ≡ levels.old) }
+{
+    let mut widened = false;
+    for edge in edges {
+        if raise(levels, edge.0 as usize, edge.1 as usize, level) {
+            widened = true;
+        }
+    }
+    widened
+}
