@@ -1,3 +1,4 @@
 pub mod Ranked
 pub mod Decide
 pub mod Widen
+pub mod Reached

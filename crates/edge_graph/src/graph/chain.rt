@@ -1,6 +1,6 @@
 ghost use Rattle.std.specs.Prelude.{◌≡◌, ◌≢◌, ⊤, MatchBool, slice_set, ◌^◌, ◌+◌, ◌-◌, ◌<◌, ◌≤◌, ◌⊎◌, ℕ, List, [], ◌∷◌, length, slice_index, All, Contains, IsTrue, IfOk, MatchOption, vec_len, EachIndex, count_by, nat_eq};
 ghost use Rattle.edge_graph.specs.Joins.{IsBelow, Joins, Follows};
-ghost use Rattle.edge_graph.specs.Levels.{IsGrown, IsClosedAt, far, far_count};
+ghost use Rattle.edge_graph.specs.Levels.{IsGrown, IsClosedAt, far, far_count, IsGrounded, IsClosed, Reached};
 ghost use Rattle.std.specs.Bool.{OnTrue};
 
 use pc_common::Memory;
@@ -41,4 +41,37 @@ fn widen(levels: &mut [u32], edges: &[(u32, u32)], level: u32) -> bool
         }
     }
     widened
+}
+
+/// Gives each node from which a chain leads to `target` its level, where only `target` has one.
+fn spread(levels: &mut [u32], edges: &[(u32, u32)], target: u32)
+    requires few { length levels.old + 2 < far }
+    requires inside { All (IsBelow (length levels.old)) edges.now }
+    requires first { Reached edges.now target (length levels.old) 0 levels.old }
+    ensures home { slice_index levels.new target ≡ 0 }
+    ensures grounded { IsGrounded edges.now target levels.new }
+    ensures closed { IsClosed edges.now levels.new }
+{
+    let mut level = 0;
+    while widen(levels, edges, level) {
+        level += 1;
+    }
+}
+
+/// How many edges each node is away from `target`, or FAR where no chain leads there.
+fn levels(
+    alloc: Global,
+    nodes: usize,
+    edges: &[(u32, u32)],
+    target: u32,
+) -> Result<Vec<u32>, Memory>
+    requires few { nodes + 2 < far }
+    requires inside { All (IsBelow nodes) edges.now }
+    requires target_in { target < nodes }
+    ensures { IfOk result (λ levels. (vec_len levels ≡ nodes) × (slice_index levels.items target ≡ 0) × IsGrounded edges.now target levels.items × IsClosed edges.now levels.items) }
+{
+    let mut levels: Vec<u32> = vec![in alloc; FAR; nodes]?;
+    levels[target as usize] = 0;
+    spread(&mut levels, edges, target);
+    Ok(levels)
 }
