@@ -2,3 +2,4 @@ pub mod Ranked
 pub mod Decide
 pub mod Widen
 pub mod Reached
+pub mod Nearest

@@ -1,4 +1,4 @@
-ghost use Rattle.std.specs.Prelude.{◌≡◌, ◌≢◌, ⊤, MatchBool, slice_set, ◌^◌, ◌+◌, ◌-◌, ◌<◌, ◌≤◌, ◌⊎◌, ℕ, List, [], ◌∷◌, length, slice_index, All, Contains, IsTrue, IfOk, MatchOption, vec_len, EachIndex, count_by, nat_eq};
+ghost use Rattle.std.specs.Prelude.{◌≡◌, ◌↔◌, IsTrue, ◌≢◌, ⊤, MatchBool, slice_set, ◌^◌, ◌+◌, ◌-◌, ◌<◌, ◌≤◌, ◌⊎◌, ℕ, List, [], ◌∷◌, length, slice_index, All, Contains, IfOk, MatchOption, vec_len, EachIndex, count_by, nat_eq};
 ghost use Rattle.edge_graph.specs.Joins.{IsBelow, Joins, Follows};
 ghost use Rattle.edge_graph.specs.Levels.{IsGrown, IsClosedAt, far, far_count, IsGrounded, IsClosed, Reached};
 ghost use Rattle.std.specs.Bool.{OnTrue};
@@ -74,4 +74,36 @@ fn levels(
     levels[target as usize] = 0;
     spread(&mut levels, edges, target);
     Ok(levels)
+}
+
+/// The lesser of a node found before, if there is one, and `node`.
+fn least(found: Option<u32>, node: u32) -> u32
+    ensures { (result ≡ node) ⊎ (found ≡ Some result) }
+{
+    match found {
+        Some(other) if other < node => other,
+        _ => node,
+    }
+}
+
+/// Whether this is an edge from `node` to a node at `level`.
+fn leads_nearer(levels: &[u32], edge: (u32, u32), node: u32, level: u32) -> bool
+    requires { edge.1 < length levels.now }
+    ensures { IsTrue result ↔ (edge.0 ≡ node) × (slice_index levels.now edge.1 ≡ level) }
+{
+    edge.0 == node && levels[edge.1 as usize] == level
+}
+
+/// The lowest numbered node to which an edge leads from `node` and that is at `level`.
+fn nearer(levels: &[u32], edges: &[(u32, u32)], node: u32, level: u32) -> Option<u32>
+    requires inside { All (IsBelow (length levels.now)) edges.now }
+    ensures { MatchOption result ((b : ℕ) → Contains edges.now (node, b) → slice_index levels.now b ≡ level → ⊥) (λ b. Contains edges.now (node, b) × (slice_index levels.now b ≡ level)) }
+{
+    let mut found: Option<u32> = None;
+    for edge in edges {
+        if leads_nearer(levels, *edge, node, level) {
+            found = Some(least(found, edge.1));
+        }
+    }
+    found
 }
