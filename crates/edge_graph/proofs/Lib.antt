@@ -3,3 +3,4 @@ pub mod Decide
 pub mod Widen
 pub mod Reached
 pub mod Nearest
+pub mod Ways

@@ -22,3 +22,8 @@ IsCycle edges (a ∷ via) = Leads (Joins edges) a via a
 
 abbrev pub IsAcyclic : List (ℕ × ℕ) → Type 0
 IsAcyclic edges = Acyclic (Joins edges)
+
+-- the listed nodes lead from a, the first of them, to b, the last
+abbrev pub IsWay : List (ℕ × ℕ) → ℕ → List ℕ → ℕ → Type 0
+IsWay edges a [] b = ⊥
+IsWay edges a (x ∷ via) b = (x ≡ a) × Follows (Joins edges) a via b

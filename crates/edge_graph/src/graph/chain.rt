@@ -1,5 +1,5 @@
 ghost use Rattle.std.specs.Prelude.{◌≡◌, ◌↔◌, IsTrue, ◌≢◌, ⊤, MatchBool, slice_set, ◌^◌, ◌+◌, ◌-◌, ◌<◌, ◌≤◌, ◌⊎◌, ℕ, List, [], ◌∷◌, length, slice_index, All, Contains, IfOk, MatchOption, vec_len, EachIndex, count_by, nat_eq};
-ghost use Rattle.edge_graph.specs.Joins.{IsBelow, Joins, Follows};
+ghost use Rattle.edge_graph.specs.Joins.{IsBelow, Joins, Follows, IsWay};
 ghost use Rattle.edge_graph.specs.Levels.{IsGrown, IsClosedAt, far, far_count, IsGrounded, IsClosed, Reached};
 ghost use Rattle.std.specs.Bool.{OnTrue};
 
@@ -106,4 +106,45 @@ fn nearer(levels: &[u32], edges: &[(u32, u32)], node: u32, level: u32) -> Option
         }
     }
     found
+}
+
+/// The nodes from `from` to the node at level 0, each the lowest numbered of those one level nearer.
+fn walk(alloc: Global, levels: &[u32], edges: &[(u32, u32)], from: u32, to: u32) -> Result<Vec<u32>, Memory>
+    requires inside { All (IsBelow (length levels.now)) edges.now }
+    requires from_in { from < length levels.now }
+    requires grounded { IsGrounded edges.now to levels.now }
+    requires near { slice_index levels.now from ≢ far }
+    ensures { IfOk result (λ way. IsWay edges.now from way.items to) }
+{
+    let mut way: Vec<u32> = vec![in alloc; from]?;
+    let mut at = from;
+    while levels[at as usize] > 0 {
+        let next = nearer(levels, edges, at, levels[at as usize] - 1).unwrap();
+        way.push(next)?;
+        at = next;
+    }
+    Ok(way)
+}
+
+/// A shortest chain over the edges from `from` to `to`: its nodes, `from` first and `to` last, the one
+/// node where they are one. Of several shortest chains it is the one with the lowest number at the first
+/// place where they differ. None where no chain leads there.
+pub(super) fn shortest_chain(
+    alloc: Global,
+    nodes: usize,
+    edges: &[(u32, u32)],
+    from: u32,
+    to: u32,
+) -> Result<Option<Vec<u32>>, Memory>
+    requires few { nodes + 2 < far }
+    requires inside { All (IsBelow nodes) edges.now }
+    requires from_in { from < nodes }
+    requires to_in { to < nodes }
+    ensures { IfOk result (λ found. MatchOption found ((via : List ℕ) → Follows (Joins edges.now) from via to → ⊥) (λ way. IsWay edges.now from way.items to)) }
+{
+    let levels = levels(alloc, nodes, edges, to)?;
+    if levels[from as usize] == FAR {
+        return Ok(None);
+    }
+    Ok(Some(walk(alloc, &levels, edges, from, to)?))
 }
