@@ -4,3 +4,4 @@ pub mod Widen
 pub mod Reached
 pub mod Nearest
 pub mod Ways
+pub mod Closing

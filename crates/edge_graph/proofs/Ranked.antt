@@ -1,5 +1,5 @@
 -- Where every edge leads to a greater number, no chain leads back.
-use Rattle.std.proofs.Common.{◌≡◌, ℕ, ◌<◌, List, [], ◌∷◌, get_or, arith}
+use Rattle.std.proofs.Common.{ℕ, ◌<◌, List, [], ◌∷◌, arith}
 use Rattle.std.specs.Prelude.{Contains}
 use Rattle.pc_common.specs.Chain.{Leads}
 use Rattle.edge_graph.specs.Joins.{Joins, IsAcyclic}

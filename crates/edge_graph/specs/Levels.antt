@@ -1,5 +1,5 @@
 -- Levels of nodes: how many edges away a target is.
-use Rattle.std.specs.Prelude.{ℕ, ◌≡◌, ◌≢◌, ◌+◌, ◌<◌, ◌≤◌, ◌⊎◌, List, [], ◌∷◌, length, slice_index, Contains, sum_by, ◌==◌, if◌then◌else◌}
+use Rattle.std.specs.Prelude.{ℕ, ◌≡◌, ◌≢◌, ◌+◌, ◌<◌, ◌≤◌, ◌⊎◌, List, length, slice_index, Contains, sum_by, ◌==◌, if◌then◌else◌}
 
 -- the level of a node from which the target was not reached
 abbrev pub far : ℕ
@@ -9,7 +9,7 @@ far = 4294967295
 pub record IsGrown (edges : List (ℕ × ℕ)) (level : ℕ) (old new : List ℕ) : Type 0 where
   pub keeps : (a : ℕ) → slice_index old a ≢ far → slice_index new a ≡ slice_index old a
   pub steps : (a : ℕ) → slice_index old a ≡ far → slice_index new a ≢ far
-    → (slice_index new a ≡ level + 1) × ((b : ℕ) × Contains edges (a, b) × (slice_index old b ≡ level))
+      → (slice_index new a ≡ level + 1) × ((b : ℕ) × Contains edges (a, b) × (slice_index old b ≡ level))
 
 -- each node with an edge to a node of this level has a level
 abbrev pub IsClosedAt : List (ℕ × ℕ) → ℕ → List ℕ → Type 0
@@ -26,7 +26,7 @@ far_count levels = sum_by one_if_far levels
 -- only the target is at level 0, and a node further away has an edge to one that is one level nearer
 abbrev pub IsGrounded : List (ℕ × ℕ) → ℕ → List ℕ → Type 0
 IsGrounded edges target levels = (a : ℕ) (level : ℕ) → slice_index levels a ≡ level → level ≢ far
-  → a < length levels → ((level ≡ 0) × (a ≡ target)) ⊎ ((b : ℕ) × Contains edges (a, b) × (slice_index levels b + 1 ≡ level))
+    → a < length levels → ((level ≡ 0) × (a ≡ target)) ⊎ ((b : ℕ) × Contains edges (a, b) × (slice_index levels b + 1 ≡ level))
 
 -- no edge leads from a node with no level to one with a level
 abbrev pub IsClosed : List (ℕ × ℕ) → List ℕ → Type 0

@@ -109,7 +109,13 @@ fn nearer(levels: &[u32], edges: &[(u32, u32)], node: u32, level: u32) -> Option
 }
 
 /// The nodes from `from` to the node at level 0, each the lowest numbered of those one level nearer.
-fn walk(alloc: Global, levels: &[u32], edges: &[(u32, u32)], from: u32, to: u32) -> Result<Vec<u32>, Memory>
+fn walk(
+    alloc: Global,
+    levels: &[u32],
+    edges: &[(u32, u32)],
+    from: u32,
+    to: u32,
+) -> Result<Vec<u32>, Memory>
     requires inside { All (IsBelow (length levels.now)) edges.now }
     requires from_in { from < length levels.now }
     requires grounded { IsGrounded edges.now to levels.now }

@@ -115,11 +115,7 @@ fn is_rising(places: &[usize], edges: &[(u32, u32)]) -> bool
 
 /// Whether an order of the nodes was found in which every edge leads on. No such order is found
 /// exactly where there is none, but only the yes is told.
-pub(super) fn is_ordered(
-    alloc: Global,
-    nodes: usize,
-    edges: &[(u32, u32)],
-) -> Result<bool, Memory>
+pub(super) fn is_ordered(alloc: Global, nodes: usize, edges: &[(u32, u32)]) -> Result<bool, Memory>
     requires few { nodes < 2 ^ 32 }
     requires inside { All (IsBelow nodes) edges.now }
     ensures { IfOk result (λ yes. IsTrue yes → IsAcyclic edges.now) }

@@ -1,6 +1,5 @@
-use Rattle.std.proofs.Common.{◌≡◌, ◌∙◌, ℕ, List, length, ap, arith, take, drop, ◌++◌, set, sym}
+use Rattle.std.proofs.Common.{◌≡◌, ◌∙◌, ℕ, List, length, ap, take, drop, ◌++◌, set, sym}
 use Rattle.std.proofs.Math.Seq.{take-append_seam}
-use Rattle.edge_graph.proofs.Reached.{reached_first}
 use Rattle.edge_graph.proofs.graph.chain.levels.Goals as goal
 
 whole : (n : ℕ) (xs ys : List ℕ) → length xs ≡ n → take n (xs ++ ys) ≡ xs

@@ -1,4 +1,4 @@
-use Rattle.std.proofs.Common.{ℕ, length}
+use Rattle.std.proofs.Common.{length}
 use Rattle.edge_graph.specs.Levels.{far_count, Reached}
 use Rattle.edge_graph.proofs.graph.chain.spread.Given as goal
 

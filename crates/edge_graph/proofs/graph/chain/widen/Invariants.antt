@@ -1,4 +1,3 @@
-use Rattle.std.proofs.Common.{◌≡◌}
 use Rattle.edge_graph.proofs.Widen.{Turn}
 use Rattle.edge_graph.proofs.graph.chain.widen.Given as goal
 
