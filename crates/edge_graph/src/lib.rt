@@ -1,0 +1,4 @@
+//! Scratch: the private graph of the edge models.
+#![tactic(auto)]
+
+pub mod graph;
