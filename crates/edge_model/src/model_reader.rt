@@ -1,0 +1,5 @@
+//! Edge models: what a token list says as a written model, if it is of the language.
+
+mod formulas;
+mod terminals;
+mod terms;
