@@ -21,7 +21,7 @@ pub one_piece : (ts : List Token) (k : ℕ) {i j : Kind} {v w : List ℕ} {p q :
 unfolding piece_in
 one_piece ts k x y = ap piece_in (sym x ∙ y)
 
-add_edge_word : (ts : List Token) (k : ℕ) (f : Written) (next : ℕ) → AddEdgeAt ts k f next → WordAt ts k (codes "AddEdge")
+pub add_edge_word : (ts : List Token) (k : ℕ) (f : Written) (next : ℕ) → AddEdgeAt ts k f next → WordAt ts k (codes "AddEdge")
 add_edge_word ts k (edges_ (e ∷ [])) next h = h.0
 add_edge_word ts k _ next h = absurd h
 
@@ -39,7 +39,7 @@ FormulaAt-from_guarded ts k (forall_ at sort bound body) next h = absurd h
 FormulaAt-from_guarded ts k _ next h = h
 
 -- a quantifier begins with a word that no edge begins with, guarded or not
-quantifier_is_no_guard : (ts : List Token) (k : ℕ) (at : Place) (bound : List ℕ) (f : Written) (next : ℕ) → QuantifierAt ts k at bound → GuardedAt ts k f next → ⊥
+pub quantifier_is_no_guard : (ts : List Token) (k : ℕ) (at : Place) (bound : List ℕ) (f : Written) (next : ℕ) → QuantifierAt ts k at bound → GuardedAt ts k f next → ⊥
 quantifier_is_no_guard ts k at bound f next q h =
     elim (guarded_cases ts k f next h) [
       | inl g ↦ let e : codes "forall" ≡ codes "ProgramOrder" = one_piece ts k q.0 g.3.0 in cc

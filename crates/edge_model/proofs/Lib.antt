@@ -1,1 +1,3 @@
 pub mod FormulaCases
+pub mod OneReading
+pub mod LineLists

@@ -95,26 +95,28 @@ IsEdgeText ts m =
     (lines : List Line) × LinesAt ts 0 lines (length ts) ×
     (m ≡ record { stages = stages_in lines; items = axioms_in lines })
 
--- the name of a stage of the file
-abbrev pub IsStageName : List StageItem → List ℕ → Type 0
-IsStageName stages n = Contains (map (λ s. s.name.name) stages) n
+-- a node's micro-op is quantified on the way, and its stage is one of the file
+abbrev pub IsEdgeNode : List (List ℕ) → List (List ℕ) → NodeTerm → Type 0
+IsEdgeNode stages bound n = Contains bound n.op.name × (n.core ≡ None) × Contains stages n.stage.name
 
--- a node's micro-op is quantified, and its stage is one of the file
-abbrev pub IsEdgeNode : List StageItem → List (List ℕ) → NodeTerm → Type 0
-IsEdgeNode stages bound n = Contains bound n.op.name × (n.core ≡ None) × IsStageName stages n.stage.name
-
-abbrev pub IsOneEdge : List StageItem → List (List ℕ) → Written → Type 0
+abbrev pub IsOneEdge : List (List ℕ) → List (List ℕ) → Written → Type 0
 IsOneEdge stages bound (edges_ (e ∷ [])) = IsEdgeNode stages bound e.from × IsEdgeNode stages bound e.to
 IsOneEdge stages bound _ = ⊥
 
--- one edge, perhaps only where x is before y in program order
-abbrev pub IsGuardedEdge : List StageItem → List (List ℕ) → Written → Type 0
-IsGuardedEdge stages bound (implies_ (static_ p (variable x ∷ variable y ∷ [])) body) =
-    (p.name ≡ codes "ProgramOrder") × Contains bound x.name × Contains bound y.name × IsOneEdge stages bound body
+-- x is before y in program order, where both are quantified
+abbrev pub IsGuard : List (List ℕ) → Written → Type 0
+IsGuard bound (static_ p (variable x ∷ variable y ∷ [])) =
+    (p.name ≡ codes "ProgramOrder") × Contains bound x.name × Contains bound y.name
+IsGuard bound _ = ⊥
+
+-- one edge, perhaps under a guard
+abbrev pub IsGuardedEdge : List (List ℕ) → List (List ℕ) → Written → Type 0
+IsGuardedEdge stages bound (implies_ guard body) = IsGuard bound guard × IsOneEdge stages bound body
 IsGuardedEdge stages bound f = IsOneEdge stages bound f
 
--- for each micro-op and so on, one edge; `bound` are the names quantified on the way, the innermost first
-abbrev pub IsEdgeFormula : List StageItem → List (List ℕ) → Written → Type 0
+-- for all micro-ops of some names, one edge, perhaps under a guard. `stages` are the names of the file's stages,
+-- and `bound` the names that are quantified so far, the innermost first
+abbrev pub IsEdgeFormula : List (List ℕ) → List (List ℕ) → Written → Type 0
 IsEdgeFormula stages bound (forall_ at Microop name body) = IsEdgeFormula stages (name ∷ bound) body
 IsEdgeFormula stages bound f = IsGuardedEdge stages bound f
 
@@ -122,7 +124,12 @@ abbrev pub quantifiers : Written → ℕ
 quantifiers (forall_ at sort name body) = quantifiers body + 1
 quantifiers _ = 0
 
-abbrev pub IsEdgeItem : List StageItem → WrittenItem → Type 0
+-- an axiom of 32 quantifiers at most
+abbrev pub IsShort : Line → Type 0
+IsShort (stage_line s) = Unit {0}
+IsShort (axiom_line at body) = quantifiers body ≤ 32
+
+abbrev pub IsEdgeItem : List (List ℕ) → WrittenItem → Type 0
 IsEdgeItem stages (axiom_ at body) = (quantifiers body ≤ 32) × IsEdgeFormula stages [] body
 IsEdgeItem stages (macro_ m) = ⊥
 
@@ -130,10 +137,13 @@ IsEdgeItem stages (macro_ m) = ⊥
 abbrev pub Differ : StageItem → StageItem → Type 0
 Differ s t = (s.number ≢ t.number) × (s.name.name ≢ t.name.name)
 
+abbrev pub stage_names : WrittenModel → List (List ℕ)
+stage_names m = map (λ s. s.name.name) m.stages
+
 pub record IsEdgeModel (m : WrittenModel) : Type 0 where
   pub numbers_in_range : All (λ s. s.number ≤ 63) m.stages
   pub stages_differ : AllPairs Differ m.stages
-  pub edge_items : All (IsEdgeItem m.stages) m.items
+  pub edge_items : All (IsEdgeItem (stage_names m)) m.items
 
 -- the model that the tokens say, if they are of the language
 abbrev pub ReadsModel : List Token → WrittenModel → Type 0
