@@ -103,7 +103,8 @@ fn is_reserved(word: &[u8]) -> bool
     is_among(word, &RESERVED)
 }
 
-fn is_among(word: &[u8], words: &[&[u8]]) -> bool
+/// Whether the word is one of these.
+pub(super) fn is_among(word: &[u8], words: &[&[u8]]) -> bool
     ensures { result ≡ list_any (λ w. bytes_eq word.now w.now) words.now }
 {
     words.iter().any(|other| word == *other)
