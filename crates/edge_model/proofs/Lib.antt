@@ -1,0 +1,4 @@
+pub mod FormulaCases
+pub mod OneReading
+pub mod LineLists
+pub mod NameLists
