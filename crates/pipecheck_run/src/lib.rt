@@ -1,0 +1,4 @@
+//! The top call: from the words of a command and the bytes of its files to the bytes of the answer.
+#![tactic(auto)]
+
+mod z_probe;
