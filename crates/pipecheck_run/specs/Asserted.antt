@@ -9,7 +9,7 @@ use Rattle.pc_syntax.specs.Written.{Written, forall_, implies_, static_, edges_,
 use Rattle.pc_syntax.specs.Truth.{Environment, Meaning, range_of, static_holds, node_of}
 use Rattle.pc_syntax.specs.Observable.{axioms_of}
 
-abbrev edge_between : Option Node → Option Node → List Edge
+abbrev pub edge_between : Option Node → Option Node → List Edge
 edge_between (Some a) (Some b) = (a, b) ∷ []
 edge_between _ _ = []
 
