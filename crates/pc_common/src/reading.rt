@@ -4,7 +4,6 @@ ghost use Rattle.pc_common.specs.Faults.{Rose};
 
 use super::failed::Failed;
 use super::files::Files;
-use super::memory::Memory;
 use std::alloc::{AllocError, Global};
 use thiserror::Error;
 

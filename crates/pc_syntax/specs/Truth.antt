@@ -64,14 +64,14 @@ abbrev pub location_core : Environment → MicroOp → Option Arg → Option ℕ
 location_core env o None = Some o.core
 location_core env o (Some a) = core_of (value_of_arg env a)
 
-abbrev node_at : Option ℕ → Option ℕ → Option ℕ → Option Node
+abbrev pub node_at : Option ℕ → Option ℕ → Option ℕ → Option Node
 node_at (Some i) (Some k) (Some s) = Some (record { op = i; core = k; stage = s })
 node_at _ _ _ = None
 
-abbrev own_core : Case → Environment → ℕ → Option Arg → Option ℕ
+abbrev pub own_core : Case → Environment → ℕ → Option Arg → Option ℕ
 own_core c env i core = elim (slice_get c.ops i) [ None ↦ None | Some o ↦ location_core env o core ]
 
-abbrev core_there : Case → Environment → Option ℕ → Option Arg → Option ℕ
+abbrev pub core_there : Case → Environment → Option ℕ → Option Arg → Option ℕ
 core_there c env None core = None
 core_there c env (Some i) core = own_core c env i core
 
@@ -90,13 +90,13 @@ edge_holds w (Some a) (Some b) = has_edge w a b
 edge_holds w _ _ = false
 
 -- an argument as its predicate takes it
-abbrev argument_of : Environment → Takes → Arg → Option Argument
+abbrev pub argument_of : Environment → Takes → Arg → Option Argument
 argument_of env takes_plain (word_arg w) = Some (plain_name w.name)
 argument_of env takes_plain (number_arg n at) = None
 argument_of env takes_op a = elim (op_of (value_of_arg env a)) [ None ↦ None | Some i ↦ Some (op_at i) ]
 argument_of env takes_core a = elim (core_of (value_of_arg env a)) [ None ↦ None | Some k ↦ Some (core_at k) ]
 
-abbrev put_first : Option Argument → Option (List Argument) → Option (List Argument)
+abbrev pub put_first : Option Argument → Option (List Argument) → Option (List Argument)
 put_first (Some a) (Some as_) = Some (a ∷ as_)
 put_first _ _ = None
 
@@ -105,7 +105,7 @@ arguments_of env [] [] = Some []
 arguments_of env (t ∷ ts) (a ∷ as_) = put_first (argument_of env t a) (arguments_of env ts as_)
 arguments_of env _ _ = None
 
-abbrev row_holds : Case → Environment → List Arg → Option Row → Bool
+abbrev pub row_holds : Case → Environment → List Arg → Option Row → Bool
 row_holds c env args None = false
 row_holds c env args (Some r) =
     elim (arguments_of env r.takes args) [ None ↦ false | Some as_ ↦ predicate_holds c r.predicate as_ ]
