@@ -3,3 +3,10 @@ pub mod World
 pub mod Chain
 pub mod Generated
 pub mod Lines
+pub mod Faults
+pub mod Held
+pub mod Shelf
+pub mod Pieces
+pub mod Status
+pub mod LineColumn
+pub mod Schedule

@@ -1,8 +1,32 @@
 //! Bytes to tokens: the one lexical grammar of models and tests.
+//!
+//! A text is cut into pieces from its start, each the longest that begins at its place:
+//!
+//! | piece | form |
+//! |---|---|
+//! | blank | space, tab, CR or LF |
+//! | comment | `%` or `//` up to the next LF or the end; `(*` up to the first `*)` behind these two bytes |
+//! | name | an ASCII letter, then letters, digits, `_` and `'` |
+//! | number | ASCII digits of a value up to 18446744073709551615, with any leading zeros |
+//! | text | `"`, bytes 0x20 to 0x7E other than `"`, `"` |
+//! | symbol | one of `( ) [ ] , ; : . ~ /\ \/ => ->` |
+//!
+//! Any bytes stand inside a comment, and comments don't nest. `(*` always begins a comment. The tokens
+//! are the pieces that are neither blanks nor comments. Where no piece begins, or the one that begins
+//! can't be completed, stands the text's lexical fault.
+//!
+//! `specs/Spells.antt` says this of whole texts, as a relation. Each text spells tokens or has a fault
+//! (`proofs/Totality.antt`), one list or one fault, and never both (`proofs/Spelling.antt`).
 #![tactic(auto)]
 
+mod class;
+mod fault;
+mod lex;
 mod list;
+mod scan;
 mod token;
 
+pub use fault::LexFault;
+pub use lex::tokens;
 pub use list::Tokens;
 pub use token::{Token, TokenKind};

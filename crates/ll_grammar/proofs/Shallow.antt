@@ -1,0 +1,37 @@
+-- A grammar with no bound on depth: its answers are of syntax alone.
+use Rattle.std.proofs.Common.{◌≡◌, ℕ, zero, suc, Bool, true, false, List, Option, Some, None, Result, Ok, Err, IfOk, slice_get}
+use Rattle.ll_grammar.specs.Rules.{Rules, Reads, Derives}
+use Rattle.ll_grammar.specs.Rules.Reads.{done, class as r_class, ends as r_ends, begins as r_begins}
+use Rattle.ll_grammar.specs.Texts.{IsText}
+use Rattle.ll_grammar.specs.FirstFault.{IsAnswer, IsSyntaxAnswer}
+use Rattle.ll_grammar.specs.declared.grammar.Symbol.{Symbol}
+use Rattle.ll_grammar.specs.declared.fault.Fault.{Fault}
+use Rattle.ll_grammar.specs.declared.fault.Fault.TheVariants.{Syntax, Depth}
+use Rattle.ll_grammar.proofs.Faults.{fault-along}
+
+never_deep : {C N : Type 0} {g : Rules C N} → ((n : N) (c : C) → g.deep n c ≡ false)
+    → {symbols : List (Symbol C N)} {cs : List C} {marks : List Bool} → Reads g symbols cs marks
+    → (k : ℕ) → slice_get marks k ≡ Some true → ⊥
+never_deep shallow done k at = cc
+never_deep shallow (r_class reads) zero at = cc
+never_deep shallow (r_class reads) (suc k) at = never_deep shallow reads k at
+never_deep shallow (r_ends h reads) k at = never_deep shallow reads k at
+never_deep {g = g} shallow (r_begins {n = n} {c = c} body e reads) zero at =
+    let mark : g.deep n c ≡ false = shallow n c in cc
+never_deep shallow (r_begins body e reads) (suc k) at = never_deep shallow reads k at
+
+module _ {C N : Type 0} (g : Rules C N) (start : N) (shallow : (n : N) (c : C) → g.deep n c ≡ false)
+    (Text : List C → Type 0) (to : (cs : List C) (marks : List Bool) → Derives g start cs marks → Text cs)
+    (from : (cs : List C) → Text cs → IsText (Derives g start) cs) (cs : List C) where
+  -- the answer over the texts however these are stated
+  pub syntax-along : (found : Option Fault) → IsAnswer (Derives g start) cs found → IsSyntaxAnswer Text cs found
+  syntax-along None ((marks, reads), _) = to cs marks reads
+  syntax-along (Some (Syntax k)) (fault, _) =
+      fault-along (IsText (Derives g start)) Text (λ ds (marks, reads). to ds marks reads) from cs k fault
+  syntax-along (Some (Depth k)) ((_, rest, marks, reads, at), _) = never_deep shallow reads k at
+
+  -- of a call that may run out of memory
+  pub if_ok_syntax-along : {E : Type 0} (result : Result (Option Fault) E) → IfOk result (IsAnswer (Derives g start) cs)
+      → IfOk result (IsSyntaxAnswer Text cs)
+  if_ok_syntax-along (Ok found) answer = syntax-along found answer
+  if_ok_syntax-along (Err e) answer = answer

@@ -1,0 +1,17 @@
+use Rattle.std.proofs.Common.{reverse, length}
+use Rattle.ll_grammar.specs.Predictable.{IsReady}
+use Rattle.ll_grammar.specs.Steps.{IsRead}
+use Rattle.ll_grammar.specs.declared.grammar.Step.{Step}
+use Rattle.ll_grammar.proofs.fault.read.Given as goal
+
+-- the step of the symbols that are left is the step of all
+abbrev pub invariant-loop-symbol : goal.invariant-loop-symbol
+invariant-loop-symbol g l = record {
+  ready : IsReady g.N.Grammar.rules g.N.Grammar.follow (reverse l.stack.items);
+  same : (step : Step) (after : _)
+      → IsRead g.N.Grammar.rules g.N.Grammar.follow (reverse l.stack.items) l.class step after
+      → IsRead g.N.Grammar.rules g.N.Grammar.follow (reverse l.initial.stack.items) l.class step after;
+}
+
+abbrev pub decreases-loop-symbol : goal.decreases-loop-symbol
+decreases-loop-symbol g l = length l.stack.items

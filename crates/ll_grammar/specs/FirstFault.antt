@@ -1,0 +1,33 @@
+-- The first fault of a list of tokens, against any statement of what its texts are.
+use Rattle.std.specs.Prelude.{◌≡◌, ◌+◌, ◌<◌, ◌≤◌, ℕ, Bool, List, Option, Some, None, length, take}
+use Rattle.ll_grammar.specs.Texts.{IsText, IsViable, IsDeepAt, NoneDeep}
+use Rattle.ll_grammar.specs.declared.fault.Fault.{Fault}
+use Rattle.ll_grammar.specs.declared.fault.Fault.TheVariants.{Syntax, Depth}
+
+-- Some text begins with the tokens before k, and none with those through k.
+-- The end of the tokens counts as one more token.
+pub record IsFaultAt {C : Type 0} (Text : List C → Type 0) (cs : List C) (k : ℕ) : Type 0 where
+  pub within : k ≤ length cs
+  pub before : IsViable Text (take k cs)
+  pub through : k < length cs → IsViable Text (take (k + 1) cs) → ⊥
+  pub at_end : k ≡ length cs → Text cs → ⊥
+
+-- A text, and no token of it stands too deep.
+abbrev pub IsAccepted : {C : Type 0} → (List C → List Bool → Type 0) → List C → Type 0
+IsAccepted Marked cs = IsText Marked cs × NoneDeep Marked cs (length cs)
+
+-- The fault, and none before it.
+abbrev pub IsFirstFault : {C : Type 0} → (List C → List Bool → Type 0) → List C → Fault → Type 0
+IsFirstFault Marked cs (Syntax k) = IsFaultAt (IsText Marked) cs k × NoneDeep Marked cs k
+IsFirstFault Marked cs (Depth k) = IsDeepAt Marked cs k × NoneDeep Marked cs k
+
+-- What is to be answered: None for accepted tokens, else their first fault.
+abbrev pub IsAnswer : {C : Type 0} → (List C → List Bool → Type 0) → List C → Option Fault → Type 0
+IsAnswer Marked cs None = IsAccepted Marked cs
+IsAnswer Marked cs (Some fault) = IsFirstFault Marked cs fault
+
+-- The same for a language with no bound on depth, stated by its texts alone.
+abbrev pub IsSyntaxAnswer : {C : Type 0} → (List C → Type 0) → List C → Option Fault → Type 0
+IsSyntaxAnswer Text cs None = Text cs
+IsSyntaxAnswer Text cs (Some (Syntax k)) = IsFaultAt Text cs k
+IsSyntaxAnswer Text cs (Some (Depth k)) = ⊥

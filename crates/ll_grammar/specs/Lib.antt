@@ -1,0 +1,6 @@
+pub mod Rules
+pub mod Texts
+pub mod FirstFault
+pub mod Predictable
+pub mod Steps
+pub mod Tables

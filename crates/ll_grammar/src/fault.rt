@@ -1,0 +1,90 @@
+ghost use Rattle.std.specs.Prelude.{◌≡◌, IfOk, reverse};
+ghost use Rattle.std.specs.List.{list_all};
+ghost use Rattle.ll_grammar.specs.Rules.{can_be_empty, Derives};
+ghost use Rattle.ll_grammar.specs.Predictable.{IsReady};
+ghost use Rattle.ll_grammar.specs.Steps.{IsRead};
+ghost use Rattle.ll_grammar.specs.FirstFault.{IsAnswer};
+
+use crate::grammar::{Grammar, Step, Symbol, TokenClass};
+use std::alloc::{AllocError, Global};
+
+/// A fault of a list of tokens, at a token's place from 0.
+#[derive(Clone, Copy, Debug, PartialEq, Eq)]
+pub enum Fault {
+    /// Some text begins with the tokens before this place, and none with those through it.
+    /// The end of the tokens counts as one more token: there the place is their number.
+    Syntax(usize),
+    /// Some text begins with the tokens through this place, and the last of them stands too deep.
+    Depth(usize),
+}
+
+/// The first fault of the tokens as a text of the part `start`, or `None` where they are such a text
+/// with no token too deep. `Err` is for want of memory alone.
+///
+/// Each token is looked at once. No call nests: what is still to be read waits on a stack, which
+/// holds at most the symbols of the bodies that the tokens have begun.
+pub fn first_fault<C: TokenClass, N: Grammar<C>>(
+    alloc: Global,
+    start: N,
+    classes: &[C],
+) -> Result<Option<Fault>, AllocError>
+    ensures { IfOk result (IsAnswer (Derives N.rules start) classes.now) }
+{
+    let mut stack = Vec::new(alloc);
+    stack.push(Symbol::Part(start))?;
+    for (at, class) in classes.iter().enumerate() {
+        match read(&mut stack, *class)? {
+            Step::Pushed => {}
+            Step::Absent => return Ok(Some(Fault::Syntax(at))),
+            Step::Deep => return Ok(Some(Fault::Depth(at))),
+        }
+    }
+    Ok(if is_over(&stack) {
+        None
+    } else {
+        Some(Fault::Syntax(classes.len()))
+    })
+}
+
+// The token against the top of the stack. A part that does not begin with it, but may end, is done
+// and leaves it to the symbol below. A part that begins with it is not ended, though it may be able
+// to: by the LL(1) condition no text goes on behind such an end with this token.
+fn read<C: TokenClass, N: Grammar<C>>(
+    stack: &mut Vec<Symbol<C, N>>,
+    class: C,
+) -> Result<Step, AllocError>
+    requires { IsReady N.rules N.follow (reverse stack.old.items) }
+    ensures { IfOk result (λ step.
+        IsRead N.rules N.follow (reverse stack.old.items) class step (reverse stack.new.items)) }
+{
+    while let Some(symbol) = stack.pop() {
+        match symbol {
+            Symbol::Class(expected) => {
+                return Ok(if expected.is_same(class) {
+                    Step::Pushed
+                } else {
+                    Step::Absent
+                });
+            }
+            Symbol::Part(part) => match part.push(class, stack)? {
+                Step::Absent => {
+                    if !part.may_end() {
+                        return Ok(Step::Absent);
+                    }
+                }
+                step => return Ok(step),
+            },
+        }
+    }
+    Ok(Step::Absent)
+}
+
+// Whether the text may end here: each part that still waits may have no token.
+fn is_over<C: TokenClass, N: Grammar<C>>(stack: &[Symbol<C, N>]) -> bool
+    ensures { result ≡ list_all (can_be_empty N.rules) stack.now }
+{
+    stack.iter().all(|symbol| match symbol {
+        Symbol::Class(_) => false,
+        Symbol::Part(part) => part.may_end(),
+    })
+}

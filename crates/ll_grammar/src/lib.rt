@@ -1,0 +1,22 @@
+//! Recognises the texts of a context-free grammar with one token in view, and names the first fault
+//! of every other list of tokens. It takes the classes of the tokens and a grammar, an impl of
+//! [`Grammar`]: what stands behind a token where a part begins with it, which parts may have no
+//! token, and which tokens stand too deep. It gives `None` for a text with no token too deep, else
+//! the one first [`Fault`]: the token at which no text goes on, or the token that is too deep.
+//!
+//! The grammar is LL(1) (Lewis and Stearns, Syntax-Directed Transduction, 1968; Knuth, Top-Down Syntax
+//! Analysis, 1971). Such a recogniser has the viable-prefix property (Aho, Sethi and Ullman,
+//! Compilers, 1986): it reads on exactly as long as some text begins with the tokens read.
+//! The contract of [`first_fault`] is that property, both ways, over the grammar's own texts;
+//! `proofs/` carries it to any other statement of the same texts (`Meanings`, `Faults`).
+#![tactic(auto)]
+
+mod fault;
+mod grammar;
+mod laws;
+#[cfg(test)]
+mod tests;
+
+pub use fault::{Fault, first_fault};
+pub use grammar::{Grammar, Step, Symbol, TokenClass, push_body};
+pub use laws::{one_answer, viable_prefixes};

@@ -1,0 +1,4 @@
+pub mod Pieces
+pub mod Rises
+mod HeldLemmas
+mod Moves

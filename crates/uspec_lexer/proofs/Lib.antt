@@ -1,0 +1,6 @@
+mod Digits
+pub mod Pieces
+pub mod Spelling
+pub mod Order
+pub mod Totality
+mod Spans

@@ -1,0 +1,35 @@
+-- What the scanner's answers mean.
+use Rattle.std.specs.Prelude.{ℕ, ◌-◌, List, [], ◌∷◌, Option, Some, None}
+use Rattle.uspec_lexer.specs.Piece.{Form as PlainForm, blank, comment, token, IsPiece, NoPiece}
+use Rattle.uspec_lexer.specs.Bytes.{IsNameByte, IsDigit, IsLineByte}
+use Rattle.uspec_lexer.specs.Span.{kind_of}
+use Rattle.uspec_lexer.specs.declared.class.Class.{Class}
+use Rattle.uspec_lexer.specs.declared.class.Class.TheVariants.{NameByte, Digit, LineByte}
+use Rattle.uspec_lexer.specs.declared.scan.Form.{Form}
+use Rattle.uspec_lexer.specs.declared.scan.Form.TheVariants.{Blank, Comment, Token}
+use Rattle.uspec_lexer.specs.declared.scan.Piece.{Piece}
+use Rattle.uspec_lexer.specs.declared.list.Span.{Span}
+
+abbrev pub IsIn : Class → ℕ → Type 0
+IsIn NameByte c = IsNameByte c
+IsIn Digit c = IsDigit c
+IsIn LineByte c = IsLineByte c
+
+abbrev pub plain_form : Form → PlainForm
+plain_form Blank = blank
+plain_form Comment = comment
+plain_form (Token kind) = token (kind_of kind)
+
+-- the piece that stands at a, or none where none does
+abbrev pub IsPieceAt : List ℕ → ℕ → Option Piece → Type 0
+IsPieceAt bytes a None = NoPiece bytes a
+IsPieceAt bytes a (Some p) = IsPiece bytes (plain_form p.form) a p.end
+
+-- the span that is kept of a piece from a to b: that of a token
+abbrev pub kept_of : Form → ℕ → ℕ → List Span
+kept_of Blank a b = []
+kept_of Comment a b = []
+kept_of (Token kind) a b = record { kind = kind; at = a; len = b - a } ∷ []
+
+abbrev pub kept : ℕ → Piece → List Span
+kept a p = kept_of p.form a p.end

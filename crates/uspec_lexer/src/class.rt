@@ -1,0 +1,59 @@
+ghost use Rattle.std.specs.Prelude.{◌≡◌, ◌<◌, ◌↔◌, IsTrue, length, slice_index};
+ghost use Rattle.uspec_lexer.specs.Bytes.{IsBlank, IsLetter, IsTextByte};
+ghost use Rattle.uspec_lexer.specs.Piece.{IsRun};
+ghost use Rattle.uspec_lexer.specs.Scan.{IsIn};
+
+/// A class of bytes of which a piece may be a run.
+#[derive(Clone, Copy)]
+pub(crate) enum Class {
+    /// ASCII letters and digits, `_` and `'`.
+    NameByte,
+    /// `0` to `9`.
+    Digit,
+    /// Any byte but LF.
+    LineByte,
+}
+
+impl Class {
+    pub(crate) fn has(self, byte: u8) -> bool
+        ensures { IsTrue result ↔ IsIn self byte }
+    {
+        match self {
+            Class::NameByte => byte.is_ascii_alphanumeric() || byte == b'_' || byte == b'\'',
+            Class::Digit => byte.is_ascii_digit(),
+            Class::LineByte => byte != b'\n',
+        }
+    }
+
+    /// Where the run of this class that begins at `from` ends.
+    pub(crate) fn run_end(self, bytes: &[u8], from: usize) -> usize
+        requires within { from < length bytes.now }
+        requires first { IsIn self (slice_index bytes.now from) }
+        ensures { IsRun (IsIn self) bytes.now from result }
+    {
+        let mut end = from + 1;
+        while end < bytes.len() && self.has(bytes[end]) {
+            end += 1;
+        }
+        end
+    }
+}
+
+pub(crate) fn is_blank(byte: u8) -> bool
+    ensures { IsTrue result ↔ IsBlank byte }
+{
+    matches!(byte, b' ' | b'\t' | b'\r' | b'\n')
+}
+
+pub(crate) fn is_letter(byte: u8) -> bool
+    ensures { IsTrue result ↔ IsLetter byte }
+{
+    byte.is_ascii_alphabetic()
+}
+
+/// Whether `byte` may stand between a text's quotes.
+pub(crate) fn is_text_byte(byte: u8) -> bool
+    ensures { IsTrue result ↔ IsTextByte byte }
+{
+    matches!(byte, 0x20..=0x7E) && byte != b'"'
+}
