@@ -2,3 +2,5 @@
 #![tactic(auto)]
 
 mod model_reader;
+
+pub use model_reader::read_edge_model;

@@ -4,6 +4,7 @@ ghost use Rattle.pc_syntax.specs.declared.model.StageItem.{StageItem};
 ghost use Rattle.pc_syntax.specs.Written.{Written, written, written_item, WrittenModel, written_model};
 ghost use Rattle.edge_model.specs.EdgeModel.{StageAt, AxiomAt, quantifiers, Line, LinesAt, stages_in, axioms_in, IsShort, IsEdgeText, ReadsModel};
 
+use super::conditions::MOST_QUANTIFIERS;
 use super::formulas::formula_at;
 use super::terminals::{is_symbol, is_text, is_word, number_at, quoted_name_at, word_place};
 use pc_common::{Memory, Place};
@@ -11,8 +12,6 @@ use pc_syntax::{Formula, Item, Items, ModelFile, StageItem, StageItems};
 use std::alloc::Global;
 use uspec_lexer::Tokens;
 
-/// How many quantifiers an axiom may have.
-const MOST_QUANTIFIERS: usize = 32;
 
 /// The stage line whose four tokens begin at `at`.
 pub(super) fn stage_at(
