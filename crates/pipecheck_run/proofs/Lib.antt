@@ -1,2 +1,5 @@
 pub mod Elements
 pub mod Truths
+pub mod Nodes
+pub mod Joined
+
