@@ -3,3 +3,4 @@ pub mod Truths
 pub mod Nodes
 pub mod Joined
 
+pub mod Worlds

@@ -80,16 +80,16 @@ node_known stages c bound env t s is =
     at_place [] i h = absurd (omega arith)
     at_place (o ∷ os) i h = (get_or (o ∷ os) i o, slice_get-get_or (o ∷ os) i o h)
 
-abbrev names_of : List StageItem → List (List ℕ)
+abbrev pub names_of : List StageItem → List (List ℕ)
 names_of stages = map (λ s. s.name.name) stages
 
-abbrev setting_of : List StageItem → Case → World → Setting
+abbrev pub setting_of : List StageItem → Case → World → Setting
 setting_of stages c w = record { stages = stages; case = c; world = w }
 
-abbrev has : World → Edge → Bool
+abbrev pub has : World → Edge → Bool
 has w e = has_edge w e.0 e.1
 
-all_append : {X : Type 0} (p : X → Bool) (xs ys : List X) → list_all p (xs ++ ys) ≡ (list_all p xs && list_all p ys)
+pub all_append : {X : Type 0} (p : X → Bool) (xs ys : List X) → list_all p (xs ++ ys) ≡ (list_all p xs && list_all p ys)
 all_append p [] ys = refl
 all_append p (x ∷ xs) ys = ap (λ b. p x && b) (all_append p xs ys) ∙ and_assoc (p x) (list_all p xs) (list_all p ys)
   where
