@@ -1,1 +1,6 @@
 pub mod Asserted
+pub mod Words
+pub mod Command
+pub mod Language
+pub mod Certificates
+pub mod Output
