@@ -4,3 +4,4 @@ pub mod Nodes
 pub mod Joined
 
 pub mod Worlds
+pub mod Three

@@ -1,4 +1,5 @@
 //! The top call: from the words of a command and the bytes of its files to the bytes of the answer.
 #![tactic(auto)]
 
+mod command;
 mod z_probe;
