@@ -5,3 +5,4 @@ pub mod Joined
 
 pub mod Worlds
 pub mod Three
+pub mod Said

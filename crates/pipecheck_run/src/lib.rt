@@ -2,4 +2,5 @@
 #![tactic(auto)]
 
 mod command;
+mod language;
 mod z_probe;
