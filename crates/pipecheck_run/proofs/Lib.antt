@@ -6,3 +6,4 @@ pub mod Joined
 pub mod Worlds
 pub mod Three
 pub mod Said
+pub mod Numbers

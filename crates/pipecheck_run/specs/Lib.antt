@@ -4,3 +4,4 @@ pub mod Command
 pub mod Language
 pub mod Certificates
 pub mod Output
+pub mod Graphs

@@ -2,5 +2,6 @@
 #![tactic(auto)]
 
 mod command;
+mod graph;
 mod language;
 mod z_probe;
