@@ -7,3 +7,4 @@ pub mod Worlds
 pub mod Three
 pub mod Said
 pub mod Numbers
+pub mod GraphSteps

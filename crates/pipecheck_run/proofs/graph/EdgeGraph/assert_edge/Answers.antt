@@ -1,8 +1,7 @@
-use Rattle.std.proofs.Common.{rules, ◌≡◌, ◌<◌, ◌++◌, [], ◌∷◌, List, IfOk, OnOk, ℕ, ◌+◌, ◌-◌, ◌*◌, ◌≤◌, length, ◌/◌, ◌%◌, Bool, true, false, nat_eq, nat_lt, slice_index_or, slice_set, bit_and, bit_or, Fits, w8, w32, w64, Bor, MutBor}
-use Rattle.pc_common.specs.World.{Edge}
-use Rattle.pipecheck_run.specs.Graphs.{IsNumbered, IsGraphOf, key_node}
+use Rattle.pipecheck_run.proofs.GraphSteps.{graph_more}
 use Rattle.pipecheck_run.proofs.graph.EdgeGraph.assert_edge.Goals as goal
 
--- src/graph.rt:50:5
 pub returns : goal.returns
-returns c = ?
+returns c = λ asserted g.
+    graph_more asserted c.args.self.now.nodes.keys c.number.new.nodes.keys c.number-2.new.nodes.keys c.args.self.now.edges.keys c.insert.new.self.keys
+        c.args.from c.args.to c.in_ok-from.from c.in_ok-to.to c.in_ok-from.ensures.numbered c.in_ok-to.ensures.numbered c.in_ok-insert.ensures.keys g
