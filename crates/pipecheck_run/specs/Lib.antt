@@ -5,3 +5,4 @@ pub mod Language
 pub mod Certificates
 pub mod Output
 pub mod Graphs
+pub mod Scopes

@@ -4,4 +4,5 @@
 mod command;
 mod graph;
 mod language;
+mod scope;
 mod z_probe;
