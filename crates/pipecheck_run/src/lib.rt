@@ -1,6 +1,7 @@
 //! The top call: from the words of a command and the bytes of its files to the bytes of the answer.
 #![tactic(auto)]
 
+mod asserting;
 mod command;
 mod graph;
 mod language;
