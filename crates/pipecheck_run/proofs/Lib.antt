@@ -8,3 +8,4 @@ pub mod Three
 pub mod Said
 pub mod Numbers
 pub mod GraphSteps
+pub mod StageWalk

@@ -1,16 +1,21 @@
-ghost use Rattle.std.specs.Prelude.{◌≡◌, ◌<◌, ◌++◌, ℕ, List, Some, length, MatchOption, OnOk, IfOk, IsTrue};
+ghost use Rattle.std.specs.Prelude.{◌≡◌, ◌<◌, ◌++◌, [], ℕ, List, Some, length, slice_get, MatchOption, OnOk, if◌then◌else◌};
 ghost use Rattle.pc_common.specs.World.{Edge};
-ghost use Rattle.pc_syntax.specs.Written.{written};
-ghost use Rattle.pc_syntax.specs.Truth.{stage_of, node_of};
+ghost use Rattle.pc_case.specs.Plain.{micro_op};
+ghost use Rattle.pc_syntax.specs.declared.model.StageItem.{StageItem};
+ghost use Rattle.pc_syntax.specs.declared.term.Word.{Word};
+ghost use Rattle.pc_syntax.specs.declared.term.Arg.TheVariants.{Word as variable};
+ghost use Rattle.pc_syntax.specs.Written.{Written, written, implies_};
+ghost use Rattle.pc_syntax.specs.Predicates.{is_before as is_before_of};
+ghost use Rattle.pc_syntax.specs.Truth.{an_op, value_of, stage_of, node_of};
 ghost use Rattle.pipecheck_run.specs.Scopes.{env_of};
-ghost use Rattle.pipecheck_run.specs.Asserted.{IsOpNamed, IsNodeNamed, IsEdgeNamed, IsGuardNamed, IsNamed, edge_of, asserted};
+ghost use Rattle.pipecheck_run.specs.Asserted.{IsNodeNamed, IsEdgeNamed, IsGuardNamed, IsNamed, edge_of, asserted};
 ghost use Rattle.pipecheck_run.specs.Graphs.{IsGraphOf, key_node};
 
 use super::graph::{EdgeGraph, NodeKey};
 use super::scope::{Scope, op_of};
-use pc_case::Case;
+use pc_case::{Case, Op};
 use pc_common::Memory;
-use pc_syntax::{Arg, EdgeTerm, Formula, ModelFile, Name, NodeTerm, StageItems};
+use pc_syntax::{Arg, Args, EdgeTerm, Formula, Name, NodeTerm, StageItems};
 
 /// The number of the stage with this name, if there is one. A walk over at most 64 stages.
 fn stage_number(stages: &StageItems, name: &Name) -> Option<u64>
@@ -23,4 +28,74 @@ fn stage_number(stages: &StageItems, name: &Name) -> Option<u64>
         }
     }
     None
+}
+
+/// The node that a term names.
+fn node_key(stages: &StageItems, case: &Case, scope: &Scope<'_>, term: &NodeTerm) -> NodeKey
+    requires { IsNodeNamed stages.now case.now (env_of scope.now) term.now }
+    ensures { node_of stages.now case.now (env_of scope.now) term.now ≡ Some (key_node result) }
+{
+    let op = op_of(scope, &term.op.name).unwrap();
+    let stage = stage_number(stages, &term.stage.name).unwrap();
+    NodeKey {
+        op,
+        core: case.op(op as usize).core,
+        stage: stage as u8,
+    }
+}
+
+/// Asserts the edge that a term names.
+fn assert_term(
+    stages: &StageItems,
+    case: &Case,
+    scope: &Scope<'_>,
+    term: &EdgeTerm,
+    graph: &mut EdgeGraph,
+) -> Result<(), Memory>
+    requires { IsEdgeNamed stages.now case.now (env_of scope.now) term.now }
+    ensures { OnOk result ((before : List Edge) → IsGraphOf before graph.old.nodes.keys graph.old.edges.keys
+        → IsGraphOf (before ++ edge_of stages.now case.now (env_of scope.now) term.now) graph.new.nodes.keys graph.new.edges.keys) }
+{
+    let from = node_key(stages, case, scope, &term.from);
+    let to = node_key(stages, case, scope, &term.to);
+    graph.assert_edge(from, to)
+}
+
+/// The micro-op that the argument at `k` stands for, if it is a name that stands for one.
+fn argument_op(args: &Args, k: usize, scope: &Scope<'_>) -> Option<u8>
+    ensures { (w : Word) (i : ℕ) → slice_get args.now k ≡ Some (variable w) → value_of (env_of scope.now) w.name ≡ Some (an_op i) → result ≡ Some i }
+{
+    if k >= args.len() {
+        return None;
+    }
+    match args.get(k) {
+        Arg::Word(word) => op_of(scope, &word.name),
+        Arg::Number(_, _) => None,
+    }
+}
+
+/// Whether the first is before the second in program order: on one core, in one thread, of an earlier
+/// instruction.
+fn is_before(first: &Op, second: &Op) -> bool
+    ensures { result ≡ is_before_of (micro_op first.now) (micro_op second.now) }
+{
+    first.core == second.core && first.thread == second.thread && first.id.g < second.id.g
+}
+
+/// Whether a guard holds.
+fn holds(guard: &Formula, case: &Case, scope: &Scope<'_>) -> bool
+    requires { IsGuardNamed case.now (env_of scope.now) (written guard.now) }
+    ensures { (stages : List StageItem) (body : Written) → asserted stages case.now (env_of scope.now) (implies_ (written guard.now) body)
+        ≡ (if result then asserted stages case.now (env_of scope.now) body else []) }
+{
+    let Formula::Static { args, .. } = guard else {
+        return false;
+    };
+    let Some(first) = argument_op(args, 0, scope) else {
+        return false;
+    };
+    let Some(second) = argument_op(args, 1, scope) else {
+        return false;
+    };
+    is_before(case.op(first as usize), case.op(second as usize))
 }
