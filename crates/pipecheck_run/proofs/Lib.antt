@@ -9,3 +9,5 @@ pub mod Said
 pub mod Numbers
 pub mod GraphSteps
 pub mod StageWalk
+pub mod Guards
+pub mod Taken

@@ -1,4 +1,5 @@
-ghost use Rattle.std.specs.Prelude.{◌≡◌, ◌<◌, ◌++◌, [], ℕ, List, Some, length, slice_get, MatchOption, OnOk, if◌then◌else◌};
+ghost use Rattle.std.specs.List.{flat_map};
+ghost use Rattle.std.specs.Prelude.{◌≡◌, ◌<◌, All, ◌++◌, [], ℕ, List, Some, length, slice_get, MatchOption, OnOk, if◌then◌else◌};
 ghost use Rattle.pc_common.specs.World.{Edge};
 ghost use Rattle.pc_case.specs.Plain.{micro_op};
 ghost use Rattle.pc_syntax.specs.declared.model.StageItem.{StageItem};
@@ -15,7 +16,7 @@ use super::graph::{EdgeGraph, NodeKey};
 use super::scope::{Scope, op_of};
 use pc_case::{Case, Op};
 use pc_common::Memory;
-use pc_syntax::{Arg, Args, EdgeTerm, Formula, Name, NodeTerm, StageItems};
+use pc_syntax::{Arg, Args, EdgeTerm, EdgeTerms, Formula, Name, NodeTerm, StageItems};
 
 /// The number of the stage with this name, if there is one. A walk over at most 64 stages.
 fn stage_number(stages: &StageItems, name: &Name) -> Option<u64>
@@ -98,4 +99,58 @@ fn holds(guard: &Formula, case: &Case, scope: &Scope<'_>) -> bool
         return false;
     };
     is_before(case.op(first as usize), case.op(second as usize))
+}
+
+/// Asserts the edges of a list of terms.
+fn assert_terms(
+    stages: &StageItems,
+    case: &Case,
+    scope: &Scope<'_>,
+    terms: &EdgeTerms,
+    graph: &mut EdgeGraph,
+) -> Result<(), Memory>
+    requires { All (IsEdgeNamed stages.now case.now (env_of scope.now)) terms.now }
+    ensures { OnOk result ((before : List Edge) → IsGraphOf before graph.old.nodes.keys graph.old.edges.keys
+        → IsGraphOf (before ++ flat_map (edge_of stages.now case.now (env_of scope.now)) terms.now) graph.new.nodes.keys graph.new.edges.keys) }
+{
+    for k in 0..terms.len() {
+        assert_term(stages, case, scope, terms.get(k), graph)?;
+    }
+    Ok(())
+}
+
+/// Asserts the edges that an axiom of edges asserts where names stand for these micro-ops.
+/// Calls nest once for each quantifier and for the guard.
+pub(crate) fn assert_formula<'a>(
+    stages: &StageItems,
+    case: &Case,
+    scope: &'a Scope<'a>,
+    formula: &'a Formula,
+    graph: &mut EdgeGraph,
+) -> Result<(), Memory>
+    requires { IsNamed stages.now case.now (env_of scope.now) (written formula.now) }
+    ensures { OnOk result ((before : List Edge) → IsGraphOf before graph.old.nodes.keys graph.old.edges.keys
+        → IsGraphOf (before ++ asserted stages.now case.now (env_of scope.now) (written formula.now)) graph.new.nodes.keys graph.new.edges.keys) }
+{
+    match formula {
+        Formula::Forall { name, body, .. } => {
+            for op in 0..case.ops() {
+                let inner = Scope::Bound {
+                    name,
+                    op: op as u8,
+                    outer: scope,
+                };
+                assert_formula(stages, case, &inner, body, graph)?;
+            }
+            Ok(())
+        }
+        Formula::Implies(guard, body) => {
+            if holds(guard, case, scope) {
+                assert_formula(stages, case, scope, body, graph)?;
+            }
+            Ok(())
+        }
+        Formula::Edges(terms) => assert_terms(stages, case, scope, terms, graph),
+        _ => Ok(()),
+    }
 }

@@ -5,6 +5,7 @@ ghost use Rattle.pipecheck_run.specs.Scopes.{env_of};
 use pc_syntax::Name;
 
 /// The micro-ops that quantified names stand for, by their places in test order, the innermost first.
+#[derive(Clone, Copy)]
 pub(crate) enum Scope<'a> {
     Empty,
     Bound {
