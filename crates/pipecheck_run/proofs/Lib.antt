@@ -11,3 +11,4 @@ pub mod GraphSteps
 pub mod StageWalk
 pub mod Guards
 pub mod Taken
+pub mod Quantified
