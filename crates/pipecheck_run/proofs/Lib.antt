@@ -12,3 +12,4 @@ pub mod StageWalk
 pub mod Guards
 pub mod Taken
 pub mod Quantified
+pub mod Named

@@ -40,7 +40,7 @@ scope_more c bound env name i s inside n (inr more) =
       [ inl same ↦ (i, inside, rw same refl)
       | inr other ↦ (let r = s n more in (r.0, r.1, rw other r.2)) ]
 
-stage_known : (stages : List StageItem) (name : List ℕ) → In name (map (λ s. s.name.name) stages)
+pub stage_known : (stages : List StageItem) (name : List ℕ) → In name (map (λ s. s.name.name) stages)
   → (k : ℕ) × (stage_of stages name ≡ Some k) × In k (map (λ s. s.number) stages)
 stage_known [] name i = absurd i
 stage_known (s ∷ ss) name (inl e) = (s.number, rw (ap (λ x. same_name x name) e ∙ same_self name) refl, inl refl)

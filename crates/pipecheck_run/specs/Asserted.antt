@@ -8,7 +8,7 @@ use Rattle.pc_syntax.specs.declared.term.Sort.TheVariants.{Microop}
 use Rattle.pc_syntax.specs.declared.term.Arg.TheVariants.{Word as variable}
 use Rattle.pc_syntax.specs.declared.term.NodeTerm.{NodeTerm}
 use Rattle.pc_syntax.specs.declared.term.EdgeTerm.{EdgeTerm}
-use Rattle.pc_syntax.specs.Written.{Written, forall_, implies_, static_, edges_, WrittenModel}
+use Rattle.pc_syntax.specs.Written.{Written, forall_, implies_, static_, edges_, WrittenItem, axiom_, macro_, WrittenModel}
 use Rattle.pc_syntax.specs.Truth.{Environment, Meaning, an_op, range_of, value_of, stage_of, static_holds, node_of}
 use Rattle.pc_syntax.specs.Observable.{axioms_of}
 
@@ -53,3 +53,12 @@ IsNamed stages c env (forall_ at Microop name p) = (i : ℕ) → i < length c.op
 IsNamed stages c env (implies_ g p) = IsGuardNamed c env g × IsNamed stages c env p
 IsNamed stages c env (edges_ ts) = All (IsEdgeNamed stages c env) ts
 IsNamed stages c env _ = ⊥
+
+-- the edges that an item of the file asserts
+abbrev pub item_edges : List StageItem → Case → WrittenItem → List Edge
+item_edges stages c (axiom_ at body) = asserted stages c [] body
+item_edges stages c (macro_ m) = []
+
+abbrev pub IsItemNamed : List StageItem → Case → WrittenItem → Type 0
+IsItemNamed stages c (axiom_ at body) = IsNamed stages c [] body
+IsItemNamed stages c (macro_ m) = ⊥

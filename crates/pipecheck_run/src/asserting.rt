@@ -1,22 +1,24 @@
 ghost use Rattle.std.specs.List.{flat_map};
-ghost use Rattle.std.specs.Prelude.{◌≡◌, ◌<◌, All, ◌++◌, [], ℕ, List, Some, length, slice_get, MatchOption, OnOk, if◌then◌else◌};
+ghost use Rattle.std.specs.Prelude.{◌≡◌, ◌<◌, All, ◌++◌, [], ℕ, List, Some, length, slice_get, MatchOption, OnOk, IfOk, if◌then◌else◌};
 ghost use Rattle.pc_common.specs.World.{Edge};
 ghost use Rattle.pc_case.specs.Plain.{micro_op};
 ghost use Rattle.pc_syntax.specs.declared.model.StageItem.{StageItem};
 ghost use Rattle.pc_syntax.specs.declared.term.Word.{Word};
 ghost use Rattle.pc_syntax.specs.declared.term.Arg.TheVariants.{Word as variable};
-ghost use Rattle.pc_syntax.specs.Written.{Written, written, implies_};
+ghost use Rattle.pc_syntax.specs.Written.{Written, written, written_item, written_model, implies_};
 ghost use Rattle.pc_syntax.specs.Predicates.{is_before as is_before_of};
 ghost use Rattle.pc_syntax.specs.Truth.{an_op, value_of, stage_of, node_of};
+ghost use Rattle.edge_model.specs.EdgeModel.{IsEdgeModel};
 ghost use Rattle.pipecheck_run.specs.Scopes.{env_of};
-ghost use Rattle.pipecheck_run.specs.Asserted.{IsNodeNamed, IsEdgeNamed, IsGuardNamed, IsNamed, edge_of, asserted};
+ghost use Rattle.pipecheck_run.specs.Asserted.{IsNodeNamed, IsEdgeNamed, IsGuardNamed, IsNamed, IsItemNamed, item_edges, edge_of, asserted, asserted_edges};
 ghost use Rattle.pipecheck_run.specs.Graphs.{IsGraphOf, key_node};
 
 use super::graph::{EdgeGraph, NodeKey};
 use super::scope::{Scope, op_of};
 use pc_case::{Case, Op};
 use pc_common::Memory;
-use pc_syntax::{Arg, Args, EdgeTerm, EdgeTerms, Formula, Name, NodeTerm, StageItems};
+use std::alloc::Global;
+use pc_syntax::{Arg, Args, EdgeTerm, EdgeTerms, Formula, Item, ModelFile, Name, NodeTerm, StageItems};
 
 /// The number of the stage with this name, if there is one. A walk over at most 64 stages.
 fn stage_number(stages: &StageItems, name: &Name) -> Option<u64>
@@ -153,4 +155,40 @@ pub(crate) fn assert_formula<'a>(
         Formula::Edges(terms) => assert_terms(stages, case, scope, terms, graph),
         _ => Ok(()),
     }
+}
+
+/// Asserts the edges of an axiom.
+fn assert_item(
+    stages: &StageItems,
+    case: &Case,
+    item: &Item,
+    graph: &mut EdgeGraph,
+) -> Result<(), Memory>
+    requires { IsItemNamed stages.now case.now (written_item item.now) }
+    ensures { OnOk result ((before : List Edge) → IsGraphOf before graph.old.nodes.keys graph.old.edges.keys
+        → IsGraphOf (before ++ item_edges stages.now case.now (written_item item.now)) graph.new.nodes.keys graph.new.edges.keys) }
+{
+    match item {
+        Item::Axiom { body, .. } => {
+            let scope = Scope::Empty;
+            assert_formula(stages, case, &scope, body, graph)
+        }
+        Item::Macro { .. } => Ok(()),
+    }
+}
+
+/// The graph of all edges that the axioms of an edge model assert of a case.
+pub(crate) fn assert_model(
+    alloc: Global,
+    model: &ModelFile,
+    case: &Case,
+) -> Result<EdgeGraph, Memory>
+    requires { IsEdgeModel (written_model model.now) }
+    ensures { IfOk result (λ graph. IsGraphOf (asserted_edges (written_model model.now) case.now) graph.nodes.keys graph.edges.keys) }
+{
+    let mut graph = EdgeGraph::new(alloc);
+    for k in 0..model.items.len() {
+        assert_item(&model.stages, case, model.items.get(k), &mut graph)?;
+    }
+    Ok(graph)
 }
