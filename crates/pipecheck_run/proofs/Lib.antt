@@ -13,3 +13,4 @@ pub mod Guards
 pub mod Taken
 pub mod Quantified
 pub mod Named
+pub mod AssertedNodes

@@ -1,5 +1,5 @@
 -- A graph of numbered nodes and edges, and of which asserted edges it is.
-use Rattle.std.specs.Prelude.{◌≡◌, ℕ, ◌<◌, ◌⊎◌, List, [], ◌∷◌, ◌++◌, Some, length, slice_get, All, Contains, map}
+use Rattle.std.specs.Prelude.{◌≡◌, ℕ, ◌<◌, ◌⊎◌, List, [], ◌∷◌, ◌++◌, Some, None, length, slice_get, All, Contains, map}
 use Rattle.pc_common.specs.World.{Node, Edge}
 use Rattle.pipecheck_run.specs.declared.graph.NodeKey.{NodeKey}
 
@@ -35,3 +35,11 @@ pub record IsGraphOf (asserted : List Edge) (keys : List NodeKey) (edges : List 
   pub sound : (e : ℕ × ℕ) → Contains edges e → (f : Edge) × Contains asserted f × Stands keys e f
   pub complete : (f : Edge) → Contains asserted f → (e : ℕ × ℕ) × Contains edges e × Stands keys e f
   pub ends : (k : ℕ) (a : NodeKey) → slice_get keys k ≡ Some a → IsEnd asserted a
+
+-- the node of a number
+abbrev pub node_at : List NodeKey → ℕ → Node
+node_at keys k = elim (slice_get keys k) [ None ↦ record { op = 0; core = 0; stage = 0 } | Some a ↦ key_node a ]
+
+-- the edge of two numbers
+abbrev pub edge_at : List NodeKey → ℕ × ℕ → Edge
+edge_at keys e = (node_at keys e.0, node_at keys e.1)
