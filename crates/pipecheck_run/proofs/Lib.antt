@@ -14,3 +14,4 @@ pub mod Taken
 pub mod Quantified
 pub mod Named
 pub mod AssertedNodes
+pub mod Verdicts
