@@ -3,3 +3,5 @@
 mod chain;
 mod cycle;
 mod order;
+
+pub use cycle::find_cycle;

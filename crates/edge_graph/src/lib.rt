@@ -1,4 +1,6 @@
 //! Scratch: the private graph of the edge models.
 #![tactic(auto)]
 
-pub mod graph;
+mod graph;
+
+pub use graph::find_cycle;

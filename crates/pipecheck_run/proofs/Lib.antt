@@ -15,3 +15,4 @@ pub mod Quantified
 pub mod Named
 pub mod AssertedNodes
 pub mod Verdicts
+pub mod Texts

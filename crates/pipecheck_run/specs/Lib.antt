@@ -6,3 +6,4 @@ pub mod Certificates
 pub mod Output
 pub mod Graphs
 pub mod Scopes
+pub mod Verdicts

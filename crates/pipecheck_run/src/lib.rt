@@ -6,4 +6,6 @@ mod command;
 mod graph;
 mod language;
 mod scope;
+mod solving;
+mod verdict;
 mod z_probe;
