@@ -16,3 +16,5 @@ pub mod Named
 pub mod AssertedNodes
 pub mod Verdicts
 pub mod Texts
+pub mod Went
+pub mod NodeTexts

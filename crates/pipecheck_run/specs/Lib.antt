@@ -7,3 +7,4 @@ pub mod Output
 pub mod Graphs
 pub mod Scopes
 pub mod Verdicts
+pub mod Writing

@@ -1,0 +1,15 @@
+use Rattle.std.proofs.Common.{rules, ◌≡◌, ◌≤◌, ◌++◌, ℕ, List, IsTrue, OnErr, codes, map, ◌+◌, ◌-◌, ◌*◌, ◌<◌, length, ◌/◌, ◌%◌, Bool, true, false, nat_eq, nat_lt, [], ◌∷◌, slice_index_or, slice_set, bit_and, bit_or, Fits, w8, w32, w64, Bor, MutBor}
+use Rattle.std.specs.List.{flat_map}
+use Rattle.pc_common.specs.Faults.{Rose}
+use Rattle.pc_common.specs.Lines.{line_text, node, edge, nodes_text}
+use Rattle.pipecheck_run.specs.Writing.{Went, names_by, part_text}
+use Rattle.pipecheck_run.specs.Graphs.{key_node, node_at, edge_at}
+use Rattle.pipecheck_run.proofs.lines.write_numbered_nodes.Goals as goal
+
+-- src/lines.rt:137:9
+pub returns-in_err-write_node-clause-text : goal.returns-in_err-write_node-clause-text
+returns-in_err-write_node-clause-text g c = ?
+
+-- src/lines.rt:124:1
+pub returns-clause-text : goal.returns-clause-text
+returns-clause-text g c = ?
