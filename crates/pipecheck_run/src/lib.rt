@@ -7,6 +7,7 @@ mod graph;
 mod language;
 mod lines;
 mod parts;
+mod report;
 mod scope;
 mod solving;
 mod verdict;

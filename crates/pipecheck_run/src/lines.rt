@@ -1,7 +1,7 @@
 ghost use Rattle.std.specs.Prelude.{◌≡◌, ◌≤◌, ◌++◌, ℕ, List, IsTrue, OnErr, codes, map};
 ghost use Rattle.std.specs.List.{flat_map};
 ghost use Rattle.pc_common.specs.Faults.{Rose};
-ghost use Rattle.pc_common.specs.Lines.{line_text, node, edge, nodes_text};
+ghost use Rattle.pc_common.specs.Lines.{line_text, node, edge, node_text, nodes_text};
 ghost use Rattle.pipecheck_run.specs.Writing.{Went, names_by, part_text};
 ghost use Rattle.pipecheck_run.specs.Graphs.{key_node, node_at, edge_at};
 
@@ -95,29 +95,50 @@ pub(crate) fn write_edge_lines<K: Sink>(
         (flat_map (λ e. line_text (names_by names.now.case.now names.now.stages.now) (edge (node_at keys.now e.0) (node_at keys.now e.1))) edges.now) (K.taken out.new) }
 {
     for ends in edges {
-        write_edge_line(out, names, key_at(keys, ends.0), key_at(keys, ends.1))?;
+        write_edge_line(out, names, keys, *ends)?;
     }
     Ok(())
 }
 
-/// Writes the line of an edge.
-fn write_edge_line<K: Sink>(out: &mut K, names: &Names<'_>, from: NodeKey, to: NodeKey) -> Result<(), Failed>
+/// Writes the line of an edge, by the numbers of its ends.
+fn write_edge_line<K: Sink>(
+    out: &mut K,
+    names: &Names<'_>,
+    keys: &[NodeKey],
+    ends: (u32, u32),
+) -> Result<(), Failed>
     ensures same_told { K.told out.new ≡ K.told out.old }
     ensures count { K.faults out.old ≤ K.faults out.new }
     ensures cause { OnErr result (Rose (K.faults out.old) (K.faults out.new)) }
     ensures text { IsTrue (K.told out.old) → Went result (K.taken out.old)
-        (line_text (names_by names.now.case.now names.now.stages.now) (edge (key_node from) (key_node to))) (K.taken out.new) }
+        (line_text (names_by names.now.case.now names.now.stages.now) (edge (node_at keys.now ends.0) (node_at keys.now ends.1))) (K.taken out.new) }
 {
     write_parts(
         out,
         names,
         &[
             Part::Bytes(b"edge"),
-            Part::Node(from),
-            Part::Node(to),
+            Part::Node(key_at(keys, ends.0)),
+            Part::Node(key_at(keys, ends.1)),
             Part::Bytes(b"\n"),
         ],
     )
+}
+
+/// Writes a space and the node of a number.
+fn write_numbered_node<K: Sink>(
+    out: &mut K,
+    names: &Names<'_>,
+    keys: &[NodeKey],
+    number: u32,
+) -> Result<(), Failed>
+    ensures same_told { K.told out.new ≡ K.told out.old }
+    ensures count { K.faults out.old ≤ K.faults out.new }
+    ensures cause { OnErr result (Rose (K.faults out.old) (K.faults out.new)) }
+    ensures text { IsTrue (K.told out.old) → Went result (K.taken out.old)
+        (codes " " ++ node_text (names_by names.now.case.now names.now.stages.now) (node_at keys.now number)) (K.taken out.new) }
+{
+    write_node(out, names, key_at(keys, number))
 }
 
 /// Writes the nodes of these numbers, each behind a space.
@@ -134,7 +155,7 @@ pub(crate) fn write_numbered_nodes<K: Sink>(
         (nodes_text (names_by names.now.case.now names.now.stages.now) (map (node_at keys.now) numbers.now)) (K.taken out.new) }
 {
     for number in numbers {
-        write_node(out, names, key_at(keys, *number))?;
+        write_numbered_node(out, names, keys, *number)?;
     }
     Ok(())
 }

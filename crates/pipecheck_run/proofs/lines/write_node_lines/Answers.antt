@@ -1,11 +1,13 @@
-use Rattle.std.proofs.Common.{rules, ◌≡◌, ◌≤◌, ◌++◌, ℕ, List, IsTrue, OnErr, codes, map, ◌+◌, ◌-◌, ◌*◌, ◌<◌, length, ◌/◌, ◌%◌, Bool, true, false, nat_eq, nat_lt, [], ◌∷◌, slice_index_or, slice_set, bit_and, bit_or, Fits, w8, w32, w64, Bor, MutBor}
-use Rattle.std.specs.List.{flat_map}
-use Rattle.pc_common.specs.Faults.{Rose}
-use Rattle.pc_common.specs.Lines.{line_text, node, edge, nodes_text}
-use Rattle.pipecheck_run.specs.Writing.{Went, names_by, part_text}
-use Rattle.pipecheck_run.specs.Graphs.{key_node, node_at, edge_at}
+use Rattle.std.proofs.Common.{◌++◌, map}
+use Rattle.std.specs.Prelude.{codes}
+use Rattle.pc_common.specs.Lines.{line_text, node, edge, node_text}
+use Rattle.pipecheck_run.specs.Writing.{names_by, part_text}
+use Rattle.pipecheck_run.specs.Graphs.{key_node, node_at}
+use Rattle.pipecheck_run.proofs.Went.{went_err, cut_at, flat_map_map}
 use Rattle.pipecheck_run.proofs.lines.write_node_lines.Goals as goal
 
--- src/lines.rt:64:9
 pub returns-in_err-write_node_line-clause-text : goal.returns-in_err-write_node_line-clause-text
-returns-in_err-write_node_line-clause-text g c = ?
+returns-in_err-write_node_line-clause-text g c = λ told.
+    went_err c.from_residual.result _ _ _ c.from_residual.ensures.0
+        (cut_at (λ key. line_text (names_by c.args.names.now.case.now c.args.names.now.stages.now) (node (key_node key))) c.args.keys.now c.loop-key.key-index _ _ _ _ c.loop-key-test.true (c.loop-key.invariant.text told)
+            (c.in_err-write_node_line.ensures.text (rw c.loop-key.invariant.same_told told)))
