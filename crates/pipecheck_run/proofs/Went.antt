@@ -1,6 +1,6 @@
 -- Texts that go out a piece at a time.
 use Rattle.std.proofs.Common.{◌≡◌, ℕ, ◌+◌, ◌<◌, ◌≤◌, List, [], ◌∷◌, ◌++◌, Result, Ok, Err, length, get_or, take, drop, map, refl, sym, ◌∙◌, ap, subst, arith, append_assoc, Bor}
-use Rattle.std.specs.Prelude.{IsErr, IsTrue}
+use Rattle.std.specs.Prelude.{IsErr, IsTrue, OnOk, OnErr}
 use Rattle.std.specs.List.{flat_map}
 use Rattle.std.proofs.lemmas.List.{take-append-drop, drop_more}
 use Rattle.pc_common.specs.Pieces.{IsCutShort}
@@ -40,3 +40,9 @@ went_then (Err e) before first middle next after whole cut = cut_in_next first w
 pub went_no_further : {T E : Type 0} (r : Result T E) (before first next after : List ℕ)
   → IsErr r → IsCutShort before first after → Went r before (first ++ next) after
 went_no_further r before first next after e cut = went_err r before (first ++ next) after e (cut_in_first next cut)
+
+-- what the writing of one piece says
+pub piece_went : {T E : Type 0} {P : Type 0} (r : Result T E) (before piece after : List ℕ) → P
+  → OnOk r (P → after ≡ before ++ piece) → OnErr r (P → IsCutShort before piece after) → Went r before piece after
+piece_went (Ok x) before piece after p whole short = whole p
+piece_went (Err e) before piece after p whole short = short p

@@ -1,21 +1,31 @@
-use Rattle.std.proofs.Common.{rules, ◌≡◌, ◌≤◌, ◌++◌, IsTrue, OnErr, codes, ℕ, ◌+◌, ◌-◌, ◌*◌, ◌<◌, length, ◌/◌, ◌%◌, Bool, true, false, nat_eq, nat_lt, List, [], ◌∷◌, slice_index_or, slice_set, bit_and, bit_or, Fits, w8, w32, w64, Bor, MutBor}
-use Rattle.pc_common.specs.Faults.{Rose}
-use Rattle.pc_common.specs.Lines.{line_text}
-use Rattle.pc_common.specs.Lines.{verdict as verdict_line_of}
-use Rattle.pc_common.specs.Lines.{second}
-use Rattle.pc_case.specs.Plain.{expectation}
-use Rattle.pipecheck_run.specs.Writing.{Went, names_by}
-use Rattle.pipecheck_run.specs.Verdicts.{verdict_of, body_text, verdict_text}
+use Rattle.pipecheck_run.proofs.Went.{went_then, went_no_further, piece_went}
 use Rattle.pipecheck_run.proofs.report.write_verdict.Goals as goal
 
--- src/report.rt:81:5
 pub returns-in_err-write_all-2-clause-text : goal.returns-in_err-write_all-2-clause-text
-returns-in_err-write_all-2-clause-text g c = ?
+returns-in_err-write_all-2-clause-text g c = λ told.
+    let first = c.in_ok-write_all.ensures in
+    let r = c.from_residual-in_err-write_all-2.result in
+    went_then r _ _ _ _ _ (rw c.verdict_line.ensures at (first.whole told))
+        (went_no_further r _ _ _ _ c.from_residual-in_err-write_all-2.ensures.0
+            (rw c.second_line.ensures at (c.in_err-write_all-2.ensures.short (rw first.same_told told))))
 
--- src/report.rt:82:5
 pub returns-in_err-write_body-clause-text : goal.returns-in_err-write_body-clause-text
-returns-in_err-write_body-clause-text g c = ?
+returns-in_err-write_body-clause-text g c = λ told.
+    let first = c.in_ok-write_all.ensures in
+    let second = c.in_ok-write_all-2.ensures in
+    let r = c.from_residual-in_err-write_body.result in
+    went_then r _ _ _ _ _ (rw c.verdict_line.ensures at (first.whole told))
+        (went_then r _ _ _ _ _ (rw c.second_line.ensures at (second.whole (rw first.same_told told)))
+            (went_no_further r _ _ _ _ c.from_residual-in_err-write_body.ensures.0
+                (c.in_err-write_body.ensures.text (rw second.same_told (rw first.same_told told)))))
 
--- src/report.rt:74:1
 pub returns-clause-text : goal.returns-clause-text
-returns-clause-text g c = ?
+returns-clause-text g c = λ told.
+    let first = c.in_ok-write_all.ensures in
+    let second = c.in_ok-write_all-2.ensures in
+    let body = c.in_ok-write_body.ensures in
+    let r = c.write_all-3.result in
+    went_then r _ _ _ _ _ (rw c.verdict_line.ensures at (first.whole told))
+        (went_then r _ _ _ _ _ (rw c.second_line.ensures at (second.whole (rw first.same_told told)))
+            (went_then r _ _ _ _ _ (body.text (rw second.same_told (rw first.same_told told)))
+                (piece_went r _ _ _ (rw body.same_told (rw second.same_told (rw first.same_told told))) c.write_all-3.ensures.whole c.write_all-3.ensures.short)))
