@@ -1,0 +1,15 @@
+//! The top call: from the words of a command and the bytes of its files to the bytes of the answer.
+#![tactic(auto)]
+
+mod asserting;
+mod command;
+mod graph;
+mod language;
+mod lines;
+mod parts;
+mod report;
+mod scope;
+mod solving;
+mod verdict;
+mod writing;
+mod z_probe;
