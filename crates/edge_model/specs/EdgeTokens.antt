@@ -1,5 +1,5 @@
 -- What stands at a place of a token list, as the grammar of edge models sees it.
-use Rattle.std.specs.Prelude.{◌≡◌, ℕ, ◌-◌, Bool, false, ◌&&◌, ◌||◌, not, IsTrue, List, [], ◌∷◌, length, slice_get, slice_range, Some, codes, ◌==◌}
+use Rattle.std.specs.Prelude.{◌≡◌, ℕ, ◌-◌, Bool, false, ◌&&◌, ◌||◌, IsTrue, List, [], ◌∷◌, length, slice_get, slice_range, Some, codes, ◌==◌}
 use Rattle.std.specs.List.{list_any, list_all}
 use Rattle.std.specs.Char.{is_ascii_alphabetic, is_ascii_alphanumeric}
 use Rattle.std.specs.Str.{bytes_eq}
