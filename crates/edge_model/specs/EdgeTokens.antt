@@ -7,6 +7,7 @@ use Rattle.pc_common.specs.declared.place.Place.{Place}
 use Rattle.pc_syntax.specs.declared.term.Word.{Word}
 use Rattle.uspec_lexer.specs.Token.{Token, Kind, name, number, text, symbol}
 
+-- the words that no variable and no stage has for a name, also those that only larger models use
 abbrev pub reserved : List (List ℕ)
 reserved =
     codes "StageName" ∷ codes "Axiom" ∷ codes "DefineMacro" ∷ codes "ExpandMacro" ∷ codes "forall" ∷ codes "exists" ∷
