@@ -1,14 +1,13 @@
 -- The word that a formula begins with says which production it is.
-use Rattle.std.proofs.Common.{◌≡◌, ◌≢◌, ℕ, ◌+◌, ◌≤◌, ◌⊎◌, inl, inr, List, [], ◌∷◌, length, slice_get, Option, Some, None, Result, Ok, Err, MatchOption, IfOk, codes, sym, ap, subst, refl, ◌∙◌, ⊎_elim, arith}
+use Rattle.std.proofs.Common.{◌≡◌, ℕ, ◌+◌, ◌≤◌, ◌⊎◌, inl, inr, List, [], ◌∷◌, Option, Some, None, Result, Ok, Err, MatchOption, IfOk, codes, sym, ap, ◌∙◌, arith}
 use Rattle.pc_common.specs.declared.place.Place.{Place}
 use Rattle.pc_common.specs.declared.memory.Memory.{Memory}
-use Rattle.pc_syntax.specs.declared.term.Sort.TheVariants.{Microop, Core}
+use Rattle.pc_syntax.specs.declared.term.Sort.TheVariants.{Microop}
 use Rattle.pc_syntax.specs.declared.term.Word.{Word}
-use Rattle.pc_syntax.specs.declared.term.Arg.TheVariants.{Word as variable, Number as number_arg}
-use Rattle.pc_syntax.specs.declared.term.EdgeTerm.{EdgeTerm}
+use Rattle.pc_syntax.specs.declared.term.Arg.TheVariants.{Word as variable}
 use Rattle.pc_syntax.specs.declared.formula.Formula.{Formula}
-use Rattle.pc_syntax.specs.Written.{Written, written, forall_, exists_, implies_, static_, edges_, not_, and_, or_, nodes_, expand_, bind_}
-use Rattle.uspec_lexer.specs.Token.{Token, Kind, name}
+use Rattle.pc_syntax.specs.Written.{Written, written, forall_, implies_, static_, edges_}
+use Rattle.uspec_lexer.specs.Token.{Token, Kind}
 use Rattle.edge_model.specs.EdgeTokens.{TokenAt, WordAt}
 use Rattle.edge_model.specs.EdgeModel.{QuantifierAt, GuardAt, AddEdgeAt, GuardedAt, FormulaAt, quantifiers}
 

@@ -4,3 +4,4 @@ pub mod LineLists
 pub mod NameLists
 pub mod StageLists
 pub mod ModelFits
+pub mod EdgeFacts

@@ -1,5 +1,5 @@
 -- Lists of lines: how they join, and that a token list has one.
-use Rattle.std.proofs.Common.{◌≡◌, ◌≢◌, ℕ, ◌+◌, ◌<◌, ◌≤◌, ◌⊎◌, inl, inr, List, [], ◌∷◌, ◌++◌, length, slice_get, Option, Some, None, All, Contains, map, codes, sym, ap, subst, refl, ◌∙◌, append_assoc, arith}
+use Rattle.std.proofs.Common.{◌≡◌, ℕ, ◌+◌, ◌<◌, ◌≤◌, List, [], ◌∷◌, ◌++◌, length, All, Contains, map, sym, ap, subst, refl, ◌∙◌, arith}
 use Rattle.std.proofs.lemmas.Option.{slice_get_within}
 use Rattle.std.proofs.lemmas.List.{append-nil, map-append}
 use Rattle.std.proofs.lemmas.List.Elements.{All-contains, Contains-get_or, Contains-append_right}
@@ -8,12 +8,11 @@ use Rattle.pc_syntax.specs.declared.model.StageItem.{StageItem}
 use Rattle.pc_syntax.specs.declared.formula.Formula.{Formula}
 use Rattle.pc_syntax.specs.declared.model.Item.{Item}
 use Rattle.pc_syntax.specs.declared.model.Item.TheVariants.{Axiom}
-use Rattle.pc_syntax.specs.Written.{Written, written, written_item, forall_, implies_, static_, edges_, WrittenItem, axiom_, macro_, WrittenModel}
+use Rattle.pc_syntax.specs.Written.{Written, written, written_item, forall_, implies_, static_, edges_, axiom_, WrittenModel}
 use Rattle.pc_syntax.specs.declared.term.Sort.TheVariants.{Microop}
-use Rattle.pc_syntax.specs.declared.term.Word.{Word}
 use Rattle.pc_syntax.specs.declared.term.Arg.TheVariants.{Word as variable}
 use Rattle.uspec_lexer.specs.Token.{Token}
-use Rattle.edge_model.specs.EdgeModel.{AddEdgeAt, GuardedAt, FormulaAt, StageAt, AxiomAt, Line, stage_line, axiom_line, LinesAt, stages_in, axioms_in, quantifiers, IsShort, IsEdgeText, IsEdgeItem, stage_names, IsEdgeModel, ReadsModel}
+use Rattle.edge_model.specs.EdgeModel.{AddEdgeAt, GuardedAt, FormulaAt, StageAt, AxiomAt, Line, stage_line, axiom_line, LinesAt, stages_in, axioms_in, quantifiers, IsShort, IsEdgeText, IsEdgeItem, stage_names, ReadsModel}
 use Rattle.edge_model.proofs.OneReading.{one_stage, one_axiom, stage_is_no_axiom}
 
 -- an edge or a formula takes tokens
@@ -93,9 +92,9 @@ short_in : (stages : List (List ℕ)) (done rest : List Line) (line : Line) → 
 short_in stages done rest (stage_line s) all = tt
 short_in stages done rest (axiom_line at body) all =
     let there : Contains (axioms_in done ++ axiom_ at body ∷ axioms_in rest) (axiom_ at body) =
-      Contains-append_right (axioms_in done) (axiom_ at body ∷ axioms_in rest) (axiom_ at body) (Contains-get_or (axiom_ at body ∷ axioms_in rest) 0 (axiom_ at body) (omega arith)) in
+    Contains-append_right (axioms_in done) (axiom_ at body ∷ axioms_in rest) (axiom_ at body) (Contains-get_or (axiom_ at body ∷ axioms_in rest) 0 (axiom_ at body) (omega arith)) in
     (All-contains (IsEdgeItem stages) (axioms_in (done ++ axiom_line at body ∷ rest)) (axiom_ at body) all
-      (subst (λ l. Contains l (axiom_ at body)) (sym (axioms_in-append done (axiom_line at body ∷ rest))) there)).0
+    (subst (λ l. Contains l (axiom_ at body)) (sym (axioms_in-append done (axiom_line at body ∷ rest))) there)).0
 
 -- lines were read up to a place, no short line goes on from there, and yet there are tokens: so nothing is read
 pub nothing_read : (ts : List Token) (at : ℕ) (done : List Line) → LinesAt ts 0 done at → at < length ts
@@ -104,7 +103,7 @@ pub nothing_read : (ts : List Token) (at : ℕ) (done : List Line) → LinesAt t
 nothing_read ts at done so_far more none m (text, fine) =
     let r = lines_after ts 0 at done text.0 so_far text.1 in
     let items : All (IsEdgeItem (stage_names m)) (axioms_in (done ++ r.0)) =
-      subst (λ l. All (IsEdgeItem (stage_names m)) l) (ap (λ n. n.items) text.2 ∙ ap axioms_in r.1) fine.edge_items in
+    subst (λ l. All (IsEdgeItem (stage_names m)) l) (ap (λ n. n.items) text.2 ∙ ap axioms_in r.1) fine.edge_items in
     by r.0 r.2 items
   where
     by : (rest : List Line) → LinesAt ts at rest (length ts) → All (IsEdgeItem (stage_names m)) (axioms_in (done ++ rest)) → ⊥

@@ -3,10 +3,8 @@ use Rattle.std.proofs.Common.{◌≡◌, ℕ, ◌<◌, ◌≤◌, Bool, true, fa
 use Rattle.std.proofs.lemmas.List.{get_or-map, length-map}
 use Rattle.std.proofs.lemmas.List.Elements.{All-map}
 use Rattle.pc_common.specs.declared.memory.Memory.{Memory}
-use Rattle.pc_syntax.specs.declared.model.StageItem.{StageItem}
-use Rattle.pc_syntax.specs.declared.model.Item.{Item}
 use Rattle.pc_syntax.specs.declared.model.ModelFile.{ModelFile}
-use Rattle.pc_syntax.specs.Written.{WrittenItem, written_item, WrittenModel, written_model}
+use Rattle.pc_syntax.specs.Written.{written_item, written_model}
 use Rattle.edge_model.specs.EdgeModel.{Differ, IsEdgeItem, IsEdgeModel}
 
 All-unmap : {A B : Type 0} (P : B → Type 0) (f : A → B) (xs : List A) → All P (map f xs) → All (λ x. P (f x)) xs
@@ -21,14 +19,14 @@ fitted m names named in_range differ items = record {
   numbers_in_range = in_range;
   stages_differ = differ;
   edge_items = All-map (IsEdgeItem (map (λ s. s.name.name) m.stages)) written_item m.items
-    (subst (λ l. All (λ i. IsEdgeItem l (written_item i)) m.items) named items);
+      (subst (λ l. All (λ i. IsEdgeItem l (written_item i)) m.items) named items);
 }
 
 unfitted : (m : ModelFile) (names : List (List ℕ)) → names ≡ map (λ s. s.name.name) m.stages
     → (All (λ i. IsEdgeItem names (written_item i)) m.items → ⊥) → IsEdgeModel (written_model m) → ⊥
 unfitted m names named none fits =
     none (subst (λ l. All (λ i. IsEdgeItem l (written_item i)) m.items) (sym named)
-      (All-unmap (IsEdgeItem (map (λ s. s.name.name) m.stages)) written_item m.items fits.edge_items))
+    (All-unmap (IsEdgeItem (map (λ s. s.name.name) m.stages)) written_item m.items fits.edge_items))
 
 -- where the stages are in order, the items decide
 pub items_decide : (m : ModelFile) (names : List (List ℕ)) (r : Result Bool Memory)

@@ -1,16 +1,16 @@
 -- At a place a token list says one thing at most: of each production, one reading and one end.
-use Rattle.std.proofs.Common.{◌≡◌, ◌≢◌, ℕ, ◌+◌, ◌≤◌, ◌⊎◌, inl, inr, List, [], ◌∷◌, length, slice_get, Option, Some, None, codes, sym, ap, subst, refl, ◌∙◌, arith}
+use Rattle.std.proofs.Common.{◌≡◌, ℕ, ◌+◌, ◌⊎◌, inl, inr, List, [], ◌∷◌, Option, Some, None, codes, sym, ap, refl, ◌∙◌}
 use Rattle.pc_common.specs.declared.place.Place.{Place}
-use Rattle.pc_syntax.specs.declared.term.Sort.TheVariants.{Microop, Core}
+use Rattle.pc_syntax.specs.declared.term.Sort.TheVariants.{Microop}
 use Rattle.pc_syntax.specs.declared.term.Word.{Word}
-use Rattle.pc_syntax.specs.declared.term.Arg.TheVariants.{Word as variable, Number as number_arg}
+use Rattle.pc_syntax.specs.declared.term.Arg.TheVariants.{Word as variable}
 use Rattle.pc_syntax.specs.declared.term.NodeTerm.{NodeTerm}
 use Rattle.pc_syntax.specs.declared.term.EdgeTerm.{EdgeTerm}
 use Rattle.pc_syntax.specs.declared.model.StageItem.{StageItem}
-use Rattle.pc_syntax.specs.Written.{Written, written, forall_, exists_, implies_, static_, edges_, not_, and_, or_, nodes_, expand_, bind_, WrittenItem, WrittenModel}
-use Rattle.uspec_lexer.specs.Token.{Token, Kind, name, number, text, symbol}
-use Rattle.edge_model.specs.EdgeTokens.{TokenAt, WordAt, NameAt, QuotedNameAt, NumberAt, content}
-use Rattle.edge_model.specs.EdgeModel.{NodeAt, EdgeAt, QuantifierAt, GuardAt, AddEdgeAt, GuardedAt, FormulaAt, StageAt, AxiomAt, Line, stage_line, axiom_line, LinesAt, stages_in, axioms_in, IsEdgeText, IsEdgeModel, ReadsModel}
+use Rattle.pc_syntax.specs.Written.{Written, forall_, implies_, static_, edges_}
+use Rattle.uspec_lexer.specs.Token.{Token, Kind, number, symbol}
+use Rattle.edge_model.specs.EdgeTokens.{TokenAt, NameAt, QuotedNameAt, NumberAt, content}
+use Rattle.edge_model.specs.EdgeModel.{NodeAt, EdgeAt, QuantifierAt, GuardAt, AddEdgeAt, GuardedAt, FormulaAt, StageAt, AxiomAt}
 use Rattle.edge_model.proofs.FormulaCases.{one_piece, quantifier_is_no_guard, add_edge_word}
 
 offset_in : Option Token → ℕ
@@ -99,20 +99,20 @@ both_guarded ts k f g i j a b =
     let second = one_name ts (k + 2) a.6.2 b.6.2 in
     let rest = one_add_edge ts (k + 4) a.3 b.3 i j a.7 b.7 in
     let same : implies_ (static_ a.0 (variable a.1 ∷ variable a.2 ∷ [])) a.3 ≡ implies_ (static_ b.0 (variable b.1 ∷ variable b.2 ∷ [])) b.3 =
-      λ t. implies_ (static_ (record { name = predicate t; at = place t }) (variable (first t) ∷ variable (second t) ∷ [])) (rest.0 t) in
+    λ t. implies_ (static_ (record { name = predicate t; at = place t }) (variable (first t) ∷ variable (second t) ∷ [])) (rest.0 t) in
     (a.4 ∙ same ∙ sym b.4, rest.1)
 
 one_guarded : (ts : List Token) (k : ℕ) (f g : Written) (i j : ℕ) → GuardedAt ts k f i → GuardedAt ts k g j → (f ≡ g) × (i ≡ j)
 one_guarded ts k f g i j x y =
     elim (guard_is ts k f i x) [
-      inl a ↦ elim (guard_is ts k g j y) [
-          inl b ↦ both_guarded ts k f g i j a b
+      | inl a ↦ elim (guard_is ts k g j y) [
+        | inl b ↦ both_guarded ts k f g i j a b
         | inr b ↦ absurd (guard_is_no_edge ts k f g i j a b)
-        ]
-    | inr a ↦ elim (guard_is ts k g j y) [
-          inl b ↦ absurd (guard_is_no_edge ts k g f j i b a)
+      ]
+      | inr a ↦ elim (guard_is ts k g j y) [
+        | inl b ↦ absurd (guard_is_no_edge ts k g f j i b a)
         | inr b ↦ one_add_edge ts k f g i j a b
-        ]
+      ]
     ]
 
 QuantifierIs : List Token → ℕ → Written → ℕ → Type 0
@@ -133,17 +133,17 @@ pub one_formula : (ts : List Token) (k : ℕ) (f g : Written) (i j : ℕ) → Fo
 unfolding QuantifierIs
 one_formula ts k (forall_ at Microop bound body) g i j x y =
     elim (quantifier_is ts k g j y) [
-      inl b ↦
-        let head = one_bound ts k at b.0 bound b.1 x.0 b.4 in
-        let rest = one_formula ts (k + 4) body b.2 i j x.1 b.5 in
-        let same : forall_ at Microop bound body ≡ forall_ b.0 Microop b.1 b.2 = λ t. forall_ (head.0 t) Microop (head.1 t) (rest.0 t) in
-        (same ∙ sym b.3, rest.1)
-    | inr b ↦ absurd (quantifier_is_no_guard ts k at bound g j x.0 b)
+      | inl b ↦
+          let head = one_bound ts k at b.0 bound b.1 x.0 b.4 in
+          let rest = one_formula ts (k + 4) body b.2 i j x.1 b.5 in
+          let same : forall_ at Microop bound body ≡ forall_ b.0 Microop b.1 b.2 = λ t. forall_ (head.0 t) Microop (head.1 t) (rest.0 t) in
+          (same ∙ sym b.3, rest.1)
+      | inr b ↦ absurd (quantifier_is_no_guard ts k at bound g j x.0 b)
     ]
 one_formula ts k f g i j x y =
     elim (quantifier_is ts k g j y) [
-      inl b ↦ absurd (quantifier_is_no_guard ts k b.0 b.1 f i b.4 x)
-    | inr b ↦ one_guarded ts k f g i j x b
+      | inl b ↦ absurd (quantifier_is_no_guard ts k b.0 b.1 f i b.4 x)
+      | inr b ↦ one_guarded ts k f g i j x b
     ]
 
 pub one_stage : (ts : List Token) (k : ℕ) (s t : StageItem) → StageAt ts k s → StageAt ts k t → s ≡ t

@@ -1,11 +1,10 @@
 -- Stages that were entered one by one: their numbers are marked, their names listed, and they differ.
-use Rattle.std.proofs.Common.{◌≡◌, ◌≢◌, ℕ, ◌+◌, ◌<◌, ◌≤◌, Bool, true, false, ◌⊎◌, inl, inr, List, [], ◌∷◌, ◌++◌, length, map, take, slice_get, get_or, Some, All, AllPairs, Contains, IsTrue, ◌↔◌, sym, ap, subst, refl, ◌∙◌, true≢false, arith, zero, suc}
+use Rattle.std.proofs.Common.{◌≡◌, ◌≢◌, ℕ, ◌+◌, ◌<◌, ◌≤◌, Bool, true, false, inl, inr, List, [], ◌∷◌, ◌++◌, length, map, take, slice_get, get_or, Some, All, AllPairs, Contains, ◌↔◌, sym, ap, subst, refl, ◌∙◌, true≢false, arith, suc}
 use Rattle.std.proofs.Math.ListN.{set, replicate, length-set}
-use Rattle.std.proofs.Math.Seq.{take-length}
 use Rattle.std.proofs.lemmas.Bool.{cases_eq}
 use Rattle.std.proofs.lemmas.Option.{get_or_from_slice_get}
 use Rattle.std.proofs.lemmas.List.{map-append, get_or-map, get_or-take, get_or-set_same, get_or-set_other, get_or-replicate, length-take-le, length-map, take_more}
-use Rattle.std.proofs.lemmas.List.Elements.{All-push, All-get_or, All-nil, Contains-get_or, Contains-push, Contains-push_cases, Contains-append_left}
+use Rattle.std.proofs.lemmas.List.Elements.{All-push, All-nil, Contains-get_or, Contains-push, Contains-push_cases, Contains-append_left}
 use Rattle.std.proofs.lemmas.List.Quantifiers.{all_pairs_push}
 use Rattle.pc_syntax.specs.declared.model.StageItem.{StageItem}
 use Rattle.edge_model.specs.EdgeModel.{Differ}
@@ -15,8 +14,8 @@ contains_mapped : {A B : Type 0} (f : A → B) (xs : List A) (y : B) → Contain
 contains_mapped f [] y h = absurd (none_contained y h)
 contains_mapped f (x ∷ xs) y h =
     elim (Contains-cons_cases (f x) (map f xs) y h) [
-      inl same ↦ (0, omega arith, λ d. same)
-    | inr there ↦ let r = contains_mapped f xs y there in (suc r.0, omega arith, r.2)
+      | inl same ↦ (0, omega arith, λ d. same)
+      | inr there ↦ let r = contains_mapped f xs y there in (suc r.0, omega arith, r.2)
     ]
 
 contains_map_at : {A B : Type 0} (f : A → B) (xs : List A) (k : ℕ) (d : A) → k < length xs → Contains (map f xs) (f (get_or xs k d))
@@ -47,13 +46,15 @@ mark_more : (stages : List StageItem) (seen : List Bool) (s : StageItem) → len
     → (n : ℕ) → n ≤ 63 → (get_or (set seen s.number true) n false ≡ true) ↔ Contains (map (λ t. t.number) stages ++ s.number ∷ []) n
 mark_more stages seen s whole low marked n small =
     elim (cases_eq n s.number) [
-      inl same ↦
-        (λ _. subst (λ m. Contains (map (λ t. t.number) stages ++ s.number ∷ []) m) (sym same) (Contains-push (map (λ t. t.number) stages) s.number),
-         λ _. subst (λ m. get_or (set seen s.number true) m false ≡ true) (sym same) (get_or-set_same seen s.number true false (omega arith)))
-    | inr other ↦
-        let kept = get_or-set_other seen s.number n true false other in
-        (λ e. Contains-append_left (map (λ t. t.number) stages) (s.number ∷ []) n ((marked n small).0 (sym kept ∙ e)),
-         λ h. kept ∙ (marked n small).1 (elim (Contains-push_cases (map (λ t. t.number) stages) s.number n h) [ inl there ↦ there | inr same ↦ absurd (other (sym same)) ]))
+      | inl same ↦ (
+        λ _. subst (λ m. Contains (map (λ t. t.number) stages ++ s.number ∷ []) m) (sym same) (Contains-push (map (λ t. t.number) stages) s.number),
+        λ _. subst (λ m. get_or (set seen s.number true) m false ≡ true) (sym same) (get_or-set_same seen s.number true false (omega arith)),
+      )
+      | inr other ↦
+          let kept = get_or-set_other seen s.number n true false other in (
+            λ e. Contains-append_left (map (λ t. t.number) stages) (s.number ∷ []) n ((marked n small).0 (sym kept ∙ e)),
+            λ h. kept ∙ (marked n small).1 (elim (Contains-push_cases (map (λ t. t.number) stages) s.number n h) [ inl there ↦ there | inr same ↦ absurd (other (sym same)) ]),
+          )
     ]
 
 pub entered_push : (stages : List StageItem) (seen : List Bool) (names : List (List ℕ)) (s : StageItem) → IsEntered stages seen names
@@ -61,9 +62,10 @@ pub entered_push : (stages : List StageItem) (seen : List Bool) (names : List (L
     → IsEntered (stages ++ s ∷ []) (set seen s.number true) (names ++ s.name.name ∷ [])
 entered_push stages seen names s before low free fresh = record {
   in_range = All-push (λ t. t.number ≤ 63) stages s before.in_range low;
-  differ = all_pairs_push Differ stages s before.differ (λ k d within.
-    (λ e. true≢false (sym ((before.marked s.number low).1 (subst (λ n. Contains (map (λ t. t.number) stages) n) e (contains_map_at (λ t. t.number) stages k d within))) ∙ get_or_from_slice_get seen s.number false false free),
-     λ e. fresh (subst (λ l. Contains l s.name.name) (sym before.named) (subst (λ n. Contains (map (λ t. t.name.name) stages) n) e (contains_map_at (λ t. t.name.name) stages k d within)))));
+  differ = all_pairs_push Differ stages s before.differ (λ k d within. (
+    λ e. true≢false (sym ((before.marked s.number low).1 (subst (λ n. Contains (map (λ t. t.number) stages) n) e (contains_map_at (λ t. t.number) stages k d within))) ∙ get_or_from_slice_get seen s.number false false free),
+    λ e. fresh (subst (λ l. Contains l s.name.name) (sym before.named) (subst (λ n. Contains (map (λ t. t.name.name) stages) n) e (contains_map_at (λ t. t.name.name) stages k d within))),
+  ));
   named = ap (λ l. l ++ s.name.name ∷ []) before.named ∙ sym (map-append (λ t. t.name.name) stages (s ∷ []));
   whole = length-set seen s.number true ∙ before.whole;
   marked = λ n small. subst (λ l. (get_or (set seen s.number true) n false ≡ true) ↔ Contains l n) (sym (map-append (λ t. t.number) stages (s ∷ []))) (mark_more stages seen s before.whole low before.marked n small);
@@ -96,4 +98,4 @@ entered_more stages i s seen seen' names names' within here before low free mark
     let pushed = entered_push (take i stages) seen names s before low free fresh in
     subst (λ l. IsEntered l seen' names') (sym longer)
     (subst (λ l. IsEntered (take i stages ++ s ∷ []) seen' l) (sym listed)
-     (subst (λ l. IsEntered (take i stages ++ s ∷ []) l (names ++ s.name.name ∷ [])) (sym marks) pushed))
+    (subst (λ l. IsEntered (take i stages ++ s ∷ []) l (names ++ s.name.name ∷ [])) (sym marks) pushed))

@@ -79,6 +79,7 @@ LinesAt ts k (stage_line s ∷ lines) end = StageAt ts k s × LinesAt ts (k + 4)
 LinesAt ts k (axiom_line at body ∷ lines) end =
     (dot : ℕ) × AxiomAt ts k at body dot × LinesAt ts (dot + 1) lines end
 
+-- what the lines give, each kind in the text's order
 abbrev pub stages_in : List Line → List StageItem
 stages_in [] = []
 stages_in (stage_line s ∷ lines) = s ∷ stages_in lines
@@ -99,6 +100,7 @@ IsEdgeText ts m =
 abbrev pub IsEdgeNode : List (List ℕ) → List (List ℕ) → NodeTerm → Type 0
 IsEdgeNode stages bound n = Contains bound n.op.name × (n.core ≡ None) × Contains stages n.stage.name
 
+-- one edge between such nodes
 abbrev pub IsOneEdge : List (List ℕ) → List (List ℕ) → Written → Type 0
 IsOneEdge stages bound (edges_ (e ∷ [])) = IsEdgeNode stages bound e.from × IsEdgeNode stages bound e.to
 IsOneEdge stages bound _ = ⊥
@@ -120,6 +122,7 @@ abbrev pub IsEdgeFormula : List (List ℕ) → List (List ℕ) → Written → T
 IsEdgeFormula stages bound (forall_ at Microop name body) = IsEdgeFormula stages (name ∷ bound) body
 IsEdgeFormula stages bound f = IsGuardedEdge stages bound f
 
+-- how many quantifiers stand before anything else
 abbrev pub quantifiers : Written → ℕ
 quantifiers (forall_ at sort name body) = quantifiers body + 1
 quantifiers _ = 0
@@ -140,6 +143,7 @@ Differ s t = (s.number ≢ t.number) × (s.name.name ≢ t.name.name)
 abbrev pub stage_names : WrittenModel → List (List ℕ)
 stage_names m = map (λ s. s.name.name) m.stages
 
+-- the stages have numbers up to 63 and all differ, and each item is an axiom over them
 pub record IsEdgeModel (m : WrittenModel) : Type 0 where
   pub numbers_in_range : All (λ s. s.number ≤ 63) m.stages
   pub stages_differ : AllPairs Differ m.stages

@@ -1,5 +1,5 @@
 -- What stands at a place of a token list, as the grammar of edge models sees it.
-use Rattle.std.specs.Prelude.{◌≡◌, ℕ, ◌-◌, Bool, false, ◌&&◌, ◌||◌, not, IsTrue, List, [], ◌∷◌, length, slice_get, slice_range, Some, codes, ◌==◌}
+use Rattle.std.specs.Prelude.{◌≡◌, ℕ, ◌-◌, Bool, false, ◌&&◌, ◌||◌, IsTrue, List, [], ◌∷◌, length, slice_get, slice_range, Some, codes, ◌==◌}
 use Rattle.std.specs.List.{list_any, list_all}
 use Rattle.std.specs.Char.{is_ascii_alphabetic, is_ascii_alphanumeric}
 use Rattle.std.specs.Str.{bytes_eq}
@@ -7,6 +7,7 @@ use Rattle.pc_common.specs.declared.place.Place.{Place}
 use Rattle.pc_syntax.specs.declared.term.Word.{Word}
 use Rattle.uspec_lexer.specs.Token.{Token, Kind, name, number, text, symbol}
 
+-- the words that no variable and no stage has for a name, also those that only larger models use
 abbrev pub reserved : List (List ℕ)
 reserved =
     codes "StageName" ∷ codes "Axiom" ∷ codes "DefineMacro" ∷ codes "ExpandMacro" ∷ codes "forall" ∷ codes "exists" ∷

@@ -14,6 +14,8 @@ mod names;
 mod stages;
 mod terminals;
 mod terms;
+#[cfg(test)]
+mod tests;
 
 use conditions::are_edge_items;
 use lines::read_lines;

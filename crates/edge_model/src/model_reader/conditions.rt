@@ -71,7 +71,10 @@ fn is_edge_formula(
     let mut scope = Scope::new(alloc);
     let mut inner = formula;
     while let Formula::Forall {
-        sort, name, body, ..
+        sort,
+        name,
+        body,
+        ..
     } = inner
     {
         if matches!(sort, Sort::Core) {

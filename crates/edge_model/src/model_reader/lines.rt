@@ -12,7 +12,6 @@ use pc_syntax::{Formula, Item, Items, ModelFile, StageItem, StageItems};
 use std::alloc::Global;
 use uspec_lexer::Tokens;
 
-
 /// The stage line whose four tokens begin at `at`.
 pub(super) fn stage_at(
     alloc: Global,
@@ -90,8 +89,8 @@ fn add_line(
     ensures { IfOk result (λ found. MatchOption found
         ((line : Line) (next : ℕ) → LinesAt tokens.now at (line ∷ []) next → IsShort line → ⊥)
         (λ next. (at < next) × (next ≤ length tokens.now) × ((line : Line) × LinesAt tokens.now at (line ∷ []) next ×
-            (stages.new ≡ stages.old ++ stages_in (line ∷ [])) ×
-            (map written_item items.new ≡ map written_item items.old ++ axioms_in (line ∷ []))))) }
+        (stages.new ≡ stages.old ++ stages_in (line ∷ [])) ×
+        (map written_item items.new ≡ map written_item items.old ++ axioms_in (line ∷ []))))) }
 {
     let _ = tokens.len();
     if let Some(stage) = stage_at(alloc, tokens, at)? {

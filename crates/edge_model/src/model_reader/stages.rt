@@ -33,10 +33,10 @@ fn enter_stage<'a>(
     ensures length { length seen.new ≡ 64 }
     ensures entered { IfOk result (λ is_new. MatchBool is_new
         ((stage.now.number ≤ 63) × (slice_get seen.old stage.now.number ≡ Some false) ×
-            (seen.new ≡ slice_set seen.old stage.now.number true) ×
-            (Contains names.old stage.now.name.name → ⊥) × (names.new ≡ names.old ++ stage.now.name.name ∷ []))
+        (seen.new ≡ slice_set seen.old stage.now.number true) ×
+        (Contains names.old stage.now.name.name → ⊥) × (names.new ≡ names.old ++ stage.now.name.name ∷ []))
         (stage.now.number ≤ 63 → (slice_get seen.old stage.now.number ≡ Some true → ⊥) →
-            (Contains names.old stage.now.name.name → ⊥) → ⊥)) }
+        (Contains names.old stage.now.name.name → ⊥) → ⊥)) }
 {
     Ok(mark_number(seen, stage.number) && names.insert(stage.name.name.as_slice())?)
 }

@@ -5,7 +5,7 @@ ghost use Rattle.uspec_lexer.specs.Token.{name, text, number, symbol};
 ghost use Rattle.uspec_lexer.specs.View.{plain};
 ghost use Rattle.pc_common.specs.declared.place.Place.{Place};
 ghost use Rattle.pc_syntax.specs.declared.term.Word.{Word};
-ghost use Rattle.edge_model.specs.EdgeTokens.{is_reserved as reserved_spec, is_spelled_as_name as spelled_spec, is_name_byte, content as content_of, TokenAt, SymbolAt, WordAt, NameAt, QuotedNameAt, TextAt, NumberAt};
+ghost use Rattle.edge_model.specs.EdgeTokens.{is_reserved, is_spelled_as_name, is_name_byte, content, TokenAt, SymbolAt, WordAt, NameAt, QuotedNameAt, TextAt, NumberAt};
 
 use pc_common::{Memory, Place};
 use pc_syntax::{Name, Word};
@@ -98,7 +98,7 @@ const RESERVED: [&'static [u8]; 16] = [
 /// Whether the word is one of the grammar's own.
 #[tactic(auto, unfolding(crate::specs::EdgeTokens::is_reserved))]
 fn is_reserved(word: &[u8]) -> bool
-    ensures { result ≡ reserved_spec word.now }
+    ensures { result ≡ is_reserved word.now }
 {
     is_among(word, &RESERVED)
 }
@@ -113,7 +113,7 @@ pub(super) fn is_among(word: &[u8], words: &[&[u8]]) -> bool
 /// Whether the bytes are a letter, and then letters, digits, `_` and `'`.
 #[tactic(auto, unfolding(crate::specs::EdgeTokens::is_spelled_as_name))]
 fn is_spelled_as_name(word: &[u8]) -> bool
-    ensures { result ≡ spelled_spec word.now }
+    ensures { result ≡ is_spelled_as_name word.now }
 {
     match word {
         [] => false,
@@ -177,7 +177,7 @@ pub(super) fn quoted_name_at(
 
 /// What the quotes of a text enclose.
 fn content(piece: &[u8]) -> &[u8]
-    ensures { result.now ≡ content_of piece.now }
+    ensures { result.now ≡ content piece.now }
 {
     if piece.len() < 2 {
         return &piece[..0];

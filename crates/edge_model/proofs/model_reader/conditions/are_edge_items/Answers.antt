@@ -1,4 +1,4 @@
-use Rattle.std.proofs.Common.{◌≡◌, ◌<◌, List, length, take, All, subst, sym, arith}
+use Rattle.std.proofs.Common.{◌≡◌, ◌<◌, List, length, take, All, subst, arith}
 use Rattle.std.proofs.Math.Seq.{take-length}
 use Rattle.std.proofs.lemmas.List.Elements.{All-more}
 use Rattle.pc_syntax.specs.declared.model.Item.{Item}

@@ -1,9 +1,6 @@
-use Rattle.std.proofs.Common.{◌≡◌, ◌+◌, List, [], ◌∷◌, ◌++◌, length, map, refl, sym, ap, ◌∙◌, arith}
+use Rattle.std.proofs.Common.{map, refl, sym, arith}
 use Rattle.std.proofs.lemmas.List.{append-nil}
-use Rattle.pc_common.specs.declared.place.Place.{Place}
-use Rattle.pc_syntax.specs.declared.model.Item.{Item}
-use Rattle.pc_syntax.specs.declared.model.Item.TheVariants.{Axiom}
-use Rattle.pc_syntax.specs.Written.{WrittenItem, written, written_item}
+use Rattle.pc_syntax.specs.Written.{written, written_item}
 use Rattle.edge_model.specs.EdgeModel.{stage_line, axiom_line}
 use Rattle.edge_model.proofs.LineLists.{axiom_grows, pushed_axiom, no_line}
 use Rattle.edge_model.proofs.model_reader.lines.add_line.Goals as goal

@@ -13,9 +13,12 @@ pub loop-at-preserved : goal.loop-at-preserved
 loop-at-preserved c =
     let so_far = c.loop-at.invariant.1 in
     let found = rw c.in-Some.is at c.in_ok-next.ensures in
-    let line = found.2 in
-    (found.1,
-      (so_far.0 ++ line.0 ∷ [],
+    let line = found.2 in (
+      found.1,
+      (
+        so_far.0 ++ line.0 ∷ [],
         lines_append c.args.tokens.now 0 c.loop-at.at c.in-Some.next so_far.0 (line.0 ∷ []) so_far.1 line.1,
         line.2 ∙ ap (λ l. l ++ stages_in (line.0 ∷ [])) so_far.2 ∙ sym (stages_in-append so_far.0 (line.0 ∷ [])),
-        line.3 ∙ ap (λ l. l ++ axioms_in (line.0 ∷ [])) so_far.3 ∙ sym (axioms_in-append so_far.0 (line.0 ∷ []))))
+        line.3 ∙ ap (λ l. l ++ axioms_in (line.0 ∷ [])) so_far.3 ∙ sym (axioms_in-append so_far.0 (line.0 ∷ [])),
+      ),
+    )

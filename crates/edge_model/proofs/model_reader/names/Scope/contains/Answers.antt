@@ -1,4 +1,4 @@
-use Rattle.std.proofs.Common.{Contains, IsTrue, ◌↔◌, map, reverse, subst, sym}
+use Rattle.std.proofs.Common.{Contains, IsTrue, ◌↔◌, map, subst, sym}
 use Rattle.edge_model.proofs.NameLists.{among_is, Contains-reverse}
 use Rattle.edge_model.proofs.model_reader.names.Scope.contains.Goals as goal
 
