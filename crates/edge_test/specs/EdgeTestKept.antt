@@ -1,5 +1,5 @@
 -- What the reader has kept of the lines so far, and what a further line must go with.
-use Rattle.std.specs.Prelude.{◌≡◌, ◌<◌, List, [], ◌∷◌, ◌++◌, length, map, All}
+use Rattle.std.specs.Prelude.{◌≡◌, ◌<◌, List, [], ◌∷◌, length, map, All}
 use Rattle.pc_common.specs.Case.{Expectation, permitted, forbidden, unstated}
 use Rattle.pc_case.specs.declared.op.Op.{Op}
 use Rattle.pc_case.specs.declared.case.Expect.{Expect}
