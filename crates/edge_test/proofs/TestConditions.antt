@@ -160,8 +160,8 @@ all_writes ts k end (microop_line o ∷ lines) h =
     All-cons IsWrite o (ops_in lines) (h.1.0.10, (h.1.0.7.0, h.1.0.7.2)) (all_writes ts h.0 end lines h.2)
 all_writes ts k end (expect_line e ∷ lines) h = all_writes ts h.0 end lines h.2
 
-at : {X : Type 0} (P : X → Type 0) (xs : List X) (k : ℕ) (x : X) → All P xs → slice_get xs k ≡ Some x → P x
-at P xs k x all is = subst P (get_or_from_slice_get xs k x x is) (all k x (slice_get_within xs k x is))
+holds_at : {X : Type 0} (P : X → Type 0) (xs : List X) (k : ℕ) (x : X) → All P xs → slice_get xs k ≡ Some x → P x
+holds_at P xs k x all is = subst P (get_or_from_slice_get xs k x x is) (all k x (slice_get_within xs k x is))
 
 apart : (ops : List MicroOp) (j k : ℕ) (a b : MicroOp) → AllPairs Agree ops → slice_get ops j ≡ Some a → slice_get ops k ≡ Some b
     → a.g ≡ b.g → a.n ≡ b.n → j < k → ⊥
@@ -180,12 +180,12 @@ kept_of : (ops : List MicroOp) → All IsWrite ops → length ops ≤ 64 → All
 kept_of ops writes few cores pairs =
     record {
       few = few;
-      cores = λ k o is. omega (arith, at (λ o. o.core ≤ 63) ops k o cores is);
+      cores = λ k o is. omega (arith, holds_at (λ o. o.core ≤ 63) ops k o cores is);
       once = λ j k a b first second g n.
           let before : j < k → ⊥ = apart ops j k a b pairs first second g n in
           let after : k < j → ⊥ = apart ops k j b a pairs second first (sym g) (sym n) in
           omega (arith, before, after);
-      fences = λ k o is. no_fence o (at IsWrite ops k o writes is);
+      fences = λ k o is. no_fence o (holds_at IsWrite ops k o writes is);
     }
 
 -- what is kept of lines is of the type of cases
