@@ -13,7 +13,7 @@ use Rattle.pc_case.specs.declared.case.Expect.TheVariants.{Permitted, Forbidden,
 use Rattle.pc_case.specs.Plain.{micro_op, expectation}
 use Rattle.pc_case.specs.Kept.{IsKept}
 use Rattle.uspec_lexer.specs.Token.{Token}
-use Rattle.edge_test.specs.EdgeTest.{Line, microop_line, expect_line, LinesAt, ops_in, expects_in, Agree, IsEdgeTest, stated}
+use Rattle.edge_test.specs.EdgeTest.{Line, microop_line, expect_line, LinesAt, ops_in, expects_in, Agree, IsEdgeTest}
 use Rattle.edge_test.specs.EdgeTestKept.{stated_by, Keeps, Fits}
 
 ops_in-append : (xs ys : List Line) → ops_in (xs ++ ys) ≡ ops_in xs ++ ops_in ys
@@ -47,13 +47,6 @@ begins xs ys t =
       ops_agree = AllPairs-front Agree (ops_in xs) (ops_in ys) (subst (λ l. AllPairs Agree l) ops t.ops_agree);
       stated_once = omega (arith, t.stated_once, ap length expects, length-append (expects_in xs) (expects_in ys));
     }
-
-pub nothing_kept : Keeps [] Unstated []
-nothing_kept = (
-  record { few = omega arith; cores_in_range = λ k d h. absurd (omega (arith, h)); ops_agree = λ i j d before h. absurd (omega (arith, h)); stated_once = omega arith },
-  refl,
-  refl,
-)
 
 -- a micro-op that fits is kept
 pub keeps_op : (ops new : List Op) (e : Expect) (op : Op) (done : List Line) → Keeps ops e done → Fits ops op → op.core ≤ 63
@@ -104,11 +97,6 @@ last_core done o t =
     let last = all (length (ops_in done)) o (omega (arith, length-append (ops_in done) (o ∷ []))) in
     subst (λ p. p.core ≤ 63) (get_or_push (ops_in done) o o (length (ops_in done)) refl) last
 
-stated_once_by : (e : Expectation) → length (stated_by e) ≤ 1
-stated_once_by permitted = omega arith
-stated_once_by forbidden = omega arith
-stated_once_by unstated = omega arith
-
 -- the first expectation is kept, if it is one
 pub keeps_expect : (ops : List Op) (e : Expect) (done : List Line) → Keeps ops Unstated done → expectation e ≢ unstated
     → Keeps ops e (done ++ expect_line (expectation e) ∷ [])
@@ -145,11 +133,6 @@ no_second ops e f done (t, same, expects) is u =
     stated_length Permitted is = refl
     stated_length Forbidden is = refl
     stated_length Unstated is = absurd (is refl)
-
-pub stated_is : (e : Expectation) → stated (stated_by e) ≡ e
-stated_is permitted = refl
-stated_is forbidden = refl
-stated_is unstated = refl
 
 abbrev IsWrite : MicroOp → Type 0
 IsWrite o = (o.kind ≡ write) × ((t : Touch) × (o.touch ≡ Some t))
