@@ -1,5 +1,5 @@
 -- What a line at a place does to what is kept.
-use Rattle.std.proofs.Common.{◌≡◌, ◌≢◌, ℕ, ◌+◌, ◌<◌, ◌≤◌, List, [], ◌∷◌, ◌++◌, length, sym, subst, refl, arith}
+use Rattle.std.proofs.Common.{◌≡◌, ◌≢◌, ℕ, ◌+◌, ◌<◌, ◌≤◌, List, [], ◌∷◌, ◌++◌, length, subst, refl, arith}
 use Rattle.pc_common.specs.Case.{MicroOp, Expectation, permitted, forbidden, unstated}
 use Rattle.pc_case.specs.declared.op.Op.{Op}
 use Rattle.pc_case.specs.declared.case.Expect.{Expect}
@@ -10,7 +10,6 @@ use Rattle.edge_test.specs.EdgeTest.{MicroOpAt, ExpectAt, Line, microop_line, ex
 use Rattle.edge_test.specs.EdgeTestKept.{Keeps, Fits}
 use Rattle.edge_test.proofs.TestOneReading.{one_microop, microop_is_no_expect}
 use Rattle.edge_test.proofs.TestConditions.{keeps_op, must_fit, last_core, keeps_expect, no_second}
-
 
 -- a micro-op that does not fit makes a text that is not of the language
 pub refused_op : (ts : List Token) (k : ℕ) (ops : List Op) (e : Expect) (op : Op) (done : List Line) (line : Line) (next : ℕ)
@@ -34,7 +33,7 @@ second_expect ts k ops e done (expect_line f) next no_op is h keeps fine = no_se
 pub added_op : (ts : List Token) (k : ℕ) (ops new : List Op) (e : Expect) (op : Op)
     → MicroOpAt ts k (micro_op op) × (op.core ≤ 63) × (k + 23 ≤ length ts) → Fits ops op → new ≡ ops ++ op ∷ []
     → (k < k + 23) × (k + 23 ≤ length ts) × ((line : Line) × LineAt ts k line (k + 23) ×
-      ((done : List Line) → Keeps ops e done → Keeps new e (done ++ line ∷ [])))
+    ((done : List Line) → Keeps ops e done → Keeps new e (done ++ line ∷ [])))
 added_op ts k ops new e op (here, small, within) fits is =
     (omega arith, within, (microop_line (micro_op op), (here, refl), λ done keeps. keeps_op ops new e op done keeps fits small is))
 
@@ -46,7 +45,13 @@ stated_at ts k unstated h = absurd h
 pub added_expect : (ts : List Token) (k : ℕ) (ops : List Op) (e f : Expect)
     → ExpectAt ts k (expectation f) × (k + 2 ≤ length ts) → e ≡ Unstated
     → (k < k + 2) × (k + 2 ≤ length ts) × ((line : Line) × LineAt ts k line (k + 2) ×
-      ((done : List Line) → Keeps ops e done → Keeps ops f (done ++ line ∷ [])))
-added_expect ts k ops e f (here, within) is =
-    (omega arith, within, (expect_line (expectation f), (here, refl),
-      λ done keeps. keeps_expect ops f done (subst (λ d. Keeps ops d done) is keeps) (stated_at ts k (expectation f) here)))
+    ((done : List Line) → Keeps ops e done → Keeps ops f (done ++ line ∷ [])))
+added_expect ts k ops e f (here, within) is = (
+  omega arith,
+  within,
+  (
+    expect_line (expectation f),
+    (here, refl),
+    λ done keeps. keeps_expect ops f done (subst (λ d. Keeps ops d done) is keeps) (stated_at ts k (expectation f) here),
+  ),
+)

@@ -1,8 +1,8 @@
 -- Lists of lines: how they join, and that a token list has one, so that it says one case.
-use Rattle.std.proofs.Common.{◌≡◌, ℕ, ◌+◌, ◌<◌, ◌≤◌, List, [], ◌∷◌, ◌++◌, length, sym, ap, subst, refl, ◌∙◌, append_assoc, append-nil, arith}
+use Rattle.std.proofs.Common.{◌≡◌, ℕ, ◌<◌, List, [], ◌∷◌, ◌++◌, length, sym, ap, subst, refl, ◌∙◌, append_assoc, append-nil, arith}
 use Rattle.pc_common.specs.Case.{Case}
 use Rattle.uspec_lexer.specs.Token.{Token}
-use Rattle.edge_test.specs.EdgeTest.{Line, microop_line, expect_line, LineAt, LinesAt, IsTestText, IsEdgeTest, case_of, ReadsTest}
+use Rattle.edge_test.specs.EdgeTest.{Line, LineAt, LinesAt, IsTestText, IsEdgeTest, case_of, ReadsTest}
 use Rattle.edge_test.proofs.TestOneReading.{one_line, line_within}
 use Rattle.edge_test.proofs.TestConditions.{begins}
 

@@ -1,10 +1,10 @@
 -- At a place a token list says one thing at most: of each production, one reading and one end.
-use Rattle.std.proofs.Common.{◌≡◌, ℕ, ◌+◌, ◌<◌, ◌≤◌, List, [], ◌∷◌, length, get_or, Option, Some, None, codes, sym, ap, refl, ◌∙◌, arith}
-use Rattle.std.specs.Prelude.{slice_get, MatchOption}
+use Rattle.std.proofs.Common.{◌≡◌, ℕ, ◌+◌, ◌<◌, List, [], length, get_or, Option, Some, None, codes, sym, ap, refl, ◌∙◌, arith}
+use Rattle.std.specs.Prelude.{MatchOption}
 use Rattle.std.proofs.lemmas.Option.{slice_get_within}
 use Rattle.pc_common.specs.Case.{PageAt, Address, page, Value, Touch, MicroOp, Expectation, permitted, forbidden, unstated}
 use Rattle.pc_common.specs.Case.Value.{number as number_value}
-use Rattle.uspec_lexer.specs.Token.{Token, Kind, symbol, number}
+use Rattle.uspec_lexer.specs.Token.{Token, Kind, number}
 use Rattle.edge_test.specs.EdgeTestTokens.{TokenAt, WordAt, SymbolAt, NumberAt}
 use Rattle.edge_test.specs.EdgeTest.{PageOf, PhysicalAt, DataAt, TouchAt, MicroOpAt, ExpectAt, Line, microop_line, expect_line, LineAt}
 

@@ -1,12 +1,12 @@
 -- What the reader has kept of the lines so far, and what a further line must go with.
-use Rattle.std.specs.Prelude.{◌≡◌, ◌<◌, List, [], ◌∷◌, ◌++◌, length, map, All}
+use Rattle.std.specs.Prelude.{◌≡◌, ◌<◌, List, [], ◌∷◌, length, map, All}
 use Rattle.pc_common.specs.Case.{Expectation, permitted, forbidden, unstated}
 use Rattle.pc_case.specs.declared.op.Op.{Op}
 use Rattle.pc_case.specs.declared.case.Expect.{Expect}
 use Rattle.pc_case.specs.Plain.{micro_op, expectation}
 use Rattle.edge_test.specs.EdgeTest.{Line, ops_in, expects_in, Agree, IsEdgeTest}
 
--- the lines that state an expectation, where one at most does
+-- the expectations that lines state where the case has this one: none where it is unstated
 abbrev pub stated_by : Expectation → List Expectation
 stated_by permitted = permitted ∷ []
 stated_by forbidden = forbidden ∷ []

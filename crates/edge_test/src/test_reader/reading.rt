@@ -21,8 +21,10 @@ fn has_title(tokens: &Tokens<'_>) -> bool
     is_word(tokens, 0, b"Litmus") && is_text(tokens, 1) && is_symbol(tokens, 2, b".")
 }
 
-/// The case that the tokens say, or `None` exactly where they are no test of the language: its micro-ops are writes
-/// in the order of the text, at most 64, on cores 0 to 63, and at most one line states the expectation.
+/// The case that the tokens say, or `None` exactly where they are no test of the language.
+///
+/// Its micro-ops are the writes in the order of the text, at most 64, on cores 0 to 63. It has no dependency and no
+/// stated value, and its expectation is `Unstated` where no line states one. `Memory` comes where memory is refused.
 ///
 /// Takes time linear in the tokens, and memory for the micro-ops that it keeps.
 pub fn read_edge_test(alloc: Global, tokens: &Tokens<'_>) -> Result<Option<Case>, Memory>

@@ -14,11 +14,14 @@ pub loop-at-preserved : goal.loop-at-preserved
 loop-at-preserved c =
     let so_far = c.loop-at.invariant.1 in
     let found = rw c.in-Some.is at c.in_ok-next.ensures in
-    let line = found.2 in
-    (found.1,
-      (so_far.0 ++ line.0 ∷ [],
+    let line = found.2 in (
+      found.1,
+      (
+        so_far.0 ++ line.0 ∷ [],
         lines_append c.args.tokens.now 3 c.loop-at.at c.in-Some.next so_far.0 (line.0 ∷ []) so_far.1 (c.in-Some.next, line.1, refl),
-        line.2 so_far.0 so_far.2))
+        line.2 so_far.0 so_far.2,
+      ),
+    )
 
 pub new-requires-2 : goal.new-requires-2
 new-requires-2 c =
