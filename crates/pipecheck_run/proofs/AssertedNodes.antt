@@ -5,7 +5,6 @@ use Rattle.std.specs.List.{flat_map, range_with_len}
 use Rattle.std.proofs.lemmas.List.Elements.{All-contains}
 use Rattle.pc_common.specs.Case.{Case, MicroOp}
 use Rattle.pc_common.specs.World.{Node, Edge}
-use Rattle.pc_case.specs.Kept.{IsKept}
 use Rattle.pc_syntax.specs.declared.term.Sort.TheVariants.{Microop, Core}
 use Rattle.pc_syntax.specs.declared.term.NodeTerm.{NodeTerm}
 use Rattle.pc_syntax.specs.declared.model.StageItem.{StageItem}
@@ -17,20 +16,24 @@ use Rattle.pipecheck_run.specs.Asserted.{edge_of, edge_between, asserted, assert
 use Rattle.pipecheck_run.proofs.Elements.{In, in_from_contains, contains_from_in, from_map, from_flat, from_range, in_either}
 use Rattle.pipecheck_run.proofs.Truths.{InScope, scope_more, names_of, node_known, Known}
 
+-- each core is below 64
+abbrev pub Cores : Case → Type 0
+Cores c = (k : ℕ) (o : MicroOp) → slice_get c.ops k ≡ Some o → o.core < 64
+
 abbrev pub IsOf : List StageItem → Case → Node → Type 0
 IsOf stages c a = (a.op < length c.ops) × (a.core < 64) × In a.stage (map (λ s. s.number) stages)
 
 abbrev pub BothOf : List StageItem → Case → Edge → Type 0
 BothOf stages c f = IsOf stages c f.0 × IsOf stages c f.1
 
-known_of : (stages : List StageItem) (c : Case) (env : Environment) (t : NodeTerm) → IsKept c.ops → (k : Known stages c env t) → IsOf stages c k.node
+known_of : (stages : List StageItem) (c : Case) (env : Environment) (t : NodeTerm) → Cores c → (k : Known stages c env t) → IsOf stages c k.node
 known_of stages c env t kept k =
-    let low = kept.cores k.node.op k.core.0 k.core.1 in
+    let low = kept k.node.op k.core.0 k.core.1 in
     let is = k.core.2 in
     (k.op, omega arith, k.stage)
 
 one_edge_of : (stages : List StageItem) (c : Case) (bound : List (List ℕ)) (env : Environment) (f : Written)
-  → IsKept c.ops → InScope c bound env → IsOneEdge (names_of stages) bound f → (e : Edge) → In e (asserted stages c env f) → BothOf stages c e
+  → Cores c → InScope c bound env → IsOneEdge (names_of stages) bound f → (e : Edge) → In e (asserted stages c env f) → BothOf stages c e
 one_edge_of stages c bound env (edges_ (t ∷ [])) kept s is e i =
     let a = node_known stages c bound env t.from s is.0 in
     let b = node_known stages c bound env t.to s is.1 in
@@ -59,7 +62,7 @@ under_guard e true es i = i
 under_guard e false es i = absurd i
 
 guarded_of : (stages : List StageItem) (c : Case) (bound : List (List ℕ)) (env : Environment) (g f : Written)
-  → IsKept c.ops → InScope c bound env → IsGuard bound g → IsOneEdge (names_of stages) bound f
+  → Cores c → InScope c bound env → IsGuard bound g → IsOneEdge (names_of stages) bound f
   → (e : Edge) → In e (asserted stages c env (implies_ g f)) → BothOf stages c e
 guarded_of stages c bound env (static_ p args) f kept s guard is e i =
     one_edge_of stages c bound env f kept s is e (under_guard e (static_holds c env p.name args) (asserted stages c env f) i)
@@ -75,7 +78,7 @@ guarded_of stages c bound env (expand_ at name args) f kept s guard is e i = abs
 guarded_of stages c bound env (bind_ at names args p) f kept s guard is e i = absurd guard
 
 formula_of : (stages : List StageItem) (c : Case) (bound : List (List ℕ)) (env : Environment) (f : Written)
-  → IsKept c.ops → InScope c bound env → IsEdgeFormula (names_of stages) bound f → (e : Edge) → In e (asserted stages c env f) → BothOf stages c e
+  → Cores c → InScope c bound env → IsEdgeFormula (names_of stages) bound f → (e : Edge) → In e (asserted stages c env f) → BothOf stages c e
 formula_of stages c bound env (forall_ at Microop name p) kept s is e i =
     let r = from_flat (λ v. asserted stages c ((name, v) ∷ env) p) e (map an_op (range_with_len 0 (length c.ops))) i in
     let o = from_map an_op r.0 (range_with_len 0 (length c.ops)) r.1 in
@@ -95,7 +98,7 @@ formula_of stages c bound env (nodes_ ts) kept s is e i = absurd is
 formula_of stages c bound env (expand_ at name args) kept s is e i = absurd is
 formula_of stages c bound env (bind_ at names args p) kept s is e i = absurd is
 
-items_of : (m : WrittenModel) (c : Case) (items : List WrittenItem) → IsKept c.ops
+items_of : (m : WrittenModel) (c : Case) (items : List WrittenItem) → Cores c
   → ((it : WrittenItem) → In it items → IsEdgeItem (stage_names m) it)
   → (e : Edge) → In e (flat_map (asserted m.stages c []) (axioms_of (record { stages = m.stages; items = items }))) → BothOf m.stages c e
 items_of m c [] kept each e i = absurd i
@@ -106,7 +109,7 @@ items_of m c (axiom_ at body ∷ items) kept each e i =
 items_of m c (macro_ x ∷ items) kept each e i = items_of m c items kept (λ it j. each it (inr j)) e i
 
 -- both ends of an edge that the axioms assert
-pub asserted_of : (m : WrittenModel) (c : Case) → IsKept c.ops → IsEdgeModel m → (e : Edge) → In e (asserted_edges m c)
+pub asserted_of : (m : WrittenModel) (c : Case) → Cores c → IsEdgeModel m → (e : Edge) → In e (asserted_edges m c)
   → IsNodeOf m c e.0 × IsNodeOf m c e.1
 asserted_of m c kept is e i =
     let both = items_of m c m.items kept

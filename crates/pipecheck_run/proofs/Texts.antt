@@ -6,7 +6,6 @@ use Rattle.pc_common.specs.Case.{Case}
 use Rattle.pc_common.specs.World.{Node, Edge}
 use Rattle.pc_common.specs.Chain.{Leads}
 use Rattle.pc_common.specs.Lines.{lines_text}
-use Rattle.pc_case.specs.Kept.{IsKept}
 use Rattle.pc_syntax.specs.Written.{WrittenModel}
 use Rattle.pc_syntax.specs.Observable.{Observable}
 use Rattle.edge_model.specs.EdgeModel.{IsEdgeModel}
@@ -17,9 +16,10 @@ use Rattle.pipecheck_run.specs.Certificates.{names_of, graph_lines, cycle_lines,
 use Rattle.pipecheck_run.specs.Graphs.{key_node, node_at, edge_at, IsGraphOf}
 use Rattle.pipecheck_run.proofs.Elements.{In, in_from_contains, contains_from_in}
 use Rattle.pipecheck_run.proofs.Worlds.{Shows, world_of, graph_world, cycle_refutes}
+use Rattle.pipecheck_run.proofs.AssertedNodes.{Cores}
 use Rattle.pipecheck_run.proofs.Verdicts.{order_shows, cycle_asserted}
 
-pub graph_text : (m : WrittenModel) (c : Case) (keys : List NodeKey) (edges : List (ℕ × ℕ)) → IsKept c.ops → IsEdgeModel m
+pub graph_text : (m : WrittenModel) (c : Case) (keys : List NodeKey) (edges : List (ℕ × ℕ)) → Cores c → IsEdgeModel m
   → IsGraphOf (asserted_edges m c) keys edges → IsAcyclic edges
   → IsGraphText m c (lines_text (names_of m c) (graph_lines c.expectation (map key_node keys) (map (edge_at keys) edges)))
 graph_text m c keys edges kept is g acyclic =

@@ -6,7 +6,6 @@ use Rattle.std.proofs.lemmas.List.Elements.{All-contains_itself}
 use Rattle.pc_common.specs.Case.{Case}
 use Rattle.pc_common.specs.World.{Node, Edge}
 use Rattle.pc_common.specs.Chain.{Leads, Chain, Acyclic}
-use Rattle.pc_case.specs.Kept.{IsKept}
 use Rattle.pc_syntax.specs.Written.{WrittenModel}
 use Rattle.pc_syntax.specs.Observable.{IsNodeOf}
 use Rattle.edge_model.specs.EdgeModel.{IsEdgeModel}
@@ -18,7 +17,7 @@ use Rattle.pipecheck_run.specs.Graphs.{key_node, node_at, edge_at, IsDistinct, S
 use Rattle.pipecheck_run.proofs.Elements.{In, in_from_contains, contains_from_in, in_map, from_map}
 use Rattle.pipecheck_run.proofs.Joined.{Between}
 use Rattle.pipecheck_run.proofs.Worlds.{Shows}
-use Rattle.pipecheck_run.proofs.AssertedNodes.{asserted_of}
+use Rattle.pipecheck_run.proofs.AssertedNodes.{asserted_of, Cores}
 
 node_is : (keys : List NodeKey) (k : ℕ) (a : NodeKey) → slice_get keys k ≡ Some a → node_at keys k ≡ key_node a
 node_is keys k a e = ap (λ (o : Option NodeKey). elim o as (λ _. Node) [ None ↦ record { op = 0; core = 0; stage = 0 } | Some b ↦ key_node b ]) e
@@ -134,7 +133,7 @@ acyclic_nodes asserted keys edges g acyclic a chain = go chain.0 chain.1
     go (x ∷ xs) l = no_round asserted keys edges g acyclic a (x ∷ xs) l (first_key asserted keys edges g a x l.0)
 
 -- an order of the numbers shows the outcome
-pub order_shows : (m : WrittenModel) (c : Case) (keys : List NodeKey) (edges : List (ℕ × ℕ)) → IsKept c.ops → IsEdgeModel m
+pub order_shows : (m : WrittenModel) (c : Case) (keys : List NodeKey) (edges : List (ℕ × ℕ)) → Cores c → IsEdgeModel m
   → IsGraphOf (asserted_edges m c) keys edges → IsAcyclic edges → Shows m c (map key_node keys) (map (edge_at keys) edges)
 order_shows m c keys edges kept is g acyclic = record {
   ends = second_key (asserted_edges m c) keys edges g;

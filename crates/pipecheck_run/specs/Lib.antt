@@ -8,3 +8,4 @@ pub mod Graphs
 pub mod Scopes
 pub mod Verdicts
 pub mod Writing
+pub mod Answered

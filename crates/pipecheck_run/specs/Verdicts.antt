@@ -7,6 +7,8 @@ use Rattle.pc_syntax.specs.Written.{WrittenModel, written_model}
 use Rattle.edge_graph.specs.Joins.{IsAcyclic, IsCycle}
 use Rattle.pipecheck_run.specs.declared.verdict.Verdict.{Verdict}
 use Rattle.pipecheck_run.specs.Asserted.{asserted_edges}
+use Rattle.pc_common.specs.declared.status.Status.{Status}
+use Rattle.pc_common.specs.declared.status.Status.TheVariants.{Observable, Unobservable}
 use Rattle.pipecheck_run.specs.Writing.{names_by}
 use Rattle.pipecheck_run.specs.Graphs.{key_node, node_at, IsGraphOf}
 
@@ -34,3 +36,6 @@ abbrev pub verdict_text : Verdict → List ℕ
 verdict_text v =
     let names = names_by v.case v.model.stages in
     line_text names (verdict (verdict_of v)) ++ (line_text names (second (verdict_of v) v.case.expectation) ++ (body_text v ++ codes "end\n"))
+
+abbrev pub status_of : Verdict → Status
+status_of v = elim (v.cycle) [ None ↦ Observable | Some cycle ↦ Unobservable ]

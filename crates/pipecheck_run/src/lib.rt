@@ -1,6 +1,8 @@
 //! The top call: from the words of a command and the bytes of its files to the bytes of the answer.
 #![tactic(auto)]
 
+mod answer;
+mod answering;
 mod asserting;
 mod command;
 mod graph;
@@ -11,5 +13,6 @@ mod report;
 mod scope;
 mod solving;
 mod verdict;
+mod words;
 mod writing;
 mod z_probe;
