@@ -18,3 +18,4 @@ pub mod Verdicts
 pub mod Texts
 pub mod Went
 pub mod NodeTexts
+pub mod VerdictTexts

@@ -1,5 +1,5 @@
 -- What the bytes of the two files say, and the first fault of files that say nothing.
-use Rattle.std.specs.Prelude.{◌≡◌, ℕ, ◌<◌, ◌≤◌, List, Option, Some, length}
+use Rattle.std.specs.Prelude.{◌≡◌, ◌⊎◌, ℕ, ◌<◌, ◌≤◌, List, Option, Some, None, length}
 use Rattle.uspec_lexer.specs.Token.{Token}
 use Rattle.uspec_lexer.specs.Spells.{Spells}
 use Rattle.pc_common.specs.Case.{Case}
@@ -63,3 +63,7 @@ pub record Says (holds : Contents) (model test : List ℕ) (m : WrittenModel) (c
   pub test_read : IsRead holds test test_bytes
   pub says_model : SaysModel model_bytes m
   pub says_test : SaysTest test_bytes c
+
+-- the order of work comes to a name that is not held: the model's first, and the test's where the model was read
+abbrev pub Comes : Contents → List ℕ → List ℕ → Type 0
+Comes holds model test = (holds model ≡ None) ⊎ (((bytes : List ℕ) × IsRead holds model bytes) × (holds test ≡ None))

@@ -5,6 +5,7 @@ mod answer;
 mod answering;
 mod asserting;
 mod command;
+mod deciding;
 mod graph;
 mod language;
 mod lines;
