@@ -19,3 +19,4 @@ pub mod Texts
 pub mod Went
 pub mod NodeTexts
 pub mod VerdictTexts
+pub mod Decided

@@ -13,7 +13,7 @@ use Rattle.pipecheck_run.specs.Asserted.{asserted_edges}
 abbrev pub names_of : WrittenModel → Case → Names
 names_of m c = record { ops = c.ops; stages = map (λ s. (s.number, s.name.name)) m.stages }
 
-abbrev edge_line : Edge → Line
+abbrev pub edge_line : Edge → Line
 edge_line e = edge e.0 e.1
 
 abbrev pub graph_lines : Expectation → List Node → List Edge → List Line

@@ -36,7 +36,7 @@ pub record IsTooLarge (holds : Contents) (name : List ℕ) : Type 0 where
   pub held : holds name ≡ Some bytes
   pub past : file_limit < length bytes
 
-abbrev fault_at_start : Which → FaultKind → InputFault
+abbrev pub fault_at_start : Which → FaultKind → InputFault
 fault_at_start file kind = record { file = file; place = record { offset = 0 }; kind = kind }
 
 abbrev pub too_large : Which → InputFault
