@@ -20,3 +20,5 @@ pub mod Went
 pub mod NodeTexts
 pub mod VerdictTexts
 pub mod Decided
+pub mod Headline
+pub mod Told

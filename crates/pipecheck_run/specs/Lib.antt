@@ -9,3 +9,4 @@ pub mod Scopes
 pub mod Verdicts
 pub mod Writing
 pub mod Answered
+pub mod Headline

@@ -13,7 +13,10 @@ mod parts;
 mod report;
 mod scope;
 mod solving;
+mod top;
 mod verdict;
 mod words;
 mod writing;
-mod z_probe;
+
+pub use top::run;
+
