@@ -13,6 +13,8 @@ mod parts;
 mod report;
 mod scope;
 mod solving;
+#[cfg(test)]
+mod tests;
 mod top;
 mod verdict;
 mod words;
