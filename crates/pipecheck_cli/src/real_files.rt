@@ -1,26 +1,29 @@
-ghost use Rattle.std.specs.Prelude.{◌≡◌, ◌≤◌, false, is_some, is_ok, IsTrue, IsSome, IfSome, IfOk, OnErr, None, [], length, if◌then◌else◌};
+ghost use Rattle.std.specs.Prelude.{◌≡◌, ◌≤◌, ◌<◌, false, is_some, is_ok, IsTrue, IsSome, IfSome, IfOk, OnErr, None, [], length, take, option_and_then, if◌then◌else◌};
+ghost use Rattle.std.specs.Io.KnownBytes.{Consumes, IsAtEnd};
 ghost use Rattle.pc_common.specs.Faults.{Rose, one_more};
 
 use pc_common::{Failed, Files};
 use std::fs::File;
 use std::io::Read;
+use std::rt;
 
 /// The files of the system, by path. They tell nothing of what they hold.
 #[derive(Drop)]
-pub struct RealFiles {
-    rt: HostRuntime,
-    started: Option<File>,
+pub struct RealFiles<R: rt::Files> {
+    system: R,
+    started: Option<R::File>,
     faults: u64,
 }
 
-impl RealFiles {
+impl<R: rt::Files> RealFiles<R> {
     /// No file is started, and no call failed.
-    pub fn new(rt: HostRuntime) -> RealFiles
+    pub fn new(system: R) -> RealFiles<R>
+        ensures system { result.system ≡ system }
         ensures started { result.started ≡ None }
         ensures faults { result.faults ≡ 0 }
     {
         RealFiles {
-            rt,
+            system,
             started: None,
             faults: 0,
         }
@@ -39,7 +42,7 @@ impl RealFiles {
     }
 }
 
-impl Files for RealFiles {
+impl<R: rt::Files> Files for RealFiles<R> {
     ghost told = { λ files. false };
 
     ghost holds = { λ files name. None };
@@ -60,7 +63,7 @@ impl Files for RealFiles {
         ensures count { self.old.faults ≤ self.new.faults }
         ensures cause { OnErr result (Rose self.old.faults self.new.faults) }
     {
-        match File::open(&self.rt, name) {
+        match File::open(&self.system, name) {
             Ok(file) => {
                 self.started = Some(file);
                 Ok(())
@@ -76,6 +79,11 @@ impl Files for RealFiles {
         ensures count { self.old.faults ≤ self.new.faults }
         ensures cause { OnErr result (Rose self.old.faults self.new.faults) }
         ensures within { IfOk result (λ n. n ≤ length buf.old) }
+        // of a system whose files tell their bytes
+        ensures bytes { IfOk result (λ n. Consumes (option_and_then R.File.remaining self.old.started)
+            (option_and_then R.File.remaining self.new.started) (take n buf.new)) }
+        ensures end { IfOk result (λ n. n ≡ 0 → 0 < length buf.old →
+            IsAtEnd (option_and_then R.File.remaining self.new.started)) }
     {
         match read_from(&mut self.started, buf) {
             Some(n) => Ok(n),
@@ -85,10 +93,14 @@ impl Files for RealFiles {
 }
 
 // How many bytes the file put at the front of `buf`, or None where that failed.
-fn read_from(file: &mut Option<File>, buf: &mut [u8]) -> Option<usize>
+fn read_from<F: Read>(file: &mut Option<F>, buf: &mut [u8]) -> Option<usize>
     requires { IsSome file.old }
     ensures started { IsSome file.new }
     ensures within { IfSome result (λ n. n ≤ length buf.old) }
+    ensures bytes { IfSome result (λ n. Consumes (option_and_then F.remaining file.old)
+        (option_and_then F.remaining file.new) (take n buf.new)) }
+    ensures end { IfSome result (λ n. n ≡ 0 → 0 < length buf.old →
+        IsAtEnd (option_and_then F.remaining file.new)) }
 {
     file.as_mut()?.read(buf).ok()
 }
