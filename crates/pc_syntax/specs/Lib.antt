@@ -2,3 +2,15 @@ pub mod Written
 pub mod Predicates
 pub mod Truth
 pub mod Observable
+pub mod Fault
+pub mod StageFaults
+pub mod MacroFaults
+pub mod Sizes
+pub mod Expansion
+pub mod Preds
+pub mod Closed
+pub mod IsClosed
+pub mod Scope
+pub mod NameFaults
+pub mod Closing
+pub mod ModelFault

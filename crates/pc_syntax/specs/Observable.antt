@@ -1,17 +1,16 @@
 -- Which worlds satisfy a model, and when a test's outcome is observable.
-use Rattle.std.specs.Prelude.{ℕ, ◌<◌, ◌≤◌, Bool, true, false, List, [], ◌∷◌, ◌++◌, length, reverse, All, Contains, map, IsTrue}
+use Rattle.std.specs.Prelude.{◌<◌, Bool, List, [], ◌∷◌, length, reverse, All, Contains, map, IsTrue}
 use Rattle.std.specs.List.{list_all, flat_map}
 use Rattle.pc_common.specs.Case.{Case}
 use Rattle.pc_common.specs.World.{Node, World, IsWorld}
-use Rattle.pc_syntax.specs.declared.model.StageItem.{StageItem}
 use Rattle.pc_syntax.specs.Written.{Written, MacroAt, WrittenItem, axiom_, macro_, WrittenModel}
 use Rattle.pc_syntax.specs.Truth.{Setting, is_true}
 
-abbrev axiom_of : WrittenItem → List Written
+abbrev pub axiom_of : WrittenItem → List Written
 axiom_of (axiom_ at body) = body ∷ []
 axiom_of (macro_ m) = []
 
-abbrev macro_of : WrittenItem → List MacroAt
+abbrev pub macro_of : WrittenItem → List MacroAt
 macro_of (axiom_ at body) = []
 macro_of (macro_ m) = m ∷ []
 

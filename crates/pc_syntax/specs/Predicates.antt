@@ -1,8 +1,8 @@
 -- The static predicates: 22 rows, each over the case alone.
-use Rattle.std.specs.Prelude.{ℕ, Bool, true, false, not, List, [], ◌∷◌, Option, Some, None, codes, slice_get, ◌==◌, ◌&&◌, nat_lt, nat_eq, if◌then◌else◌}
+use Rattle.std.specs.Prelude.{ℕ, Bool, true, false, List, [], ◌∷◌, Option, Some, None, codes, slice_get, ◌==◌, ◌&&◌, nat_lt, nat_eq, if◌then◌else◌}
 use Rattle.std.specs.List.{list_any}
 use Rattle.std.specs.Cmp.Lexicographic.{pointwise}
-use Rattle.pc_common.specs.Case.{PageAt, Address, page, Value, number, Touch, Kind, read, write, fence, MicroOp, Dependency, Case}
+use Rattle.pc_common.specs.Case.{PageAt, Address, page, Value, number, Touch, Kind, read, write, fence, MicroOp, Case}
 
 abbrev pub same_name : List ℕ → List ℕ → Bool
 same_name = pointwise nat_eq
@@ -84,7 +84,7 @@ predicate_rows =
     ∷ row (codes "HasDependency") has_dependency (takes_plain ∷ takes_op ∷ takes_op ∷ [])
     ∷ []
 
-abbrev find_row : List Row → List ℕ → Option Row
+abbrev pub find_row : List Row → List ℕ → Option Row
 find_row [] name = None
 find_row (r ∷ rs) name = if same_name r.name name then Some r else find_row rs name
 

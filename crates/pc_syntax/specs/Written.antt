@@ -1,5 +1,5 @@
 -- A written model without addresses in memory: what clauses compare and what meaning is read off.
-use Rattle.std.specs.Prelude.{ℕ, List, [], ◌∷◌, ◌++◌, map}
+use Rattle.std.specs.Prelude.{ℕ, List, map}
 use Rattle.pc_common.specs.declared.place.Place.{Place}
 use Rattle.pc_syntax.specs.declared.term.Sort.{Sort}
 use Rattle.pc_syntax.specs.declared.term.Word.{Word}

@@ -1,15 +1,34 @@
-//! The written model: stages, axioms and macros as trees and lists, as the text has them.
+//! The model as trees and lists: as written, with its macros expanded, and closed, that is with slots
+//! in place of names and numbers in place of stages.
 //!
 //! Its `specs/` say what a model means: the table of predicates, the truth of a written formula in a
 //! case, a world and an environment, which worlds satisfy a model, and when an outcome is observable.
+//! They also say what expansion and closing make of a formula, what the truth of a closed formula is,
+//! and which fault of stages, macros, sizes and names is a model's first.
 #![tactic(auto)]
 
+mod bound;
+mod closed;
+mod closed_formula;
+mod closed_term;
+mod copying;
+mod expanded;
 mod formula;
 mod model;
+mod pred;
 mod term;
+#[cfg(test)]
+mod tests;
 
+pub use bound::{Bound, Env};
+pub use closed::Closed;
+pub use closed_formula::ClosedFormula;
+pub use closed_term::{ClosedArg, ClosedArgs, ClosedEdge, ClosedEdges, ClosedNode, ClosedNodes};
+pub use copying::{TryCopy, copy_list};
+pub use expanded::Expanded;
 pub use formula::Formula;
 pub use model::{Item, Items, ModelFile, StageItem, StageItems};
+pub use pred::{Pred, Takes};
 pub use term::{
     Arg, Args, EdgeTerm, EdgeTerms, Name, Names, NodeTerm, NodeTerms, Sort, Word, Words,
 };

@@ -1,0 +1,2 @@
+pub mod EdgeTokens
+pub mod EdgeModel

@@ -1,0 +1,4 @@
+mod TestOneReading
+mod TestConditions
+mod TestKept
+pub mod TestLines

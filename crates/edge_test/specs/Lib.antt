@@ -1,0 +1,3 @@
+pub mod EdgeTestTokens
+pub mod EdgeTest
+pub mod EdgeTestKept

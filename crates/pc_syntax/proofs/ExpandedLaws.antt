@@ -1,0 +1,108 @@
+-- The expansion of an axiom has no expansion left where the model has no macro fault.
+use Rattle.std.proofs.Common.{◌≡◌, Bool, true, false, List, [], ◌∷◌, ◌++◌, Option, Some, None, cond, reverse, refl, sym, ap, subst, ◌∙◌, append_assoc, append-nil, All}
+use Rattle.std.specs.List.{flat_map}
+use Rattle.std.specs.Option.{option_or}
+use Rattle.std.proofs.lemmas.List.{reverse-append}
+use Rattle.std.proofs.lemmas.List.Elements.{All-nil, All-cons}
+use Rattle.pc_common.specs.declared.fault.FaultKind.TheVariants.{MacroUnknown}
+use Rattle.pc_syntax.specs.declared.term.Word.{Word}
+use Rattle.pc_syntax.specs.declared.term.Arg.{Arg}
+use Rattle.pc_syntax.specs.Predicates.{same_name}
+use Rattle.pc_syntax.specs.Written.{Written, not_, and_, or_, implies_, forall_, exists_, static_, nodes_, edges_, expand_, bind_, MacroAt, WrittenItem, axiom_, macro_, WrittenModel}
+use Rattle.pc_syntax.specs.Observable.{axiom_of, macro_of, axioms_of, macros_of}
+use Rattle.pc_syntax.specs.Expansion.{parameter_names, expansion_of, IsExpanded}
+use Rattle.pc_syntax.specs.Fault.{Fault}
+use Rattle.pc_syntax.specs.MacroFaults.{macro_called, macro_again, parameters_fault, count_fault, body_fault, macro_fault, items_fault, first_macro_fault}
+use Rattle.pc_syntax.proofs.NoFault.{none_first, none_second}
+
+-- each macro's body names only macros before it
+abbrev pub NamesEarlier : List MacroAt → Type 0
+NamesEarlier [] = Unit {0}
+NamesEarlier (m ∷ ms) = (body_fault ms m.body ≡ None) × NamesEarlier ms
+
+chosen : (b : Bool) (m : MacroAt) (rest : Option MacroAt) (name : Word) (args : List Arg) (v w : Written)
+    → IsExpanded v
+    → (◌≡◌ {A = Option Fault} (elim rest [ None ↦ Some (MacroUnknown, name.at) | Some x ↦ count_fault name args x ]) None → IsExpanded w)
+    → ◌≡◌ {A = Option Fault} (elim (cond b (Some m) rest) [ None ↦ Some (MacroUnknown, name.at) | Some x ↦ count_fault name args x ]) None
+    → IsExpanded (cond b v w)
+chosen true m rest name args v w here later f = here
+chosen false m rest name args v w here later f = later f
+
+pub expansion_expanded : (ms : List MacroAt) → NamesEarlier ms → (w : Written) → body_fault ms w ≡ None
+    → IsExpanded (expansion_of ms w)
+expansion_expanded ms earlier (not_ p) f = expansion_expanded ms earlier p f
+expansion_expanded ms earlier (and_ p q) f = (
+  expansion_expanded ms earlier p (none_first (body_fault ms p) (body_fault ms q) f),
+  expansion_expanded ms earlier q (none_second (body_fault ms p) (body_fault ms q) f),
+)
+expansion_expanded ms earlier (or_ p q) f = (
+  expansion_expanded ms earlier p (none_first (body_fault ms p) (body_fault ms q) f),
+  expansion_expanded ms earlier q (none_second (body_fault ms p) (body_fault ms q) f),
+)
+expansion_expanded ms earlier (implies_ p q) f = (
+  expansion_expanded ms earlier p (none_first (body_fault ms p) (body_fault ms q) f),
+  expansion_expanded ms earlier q (none_second (body_fault ms p) (body_fault ms q) f),
+)
+expansion_expanded ms earlier (forall_ at sort name p) f = expansion_expanded ms earlier p f
+expansion_expanded ms earlier (exists_ at sort name p) f = expansion_expanded ms earlier p f
+expansion_expanded ms earlier (static_ pred args) f = tt
+expansion_expanded ms earlier (nodes_ ts) f = tt
+expansion_expanded ms earlier (edges_ ts) f = tt
+expansion_expanded ms earlier (bind_ at names args p) f = expansion_expanded ms earlier p f
+expansion_expanded [] earlier (expand_ at name args) f = absurd (cc)
+expansion_expanded (m ∷ ms) earlier (expand_ at name args) f =
+    chosen (same_name m.name.name name.name) m (macro_called ms name.name) name args
+    (bind_ at (parameter_names m) args (expansion_of ms m.body))
+    (expansion_of ms (expand_ at name args))
+    (expansion_expanded ms earlier.1 m.body earlier.0)
+    (λ later. expansion_expanded ms earlier.1 (expand_ at name args) later)
+    f
+
+-- the macros of these items, latest first, before the earlier ones
+abbrev after : List MacroAt → List WrittenItem → List MacroAt
+after earlier [] = earlier
+after earlier (axiom_ at body ∷ items) = after earlier items
+after earlier (macro_ m ∷ items) = after (m ∷ earlier) items
+
+after-reverse : (earlier : List MacroAt) (items : List WrittenItem)
+    → after earlier items ≡ reverse (flat_map macro_of items) ++ earlier
+after-reverse earlier [] = refl
+after-reverse earlier (axiom_ at body ∷ items) = after-reverse earlier items
+after-reverse earlier (macro_ m ∷ items) =
+    after-reverse (m ∷ earlier) items
+    ∙ sym (append_assoc (reverse (flat_map macro_of items)) (m ∷ []) earlier)
+    ∙ ap (λ xs. xs ++ earlier) (sym (reverse-append (m ∷ []) (flat_map macro_of items)))
+
+after_names_earlier : (all earlier : List MacroAt) (items : List WrittenItem) → items_fault all earlier items ≡ None
+    → NamesEarlier earlier → NamesEarlier (after earlier items)
+after_names_earlier all earlier [] f h = h
+after_names_earlier all earlier (axiom_ at body ∷ items) f h =
+    after_names_earlier all earlier items (none_second (body_fault all body) (items_fault all earlier items) f) h
+after_names_earlier all earlier (macro_ m ∷ items) f h =
+    let rest = items_fault all (m ∷ earlier) items in
+    let here = none_first (macro_fault earlier m) rest f in
+    let body =
+    none_second (parameters_fault [] m.parameters) (body_fault earlier m.body)
+    (none_second (macro_again earlier m.name) (option_or (parameters_fault [] m.parameters) (body_fault earlier m.body)) here) in
+    after_names_earlier all (m ∷ earlier) items (none_second (macro_fault earlier m) rest f) (body, h)
+
+axioms_fine : (all earlier : List MacroAt) (items : List WrittenItem) → items_fault all earlier items ≡ None
+    → All (λ w. body_fault all w ≡ None) (flat_map axiom_of items)
+axioms_fine all earlier [] f = All-nil (λ w. body_fault all w ≡ None)
+axioms_fine all earlier (axiom_ at body ∷ items) f =
+    let rest = items_fault all earlier items in
+    All-cons (λ w. body_fault all w ≡ None) body (flat_map axiom_of items) (none_first (body_fault all body) rest f)
+    (axioms_fine all earlier items (none_second (body_fault all body) rest f))
+axioms_fine all earlier (macro_ m ∷ items) f =
+    axioms_fine all (m ∷ earlier) items (none_second (macro_fault earlier m) (items_fault all (m ∷ earlier) items) f)
+
+pub macros_name_earlier : (m : WrittenModel) → first_macro_fault m ≡ None → NamesEarlier (macros_of m)
+macros_name_earlier m f =
+    subst NamesEarlier (after-reverse [] m.items ∙ append-nil (macros_of m)) (after_names_earlier (macros_of m) [] m.items f tt)
+
+-- in a model without macro faults the expansion of each axiom is expanded
+pub axioms_expanded : (m : WrittenModel) → first_macro_fault m ≡ None
+    → All (λ w. body_fault (macros_of m) w ≡ None) (axioms_of m)
+    × ((w : Written) → body_fault (macros_of m) w ≡ None → IsExpanded (expansion_of (macros_of m) w))
+axioms_expanded m f =
+    (axioms_fine (macros_of m) [] m.items f, expansion_expanded (macros_of m) (macros_name_earlier m f))

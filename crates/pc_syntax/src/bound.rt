@@ -1,0 +1,13 @@
+use arrayvec::ArrayVec;
+
+/// What a slot stands for.
+#[derive(Clone, Copy, Debug, PartialEq, Eq)]
+pub enum Bound {
+    /// A micro-op by its place in test order, from 0.
+    Op(u8),
+    /// A core's number.
+    Core(u8),
+}
+
+/// What the slots stand for, from the outermost binding.
+pub type Env = ArrayVec<Bound, 32>;

@@ -1,0 +1,11 @@
+ghost use Rattle.pc_syntax.specs.Written.{written};
+ghost use Rattle.pc_syntax.specs.Expansion.{IsExpanded, IsExpanded-prop};
+
+use super::formula::Formula;
+
+/// A formula with each macro in its place: it has no `Expand`.
+#[derive(Drop)]
+pub struct Expanded {
+    pub body: Formula,
+    pub ghost expanded: { IsExpanded (written body) } by { IsExpanded-prop (written body) },
+}

@@ -1,0 +1,120 @@
+-- Elements of lists by recursion: what maps and flat maps have, and tests of all elements.
+use Rattle.std.proofs.Common.{◌≡◌, ℕ, zero, suc, ◌+◌, ◌<◌, ◌≤◌, ◌⊎◌, inl, inr, Bool, true, false, ◌&&◌, ◌||◌, List, [], ◌∷◌, ◌++◌, map, length, get_or, refl, sym, ◌∙◌, ap, subst, arith}
+use Rattle.std.specs.Prelude.{Contains}
+use Rattle.std.proofs.lemmas.Bool.{cases_lt}
+use Rattle.std.specs.List.{list_all, list_any, flat_map, range_with_len}
+
+abbrev pub In : {X : Type 0} → X → List X → Type 0
+In x [] = ⊥
+In x (y ∷ ys) = (y ≡ x) ⊎ In x ys
+
+pub in_from_contains : {X : Type 0} (x : X) (xs : List X) → Contains xs x → In x xs
+in_from_contains x xs has = at x xs has.0 has.1 has.2
+  where
+    at : {X : Type 0} (x : X) (xs : List X) (k : ℕ) → k < length xs → get_or xs k x ≡ x → In x xs
+    at x [] k h e = absurd (omega arith)
+    at x (y ∷ ys) zero h e = inl e
+    at x (y ∷ ys) (suc k) h e = inr (at x ys k (omega arith) e)
+
+pub contains_from_in : {X : Type 0} (x : X) (xs : List X) → In x xs → Contains xs x
+contains_from_in x [] i = absurd i
+contains_from_in x (y ∷ ys) (inl e) = (0, omega arith, e)
+contains_from_in x (y ∷ ys) (inr i) =
+    let rest = contains_from_in x ys i in
+    let inside = rest.1 in (suc rest.0, omega arith, rest.2)
+
+pub in_front : {X : Type 0} (x : X) (xs ys : List X) → In x xs → In x (xs ++ ys)
+in_front x [] ys i = absurd i
+in_front x (z ∷ zs) ys (inl e) = inl e
+in_front x (z ∷ zs) ys (inr i) = inr (in_front x zs ys i)
+
+pub in_back : {X : Type 0} (x : X) (xs ys : List X) → In x ys → In x (xs ++ ys)
+in_back x [] ys i = i
+in_back x (z ∷ zs) ys i = inr (in_back x zs ys i)
+
+pub in_either : {X : Type 0} (x : X) (xs ys : List X) → In x (xs ++ ys) → In x xs ⊎ In x ys
+in_either x [] ys i = inr i
+in_either x (z ∷ zs) ys (inl e) = inl (inl e)
+in_either x (z ∷ zs) ys (inr i) = elim (in_either x zs ys i) [ inl a ↦ inl (inr a) | inr b ↦ inr b ]
+
+pub in_map : {X Y : Type 0} (f : X → Y) (x : X) (xs : List X) → In x xs → In (f x) (map f xs)
+in_map f x [] i = absurd i
+in_map f x (y ∷ ys) (inl e) = inl (ap f e)
+in_map f x (y ∷ ys) (inr i) = inr (in_map f x ys i)
+
+pub from_map : {X Y : Type 0} (f : X → Y) (y : Y) (xs : List X) → In y (map f xs) → (x : X) × In x xs × (f x ≡ y)
+from_map f y [] i = absurd i
+from_map f y (x ∷ xs) (inl e) = (x, inl refl, e)
+from_map f y (x ∷ xs) (inr i) = let r = from_map f y xs i in (r.0, inr r.1, r.2)
+
+pub in_flat : {X Y : Type 0} (f : X → List Y) (x : X) (y : Y) (xs : List X) → In x xs → In y (f x) → In y (flat_map f xs)
+in_flat {X} {Y} f x y [] i j = absurd i
+in_flat {X} {Y} f x y (z ∷ zs) (inl e) j =
+    in_front y (f z) (flat_map f zs) (let P : X → Type 0 = λ w. In y (f w) in subst P (sym e) j)
+in_flat {X} {Y} f x y (z ∷ zs) (inr i) j = in_back y (f z) (flat_map f zs) (in_flat f x y zs i j)
+
+pub from_flat : {X Y : Type 0} (f : X → List Y) (y : Y) (xs : List X) → In y (flat_map f xs) → (x : X) × In x xs × In y (f x)
+from_flat f y [] i = absurd i
+from_flat f y (x ∷ xs) i =
+    elim (in_either y (f x) (flat_map f xs) i)
+      [ inl here ↦ (x, inl refl, here)
+      | inr later ↦ (let r = from_flat f y xs later in (r.0, inr r.1, r.2)) ]
+
+pub in_range : (a n i : ℕ) → a ≤ i → i < a + n → In i (range_with_len a n)
+in_range a zero i low high = absurd (omega arith)
+in_range a (suc n) i low high = elim (first_or_later a i low) [ inl e ↦ inl e | inr h ↦ inr (in_range (a + 1) n i (omega arith) (omega arith)) ]
+  where
+    first_or_later : (a i : ℕ) → a ≤ i → (a ≡ i) ⊎ (a + 1 ≤ i)
+    first_or_later a i low = elim (cases_lt a i) [ inl less ↦ inr (omega arith) | inr not ↦ inl (omega arith) ]
+
+pub from_range : (a n i : ℕ) → In i (range_with_len a n) → (a ≤ i) × (i < a + n)
+from_range a zero i h = absurd h
+from_range a (suc n) i (inl e) = (omega arith, omega arith)
+from_range a (suc n) i (inr h) = let r = from_range (a + 1) n i h in let low = r.0 in let high = r.1 in (omega arith, omega arith)
+
+pub and_first : (a b : Bool) → (a && b) ≡ true → a ≡ true
+and_first true b e = refl
+and_first false b e = cc
+
+pub and_second : (a b : Bool) → (a && b) ≡ true → b ≡ true
+and_second true b e = e
+and_second false b e = cc
+
+pub true_or_false : (b : Bool) → (b ≡ true) ⊎ (b ≡ false)
+true_or_false true = inl refl
+true_or_false false = inr refl
+
+pub or_second : (a b : Bool) → a ≡ false → (a || b) ≡ true → b ≡ true
+or_second true b h e = cc
+or_second false b h e = e
+
+pub or_first : (a b : Bool) → a ≡ true → (a || b) ≡ true
+or_first true b h = refl
+or_first false b h = cc
+
+pub or_later : (a b : Bool) → b ≡ true → (a || b) ≡ true
+or_later true b h = refl
+or_later false b h = h
+
+-- a test of all elements
+pub all_holds : {X : Type 0} (p : X → Bool) (xs : List X) → list_all p xs ≡ true → (x : X) → In x xs → p x ≡ true
+all_holds {X} p [] e x i = absurd i
+all_holds {X} p (y ∷ ys) e x (inl h) = let P : X → Type 0 = λ z. p z ≡ true in subst P h (and_first (p y) (list_all p ys) e)
+all_holds {X} p (y ∷ ys) e x (inr i) = all_holds p ys (and_second (p y) (list_all p ys) e) x i
+
+pub holds_all : {X : Type 0} (p : X → Bool) (xs : List X) → ((x : X) → In x xs → p x ≡ true) → list_all p xs ≡ true
+holds_all p [] h = refl
+holds_all p (y ∷ ys) h = rw (h y (inl refl)) (holds_all p ys (λ x i. h x (inr i)))
+
+-- a test of some element
+pub any_holds : {X : Type 0} (p : X → Bool) (xs : List X) → list_any p xs ≡ true → (x : X) × In x xs × (p x ≡ true)
+any_holds p [] e = cc
+any_holds {X} p (y ∷ ys) e =
+    elim (true_or_false (p y))
+      [ inl h ↦ (y, inl refl, h)
+      | inr h ↦ (let r = any_holds p ys (or_second (p y) (list_any p ys) h e) in (r.0, inr r.1, r.2)) ]
+
+pub holds_any : {X : Type 0} (p : X → Bool) (x : X) (xs : List X) → In x xs → p x ≡ true → list_any p xs ≡ true
+holds_any p x [] i h = absurd i
+holds_any {X} p x (y ∷ ys) (inl e) h = or_first (p y) (list_any p ys) (let P : X → Type 0 = λ z. p z ≡ true in subst P (sym e) h)
+holds_any p x (y ∷ ys) (inr i) h = or_later (p y) (list_any p ys) (holds_any p x ys i h)

@@ -1,0 +1,38 @@
+-- The status that is told is that of the answer, unless the writing failed.
+use Rattle.std.proofs.Common.{◌≡◌, ◌≢◌, ℕ, ◌⊎◌, inl, inr, List, Option, Some, None, refl, sym, ◌∙◌, ap, subst, Vec, Global}
+use Rattle.std.specs.Prelude.{codes}
+use Rattle.pc_common.specs.declared.status.Status.{Status}
+use Rattle.pc_common.specs.declared.status.Status.TheVariants.{Observable, Unobservable, Usage, ReadFault, WriteFault, Memory}
+use Rattle.pipecheck_run.specs.declared.answer.Answer.{Answer}
+use Rattle.pipecheck_run.specs.declared.answer.Answer.TheVariants.{Usage as a_usage, ReadFault as a_read_fault, Memory as a_memory, Refused as a_refusal, Decided as a_verdict}
+use Rattle.pipecheck_run.specs.Answered.{answer_text, answer_status}
+use Rattle.pipecheck_run.specs.Output.{Answers, usage_text}
+use Rattle.pipecheck_run.specs.Language.{Contents}
+
+abbrev status_by : Option (Vec ℕ Global) → Status
+status_by None = Observable
+status_by (Some found) = Unobservable
+
+pub told_as_kept : {told kept : Status} → (told ≡ kept) ⊎ (told ≡ WriteFault) → told ≢ WriteFault → kept ≡ told
+told_as_kept (inl e) no_fault = sym e
+told_as_kept (inr e) no_fault = absurd (no_fault e)
+
+-- where it is told as one that is no fault of the sink
+pub kept_is : {told kept : Status} (s : Status) → s ≢ WriteFault → (told ≡ kept) ⊎ (told ≡ WriteFault) → told ≡ s → kept ≡ s
+kept_is s other (inl e) is = sym e ∙ is
+kept_is s other (inr e) is = absurd (other (sym is ∙ e))
+
+pub told_is : {told kept : Status} {s : Status} → (told ≡ kept) ⊎ (told ≡ WriteFault) → kept ≡ s → (told ≡ s) ⊎ (told ≡ WriteFault)
+told_is (inl e) is = inl (e ∙ is)
+told_is (inr e) is = inr e
+
+pub usage_said : (a : Answer) → answer_status a ≡ Usage → answer_text a ≡ usage_text
+usage_said a_usage e = refl
+usage_said a_read_fault e = cc
+usage_said a_memory e = cc
+usage_said (a_refusal r) e = cc
+usage_said (a_verdict v) e = absurd (never_usage v.cycle e)
+  where
+    never_usage : (found : Option (Vec ℕ Global)) → status_by found ≡ Usage → ⊥
+    never_usage None e = cc
+    never_usage (Some cycle) e = cc

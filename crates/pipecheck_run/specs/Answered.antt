@@ -1,0 +1,58 @@
+-- What the code's answer says, before it is written.
+use Rattle.std.specs.Prelude.{◌≡◌, ◌++◌, ◌⊎◌, ℕ, List, [], codes}
+use Rattle.std.specs.Fmt.{decimal}
+use Rattle.pc_common.specs.declared.status.Status.{Status}
+use Rattle.pc_common.specs.declared.status.Status.TheVariants.{Observable, Unobservable, Usage, Refused, ReadFault, Memory}
+use Rattle.pipecheck_run.specs.declared.answer.Refusal.{Refusal}
+use Rattle.pipecheck_run.specs.declared.answer.Answer.{Answer}
+use Rattle.pipecheck_run.specs.declared.answer.Answer.TheVariants.{Usage as a_usage, ReadFault as a_read_fault, Memory as a_memory, Refused as a_refusal, Decided as a_verdict}
+use Rattle.pipecheck_run.specs.Words.{fault_word}
+use Rattle.pipecheck_run.specs.Output.{usage_text, file_word}
+use Rattle.pipecheck_run.specs.Verdicts.{verdict_text, status_of, IsVerdict}
+use Rattle.pc_common.specs.LineColumn.{line_of, column_of}
+use Rattle.pc_common.specs.Case.{Case}
+use Rattle.pc_common.specs.declared.fault.Which.TheVariants.{Model, Test}
+use Rattle.pc_syntax.specs.Written.{WrittenModel}
+use Rattle.pc_common.specs.declared.fault.Which.{Which}
+use Rattle.pc_common.specs.declared.reading.ReadEnd.{ReadEnd}
+use Rattle.pc_common.specs.declared.reading.ReadEnd.TheVariants.{ReadFault as an_outside_fault, TooLarge as past_limit, Memory as no_memory}
+use Rattle.pipecheck_run.specs.Language.{SaysModel, SaysTest, not_said, too_large}
+
+abbrev pub refusal_text : Refusal → List ℕ
+refusal_text r =
+    codes "refused " ++ file_word r.fault.file ++ codes " " ++ fault_word r.fault.kind ++ codes " at "
+    ++ decimal r.line ++ codes ":" ++ decimal r.column ++ codes "\n"
+
+-- the text of an answer; nothing is written of the two that have none
+abbrev pub answer_text : Answer → List ℕ
+answer_text a_usage = usage_text
+answer_text a_read_fault = []
+answer_text a_memory = []
+answer_text (a_refusal r) = refusal_text r
+answer_text (a_verdict v) = verdict_text v
+
+abbrev pub answer_status : Answer → Status
+answer_status a_usage = Usage
+answer_status a_read_fault = ReadFault
+answer_status a_memory = Memory
+answer_status (a_refusal r) = Refused
+answer_status (a_verdict v) = status_of v
+
+-- the line and the column are those of the fault's place in these bytes
+abbrev pub IsPlaced : List ℕ → Refusal → Type 0
+IsPlaced bytes r = (r.line ≡ line_of bytes r.fault.place.offset) × (r.column ≡ column_of bytes r.fault.place.offset)
+
+-- what is decided of the bytes of two files that were read
+abbrev pub Decides : List ℕ → List ℕ → Answer → Type 0
+Decides model test (a_refusal r) =
+    ((r.fault ≡ not_said Model) × IsPlaced model r × ((m : WrittenModel) → SaysModel model m → ⊥))
+    ⊎ ((r.fault ≡ not_said Test) × IsPlaced test r × ((m : WrittenModel) × SaysModel model m) × ((c : Case) → SaysTest test c → ⊥))
+Decides model test (a_verdict v) = (m : WrittenModel) × (c : Case) × SaysModel model m × SaysTest test c × IsVerdict m c v
+Decides model test _ = ⊥
+
+-- the answer where a file could not be read whole
+abbrev pub IsEnded : Which → ReadEnd → Answer → Type 0
+IsEnded file an_outside_fault a = a ≡ a_read_fault
+IsEnded file no_memory a = a ≡ a_memory
+IsEnded file past_limit (a_refusal r) = (r.fault ≡ too_large file) × (r.line ≡ 1) × (r.column ≡ 1)
+IsEnded file past_limit _ = ⊥

@@ -1,0 +1,22 @@
+//! The top call: from the words of a command and the bytes of its files to the bytes of the answer.
+#![tactic(auto)]
+
+mod answer;
+mod answering;
+mod asserting;
+mod command;
+mod deciding;
+mod graph;
+mod language;
+mod lines;
+mod parts;
+mod report;
+mod scope;
+mod solving;
+mod top;
+mod verdict;
+mod words;
+mod writing;
+
+pub use top::run;
+

@@ -1,0 +1,90 @@
+ghost use Rattle.std.specs.Prelude.{◌≡◌, ◌≢◌, ◌≤◌, ◌++◌, ◌⊎◌, ℕ, List, map, IsTrue};
+ghost use Rattle.std.specs.String.{string_bytes};
+ghost use Rattle.pc_common.specs.Faults.{Rose};
+ghost use Rattle.pc_common.specs.Pieces.{IsCutShort};
+ghost use Rattle.pc_common.specs.declared.status.Status.TheVariants.{Usage as SUsage, ReadFault as SReadFault, WriteFault as SWriteFault, Memory as SMemory};
+ghost use Rattle.pipecheck_run.specs.Command.{IsCheck, IsNoCommand};
+ghost use Rattle.pipecheck_run.specs.Language.{Comes};
+ghost use Rattle.pipecheck_run.specs.Output.{Answers, usage_text};
+ghost use Rattle.pipecheck_run.specs.Answered.{answer_text, answer_status};
+ghost use Rattle.pipecheck_run.specs.Headline.{IsTrueOf, IsDue};
+
+use super::answer::Answer;
+use super::answering::{status, write_answer};
+use super::deciding::answer_to;
+use pc_common::{Failed, Files, Sink, Status};
+use std::alloc::Global;
+
+/// Writes the text of an answer, where it has one, and answers the status.
+fn tell<K: Sink>(out: &mut K, answer: &Answer) -> Status
+    ensures same_told { K.told out.new ≡ K.told out.old }
+    ensures count { K.faults out.old ≤ K.faults out.new }
+    ensures kept { (result ≡ answer_status answer.now) ⊎ (result ≡ SWriteFault) }
+    ensures cause { result ≡ SWriteFault → Rose (K.faults out.old) (K.faults out.new) }
+    ensures silent { (answer_status answer.now ≡ SReadFault) ⊎ (answer_status answer.now ≡ SMemory)
+        → (result ≡ answer_status answer.now) × (out.new ≡ out.old) }
+    ensures whole { IsTrue (K.told out.old) → result ≢ SReadFault → result ≢ SMemory → result ≢ SWriteFault
+        → K.taken out.new ≡ K.taken out.old ++ answer_text answer.now }
+    ensures short { IsTrue (K.told out.old) → result ≡ SWriteFault
+        → IsCutShort (K.taken out.old) (answer_text answer.now) (K.taken out.new) }
+{
+    match answer {
+        Answer::ReadFault => Status::ReadFault,
+        Answer::Memory => Status::Memory,
+        _ => match write_answer(out, answer) {
+            Ok(()) => status(answer),
+            Err(Failed) => Status::WriteFault,
+        },
+    }
+}
+
+/// Answers the command `check MODEL TEST`: reads the two named files, at most 1,048,576 bytes each,
+/// decides whether the outcome of the test is observable on the model, and writes the verdict with
+/// its certificate, the one fault of the files, or that the words are no command.
+///
+/// The words are those behind the program's name. Nothing is written before the answer is known, and
+/// nothing at all with `ReadFault` or `Memory`. With `WriteFault` the first bytes of the answer's text
+/// went out.
+///
+/// - `usage` to `usage_text`: `Usage` comes exactly on words that are no command, whatever the memory.
+/// - `read_cause` to `read_due`: `ReadFault` comes only where a call of the files failed, and over
+///   calm files exactly where a name that is not held is come to.
+/// - `write_cause`: `WriteFault` comes only where a call of the sink failed.
+/// - `quiet`, `answers`, `short`: what was written.
+/// - `headline`, `due`: the verdict is true of the bytes of the two files, and it comes.
+pub fn run<F: Files, K: Sink>(
+    alloc: Global,
+    words: &[String],
+    files: &mut F,
+    out: &mut K,
+) -> Status
+    ensures files_told { F.told files.new ≡ F.told files.old }
+    ensures files_held { F.holds files.new ≡ F.holds files.old }
+    ensures files_calm { F.calm files.new ≡ F.calm files.old }
+    ensures files_count { F.faults files.old ≤ F.faults files.new }
+    ensures sink_told { K.told out.new ≡ K.told out.old }
+    ensures sink_count { K.faults out.old ≤ K.faults out.new }
+    ensures usage { result ≡ SUsage → IsNoCommand (map string_bytes words.now) }
+    ensures usage_due { IsNoCommand (map string_bytes words.now) → (result ≡ SUsage) ⊎ (result ≡ SWriteFault) }
+    ensures usage_text { IsTrue (K.told out.old) → result ≡ SUsage → K.taken out.new ≡ K.taken out.old ++ usage_text }
+    ensures read_cause { result ≡ SReadFault → Rose (F.faults files.old) (F.faults files.new) }
+    ensures read_calm { IsTrue (F.calm files.old) → (model test : List ℕ) → IsCheck (map string_bytes words.now) model test
+        → result ≡ SReadFault → Comes (F.holds files.old) model test }
+    ensures read_due { IsTrue (F.calm files.old) → (model test : List ℕ) → IsCheck (map string_bytes words.now) model test
+        → Comes (F.holds files.old) model test → (result ≡ SReadFault) ⊎ (result ≡ SMemory) }
+    ensures write_cause { result ≡ SWriteFault → Rose (K.faults out.old) (K.faults out.new) }
+    ensures quiet { (result ≡ SReadFault) ⊎ (result ≡ SMemory) → out.new ≡ out.old }
+    ensures answers { IsTrue (F.told files.old) → result ≢ SReadFault → result ≢ SMemory → result ≢ SWriteFault
+        → (text : List ℕ) × Answers (map string_bytes words.now) (F.holds files.old) result text
+        × (IsTrue (K.told out.old) → K.taken out.new ≡ K.taken out.old ++ text) }
+    ensures short { IsTrue (F.told files.old) → result ≡ SWriteFault
+        → (status : Status) × (text : List ℕ) × Answers (map string_bytes words.now) (F.holds files.old) status text
+        × (IsTrue (K.told out.old) → IsCutShort (K.taken out.old) text (K.taken out.new)) }
+    ensures headline { IsTrue (F.told files.old) → IsTrueOf (map string_bytes words.now) (F.holds files.old) result }
+    ensures due { IsTrue (F.told files.old) → (Rose (F.faults files.old) (F.faults files.new) → ⊥)
+        → (Rose (K.faults out.old) (K.faults out.new) → ⊥) → result ≢ SMemory
+        → IsDue (map string_bytes words.now) (F.holds files.old) result }
+{
+    let answer = answer_to(alloc, words, files);
+    tell(out, &answer)
+}
