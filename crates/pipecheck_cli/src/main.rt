@@ -7,13 +7,12 @@
 
 mod real_files;
 mod real_sink;
-mod stub;
 mod words;
 
+use pipecheck_run::run;
 use real_files::RealFiles;
 use real_sink::RealSink;
 use std::process::ExitCode;
-use stub::run;
 
 fn main(rt: HostRuntime) -> ExitCode {
     match words::after_name(&rt) {
