@@ -1,0 +1,118 @@
+ghost use Rattle.std.specs.Prelude.{◌≡◌, ◌≤◌, ◌<◌, false, is_ok, IfOk, OnErr, [], length, take, if◌then◌else◌};
+ghost use Rattle.std.specs.Io.KnownBytes.{Appends};
+ghost use Rattle.pc_common.specs.Faults.{Rose, one_more};
+
+use pc_common::{Failed, Sink};
+use std::io::{self, Write};
+
+/// A writer of the system, as standard output. It tells nothing of what went out.
+#[derive(Drop)]
+pub struct RealSink<W> {
+    writer: W,
+    faults: u64,
+}
+
+impl<W: Write> RealSink<W> {
+    /// No call failed.
+    pub fn new(writer: W) -> RealSink<W>
+        ensures writer { result.writer ≡ writer }
+        ensures faults { result.faults ≡ 0 }
+    {
+        RealSink { writer, faults: 0 }
+    }
+
+    // Counts a fault.
+    fn fail(&mut self) -> Failed
+        ensures writer { self.new.writer ≡ self.old.writer }
+        ensures counted { self.new.faults ≡ one_more self.old.faults }
+        ensures count { self.old.faults ≤ self.new.faults }
+        ensures rose { Rose self.old.faults self.new.faults }
+    {
+        self.faults = self.faults.saturating_add(1);
+        Failed
+    }
+}
+
+impl<W: Write> Sink for RealSink<W> {
+    ghost told = { λ sink. false };
+
+    ghost taken = { λ sink. [] };
+
+    ghost faults = { λ sink. sink.faults };
+
+    /// Flushes what it took of the piece. Fails where the writer or its flush fails, or takes
+    /// nothing of a piece that is not empty.
+    fn write(&mut self, piece: &[u8]) -> Result<usize, Failed>
+        ensures counted { self.new.faults ≡ (if is_ok result then self.old.faults else one_more self.old.faults) }
+        ensures count { self.old.faults ≤ self.new.faults }
+        ensures cause { OnErr result (Rose self.old.faults self.new.faults) }
+        ensures within { IfOk result (λ n. n ≤ length piece.now) }
+        ensures moves { 0 < length piece.now → IfOk result (λ n. 0 < n) }
+        ensures went { IfOk result (λ n.
+            Appends (W.contents self.old.writer) (W.contents self.new.writer) (take n piece.now)) }
+    {
+        match put(&mut self.writer, piece) {
+            Ok(n) if n > 0 || piece.is_empty() => Ok(n),
+            _ => Err(self.fail()),
+        }
+    }
+}
+
+// Writes first bytes of the piece and flushes them, and answers how many.
+fn put<W: Write>(writer: &mut W, piece: &[u8]) -> io::Result<usize>
+    ensures within { IfOk result (λ n. n ≤ length piece.now) }
+    ensures went { IfOk result (λ n. Appends (W.contents writer.old) (W.contents writer.new) (take n piece.now)) }
+{
+    let taken = writer.write(piece)?;
+    writer.flush()?;
+    Ok(taken)
+}
+
+#[cfg(test)]
+mod tests {
+    use super::*;
+    use std::io::ErrorKind;
+
+    /// A writer with little room, whose flush may fail.
+    #[derive(Drop)]
+    struct Wire {
+        room: usize,
+        is_cut: bool,
+    }
+
+    impl Write for Wire {
+        fn write(&mut self, buf: &[u8]) -> io::Result<usize> {
+            let n = self.room.min(buf.len());
+            self.room -= n;
+            Ok(n)
+        }
+
+        fn flush(&mut self) -> io::Result<()> {
+            if self.is_cut {
+                return Err(io::Error::from(ErrorKind::BrokenPipe));
+            }
+            Ok(())
+        }
+    }
+
+    #[test]
+    fn takes_what_goes_in_and_counts_what_fails(rt: HostRuntime) {
+        let mut sink = RealSink::new(Wire {
+            room: 4,
+            is_cut: false,
+        });
+        assert!(rt; sink.write(b"abc") == Ok(3));
+        assert!(rt; sink.write(b"de") == Ok(1));
+        assert!(rt; sink.write(b"") == Ok(0));
+        assert_eq!(rt; sink.faults, 0);
+        assert!(rt; sink.write(b"e").is_err());
+        assert_eq!(rt; sink.faults, 1);
+
+        let mut cut = RealSink::new(Wire {
+            room: 4,
+            is_cut: true,
+        });
+        assert!(rt; cut.write(b"abc").is_err());
+        assert_eq!(rt; cut.faults, 1);
+    }
+}
