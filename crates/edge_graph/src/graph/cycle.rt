@@ -30,9 +30,15 @@ fn ordered_prefix(alloc: Global, nodes: usize, edges: &[(u32, u32)]) -> Result<u
 }
 
 /// Finds the first edge that closes a cycle with those before it, and answers a shortest such cycle: the
-/// nodes of the chain from the edge's end back to its start. None where the edges close no cycle.
+/// nodes of the chain from the edge's end back to its start, so the one node where the edge leads from a
+/// node to itself. Of several shortest chains it is the one with the lowest number at the first place
+/// where they differ. None where the edges close no cycle.
 ///
-/// A prefix that has an order is found by halving, so that the search for a chain runs once.
+/// Nodes are the numbers below `nodes`, of which there are at most 2^32 - 4; edges may be listed more
+/// than once. The only error is `Memory`, where an allocation was refused.
+///
+/// A prefix that has an order (Kahn 1962) is found by halving, and the search for a chain (breadth first,
+/// from the edge's start backwards: Moore 1959) runs only past it.
 pub fn find_cycle(
     alloc: Global,
     nodes: usize,
