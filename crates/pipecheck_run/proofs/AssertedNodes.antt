@@ -1,6 +1,6 @@
 -- The ends of asserted edges are nodes of the model and the test.
-use Rattle.std.proofs.Common.{◌≡◌, ℕ, zero, suc, ◌+◌, ◌<◌, ◌≤◌, ◌⊎◌, inl, inr, Bool, true, false, List, [], ◌∷◌, ◌++◌, Option, Some, None, length, map, refl, sym, ◌∙◌, ap, subst, arith, if◌then◌else◌}
-use Rattle.std.specs.Prelude.{slice_get, Contains, All}
+use Rattle.std.proofs.Common.{◌≡◌, ℕ, ◌<◌, inl, inr, Bool, true, false, List, [], ◌∷◌, ◌++◌, Some, length, map, refl, ◌∙◌, ap, subst, arith, if◌then◌else◌}
+use Rattle.std.specs.Prelude.{slice_get}
 use Rattle.std.specs.List.{flat_map, range_with_len}
 use Rattle.std.proofs.lemmas.List.Elements.{All-contains}
 use Rattle.pc_common.specs.Case.{Case, MicroOp}
@@ -11,9 +11,9 @@ use Rattle.pc_syntax.specs.declared.model.StageItem.{StageItem}
 use Rattle.pc_syntax.specs.Written.{Written, not_, and_, or_, implies_, forall_, exists_, static_, nodes_, edges_, expand_, bind_, WrittenItem, axiom_, macro_, WrittenModel}
 use Rattle.pc_syntax.specs.Truth.{Environment, an_op, node_of, static_holds}
 use Rattle.pc_syntax.specs.Observable.{axioms_of, IsNodeOf}
-use Rattle.edge_model.specs.EdgeModel.{IsEdgeNode, IsOneEdge, IsGuard, IsEdgeFormula, IsEdgeItem, IsEdgeModel, stage_names}
-use Rattle.pipecheck_run.specs.Asserted.{edge_of, edge_between, asserted, asserted_edges}
-use Rattle.pipecheck_run.proofs.Elements.{In, in_from_contains, contains_from_in, from_map, from_flat, from_range, in_either}
+use Rattle.edge_model.specs.EdgeModel.{IsOneEdge, IsGuard, IsEdgeFormula, IsEdgeItem, IsEdgeModel, stage_names}
+use Rattle.pipecheck_run.specs.Asserted.{edge_between, asserted, asserted_edges}
+use Rattle.pipecheck_run.proofs.Elements.{In, contains_from_in, from_map, from_flat, from_range, in_either}
 use Rattle.pipecheck_run.proofs.Truths.{InScope, scope_more, names_of, node_known, Known}
 
 -- each core is below 64
@@ -33,12 +33,12 @@ known_of stages c env t kept k =
     (k.op, omega arith, k.stage)
 
 one_edge_of : (stages : List StageItem) (c : Case) (bound : List (List ℕ)) (env : Environment) (f : Written)
-  → Cores c → InScope c bound env → IsOneEdge (names_of stages) bound f → (e : Edge) → In e (asserted stages c env f) → BothOf stages c e
+    → Cores c → InScope c bound env → IsOneEdge (names_of stages) bound f → (e : Edge) → In e (asserted stages c env f) → BothOf stages c e
 one_edge_of stages c bound env (edges_ (t ∷ [])) kept s is e i =
     let a = node_known stages c bound env t.from s is.0 in
     let b = node_known stages c bound env t.to s is.1 in
     let list : asserted stages c env (edges_ (t ∷ [])) ≡ (a.node, b.node) ∷ [] =
-          ap (λ x. edge_between x (node_of stages c env t.to) ++ []) a.is ∙ ap (λ x. edge_between (Some a.node) x ++ []) b.is in
+    ap (λ x. edge_between x (node_of stages c env t.to) ++ []) a.is ∙ ap (λ x. edge_between (Some a.node) x ++ []) b.is in
     only (known_of stages c env t.from kept a) (known_of stages c env t.to kept b) (rw list at i)
   where
     only : {a b : Node} → IsOf stages c a → IsOf stages c b → In e ((a, b) ∷ []) → BothOf stages c e
@@ -62,8 +62,8 @@ under_guard e true es i = i
 under_guard e false es i = absurd i
 
 guarded_of : (stages : List StageItem) (c : Case) (bound : List (List ℕ)) (env : Environment) (g f : Written)
-  → Cores c → InScope c bound env → IsGuard bound g → IsOneEdge (names_of stages) bound f
-  → (e : Edge) → In e (asserted stages c env (implies_ g f)) → BothOf stages c e
+    → Cores c → InScope c bound env → IsGuard bound g → IsOneEdge (names_of stages) bound f
+    → (e : Edge) → In e (asserted stages c env (implies_ g f)) → BothOf stages c e
 guarded_of stages c bound env (static_ p args) f kept s guard is e i =
     one_edge_of stages c bound env f kept s is e (under_guard e (static_holds c env p.name args) (asserted stages c env f) i)
 guarded_of stages c bound env (not_ p) f kept s guard is e i = absurd guard
@@ -78,7 +78,7 @@ guarded_of stages c bound env (expand_ at name args) f kept s guard is e i = abs
 guarded_of stages c bound env (bind_ at names args p) f kept s guard is e i = absurd guard
 
 formula_of : (stages : List StageItem) (c : Case) (bound : List (List ℕ)) (env : Environment) (f : Written)
-  → Cores c → InScope c bound env → IsEdgeFormula (names_of stages) bound f → (e : Edge) → In e (asserted stages c env f) → BothOf stages c e
+    → Cores c → InScope c bound env → IsEdgeFormula (names_of stages) bound f → (e : Edge) → In e (asserted stages c env f) → BothOf stages c e
 formula_of stages c bound env (forall_ at Microop name p) kept s is e i =
     let r = from_flat (λ v. asserted stages c ((name, v) ∷ env) p) e (map an_op (range_with_len 0 (length c.ops))) i in
     let o = from_map an_op r.0 (range_with_len 0 (length c.ops)) r.1 in
@@ -99,21 +99,22 @@ formula_of stages c bound env (expand_ at name args) kept s is e i = absurd is
 formula_of stages c bound env (bind_ at names args p) kept s is e i = absurd is
 
 items_of : (m : WrittenModel) (c : Case) (items : List WrittenItem) → Cores c
-  → ((it : WrittenItem) → In it items → IsEdgeItem (stage_names m) it)
-  → (e : Edge) → In e (flat_map (asserted m.stages c []) (axioms_of (record { stages = m.stages; items = items }))) → BothOf m.stages c e
+    → ((it : WrittenItem) → In it items → IsEdgeItem (stage_names m) it)
+    → (e : Edge) → In e (flat_map (asserted m.stages c []) (axioms_of (record { stages = m.stages; items = items }))) → BothOf m.stages c e
 items_of m c [] kept each e i = absurd i
 items_of m c (axiom_ at body ∷ items) kept each e i =
-    elim (in_either e (asserted m.stages c [] body) (flat_map (asserted m.stages c []) (axioms_of (record { stages = m.stages; items = items }))) i)
-      [ inl here ↦ formula_of m.stages c [] [] body kept (λ n j. absurd j) (each (axiom_ at body) (inl refl)).1 e here
-      | inr later ↦ items_of m c items kept (λ it j. each it (inr j)) e later ]
+    elim (in_either e (asserted m.stages c [] body) (flat_map (asserted m.stages c []) (axioms_of (record { stages = m.stages; items = items }))) i) [
+      | inl here ↦ formula_of m.stages c [] [] body kept (λ n j. absurd j) (each (axiom_ at body) (inl refl)).1 e here
+      | inr later ↦ items_of m c items kept (λ it j. each it (inr j)) e later
+    ]
 items_of m c (macro_ x ∷ items) kept each e i = items_of m c items kept (λ it j. each it (inr j)) e i
 
 -- both ends of an edge that the axioms assert
 pub asserted_of : (m : WrittenModel) (c : Case) → Cores c → IsEdgeModel m → (e : Edge) → In e (asserted_edges m c)
-  → IsNodeOf m c e.0 × IsNodeOf m c e.1
+    → IsNodeOf m c e.0 × IsNodeOf m c e.1
 asserted_of m c kept is e i =
     let both = items_of m c m.items kept
-          (λ it j. All-contains (IsEdgeItem (stage_names m)) m.items it is.edge_items (contains_from_in it m.items j)) e i in
+    (λ it j. All-contains (IsEdgeItem (stage_names m)) m.items it is.edge_items (contains_from_in it m.items j)) e i in
     (node both.0, node both.1)
   where
     node : {a : Node} → IsOf m.stages c a → IsNodeOf m c a

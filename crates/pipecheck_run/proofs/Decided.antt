@@ -1,8 +1,7 @@
 -- What is decided answers the command.
-use Rattle.std.proofs.Common.{◌≡◌, ◌≢◌, ℕ, ◌<◌, ◌≤◌, ◌⊎◌, inl, inr, List, [], ◌∷◌, ◌++◌, Option, Some, None, Result, Ok, Err, length, refl, sym, ◌∙◌, ap, subst}
+use Rattle.std.proofs.Common.{◌≡◌, ◌≢◌, ℕ, ◌<◌, inl, inr, List, ◌++◌, Some, length, refl, sym, ◌∙◌, ap, subst}
 use Rattle.std.specs.Prelude.{codes}
 use Rattle.std.specs.Fmt.{decimal}
-use Rattle.pc_common.specs.Case.{Case}
 use Rattle.pc_common.specs.LineColumn.{line_of, column_of}
 use Rattle.pc_common.specs.declared.fault.InputFault.{InputFault}
 use Rattle.pc_common.specs.declared.fault.Which.{Which}
@@ -10,19 +9,18 @@ use Rattle.pc_common.specs.declared.fault.Which.TheVariants.{Model, Test}
 use Rattle.pc_common.specs.declared.reading.ReadEnd.{ReadEnd}
 use Rattle.pc_common.specs.declared.reading.ReadEnd.TheVariants.{ReadFault as an_outside_fault, TooLarge as past_limit, Memory as no_memory}
 use Rattle.pc_common.specs.declared.status.Status.TheVariants.{Refused, ReadFault, Memory}
-use Rattle.pc_syntax.specs.Written.{WrittenModel}
 use Rattle.pipecheck_run.specs.declared.answer.Refusal.{Refusal}
 use Rattle.pipecheck_run.specs.declared.answer.Answer.{Answer}
 use Rattle.pipecheck_run.specs.declared.answer.Answer.TheVariants.{Usage as a_usage, ReadFault as a_read_fault, Memory as a_memory, Refused as a_refusal, Decided as a_verdict}
 use Rattle.pipecheck_run.specs.Command.{IsCheck}
-use Rattle.pipecheck_run.specs.Language.{Contents, IsRead, IsTooLarge, IsFirstFault, large_model, large_test, no_model, no_test, too_large, not_said, SaysModel, SaysTest, Says}
+use Rattle.pipecheck_run.specs.Language.{Contents, IsRead, IsTooLarge, IsFirstFault, no_model, no_test, too_large, not_said, Says}
 use Rattle.pipecheck_run.specs.Output.{Answers, refused, refused_text, file_word, name_of}
 use Rattle.pipecheck_run.specs.Words.{fault_word}
-use Rattle.pipecheck_run.specs.Answered.{refusal_text, answer_text, answer_status, IsPlaced, Decides, IsEnded}
+use Rattle.pipecheck_run.specs.Answered.{refusal_text, answer_text, answer_status, Decides, IsEnded}
 use Rattle.pipecheck_run.proofs.VerdictTexts.{verdict_answers, test_cores}
 
 refusal_is : (bytes : List ℕ) (f : InputFault) (r : Refusal) → r.fault ≡ f
-  → r.line ≡ line_of bytes f.place.offset → r.column ≡ column_of bytes f.place.offset → refused_text bytes f ≡ refusal_text r
+    → r.line ≡ line_of bytes f.place.offset → r.column ≡ column_of bytes f.place.offset → refused_text bytes f ≡ refusal_text r
 refusal_is bytes f r e l c =
     ap (λ n. text f n (column_of bytes f.place.offset)) (sym l) ∙ ap (λ n. text f r.line n) (sym c) ∙ ap (λ g. text g r.line r.column) (sym e)
   where
@@ -31,18 +29,18 @@ refusal_is bytes f r e l c =
         codes "refused " ++ file_word g.file ++ codes " " ++ fault_word g.kind ++ codes " at " ++ decimal line ++ codes ":" ++ decimal column ++ codes "\n"
 
 refusal_answers : (words : List (List ℕ)) (holds : Contents) (model test bytes : List ℕ) (f : InputFault) (r : Refusal)
-  → IsCheck words model test → IsFirstFault holds model test f → holds (name_of f.file model test) ≡ Some bytes
-  → r.fault ≡ f → r.line ≡ line_of bytes f.place.offset → r.column ≡ column_of bytes f.place.offset
-  → Answers words holds Refused (refusal_text r)
+    → IsCheck words model test → IsFirstFault holds model test f → holds (name_of f.file model test) ≡ Some bytes
+    → r.fault ≡ f → r.line ≡ line_of bytes f.place.offset → r.column ≡ column_of bytes f.place.offset
+    → Answers words holds Refused (refusal_text r)
 refusal_answers words holds model test bytes f r check first held e l c =
     let Q : List ℕ → Type 0 = λ t. Answers words holds Refused t in
     subst Q (refusal_is bytes f r e l c) (refused check first held)
 
 -- a file that could not be read whole
 pub ended_answers : (words : List (List ℕ)) (holds : Contents) (model test : List ℕ) (file : Which) (end : ReadEnd) (a : Answer)
-  → IsEnded file end a → answer_status a ≢ ReadFault → answer_status a ≢ Memory → IsCheck words model test
-  → (end ≡ past_limit → IsFirstFault holds model test (too_large file) × ((bytes : List ℕ) × (holds (name_of file model test) ≡ Some bytes)))
-  → Answers words holds (answer_status a) (answer_text a)
+    → IsEnded file end a → answer_status a ≢ ReadFault → answer_status a ≢ Memory → IsCheck words model test
+    → (end ≡ past_limit → IsFirstFault holds model test (too_large file) × ((bytes : List ℕ) × (holds (name_of file model test) ≡ Some bytes)))
+    → Answers words holds (answer_status a) (answer_text a)
 ended_answers words holds model test file an_outside_fault a is no_fault memory check first = absurd (no_fault (ap answer_status is))
 ended_answers words holds model test file no_memory a is no_fault memory check first = absurd (memory (ap answer_status is))
 ended_answers words holds model test file past_limit (a_refusal r) is no_fault memory check first =
@@ -55,17 +53,23 @@ ended_answers words holds model test file past_limit (a_verdict v) is no_fault m
 
 -- both files were read
 pub decided_answers : (words : List (List ℕ)) (holds : Contents) (model test mb tb : List ℕ) (a : Answer)
-  → IsCheck words model test → IsRead holds model mb → IsRead holds test tb → Decides mb tb a
-  → Answers words holds (answer_status a) (answer_text a)
+    → IsCheck words model test → IsRead holds model mb → IsRead holds test tb → Decides mb tb a
+    → Answers words holds (answer_status a) (answer_text a)
 decided_answers words holds model test mb tb (a_refusal r) check rm rt (inl d) =
     refusal_answers words holds model test mb (not_said Model) r check (no_model rm rt d.2) rm.held d.0
-        (d.1.0 ∙ ap (λ f. line_of mb f.place.offset) d.0) (d.1.1 ∙ ap (λ f. column_of mb f.place.offset) d.0)
+    (d.1.0 ∙ ap (λ f. line_of mb f.place.offset) d.0) (d.1.1 ∙ ap (λ f. column_of mb f.place.offset) d.0)
 decided_answers words holds model test mb tb (a_refusal r) check rm rt (inr d) =
     refusal_answers words holds model test tb (not_said Test) r check (no_test rm rt d.2.1 d.3) rt.held d.0
-        (d.1.0 ∙ ap (λ f. line_of tb f.place.offset) d.0) (d.1.1 ∙ ap (λ f. column_of tb f.place.offset) d.0)
+    (d.1.0 ∙ ap (λ f. line_of tb f.place.offset) d.0) (d.1.1 ∙ ap (λ f. column_of tb f.place.offset) d.0)
 decided_answers words holds model test mb tb (a_verdict v) check rm rt d =
     let says : Says holds model test d.0 d.1 = record {
-          model_bytes = mb; test_bytes = tb; model_read = rm; test_read = rt; says_model = d.2; says_test = d.3 } in
+      model_bytes = mb;
+      test_bytes = tb;
+      model_read = rm;
+      test_read = rt;
+      says_model = d.2;
+      says_test = d.3;
+    } in
     verdict_answers words holds model test d.0 d.1 v check says (test_cores d.3.0 d.1 d.3.2) d.2.2.1 d.4
 decided_answers words holds model test mb tb a_usage check rm rt d = absurd d
 decided_answers words holds model test mb tb a_read_fault check rm rt d = absurd d

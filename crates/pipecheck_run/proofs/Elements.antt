@@ -1,5 +1,5 @@
 -- Elements of lists by recursion: what maps and flat maps have, and tests of all elements.
-use Rattle.std.proofs.Common.{◌≡◌, ℕ, zero, suc, ◌+◌, ◌<◌, ◌≤◌, ◌⊎◌, inl, inr, Bool, true, false, ◌&&◌, ◌||◌, List, [], ◌∷◌, ◌++◌, map, length, get_or, refl, sym, ◌∙◌, ap, subst, arith}
+use Rattle.std.proofs.Common.{◌≡◌, ℕ, zero, suc, ◌+◌, ◌<◌, ◌≤◌, ◌⊎◌, inl, inr, Bool, true, false, ◌&&◌, ◌||◌, List, [], ◌∷◌, ◌++◌, map, length, get_or, refl, sym, ap, subst, arith}
 use Rattle.std.specs.Prelude.{Contains}
 use Rattle.std.proofs.lemmas.Bool.{cases_lt}
 use Rattle.std.specs.List.{list_all, list_any, flat_map, range_with_len}
@@ -56,9 +56,10 @@ in_flat {X} {Y} f x y (z ∷ zs) (inr i) j = in_back y (f z) (flat_map f zs) (in
 pub from_flat : {X Y : Type 0} (f : X → List Y) (y : Y) (xs : List X) → In y (flat_map f xs) → (x : X) × In x xs × In y (f x)
 from_flat f y [] i = absurd i
 from_flat f y (x ∷ xs) i =
-    elim (in_either y (f x) (flat_map f xs) i)
-      [ inl here ↦ (x, inl refl, here)
-      | inr later ↦ (let r = from_flat f y xs later in (r.0, inr r.1, r.2)) ]
+    elim (in_either y (f x) (flat_map f xs) i) [
+      | inl here ↦ (x, inl refl, here)
+      | inr later ↦ (let r = from_flat f y xs later in (r.0, inr r.1, r.2))
+    ]
 
 pub in_range : (a n i : ℕ) → a ≤ i → i < a + n → In i (range_with_len a n)
 in_range a zero i low high = absurd (omega arith)
@@ -110,9 +111,10 @@ holds_all p (y ∷ ys) h = rw (h y (inl refl)) (holds_all p ys (λ x i. h x (inr
 pub any_holds : {X : Type 0} (p : X → Bool) (xs : List X) → list_any p xs ≡ true → (x : X) × In x xs × (p x ≡ true)
 any_holds p [] e = cc
 any_holds {X} p (y ∷ ys) e =
-    elim (true_or_false (p y))
-      [ inl h ↦ (y, inl refl, h)
-      | inr h ↦ (let r = any_holds p ys (or_second (p y) (list_any p ys) h e) in (r.0, inr r.1, r.2)) ]
+    elim (true_or_false (p y)) [
+      | inl h ↦ (y, inl refl, h)
+      | inr h ↦ (let r = any_holds p ys (or_second (p y) (list_any p ys) h e) in (r.0, inr r.1, r.2))
+    ]
 
 pub holds_any : {X : Type 0} (p : X → Bool) (x : X) (xs : List X) → In x xs → p x ≡ true → list_any p xs ≡ true
 holds_any p x [] i h = absurd i

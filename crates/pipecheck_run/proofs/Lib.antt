@@ -2,7 +2,6 @@ pub mod Elements
 pub mod Truths
 pub mod Nodes
 pub mod Joined
-
 pub mod Worlds
 pub mod Three
 pub mod Said

@@ -1,9 +1,7 @@
 -- Nodes and edges are equal exactly where their tests say so.
-use Rattle.std.proofs.Common.{◌≡◌, ℕ, ◌⊎◌, inl, inr, Bool, true, false, ◌&&◌, List, [], ◌∷◌, refl, sym, ◌∙◌, ap, nat_eq, eq-eqb, eqb-true}
+use Rattle.std.proofs.Common.{◌≡◌, ℕ, true, ◌&&◌, List, refl, sym, ◌∙◌, ap, nat_eq, eq-eqb, eqb-true}
 use Rattle.std.specs.Prelude.{IsTrue}
-use Rattle.std.specs.List.{list_any}
-use Rattle.pc_common.specs.World.{Node, Edge, World, same_node, same_edge, has_node, has_edge}
-use Rattle.pc_common.specs.Chain.{Leads, Chain}
+use Rattle.pc_common.specs.World.{Node, Edge, World, same_node, same_edge, has_node}
 use Rattle.pc_common.specs.Generated.{IsListed}
 use Rattle.pipecheck_run.proofs.Elements.{In, any_holds, holds_any, and_first, and_second}
 
@@ -17,9 +15,9 @@ pub same_node-true : (a b : Node) → same_node a b ≡ true → a ≡ b
 same_node-true a b e =
     let ops = and_first (nat_eq a.op b.op && nat_eq a.core b.core) (nat_eq a.stage b.stage) e in
     node_parts a b
-        (eqb-true a.op b.op (and_first (nat_eq a.op b.op) (nat_eq a.core b.core) ops))
-        (eqb-true a.core b.core (and_second (nat_eq a.op b.op) (nat_eq a.core b.core) ops))
-        (eqb-true a.stage b.stage (and_second (nat_eq a.op b.op && nat_eq a.core b.core) (nat_eq a.stage b.stage) e))
+    (eqb-true a.op b.op (and_first (nat_eq a.op b.op) (nat_eq a.core b.core) ops))
+    (eqb-true a.core b.core (and_second (nat_eq a.op b.op) (nat_eq a.core b.core) ops))
+    (eqb-true a.stage b.stage (and_second (nat_eq a.op b.op && nat_eq a.core b.core) (nat_eq a.stage b.stage) e))
 
 pub same_node-self : (a : Node) → same_node a a ≡ true
 same_node-self a = rw (eq-eqb a.op a.op refl, eq-eqb a.core a.core refl, eq-eqb a.stage a.stage refl) refl

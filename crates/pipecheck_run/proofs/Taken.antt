@@ -1,7 +1,7 @@
 -- What the first elements of a list give, one element more.
-use Rattle.std.proofs.Common.{◌≡◌, ℕ, zero, suc, ◌+◌, ◌<◌, ◌≤◌, List, [], ◌∷◌, ◌++◌, Option, Some, length, take, refl, sym, ◌∙◌, ap, arith, add-one, append_assoc}
-use Rattle.std.specs.Prelude.{slice_get, map}
-use Rattle.std.specs.List.{flat_map, range_with_len}
+use Rattle.std.proofs.Common.{◌≡◌, ℕ, ◌+◌, List, [], ◌∷◌, ◌++◌, Some, length, take, refl, sym, ◌∙◌, ap, add-one, append_assoc}
+use Rattle.std.specs.Prelude.{slice_get}
+use Rattle.std.specs.List.{flat_map}
 use Rattle.std.proofs.Math.Seq.{take-length, take-suc}
 use Rattle.std.proofs.lemmas.Option.{slice_get_within, get_or_from_slice_get}
 
@@ -19,7 +19,7 @@ take_more xs k x e =
     ap (λ y. take k xs ++ y ∷ []) (get_or_from_slice_get xs k x x e)
 
 pub flat_more : {X Y : Type 0} (f : X → List Y) (before : List Y) (xs : List X) (k : ℕ) (x : X) → slice_get xs k ≡ Some x
-  → before ++ flat_map f (take (k + 1) xs) ≡ (before ++ flat_map f (take k xs)) ++ f x
+    → before ++ flat_map f (take (k + 1) xs) ≡ (before ++ flat_map f (take k xs)) ++ f x
 flat_more f before xs k x e =
     ap (λ ys. before ++ flat_map f ys) (take_more xs k x e) ∙
     ap (λ ys. before ++ ys) (flat_append f (take k xs) (x ∷ []) ∙ ap (λ ys. flat_map f (take k xs) ++ ys) (append_none (f x))) ∙

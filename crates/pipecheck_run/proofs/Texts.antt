@@ -1,6 +1,6 @@
 -- The texts of the two certificates, and what they say of the outcome.
-use Rattle.std.proofs.Common.{◌≡◌, ℕ, ◌<◌, List, [], ◌∷◌, ◌++◌, length, map, get_or, refl, sym, ◌∙◌, ap, subst}
-use Rattle.std.specs.Prelude.{Contains, All, IsTrue}
+use Rattle.std.proofs.Common.{ℕ, List, [], ◌∷◌, map, get_or, refl}
+use Rattle.std.specs.Prelude.{Contains, All}
 use Rattle.std.proofs.lemmas.List.Elements.{All-contains_itself}
 use Rattle.pc_common.specs.Case.{Case}
 use Rattle.pc_common.specs.World.{Node, Edge}
@@ -15,13 +15,13 @@ use Rattle.pipecheck_run.specs.Asserted.{asserted_edges}
 use Rattle.pipecheck_run.specs.Certificates.{names_of, graph_lines, cycle_lines, HasEnds, IsGraphText, IsAssertedCycle, IsCycleText}
 use Rattle.pipecheck_run.specs.Graphs.{key_node, node_at, edge_at, IsGraphOf}
 use Rattle.pipecheck_run.proofs.Elements.{In, in_from_contains, contains_from_in}
-use Rattle.pipecheck_run.proofs.Worlds.{Shows, world_of, graph_world, cycle_refutes}
+use Rattle.pipecheck_run.proofs.Worlds.{world_of, graph_world, cycle_refutes}
 use Rattle.pipecheck_run.proofs.AssertedNodes.{Cores}
 use Rattle.pipecheck_run.proofs.Verdicts.{order_shows, cycle_asserted}
 
 pub graph_text : (m : WrittenModel) (c : Case) (keys : List NodeKey) (edges : List (ℕ × ℕ)) → Cores c → IsEdgeModel m
-  → IsGraphOf (asserted_edges m c) keys edges → IsAcyclic edges
-  → IsGraphText m c (lines_text (names_of m c) (graph_lines c.expectation (map key_node keys) (map (edge_at keys) edges)))
+    → IsGraphOf (asserted_edges m c) keys edges → IsAcyclic edges
+    → IsGraphText m c (lines_text (names_of m c) (graph_lines c.expectation (map key_node keys) (map (edge_at keys) edges)))
 graph_text m c keys edges kept is g acyclic =
     let nodes : List Node = map key_node keys in
     let plain : List Edge = map (edge_at keys) edges in
@@ -35,7 +35,8 @@ graph_text m c keys edges kept is g acyclic =
       world = world_of nodes plain;
       generated = w.0;
       of_both = w.1;
-      satisfied = w.2 }
+      satisfied = w.2;
+    }
   where
     each : (nodes : List Node) (edges : List Edge) → ((a b : Node) → In (a, b) edges → In a nodes × In b nodes) → All (HasEnds nodes) edges
     each nodes edges ends k d inside =
@@ -44,12 +45,13 @@ graph_text m c keys edges kept is g acyclic =
         (contains_from_in e.0 nodes both.0, contains_from_in e.1 nodes both.1)
 
 pub cycle_text : (m : WrittenModel) (c : Case) (keys : List NodeKey) (edges : List (ℕ × ℕ)) (cycle : List ℕ)
-  → IsGraphOf (asserted_edges m c) keys edges → IsCycle edges cycle
-  → IsCycleText m c (lines_text (names_of m c) (cycle_lines c.expectation (map (node_at keys) cycle)))
+    → IsGraphOf (asserted_edges m c) keys edges → IsCycle edges cycle
+    → IsCycleText m c (lines_text (names_of m c) (cycle_lines c.expectation (map (node_at keys) cycle)))
 cycle_text m c keys edges cycle g is = record {
   nodes = map (node_at keys) cycle;
   text_is = refl;
-  asserted = cycle_asserted (asserted_edges m c) keys edges g cycle is }
+  asserted = cycle_asserted (asserted_edges m c) keys edges g cycle is;
+}
 
 pub graph_observable : (m : WrittenModel) (c : Case) (text : List ℕ) → IsGraphText m c text → Observable m c
 graph_observable m c text t = (t.world, t.of_both, t.satisfied)
@@ -58,9 +60,10 @@ pub cycle_unobservable : (m : WrittenModel) (c : Case) (text : List ℕ) → IsE
 cycle_unobservable m c text is t o = go t.nodes t.asserted
   where
     leads : (a : Node) (via : List Node) (b : Node) → Leads (λ x y. Contains (asserted_edges m c) (x, y)) a via b
-      → Leads (λ x y. In (x, y) (asserted_edges m c)) a via b
+        → Leads (λ x y. In (x, y) (asserted_edges m c)) a via b
     leads a [] b l = in_from_contains (a, b) (asserted_edges m c) l
     leads a (x ∷ xs) b l = (in_from_contains (a, x) (asserted_edges m c) l.0, leads x xs b l.1)
+
     go : (nodes : List Node) → IsAssertedCycle (asserted_edges m c) nodes → ⊥
     go [] h = h
     go (a ∷ via) h = cycle_refutes m c is a (via, leads a via a h) o

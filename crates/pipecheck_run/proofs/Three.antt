@@ -3,7 +3,7 @@ use Rattle.std.proofs.Common.{◌≡◌, ℕ, ◌<◌, ◌≤◌, Bool, true, fa
 use Rattle.std.specs.Cmp.Lexicographic.{pointwise, same_text}
 
 pub three : {X Y : Type 0} (f : X → Y) (xs : List X) (a b d : X) → 3 ≤ length xs → length xs < 4
-  → a ≡ get_or xs 0 a → b ≡ get_or xs 1 b → d ≡ get_or xs 2 d → map f xs ≡ f a ∷ f b ∷ f d ∷ []
+    → a ≡ get_or xs 0 a → b ≡ get_or xs 1 b → d ≡ get_or xs 2 d → map f xs ≡ f a ∷ f b ∷ f d ∷ []
 three f [] a b d many few ea eb ed = absurd (omega arith)
 three f (x ∷ []) a b d many few ea eb ed = absurd (omega arith)
 three f (x ∷ y ∷ []) a b d many few ea eb ed = absurd (omega arith)

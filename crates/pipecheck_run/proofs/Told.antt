@@ -1,13 +1,11 @@
 -- The status that is told is that of the answer, unless the writing failed.
-use Rattle.std.proofs.Common.{◌≡◌, ◌≢◌, ℕ, ◌⊎◌, inl, inr, List, Option, Some, None, refl, sym, ◌∙◌, ap, subst, Vec, Global}
-use Rattle.std.specs.Prelude.{codes}
+use Rattle.std.proofs.Common.{◌≡◌, ◌≢◌, ℕ, ◌⊎◌, inl, inr, Option, Some, None, refl, sym, ◌∙◌, Vec, Global}
 use Rattle.pc_common.specs.declared.status.Status.{Status}
-use Rattle.pc_common.specs.declared.status.Status.TheVariants.{Observable, Unobservable, Usage, ReadFault, WriteFault, Memory}
+use Rattle.pc_common.specs.declared.status.Status.TheVariants.{Observable, Unobservable, Usage, WriteFault}
 use Rattle.pipecheck_run.specs.declared.answer.Answer.{Answer}
 use Rattle.pipecheck_run.specs.declared.answer.Answer.TheVariants.{Usage as a_usage, ReadFault as a_read_fault, Memory as a_memory, Refused as a_refusal, Decided as a_verdict}
 use Rattle.pipecheck_run.specs.Answered.{answer_text, answer_status}
-use Rattle.pipecheck_run.specs.Output.{Answers, usage_text}
-use Rattle.pipecheck_run.specs.Language.{Contents}
+use Rattle.pipecheck_run.specs.Output.{usage_text}
 
 abbrev status_by : Option (Vec ℕ Global) → Status
 status_by None = Observable

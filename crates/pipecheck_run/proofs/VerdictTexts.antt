@@ -1,26 +1,24 @@
 -- The text of a verdict is that of its certificate.
-use Rattle.std.proofs.Common.{◌≡◌, ℕ, ◌+◌, ◌<◌, ◌≤◌, List, [], ◌∷◌, ◌++◌, Option, Some, None, length, map, get_or, refl, sym, ◌∙◌, ap, subst, arith, append_assoc, Vec, Global}
-use Rattle.std.specs.Prelude.{codes, MatchOption, slice_get, All}
+use Rattle.std.proofs.Common.{◌≡◌, ℕ, List, [], ◌∷◌, ◌++◌, Option, Some, None, map, refl, sym, ◌∙◌, ap, subst, arith, append_assoc, Vec, Global}
+use Rattle.std.specs.Prelude.{codes, slice_get}
 use Rattle.std.specs.List.{flat_map}
 use Rattle.std.proofs.lemmas.Option.{slice_get_within, get_or_from_slice_get}
 use Rattle.pc_common.specs.Case.{Case, MicroOp, Expectation}
 use Rattle.pc_common.specs.World.{Node, Edge}
-use Rattle.pc_common.specs.Lines.{Names, Line as Line', Verdict as Kind, observable, unobservable, verdict, second, node, edge, cycle, end, line_text, lines_text, nodes_text}
+use Rattle.pc_common.specs.Lines.{Names, Line as Line', Verdict as Kind, observable, unobservable, verdict, second, node, edge, end, line_text, lines_text, nodes_text}
 use Rattle.pc_common.specs.declared.status.Status.{Status}
 use Rattle.pc_common.specs.declared.status.Status.TheVariants.{Observable, Unobservable}
-use Rattle.pc_syntax.specs.Written.{WrittenModel, written_model}
+use Rattle.pc_syntax.specs.Written.{WrittenModel}
 use Rattle.edge_model.specs.EdgeModel.{IsEdgeModel}
 use Rattle.edge_test.specs.EdgeTest.{ReadsTest, ops_in}
 use Rattle.uspec_lexer.specs.Token.{Token}
 use Rattle.edge_graph.specs.Joins.{IsCycle, IsAcyclic}
 use Rattle.pipecheck_run.specs.declared.verdict.Verdict.{Verdict}
 use Rattle.pipecheck_run.specs.declared.graph.NodeKey.{NodeKey}
-use Rattle.pipecheck_run.specs.declared.graph.EdgeGraph.{EdgeGraph}
-use Rattle.pipecheck_run.specs.Asserted.{asserted_edges}
-use Rattle.pipecheck_run.specs.Certificates.{names_of, edge_line, graph_lines, cycle_lines, IsGraphText, IsCycleText}
-use Rattle.pipecheck_run.specs.Graphs.{key_node, node_at, edge_at, IsGraphOf}
+use Rattle.pipecheck_run.specs.Certificates.{names_of, edge_line, graph_lines, cycle_lines}
+use Rattle.pipecheck_run.specs.Graphs.{key_node, node_at, edge_at}
 use Rattle.pipecheck_run.specs.Writing.{names_by}
-use Rattle.pipecheck_run.specs.Verdicts.{IsVerdict, verdict_of, body_text, verdict_text, status_of}
+use Rattle.pipecheck_run.specs.Verdicts.{IsVerdict, verdict_text, status_of}
 use Rattle.pipecheck_run.specs.Command.{IsCheck}
 use Rattle.pipecheck_run.specs.Language.{Contents, Says}
 use Rattle.pipecheck_run.specs.Output.{Answers, seen, unseen}
@@ -40,7 +38,7 @@ kind_by (Some found) = unobservable
 abbrev body_by : Names → List NodeKey → List (ℕ × ℕ) → Option (Vec ℕ Global) → List ℕ
 body_by names keys edges None =
     flat_map (λ key. line_text names (node (key_node key))) keys
-        ++ flat_map (λ f. line_text names (edge (node_at keys f.0) (node_at keys f.1))) edges
+    ++ flat_map (λ f. line_text names (edge (node_at keys f.0) (node_at keys f.1))) edges
 body_by names keys edges (Some found) = codes "cycle" ++ (nodes_text names (map (node_at keys) found.items) ++ codes "\n")
 
 -- a verdict's text by its parts
@@ -63,8 +61,8 @@ end_text : (names : Names) → line_text names end ++ [] ≡ codes "end\n"
 end_text names = refl
 
 graph_lines_text : (names : Names) (e : Expectation) (nodes : List Node) (edges : List Edge)
-  → line_text names (verdict observable) ++ (line_text names (second observable e) ++
-      ((flat_map (λ a. line_text names (node a)) nodes ++ flat_map (λ f. line_text names (edge f.0 f.1)) edges) ++ codes "end\n"))
+    → line_text names (verdict observable) ++ (line_text names (second observable e) ++
+    ((flat_map (λ a. line_text names (node a)) nodes ++ flat_map (λ f. line_text names (edge f.0 f.1)) edges) ++ codes "end\n"))
     ≡ lines_text names (graph_lines e nodes edges)
 graph_lines_text names e nodes edges =
     let l : Line' → List ℕ = line_text names in
@@ -75,27 +73,27 @@ graph_lines_text names e nodes edges =
     let head : List Line' = verdict observable ∷ second observable e ∷ map node nodes in
     grouped v s ns es (codes "end\n") ∙
     sym (flat_append l (head ++ map edge_line edges) (end ∷ []) ∙
-        ap (λ x. x ++ codes "end\n") (flat_append l head (map edge_line edges) ∙
-            ap (λ x. (v ++ (s ++ x)) ++ flat_map l (map edge_line edges)) (flat_map_map l node nodes) ∙
-            ap (λ x. (v ++ (s ++ ns)) ++ x) (flat_map_map l edge_line edges)))
+    ap (λ x. x ++ codes "end\n") (flat_append l head (map edge_line edges) ∙
+    ap (λ x. (v ++ (s ++ x)) ++ flat_map l (map edge_line edges)) (flat_map_map l node nodes) ∙
+    ap (λ x. (v ++ (s ++ ns)) ++ x) (flat_map_map l edge_line edges)))
   where
     grouped : (a b c d z : List ℕ) → a ++ (b ++ ((c ++ d) ++ z)) ≡ ((a ++ (b ++ c)) ++ d) ++ z
     grouped a b c d z = simp append_assoc
 
 cycle_lines_text : (names : Names) (e : Expectation) (nodes : List Node)
-  → line_text names (verdict unobservable) ++ (line_text names (second unobservable e) ++
-      ((codes "cycle" ++ (nodes_text names nodes ++ codes "\n")) ++ codes "end\n"))
+    → line_text names (verdict unobservable) ++ (line_text names (second unobservable e) ++
+    ((codes "cycle" ++ (nodes_text names nodes ++ codes "\n")) ++ codes "end\n"))
     ≡ lines_text names (cycle_lines e nodes)
 cycle_lines_text names e nodes =
     ap (λ x. line_text names (verdict unobservable) ++ (line_text names (second unobservable e) ++ (x ++ codes "end\n")))
-        (sym (append_assoc (codes "cycle") (nodes_text names nodes) (codes "\n")))
+    (sym (append_assoc (codes "cycle") (nodes_text names nodes) (codes "\n")))
 
 names_is : (m : WrittenModel) (c : Case) (v : Verdict) → IsVerdict m c v → names_by v.case v.model.stages ≡ names_of m c
 names_is m c v is =
     ap (λ (x : Case). names_by x v.model.stages) is.case_is ∙ ap (λ (x : WrittenModel). names_by c x.stages) is.model_is
 
 seen_text : (m : WrittenModel) (c : Case) (v : Verdict) → IsVerdict m c v → v.cycle ≡ None
-  → verdict_text v ≡ lines_text (names_of m c) (graph_lines c.expectation (map key_node v.graph.nodes.keys) (map (edge_at v.graph.nodes.keys) v.graph.edges.keys))
+    → verdict_text v ≡ lines_text (names_of m c) (graph_lines c.expectation (map key_node v.graph.nodes.keys) (map (edge_at v.graph.nodes.keys) v.graph.edges.keys))
 seen_text m c v is none =
     let keys : List NodeKey = v.graph.nodes.keys in
     let edges : List (ℕ × ℕ) = v.graph.edges.keys in
@@ -103,15 +101,15 @@ seen_text m c v is none =
     ap (λ x. text_of None x v.case.expectation keys edges) (names_is m c v is) ∙
     ap (λ (x : Case). text_of None (names_of m c) x.expectation keys edges) is.case_is ∙
     ap (λ x. line_text (names_of m c) (verdict observable) ++ (line_text (names_of m c) (second observable c.expectation) ++
-        ((x ++ flat_map (λ e. line_text (names_of m c) (edge (node_at keys e.0) (node_at keys e.1))) edges) ++ codes "end\n")))
-        (sym (flat_map_map (λ a. line_text (names_of m c) (node a)) key_node keys)) ∙
+    ((x ++ flat_map (λ e. line_text (names_of m c) (edge (node_at keys e.0) (node_at keys e.1))) edges) ++ codes "end\n")))
+    (sym (flat_map_map (λ a. line_text (names_of m c) (node a)) key_node keys)) ∙
     ap (λ x. line_text (names_of m c) (verdict observable) ++ (line_text (names_of m c) (second observable c.expectation) ++
-        ((flat_map (λ a. line_text (names_of m c) (node a)) (map key_node keys) ++ x) ++ codes "end\n")))
-        (sym (flat_map_map (λ f. line_text (names_of m c) (edge f.0 f.1)) (edge_at keys) edges)) ∙
+    ((flat_map (λ a. line_text (names_of m c) (node a)) (map key_node keys) ++ x) ++ codes "end\n")))
+    (sym (flat_map_map (λ f. line_text (names_of m c) (edge f.0 f.1)) (edge_at keys) edges)) ∙
     graph_lines_text (names_of m c) c.expectation (map key_node keys) (map (edge_at keys) edges)
 
 unseen_text : (m : WrittenModel) (c : Case) (v : Verdict) (found : Vec ℕ Global) → IsVerdict m c v → v.cycle ≡ Some found
-  → verdict_text v ≡ lines_text (names_of m c) (cycle_lines c.expectation (map (node_at v.graph.nodes.keys) found.items))
+    → verdict_text v ≡ lines_text (names_of m c) (cycle_lines c.expectation (map (node_at v.graph.nodes.keys) found.items))
 unseen_text m c v found is some =
     let keys : List NodeKey = v.graph.nodes.keys in
     let edges : List (ℕ × ℕ) = v.graph.edges.keys in
@@ -122,8 +120,8 @@ unseen_text m c v found is some =
 
 -- the verdict answers the command
 pub verdict_answers : (words : List (List ℕ)) (holds : Contents) (model test : List ℕ) (m : WrittenModel) (c : Case) (v : Verdict)
-  → IsCheck words model test → Says holds model test m c → Cores c → IsEdgeModel m → IsVerdict m c v
-  → Answers words holds (status_of v) (verdict_text v)
+    → IsCheck words model test → Says holds model test m c → Cores c → IsEdgeModel m → IsVerdict m c v
+    → Answers words holds (status_of v) (verdict_text v)
 verdict_answers words holds model test m c v check says cores is decided = go v.cycle refl
   where
     go : (found : Option (Vec ℕ Global)) → v.cycle ≡ found → Answers words holds (status_of v) (verdict_text v)
@@ -132,10 +130,10 @@ verdict_answers words holds model test m c v check says cores is decided = go v.
         let Q : List ℕ → Type 0 = λ t. Answers words holds Observable t in
         let acyclic : IsAcyclic v.graph.edges.keys = (rw none at decided.decided) in
         subst P (sym (ap status_by none)) (subst Q (sym (seen_text m c v decided none))
-            (seen check says (graph_text m c v.graph.nodes.keys v.graph.edges.keys cores is decided.graph acyclic)))
+        (seen check says (graph_text m c v.graph.nodes.keys v.graph.edges.keys cores is decided.graph acyclic)))
     go (Some found) some =
         let P : Status → Type 0 = λ s. Answers words holds s (verdict_text v) in
         let Q : List ℕ → Type 0 = λ t. Answers words holds Unobservable t in
         let cycle_is : IsCycle v.graph.edges.keys found.items = (rw some at decided.decided) in
         subst P (sym (ap status_by some)) (subst Q (sym (unseen_text m c v found decided some))
-            (unseen check says (cycle_text m c v.graph.nodes.keys v.graph.edges.keys found.items decided.graph cycle_is)))
+        (unseen check says (cycle_text m c v.graph.nodes.keys v.graph.edges.keys found.items decided.graph cycle_is)))

@@ -2,7 +2,7 @@
 use Rattle.std.specs.Prelude.{◌≡◌, ◌++◌, ◌⊎◌, ℕ, List, [], codes}
 use Rattle.std.specs.Fmt.{decimal}
 use Rattle.pc_common.specs.declared.status.Status.{Status}
-use Rattle.pc_common.specs.declared.status.Status.TheVariants.{Observable, Unobservable, Usage, Refused, ReadFault, Memory}
+use Rattle.pc_common.specs.declared.status.Status.TheVariants.{Usage, Refused, ReadFault, Memory}
 use Rattle.pipecheck_run.specs.declared.answer.Refusal.{Refusal}
 use Rattle.pipecheck_run.specs.declared.answer.Answer.{Answer}
 use Rattle.pipecheck_run.specs.declared.answer.Answer.TheVariants.{Usage as a_usage, ReadFault as a_read_fault, Memory as a_memory, Refused as a_refusal, Decided as a_verdict}

@@ -9,7 +9,7 @@ use Rattle.pc_syntax.specs.declared.term.Arg.TheVariants.{Word as variable}
 use Rattle.pc_syntax.specs.declared.term.NodeTerm.{NodeTerm}
 use Rattle.pc_syntax.specs.declared.term.EdgeTerm.{EdgeTerm}
 use Rattle.pc_syntax.specs.Written.{Written, forall_, implies_, static_, edges_, WrittenItem, axiom_, macro_, WrittenModel}
-use Rattle.pc_syntax.specs.Truth.{Environment, Meaning, an_op, range_of, value_of, stage_of, static_holds, node_of}
+use Rattle.pc_syntax.specs.Truth.{Environment, an_op, range_of, value_of, stage_of, static_holds, node_of}
 use Rattle.pc_syntax.specs.Observable.{axioms_of}
 
 abbrev pub edge_between : Option Node → Option Node → List Edge

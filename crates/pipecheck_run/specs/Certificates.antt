@@ -4,7 +4,7 @@ use Rattle.pc_common.specs.Case.{Case, Expectation}
 use Rattle.pc_common.specs.World.{Node, Edge, World}
 use Rattle.pc_common.specs.Chain.{Leads}
 use Rattle.pc_common.specs.Generated.{IsGenerated}
-use Rattle.pc_common.specs.Lines.{Names, StageName, Line, Verdict, observable, unobservable, verdict, second, node, edge, cycle, end, lines_text}
+use Rattle.pc_common.specs.Lines.{Names, Line, observable, unobservable, verdict, second, node, edge, cycle, end, lines_text}
 use Rattle.pc_syntax.specs.Written.{WrittenModel}
 use Rattle.pc_syntax.specs.Observable.{IsWorldOf, satisfies}
 use Rattle.pipecheck_run.specs.Asserted.{asserted_edges}

@@ -1,5 +1,5 @@
 -- Which words are a command.
-use Rattle.std.specs.Prelude.{◌≡◌, ℕ, List, [], ◌∷◌, codes, map}
+use Rattle.std.specs.Prelude.{◌≡◌, ℕ, List, [], ◌∷◌, codes}
 
 -- `check MODEL TEST`
 abbrev pub IsCheck : List (List ℕ) → List ℕ → List ℕ → Type 0

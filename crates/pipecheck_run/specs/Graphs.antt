@@ -1,5 +1,5 @@
 -- A graph of numbered nodes and edges, and of which asserted edges it is.
-use Rattle.std.specs.Prelude.{◌≡◌, ℕ, ◌<◌, ◌⊎◌, List, [], ◌∷◌, ◌++◌, Some, None, length, slice_get, All, Contains, map}
+use Rattle.std.specs.Prelude.{◌≡◌, ℕ, ◌⊎◌, List, Some, None, slice_get, Contains}
 use Rattle.pc_common.specs.World.{Node, Edge}
 use Rattle.pipecheck_run.specs.declared.graph.NodeKey.{NodeKey}
 

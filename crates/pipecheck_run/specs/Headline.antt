@@ -20,6 +20,6 @@ IsTrueOf words holds status =
 abbrev pub IsDue : List (List ℕ) → Contents → Status → Type 0
 IsDue words holds status =
     ((model test : List ℕ) (m : WrittenModel) (c : Case) → IsCheck words model test → Says holds model test m c
-        → (Observable m c → status ≡ is_observable) × ((Observable m c → ⊥) → status ≡ is_unobservable))
+    → (Observable m c → status ≡ is_observable) × ((Observable m c → ⊥) → status ≡ is_unobservable))
     × ((model test : List ℕ) (fault : InputFault) → IsCheck words model test → IsFirstFault holds model test fault
-        → status ≡ is_refused)
+    → status ≡ is_refused)

@@ -1,12 +1,11 @@
 -- What is answered to a command over the contents of the files, and the text that is written.
-use Rattle.std.specs.Prelude.{◌≡◌, ℕ, List, [], ◌∷◌, ◌++◌, codes, Some}
+use Rattle.std.specs.Prelude.{◌≡◌, ℕ, List, ◌++◌, codes, Some}
 use Rattle.std.specs.Fmt.{decimal}
 use Rattle.pc_common.specs.Case.{Case}
 use Rattle.pc_common.specs.declared.status.Status.{Status}
 use Rattle.pc_common.specs.declared.status.Status.TheVariants.{Observable, Unobservable, Usage, Refused}
 use Rattle.pc_common.specs.declared.fault.Which.{Which}
 use Rattle.pc_common.specs.declared.fault.Which.TheVariants.{Model, Test}
-use Rattle.pc_common.specs.declared.fault.FaultKind.{FaultKind}
 use Rattle.pc_common.specs.declared.fault.InputFault.{InputFault}
 use Rattle.pc_syntax.specs.Written.{WrittenModel}
 use Rattle.pc_common.specs.LineColumn.{line_of, column_of}

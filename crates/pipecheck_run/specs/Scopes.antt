@@ -1,5 +1,5 @@
 -- The environment that a scope of the code is.
-use Rattle.std.specs.Prelude.{ℕ, List, [], ◌∷◌}
+use Rattle.std.specs.Prelude.{[], ◌∷◌}
 use Rattle.pc_syntax.specs.Truth.{Environment, an_op}
 use Rattle.pipecheck_run.specs.declared.scope.Scope.{Scope}
 use Rattle.pipecheck_run.specs.declared.scope.Scope.TheVariants.{Empty, Bound'}

@@ -7,8 +7,8 @@ ghost use Rattle.pipecheck_run.specs.Answered.{refusal_text, answer_text, answer
 
 use super::answer::{Answer, Refusal};
 use super::report::write_verdict;
-use super::writing::write_pieces;
 use super::words::{fault_word, file_word};
+use super::writing::write_pieces;
 use arrayvec::ArrayVec;
 use itoa::Buffer;
 use pc_common::{Failed, Sink, Status, write_all};

@@ -17,8 +17,10 @@ use super::graph::{EdgeGraph, NodeKey};
 use super::scope::{Scope, op_of};
 use pc_case::{Case, Op};
 use pc_common::Memory;
+use pc_syntax::{
+    Arg, Args, EdgeTerm, EdgeTerms, Formula, Item, ModelFile, Name, NodeTerm, StageItems,
+};
 use std::alloc::Global;
-use pc_syntax::{Arg, Args, EdgeTerm, EdgeTerms, Formula, Item, ModelFile, Name, NodeTerm, StageItems};
 
 /// The number of the stage with this name, if there is one. A walk over at most 64 stages.
 fn stage_number(stages: &StageItems, name: &Name) -> Option<u64>

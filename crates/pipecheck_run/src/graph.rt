@@ -25,7 +25,7 @@ pub(crate) struct EdgeGraph {
 const MOST_NODES: usize = 1 << 25;
 
 /// The number of a node, which gets the next one where it has none.
-fn number(nodes: &mut IndexSet<NodeKey>, key: NodeKey) -> Result<u32, Memory> 
+fn number(nodes: &mut IndexSet<NodeKey>, key: NodeKey) -> Result<u32, Memory>
     ensures numbered { IfOk result (λ k. IsNumbered nodes.old.keys nodes.new.keys key k) }
 {
     if nodes.len() >= MOST_NODES {

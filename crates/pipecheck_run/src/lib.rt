@@ -21,4 +21,3 @@ mod words;
 mod writing;
 
 pub use top::run;
-

@@ -25,7 +25,11 @@ fn write_part<K: Sink>(out: &mut K, names: &Names<'_>, part: &Part<'_>) -> Resul
 }
 
 /// Writes the parts of a line, one after another.
-pub(crate) fn write_parts<K: Sink>(out: &mut K, names: &Names<'_>, parts: &[Part<'_>]) -> Result<(), Failed>
+pub(crate) fn write_parts<K: Sink>(
+    out: &mut K,
+    names: &Names<'_>,
+    parts: &[Part<'_>],
+) -> Result<(), Failed>
     ensures same_told { K.told out.new ≡ K.told out.old }
     ensures count { K.faults out.old ≤ K.faults out.new }
     ensures cause { OnErr result (Rose (K.faults out.old) (K.faults out.new)) }
@@ -53,7 +57,11 @@ fn key_at(keys: &[NodeKey], number: u32) -> NodeKey
 }
 
 /// Writes a line for each node.
-pub(crate) fn write_node_lines<K: Sink>(out: &mut K, names: &Names<'_>, keys: &[NodeKey]) -> Result<(), Failed>
+pub(crate) fn write_node_lines<K: Sink>(
+    out: &mut K,
+    names: &Names<'_>,
+    keys: &[NodeKey],
+) -> Result<(), Failed>
     ensures same_told { K.told out.new ≡ K.told out.old }
     ensures count { K.faults out.old ≤ K.faults out.new }
     ensures cause { OnErr result (Rose (K.faults out.old) (K.faults out.new)) }

@@ -56,7 +56,11 @@ fn held(alloc: Global, model: Option<&str>, test: Option<&str>) -> Result<Held, 
 }
 
 fn check_words(alloc: Global) -> Result<Vec<String>, Memory> {
-    Ok(vec![in alloc; "check".to_owned(alloc)?, "model".to_owned(alloc)?, "test".to_owned(alloc)?]?)
+    Ok(vec![in alloc;
+        "check".to_owned(alloc)?,
+        "model".to_owned(alloc)?,
+        "test".to_owned(alloc)?,
+    ]?)
 }
 
 fn calls(alloc: Global, numbers: &[u64]) -> Result<Calls, Memory> {
@@ -70,9 +74,30 @@ fn a_check_ends_with_its_status_and_its_text(rt: HostRuntime) -> Result<(), Fail
     // model, test, calls of the files that fail, calls of the sink that fail, status, what the sink holds
     let table: [(Option<&str>, Option<&str>, &[u64], &[u64], Status, &str); 11] = [
         (Some(ORDERED), Some(TWO), &[], &[], Status::Observable, SEEN),
-        (Some(REVERSE), Some(TWO), &[], &[], Status::Unobservable, UNSEEN),
-        (Some("True."), Some(TWO), &[], &[], Status::Refused, "refused model syntax at 1:1\n"),
-        (Some(ORDERED), Some("t"), &[], &[], Status::Refused, "refused test syntax at 1:1\n"),
+        (
+            Some(REVERSE),
+            Some(TWO),
+            &[],
+            &[],
+            Status::Unobservable,
+            UNSEEN,
+        ),
+        (
+            Some("True."),
+            Some(TWO),
+            &[],
+            &[],
+            Status::Refused,
+            "refused model syntax at 1:1\n",
+        ),
+        (
+            Some(ORDERED),
+            Some("t"),
+            &[],
+            &[],
+            Status::Refused,
+            "refused test syntax at 1:1\n",
+        ),
         // a missing name, the model's before the test's
         (Some(ORDERED), None, &[], &[], Status::ReadFault, ""),
         (None, Some(TWO), &[], &[], Status::ReadFault, ""),
@@ -82,7 +107,14 @@ fn a_check_ends_with_its_status_and_its_text(rt: HostRuntime) -> Result<(), Fail
         // the `read` that would see the end of the model
         (Some(ORDERED), Some(TWO), &[3], &[], Status::ReadFault, ""),
         (Some(ORDERED), Some(TWO), &[], &[1], Status::WriteFault, ""),
-        (Some(ORDERED), Some(TWO), &[], &[2], Status::WriteFault, "observable\n"),
+        (
+            Some(ORDERED),
+            Some(TWO),
+            &[],
+            &[2],
+            Status::WriteFault,
+            "observable\n",
+        ),
     ];
     for (model, test, read_fails, write_fails, status, text) in table {
         let mut files = MemFiles::new(alloc, held(alloc, model, test)?, calls(alloc, read_fails)?)?;
@@ -98,8 +130,16 @@ fn a_model_of_spaces_is_read_up_to_its_limit(rt: HostRuntime) -> Result<(), Fail
     let alloc = rt.alloc();
     let words = check_words(alloc)?;
     let table = [
-        (1_048_576, Status::Observable, "observable\ntest unstated\nend\n"),
-        (1_048_577, Status::Refused, "refused model too-large at 1:1\n"),
+        (
+            1_048_576,
+            Status::Observable,
+            "observable\ntest unstated\nend\n",
+        ),
+        (
+            1_048_577,
+            Status::Refused,
+            "refused model too-large at 1:1\n",
+        ),
     ];
     for (spaces, status, text) in table {
         let mut held = held(alloc, None, Some("Litmus \"e\".\n"))?;

@@ -52,12 +52,7 @@ fn tell<K: Sink>(out: &mut K, answer: &Answer) -> Status
 /// - `write_cause`: `WriteFault` comes only where a call of the sink failed.
 /// - `quiet`, `answers`, `short`: what was written.
 /// - `headline`, `due`: the verdict is true of the bytes of the two files, and it comes.
-pub fn run<F: Files, K: Sink>(
-    alloc: Global,
-    words: &[String],
-    files: &mut F,
-    out: &mut K,
-) -> Status
+pub fn run<F: Files, K: Sink>(alloc: Global, words: &[String], files: &mut F, out: &mut K) -> Status
     ensures files_told { F.told files.new ≡ F.told files.old }
     ensures files_held { F.holds files.new ≡ F.holds files.old }
     ensures files_calm { F.calm files.new ≡ F.calm files.old }

@@ -45,7 +45,11 @@ pub(crate) struct Names<'a> {
 }
 
 /// Writes a space and a node: g.n@core:Stage.
-pub(crate) fn write_node<K: Sink>(out: &mut K, names: &Names<'_>, key: NodeKey) -> Result<(), Failed>
+pub(crate) fn write_node<K: Sink>(
+    out: &mut K,
+    names: &Names<'_>,
+    key: NodeKey,
+) -> Result<(), Failed>
     ensures same_told { K.told out.new ≡ K.told out.old }
     ensures count { K.faults out.old ≤ K.faults out.new }
     ensures cause { OnErr result (Rose (K.faults out.old) (K.faults out.new)) }

@@ -1,5 +1,3 @@
-use Rattle.std.proofs.Common.{ap}
-use Rattle.pc_syntax.specs.Written.{written_item}
 use Rattle.pipecheck_run.proofs.asserting.assert_item.Goals as goal
 
 pub returns-in-Axiom : goal.returns-in-Axiom

@@ -1,5 +1,4 @@
 use Rattle.std.proofs.Common.{arith, ◌∙◌}
-use Rattle.pipecheck_run.specs.Graphs.{IsGraphOf}
 use Rattle.pipecheck_run.proofs.Named.{each_named, more_items, whole_items, all_items}
 use Rattle.pipecheck_run.proofs.asserting.assert_model.Goals as goal
 
@@ -9,7 +8,7 @@ assert_item-requires c = each_named c.args.model.now c.args.case.now c.loop-k.k 
 pub loop-k-preserved : goal.loop-k-preserved
 loop-k-preserved c =
     rw (more_items c.args.model.now.stages c.args.case.now c.args.model.now.items c.loop-k.k c.get.result.now c.get.ensures)
-        (c.in_ok-assert_item.ensures _ c.loop-k.invariant)
+    (c.in_ok-assert_item.ensures _ c.loop-k.invariant)
 
 pub returns : goal.returns
 returns c =

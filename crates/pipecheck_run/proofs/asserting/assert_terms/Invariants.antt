@@ -1,4 +1,4 @@
-use Rattle.std.proofs.Common.{◌≡◌, ◌++◌, List, take}
+use Rattle.std.proofs.Common.{◌++◌, List, take}
 use Rattle.std.specs.List.{flat_map}
 use Rattle.pc_common.specs.World.{Edge}
 use Rattle.pipecheck_run.specs.Scopes.{env_of}

@@ -1,7 +1,5 @@
-use Rattle.pc_common.specs.Case.{Case}
 use Rattle.pc_syntax.specs.Written.{written_model}
 use Rattle.edge_model.specs.EdgeModel.{ReadsModel}
-use Rattle.uspec_lexer.specs.Fault.{IsRefusal}
 use Rattle.pipecheck_run.proofs.Said.{said_ok, none_said}
 use Rattle.pipecheck_run.proofs.language.read_model.Goals as goal
 

@@ -1,8 +1,8 @@
 use Rattle.std.proofs.Common.{◌≡◌, ◌≢◌, ◌∙◌, ◌⊎◌, inl, inr, ap, sym, subst}
-use Rattle.std.specs.Prelude.{map, IsTrue, ◌++◌}
+use Rattle.std.specs.Prelude.{map, ◌++◌}
 use Rattle.std.specs.String.{string_bytes}
 use Rattle.pc_common.specs.declared.status.Status.{Status}
-use Rattle.pc_common.specs.declared.status.Status.TheVariants.{Observable, Unobservable, Usage, Refused, ReadFault, WriteFault, Memory}
+use Rattle.pc_common.specs.declared.status.Status.TheVariants.{Observable, Unobservable, Usage, ReadFault, WriteFault, Memory}
 use Rattle.pipecheck_run.specs.Answered.{answer_text, answer_status}
 use Rattle.pipecheck_run.specs.Output.{Answers}
 use Rattle.pipecheck_run.proofs.Told.{told_as_kept, kept_is, told_is, usage_said}
@@ -31,7 +31,7 @@ pub returns-clause-read_due : goal.returns-clause-read_due
 returns-clause-read_due g c = λ calm model test check comes. go (c.answer_to-answer.ensures.comes calm model test check comes)
   where
     go : (answer_status c.answer_to-answer.result ≡ ReadFault) ⊎ (answer_status c.answer_to-answer.result ≡ Memory)
-      → (c.tell.result ≡ ReadFault) ⊎ (c.tell.result ≡ Memory)
+        → (c.tell.result ≡ ReadFault) ⊎ (c.tell.result ≡ Memory)
     go (inl e) = inl ((c.tell.ensures.silent (inl e)).0 ∙ e)
     go (inr e) = inr ((c.tell.ensures.silent (inr e)).0 ∙ e)
 
@@ -45,23 +45,27 @@ returns-clause-quiet g c = λ e. go e
 pub returns-clause-answers : goal.returns-clause-answers
 returns-clause-answers g c = λ told no_read no_memory no_write.
     let kept : answer_status c.answer_to-answer.result ≡ c.tell.result = told_as_kept c.tell.ensures.kept no_write in
-    let P : Status → Type 0 = λ s. Answers (map string_bytes c.args.words.now) (g.F.Files.holds c.args.files.now) s (answer_text c.answer_to-answer.result) in
-    (answer_text c.answer_to-answer.result,
-     subst P kept (c.answer_to-answer.ensures.answered told (λ e. no_read (sym kept ∙ e)) (λ e. no_memory (sym kept ∙ e))),
-     λ sink_told. c.tell.ensures.whole sink_told no_read no_memory no_write)
+    let P : Status → Type 0 = λ s. Answers (map string_bytes c.args.words.now) (g.F.Files.holds c.args.files.now) s (answer_text c.answer_to-answer.result) in (
+      answer_text c.answer_to-answer.result,
+      subst P kept (c.answer_to-answer.ensures.answered told (λ e. no_read (sym kept ∙ e)) (λ e. no_memory (sym kept ∙ e))),
+      λ sink_told. c.tell.ensures.whole sink_told no_read no_memory no_write,
+    )
 
 pub returns-clause-short : goal.returns-clause-short
 returns-clause-short g c = λ told e.
     let no_read : answer_status c.answer_to-answer.result ≢ ReadFault = λ r. let s = sym e ∙ ((c.tell.ensures.silent (inl r)).0 ∙ r) in cc in
-    let no_memory : answer_status c.answer_to-answer.result ≢ Memory = λ r. let s = sym e ∙ ((c.tell.ensures.silent (inr r)).0 ∙ r) in cc in
-    (answer_status c.answer_to-answer.result, answer_text c.answer_to-answer.result,
-     c.answer_to-answer.ensures.answered told no_read no_memory,
-     λ sink_told. c.tell.ensures.short sink_told e)
+    let no_memory : answer_status c.answer_to-answer.result ≢ Memory = λ r. let s = sym e ∙ ((c.tell.ensures.silent (inr r)).0 ∙ r) in cc in (
+      answer_status c.answer_to-answer.result,
+      answer_text c.answer_to-answer.result,
+      c.answer_to-answer.ensures.answered told no_read no_memory,
+      λ sink_told. c.tell.ensures.short sink_told e,
+    )
 
 pub returns-clause-headline : goal.returns-clause-headline
-returns-clause-headline g c = λ told model test m k check says.
-    (λ e. (answer_true (returns-clause-answers g c told (λ r. by Observable ReadFault e r (λ x. cc)) (λ r. by Observable Memory e r (λ x. cc)) (λ r. by Observable WriteFault e r (λ x. cc))).1 model test m k check says).0 e,
-     λ e. (answer_true (returns-clause-answers g c told (λ r. by Unobservable ReadFault e r (λ x. cc)) (λ r. by Unobservable Memory e r (λ x. cc)) (λ r. by Unobservable WriteFault e r (λ x. cc))).1 model test m k check says).1 e)
+returns-clause-headline g c = λ told model test m k check says. (
+  λ e. (answer_true (returns-clause-answers g c told (λ r. by Observable ReadFault e r (λ x. cc)) (λ r. by Observable Memory e r (λ x. cc)) (λ r. by Observable WriteFault e r (λ x. cc))).1 model test m k check says).0 e,
+  λ e. (answer_true (returns-clause-answers g c told (λ r. by Unobservable ReadFault e r (λ x. cc)) (λ r. by Unobservable Memory e r (λ x. cc)) (λ r. by Unobservable WriteFault e r (λ x. cc))).1 model test m k check says).1 e,
+)
   where
     by : (s t : Status) → c.tell.result ≡ s → c.tell.result ≡ t → s ≢ t → ⊥
     by s t e r other = other (sym e ∙ r)
@@ -69,4 +73,4 @@ returns-clause-headline g c = λ told model test m k check says.
 pub returns-clause-due : goal.returns-clause-due
 returns-clause-due g c = λ told no_fault no_sink no_memory.
     answer_due (returns-clause-answers g c told (λ e. no_fault (returns-clause-read_cause g c e)) no_memory
-        (λ e. no_sink (c.tell.ensures.cause e))).1
+    (λ e. no_sink (c.tell.ensures.cause e))).1
