@@ -1,0 +1,6 @@
+pub mod Terminals
+pub mod Levels
+pub mod Phrases
+pub mod Operands
+pub mod Syntax
+pub mod Marks

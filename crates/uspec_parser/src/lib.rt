@@ -1,0 +1,6 @@
+//! Tokens to the written model.
+#![tactic(auto)]
+
+mod level;
+mod phrase;
+mod terminal;
