@@ -1,6 +1,6 @@
 -- Which tokens of a text stand too deep: those that open with 128 openers open already.
 use Rattle.std.specs.Prelude.{◌≡◌, ℕ, ◌+◌, Bool, false, List, [], ◌∷◌, ◌++◌, map}
-use Rattle.uspec_parser.specs.Terminals.{Lexeme, terminal}
+use Rattle.uspec_parser.specs.Terminals.{Lexeme, quoted, terminal}
 use Rattle.uspec_parser.specs.Operands.{Connective, conjoins, disjoins, implies}
 use Rattle.uspec_parser.specs.Syntax.{Label, Quantifier, Formula, last, last_wide, more, Operand, atom, bracketed, negated, Wide, binding, negated_wide, Item, stage, axiom_item, macro, spelled_atom, spelled_formula, spelled_item, spelled_model}
 use Rattle.uspec_parser.specs.Levels.{is_deep, level_of, behind_and, behind_or, behind_implies}
@@ -45,7 +45,7 @@ abbrev pub marks_item : Item → List Bool
 marks_item (stage s) = shallow (spelled_item (stage s))
 marks_item (axiom_item at label f) = false ∷ false ∷ false ∷ (marks_outer f ++ false ∷ [])
 marks_item (macro name parameters f) =
-    false ∷ false ∷ (shallow parameters ++ false ∷ (marks_outer f ++ false ∷ []))
+    false ∷ false ∷ (shallow (map quoted parameters) ++ false ∷ (marks_outer f ++ false ∷ []))
 
 abbrev pub marks_model : List Item → List Bool
 marks_model [] = []
