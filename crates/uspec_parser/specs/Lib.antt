@@ -4,3 +4,4 @@ pub mod Phrases
 pub mod Operands
 pub mod Syntax
 pub mod Marks
+pub mod Descent

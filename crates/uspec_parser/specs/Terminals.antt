@@ -117,3 +117,11 @@ kept other t = plain other
 
 abbrev pub lexeme : Token → Lexeme
 lexeme t = kept (terminal_of t) t
+
+-- of these terminals the tree keeps the place
+abbrev pub is_placed : Terminal → Bool
+is_placed Forall = true
+is_placed Exists = true
+is_placed ExpandMacro = true
+is_placed Axiom = true
+is_placed _ = false
