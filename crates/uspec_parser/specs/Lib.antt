@@ -5,3 +5,4 @@ pub mod Operands
 pub mod Syntax
 pub mod Marks
 pub mod Descent
+pub mod Grouping

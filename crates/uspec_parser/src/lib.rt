@@ -2,7 +2,9 @@
 #![tactic(auto)]
 
 mod cursor;
+mod formulas;
 mod level;
+mod operands;
 mod phrase;
 mod terminal;
 mod terms;

@@ -1,5 +1,5 @@
-ghost use Rattle.std.specs.Prelude.{◌≡◌, ◌<◌, IfOk, OnOk};
-ghost use Rattle.uspec_parser.specs.Descent.{next, behind, argument as argument_spec, Arguments, core_by, stage_by, behind_location_by, node as node_spec, behind_node, behind_label, edge as edge_spec, behind_edge, behind_semicolon, Elements};
+ghost use Rattle.std.specs.Prelude.{◌≡◌, ◌↔◌, IsTrue, IfOk, OnOk};
+ghost use Rattle.uspec_parser.specs.Descent.{next, begins_argument, behind, argument as argument_spec, Arguments, core_by, stage_by, behind_location_by, node as node_spec, behind_node, behind_label, edge as edge_spec, behind_edge, behind_semicolon, Elements};
 
 use super::cursor::Cursor;
 use super::terminal::Terminal;
@@ -8,6 +8,18 @@ use pc_syntax::{Arg, Args, EdgeTerm, EdgeTerms, NodeTerm, NodeTerms, Word};
 use std::alloc::Global;
 
 impl Cursor<'_> {
+    pub(crate) fn is_next(&self, terminal: Terminal) -> bool
+        ensures { IsTrue result ↔ (next self.now ≡ terminal) }
+    {
+        self.next() == terminal
+    }
+
+    fn is_argument_next(&self) -> bool
+        ensures { result ≡ begins_argument (next self.now) }
+    {
+        matches!(self.next(), Terminal::Name | Terminal::Number)
+    }
+
     fn argument(&self, alloc: Global) -> Result<Arg, Memory>
         ensures { IfOk result (λ a. a ≡ argument_spec self.now) }
     {
@@ -25,7 +37,7 @@ impl Cursor<'_> {
         ensures { IfOk result (λ args. Arguments self.old args self.new) }
     {
         let mut args = Args::new(alloc);
-        while matches!(self.next(), Terminal::Name | Terminal::Number) {
+        while self.is_argument_next() {
             args.push(self.argument(alloc)?)?;
             self.skip();
         }
@@ -111,7 +123,7 @@ impl Cursor<'_> {
         ensures { IfOk result (λ ns. Elements node_spec behind_node self.old ns self.new) }
     {
         let mut nodes = NodeTerms::new(alloc);
-        while matches!(self.next(), Terminal::Open) {
+        while self.is_next(Terminal::Open) {
             nodes.push(self.node(alloc)?)?;
             self.semicolon();
         }
@@ -124,7 +136,7 @@ impl Cursor<'_> {
         ensures { IfOk result (λ es. Elements edge_spec behind_edge self.old es self.new) }
     {
         let mut edges = EdgeTerms::new(alloc);
-        while matches!(self.next(), Terminal::Open) {
+        while self.is_next(Terminal::Open) {
             edges.push(self.edge(alloc)?)?;
             self.semicolon();
         }
