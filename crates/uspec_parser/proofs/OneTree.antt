@@ -1,0 +1,75 @@
+-- The descent makes one thing of lexemes.
+use Rattle.std.proofs.Common.{◌≡◌, ℕ, Bool, List, [], ◌∷◌, Option, Some, None, refl, sym, ap, subst, ◌∙◌}
+use Rattle.pc_syntax.specs.declared.term.Arg.{Arg}
+use Rattle.pc_syntax.specs.Written.{Written, not_, edges_, nodes_, static_, expand_}
+use Rattle.uspec_parser.specs.Terminals.{Lexeme}
+use Rattle.uspec_parser.specs.Operands.{Connective, Operands, only, joined, grouped}
+use Rattle.uspec_parser.specs.Syntax.{quantified}
+use Rattle.uspec_parser.specs.Descent.{next, behind, word, place, sort_by, begins_argument, argument, Arguments, behind_semicolon, Elements, node, behind_node, edge, behind_edge, Atom, Start, quantifier, start, connective, Operand, Row, Tail}
+use Rattle.uspec_parser.specs.declared.terminal.Terminal.{Terminal}
+use Rattle.uspec_parser.specs.declared.terminal.Terminal.TheVariants.{OneEdge, EdgeList, OneNode, NodeList, ExpandMacro}
+
+pub one_arguments : {xs r s : List Lexeme} {a b : List Arg} → Arguments xs a r → Arguments xs b s → (a ≡ b) × (r ≡ s)
+one_arguments (Arguments.ends e) (Arguments.ends f) = (refl, refl)
+one_arguments (Arguments.ends e) (Arguments.goes_on f more) = absurd (cc)
+one_arguments (Arguments.goes_on e more) (Arguments.ends f) = absurd (cc)
+one_arguments {xs} (Arguments.goes_on e more) (Arguments.goes_on f others) =
+    let (p, q) = one_arguments more others in (ap (λ (others : List Arg). argument xs ∷ others) p, q)
+
+pub one_elements : {X : Type 0} {one : List Lexeme → X} {behind_one : List Lexeme → List Lexeme} {xs r s : List Lexeme} {a b : List X}
+    → Elements one behind_one xs a r → Elements one behind_one xs b s → (a ≡ b) × (r ≡ s)
+one_elements (Elements.ends e) (Elements.ends f) = (refl, refl)
+one_elements (Elements.ends e) (Elements.goes_on f more) = absurd (e f)
+one_elements (Elements.goes_on e more) (Elements.ends f) = absurd (f e)
+one_elements {X} {one} {behind_one} {xs} (Elements.goes_on e more) (Elements.goes_on f others) =
+    let (p, q) = one_elements more others in (ap (λ (es : List X). one xs ∷ es) p, q)
+
+one_atom : (t : Terminal) (xs : List Lexeme) (w v : Written) (r s : List Lexeme) → Atom t xs w r → Atom t xs v s → (w ≡ v) × (r ≡ s)
+one_atom OneEdge xs w v r s a b = (a.0 ∙ sym b.0, a.1 ∙ sym b.1)
+one_atom OneNode xs w v r s a b = (a.0 ∙ sym b.0, a.1 ∙ sym b.1)
+one_atom EdgeList xs w v r s a b = let (p, q) = one_elements a.1 b.1 in (a.2 ∙ ap edges_ p ∙ sym b.2, q)
+one_atom NodeList xs w v r s a b = let (p, q) = one_elements a.1 b.1 in (a.2 ∙ ap nodes_ p ∙ sym b.2, q)
+one_atom ExpandMacro xs w v r s a b =
+    let (p, q) = one_arguments a.1 b.1 in (a.2 ∙ ap (expand_ (place xs) (word (behind xs))) p ∙ sym b.2, q)
+one_atom _ xs w v r s a b = let (p, q) = one_arguments a.1 b.1 in (a.2 ∙ ap (static_ (word xs)) p ∙ sym b.2, q)
+
+mutual
+  pub one_operand : {xs r s : List Lexeme} {w v : Written} → Operand xs w r → Operand xs v s → (w ≡ v) × (r ≡ s)
+  one_operand (Operand.negated e u) (Operand.negated f o) = let (p, q) = one_operand u o in (ap not_ p, q)
+  one_operand (Operand.bracketed e u) (Operand.bracketed f o) = let (p, q) = one_row u o in (ap grouped p, ap behind q)
+  one_operand {xs} (Operand.bound {l = l} u e a) (Operand.bound o f b) =
+      let (p, q) = one_row a b in
+      let same : u ≡ o = cc in
+      let at = place xs in
+      let sort = sort_by (next (behind xs)) in
+      let name = (word (behind (behind xs))).name in
+      (ap (λ (w : Bool). quantified w at sort name (grouped l)) same ∙ ap (λ (m : Operands). quantified o at sort name (grouped m)) p, q)
+  one_operand {xs} {r} {s} {w} {v} (Operand.atom e a) (Operand.atom f b) = one_atom (next xs) xs w v r s a b
+  one_operand (Operand.negated e u) (Operand.bracketed f o) = absurd (cc)
+  one_operand (Operand.negated e u) (Operand.bound o f b) = absurd (cc)
+  one_operand (Operand.negated e u) (Operand.atom f b) = absurd (cc)
+  one_operand (Operand.bracketed e u) (Operand.negated f o) = absurd (cc)
+  one_operand (Operand.bracketed e u) (Operand.bound o f b) = absurd (cc)
+  one_operand (Operand.bracketed e u) (Operand.atom f b) = absurd (cc)
+  one_operand (Operand.bound u e a) (Operand.negated f o) = absurd (cc)
+  one_operand (Operand.bound u e a) (Operand.bracketed f o) = absurd (cc)
+  one_operand (Operand.bound u e a) (Operand.atom f b) = absurd (cc)
+  one_operand (Operand.atom e a) (Operand.negated f o) = absurd (cc)
+  one_operand (Operand.atom e a) (Operand.bracketed f o) = absurd (cc)
+  one_operand (Operand.atom e a) (Operand.bound o f b) = absurd (cc)
+
+  pub one_row : {xs r s : List Lexeme} {l m : Operands} → Row xs l r → Row xs m s → (l ≡ m) × (r ≡ s)
+  one_row {r = r} {s = s} {l = l} {m = m} (Row.row {between = y} {w = w} a t) (Row.row {between = z} {w = v} b u) =
+      let (p, q) = one_operand a b in
+      one_tail t (subst (λ (x : Written). Tail y x m s) (sym p) (subst (λ (x : List Lexeme). Tail x v m s) (sym q) u))
+
+  one_tail : {xs r s : List Lexeme} {w : Written} {l m : Operands} → Tail xs w l r → Tail xs w m s → (l ≡ m) × (r ≡ s)
+  one_tail (Tail.ends e) (Tail.ends f) = (refl, refl)
+  one_tail (Tail.ends e) (Tail.goes_on o f b u) = absurd (cc)
+  one_tail (Tail.goes_on o e a t) (Tail.ends f) = absurd (cc)
+  one_tail {s = s} {w = w} (Tail.goes_on {between = y} {v = v} {l = l} op e a t) (Tail.goes_on {between = z} {v = n} {l = m} o f b u) =
+      let (p, q) = one_operand a b in
+      let rest = one_tail t (subst (λ (x : Written). Tail y x m s) (sym p) (subst (λ (x : List Lexeme). Tail x n m s) (sym q) u)) in
+      let same : op ≡ o = cc in
+      let all : joined w op l ≡ joined w o m = let tail = rest.0 in cc in
+      (all, rest.1)
