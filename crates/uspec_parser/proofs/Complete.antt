@@ -137,14 +137,14 @@ binding_of : (q : Quantifier) (xs rest : List Lexeme) (l : Operands) → Row xs 
     → (u : Bool) → u ≡ q.universal
     → Operand (placed (spelled_quantifier_word u) q.at ∷ plain (spelled_sort q.sort) ∷ quoted q.bound ∷ plain Comma ∷ xs)
       (quantified q.universal q.at q.sort q.bound.name (grouped l)) rest
-binding_of q xs rest l row true e =
+binding_of q xs rest l body true e =
     let same : quantified true q.at (sort_by (spelled_sort q.sort)) q.bound.name (grouped l) ≡ quantified q.universal q.at q.sort q.bound.name (grouped l) =
       let s = sort_is q.sort in cc in
-    subst (λ (w : Written). Operand (placed Forall q.at ∷ plain (spelled_sort q.sort) ∷ quoted q.bound ∷ plain Comma ∷ xs) w rest) same (Operand.bound true refl row)
-binding_of q xs rest l row false e =
+    subst (λ (w : Written). Operand (placed Forall q.at ∷ plain (spelled_sort q.sort) ∷ quoted q.bound ∷ plain Comma ∷ xs) w rest) same (Operand.bound true refl body)
+binding_of q xs rest l body false e =
     let same : quantified false q.at (sort_by (spelled_sort q.sort)) q.bound.name (grouped l) ≡ quantified q.universal q.at q.sort q.bound.name (grouped l) =
       let s = sort_is q.sort in cc in
-    subst (λ (w : Written). Operand (placed Exists q.at ∷ plain (spelled_sort q.sort) ∷ quoted q.bound ∷ plain Comma ∷ xs) w rest) same (Operand.bound false refl row)
+    subst (λ (w : Written). Operand (placed Exists q.at ∷ plain (spelled_sort q.sort) ∷ quoted q.bound ∷ plain Comma ∷ xs) w rest) same (Operand.bound false refl body)
 
 mutual
   operand_of : (u : OperandText) (rest : List Lexeme) → EndsAtom rest → Operand (spelled_operand u ++ rest) (meant_operand u) rest

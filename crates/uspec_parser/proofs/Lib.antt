@@ -8,3 +8,4 @@ pub mod Grouping
 pub mod Steps
 pub mod OneTree
 pub mod Complete
+pub mod Trees

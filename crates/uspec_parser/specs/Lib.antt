@@ -6,3 +6,4 @@ pub mod Syntax
 pub mod Marks
 pub mod Descent
 pub mod Grouping
+pub mod Answers

@@ -2,9 +2,14 @@
 #![tactic(auto)]
 
 mod cursor;
+mod fault;
 mod formulas;
 mod level;
 mod operands;
+mod parse;
 mod phrase;
 mod terminal;
 mod terms;
+
+pub use fault::ParseFault;
+pub use parse::parse_formula;

@@ -1,0 +1,69 @@
+-- Accepted tokens have a tree, the one that the descent builds.
+use Rattle.std.proofs.Common.{◌≡◌, Bool, List, [], ◌∷◌, ◌++◌, map, length, Option, Some, None, Result, Ok, Err, IfOk, IfErr, refl, sym, ap, subst, ◌∙◌}
+use Rattle.std.proofs.lemmas.List.{append-nil}
+use Rattle.ll_grammar.specs.Rules.{Derives}
+use Rattle.ll_grammar.specs.FirstFault.{IsAccepted, IsAnswer}
+use Rattle.ll_grammar.specs.declared.fault.Fault.{Fault}
+use Rattle.ll_grammar.specs.declared.fault.Fault.TheVariants.{Syntax, Depth}
+use Rattle.pc_syntax.specs.Written.{Written}
+use Rattle.uspec_lexer.specs.Token.{Token}
+use Rattle.uspec_parser.specs.Terminals.{Lexeme, terminal, terminal_of, lexeme}
+use Rattle.uspec_parser.specs.Operands.{Operands, grouped}
+use Rattle.uspec_parser.specs.Syntax.{Formula, spelled_formula, meant_operands, meant_formula, DerivesFormula}
+use Rattle.uspec_parser.specs.Marks.{IsMarkedFormula}
+use Rattle.uspec_parser.specs.Levels.{level_of}
+use Rattle.uspec_parser.specs.Phrases.{rules}
+use Rattle.uspec_parser.specs.Answers.{terminals, refusal_of, IsRefusal}
+use Rattle.uspec_parser.specs.Descent.{Row}
+use Rattle.uspec_parser.specs.declared.terminal.Terminal.{Terminal}
+use Rattle.uspec_parser.specs.declared.fault.ParseFault.{ParseFault}
+use Rattle.uspec_parser.specs.declared.phrase.Phrase.TheVariants.{Operand as OperandPhrase}
+use Rattle.uspec_parser.proofs.Lexemes.{terminal-kept}
+use Rattle.uspec_parser.proofs.Told.{told_tokens}
+use Rattle.uspec_parser.proofs.Spelled.{formula_read}
+use Rattle.uspec_parser.proofs.Reading.{formula_derived}
+use Rattle.uspec_parser.proofs.Complete.{row_of}
+use Rattle.uspec_parser.proofs.OneTree.{one_row}
+use Rattle.uspec_parser.proofs.Steps.{RowOf}
+
+pub terminals-lexemes : (ts : List Token) → map terminal (map lexeme ts) ≡ terminals ts
+terminals-lexemes [] = refl
+terminals-lexemes (t ∷ ts) = let head = terminal-kept (terminal_of t) t in let rest = terminals-lexemes ts in cc
+
+-- a formula's text makes one row
+formula_row : (f : Formula) (l : Operands) (rest : List Lexeme) → Row (spelled_formula f) l rest → l ≡ meant_operands f
+formula_row f l rest built =
+    (one_row built (subst (λ (xs : List Lexeme). Row xs (meant_operands f) []) (append-nil (spelled_formula f)) (row_of f [] (refl, refl)))).0
+
+pub formula_tree : (ts : List Token) (w : Written) (rest : List Lexeme) → IsAccepted IsMarkedFormula (terminals ts)
+    → RowOf (map lexeme ts) w rest → DerivesFormula ts w
+formula_tree ts w rest ((marks, marked), none) (l, built, same) =
+    let reads = formula_derived (terminals ts) marks marked in
+    let (f, text, _) = formula_read (map lexeme ts) marks (told_tokens ts)
+    (subst (λ (cs : List Terminal). Derives rules (OperandPhrase (level_of 0) 0) cs marks) (sym (terminals-lexemes ts)) reads) in
+    let one = formula_row f l rest (subst (λ (xs : List Lexeme). Row xs l rest) text built) in
+    (f, text, same ∙ ap grouped one)
+
+-- no tokens have two trees
+pub one_formula : (ts : List Token) (w v : Written) → DerivesFormula ts w → DerivesFormula ts v → w ≡ v
+one_formula ts w v (f, e, p) (g, q, r) =
+    let first = subst (λ (xs : List Lexeme). Row xs (meant_operands f) []) (append-nil (spelled_formula f)) (row_of f [] (refl, refl)) in
+    let both = subst (λ (xs : List Lexeme). Row xs (meant_operands f) []) (sym e ∙ q) first in
+    p ∙ ap grouped (formula_row g (meant_operands f) [] both) ∙ sym r
+
+-- the answer as a refusal
+pub refused : (Marked : List Terminal → List Bool → Type 0) (cs : List Terminal) (fault : Fault) → IsAnswer Marked cs (Some fault)
+    → IsRefusal Marked cs (refusal_of fault)
+refused Marked cs (Syntax k) h = h
+refused Marked cs (Depth k) h = h
+
+pub refusal_is : (Marked : List Terminal → List Bool → Type 0) (cs ds : List Terminal) (found : Option Fault) (fault : Fault) (e : ParseFault)
+    → IsAnswer Marked cs found → cs ≡ ds → found ≡ Some fault → e ≡ refusal_of fault → IsRefusal Marked ds e
+refusal_is Marked cs ds found fault e answer same is refusal =
+    subst (λ (r : ParseFault). IsRefusal Marked ds r) (sym refusal)
+    (refused Marked ds fault (subst (λ (f : Option Fault). IsAnswer Marked ds f) is (subst (λ (ts : List Terminal). IsAnswer Marked ts found) same answer)))
+
+pub accepted_is : (Marked : List Terminal → List Bool → Type 0) (cs ds : List Terminal) (found : Option Fault)
+    → IsAnswer Marked cs found → cs ≡ ds → found ≡ None → IsAccepted Marked ds
+accepted_is Marked cs ds found answer same is =
+    subst (λ (f : Option Fault). IsAnswer Marked ds f) is (subst (λ (ts : List Terminal). IsAnswer Marked ts found) same answer)
