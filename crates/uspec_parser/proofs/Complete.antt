@@ -8,13 +8,13 @@ use Rattle.pc_syntax.specs.declared.term.Arg.{Arg}
 use Rattle.pc_syntax.specs.declared.term.Arg.TheVariants.{Word as word_arg, Number as number_arg}
 use Rattle.pc_syntax.specs.declared.term.NodeTerm.{NodeTerm}
 use Rattle.pc_syntax.specs.declared.term.EdgeTerm.{EdgeTerm}
-use Rattle.pc_syntax.specs.Written.{Written, edges_, nodes_}
+use Rattle.pc_syntax.specs.Written.{Written, edges_, nodes_, axiom_, macro_}
 use Rattle.uspec_parser.specs.Terminals.{Lexeme, plain, placed, name_, quoted, number_, terminal}
 use Rattle.uspec_parser.specs.Operands.{Connective, conjoins, disjoins, implies, Operands, only, joined, grouped}
 use Rattle.uspec_parser.specs.Syntax.{spelled_arg, spelled_location, spelled_node, Label, named, other, spelled_label, Labels, unlabelled, labelled, coloured, spelled_labels, Edge, spelled_edge, Listing, empty, some, spelled_others, spelled_elements, elements, one_edge, one_node, edge_list, node_list, expand, predicate, spelled_atom, meant_atom, Quantifier, spelled_sort, spelled_connective, Formula, last, last_wide, more, Wide, binding, negated_wide, spelled_formula, spelled_operand, spelled_wide, meant_operands, meant_operand, meant_wide, quantified}
-use Rattle.uspec_parser.specs.Syntax.{Atom as AtomText, Operand as OperandText, spelled_quantifier_word}
+use Rattle.uspec_parser.specs.Syntax.{Atom as AtomText, Operand as OperandText, spelled_quantifier_word, Item as ItemText, stage as stage_text, axiom_item, macro, spelled_model, stages_of, items_of}
 use Rattle.uspec_parser.specs.Syntax.Operand.{atom as u_atom, bracketed as u_bracketed, negated as u_negated}
-use Rattle.uspec_parser.specs.Descent.{next, behind, word, place, sort_by, begins_argument, argument, Arguments, behind_semicolon, behind_label, Elements, node, behind_node, edge, behind_edge, Atom, Start, no_opener, quantifier, start, connective, Operand, Row, Tail}
+use Rattle.uspec_parser.specs.Descent.{next, behind, word, place, sort_by, begins_argument, argument, Arguments, behind_semicolon, behind_label, Elements, node, behind_node, edge, behind_edge, Atom, Start, no_opener, quantifier, start, connective, Operand, Row, Tail, is_quoted, Parameters, Item, Items}
 use Rattle.uspec_parser.specs.declared.terminal.Terminal.{Terminal}
 use Rattle.uspec_parser.specs.declared.terminal.Terminal.TheVariants.{StageName, Axiom, DefineMacro, ExpandMacro, Forall, Exists, Microop, Core, OneEdge, EdgeList, OneNode, NodeList, Name, Number, Quoted, Text, Open, Close, OpenBracket, CloseBracket, Comma, Semicolon, Colon, Dot, Not, And, Or, Implies}
 
@@ -168,3 +168,26 @@ mutual
       (sym (append_assoc (spelled_operand u) (plain (spelled_connective op) ∷ spelled_formula f) rest))
       (Row.row (operand_of u after (connective_ends op))
       (tail_of_row op after rest (meant_operand u) (meant_operands f) (connective_is op) (row_of f rest h)))
+
+parameters_of : (ws : List Word) (rest : List Lexeme) → is_quoted (next rest) ≡ false → Parameters (map quoted ws ++ rest) ws rest
+parameters_of [] rest e = Parameters.ends e
+parameters_of (w ∷ ws) rest e = Parameters.goes_on refl (parameters_of ws rest e)
+
+macro_form : {Y : Type 0} (p f r : List Y) (c d : Y) → (p ++ c ∷ (f ++ d ∷ [])) ++ r ≡ p ++ c ∷ (f ++ d ∷ r)
+macro_form p f r c d = simp append_assoc
+
+pub items_made : (is : List ItemText) → Items (spelled_model is) (stages_of is) (items_of is)
+items_made [] = Items.ends refl
+items_made (stage_text s ∷ is) = Items.goes_on (Item.stage refl) (items_made is)
+items_made (axiom_item at label f ∷ is) =
+    let rest = plain Dot ∷ spelled_model is in
+    let row = subst (λ (xs : List Lexeme). Row xs (meant_operands f) rest) (sym (append_assoc (spelled_formula f) (plain Dot ∷ []) (spelled_model is)))
+    (row_of f rest (refl, refl)) in
+    Items.goes_on {ss = []} {others = stages_of is} {is = axiom_ at (grouped (meant_operands f)) ∷ []} {more = items_of is} (Item.axiom_line refl row) (items_made is)
+items_made (macro name parameters f ∷ is) =
+    let rest = plain Dot ∷ spelled_model is in
+    let form = macro_form (map quoted parameters) (spelled_formula f) (spelled_model is) (plain Colon) (plain Dot) in
+    let between = plain Colon ∷ (spelled_formula f ++ rest) in
+    let words = subst (λ (xs : List Lexeme). Parameters xs parameters between) (sym form) (parameters_of parameters between refl) in
+    Items.goes_on {ss = []} {others = stages_of is} {is = macro_ (record { name = name; parameters = parameters; body = grouped (meant_operands f) }) ∷ []}
+      {more = items_of is} (Item.macro refl words (row_of f rest (refl, refl))) (items_made is)

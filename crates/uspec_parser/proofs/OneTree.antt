@@ -1,11 +1,13 @@
 -- The descent makes one thing of lexemes.
-use Rattle.std.proofs.Common.{◌≡◌, ℕ, Bool, List, [], ◌∷◌, Option, Some, None, refl, sym, ap, subst, ◌∙◌}
+use Rattle.std.proofs.Common.{◌≡◌, ℕ, Bool, true, List, [], ◌∷◌, ◌++◌, Option, Some, None, refl, sym, ap, subst, ◌∙◌}
 use Rattle.pc_syntax.specs.declared.term.Arg.{Arg}
-use Rattle.pc_syntax.specs.Written.{Written, not_, edges_, nodes_, static_, expand_}
+use Rattle.pc_syntax.specs.declared.term.Word.{Word}
+use Rattle.pc_syntax.specs.declared.model.StageItem.{StageItem}
+use Rattle.pc_syntax.specs.Written.{Written, not_, edges_, nodes_, static_, expand_, WrittenItem, axiom_}
 use Rattle.uspec_parser.specs.Terminals.{Lexeme}
 use Rattle.uspec_parser.specs.Operands.{Connective, Operands, only, joined, grouped}
 use Rattle.uspec_parser.specs.Syntax.{quantified}
-use Rattle.uspec_parser.specs.Descent.{next, behind, word, place, sort_by, begins_argument, argument, Arguments, behind_semicolon, Elements, node, behind_node, edge, behind_edge, Atom, Start, quantifier, start, connective, Operand, Row, Tail}
+use Rattle.uspec_parser.specs.Descent.{next, behind, word, place, sort_by, begins_argument, argument, Arguments, behind_semicolon, Elements, node, behind_node, edge, behind_edge, Atom, Start, quantifier, start, connective, Operand, Row, Tail, Parameters, begins_item, macro_item, Item, Items}
 use Rattle.uspec_parser.specs.declared.terminal.Terminal.{Terminal}
 use Rattle.uspec_parser.specs.declared.terminal.Terminal.TheVariants.{OneEdge, EdgeList, OneNode, NodeList, ExpandMacro}
 
@@ -73,3 +75,41 @@ mutual
       let same : op ≡ o = cc in
       let all : joined w op l ≡ joined w o m = let tail = rest.0 in cc in
       (all, rest.1)
+
+one_parameters : {xs r s : List Lexeme} {a b : List Word} → Parameters xs a r → Parameters xs b s → (a ≡ b) × (r ≡ s)
+one_parameters (Parameters.ends e) (Parameters.ends f) = (refl, refl)
+one_parameters (Parameters.ends e) (Parameters.goes_on f more) = absurd (cc)
+one_parameters (Parameters.goes_on e more) (Parameters.ends f) = absurd (cc)
+one_parameters {xs} (Parameters.goes_on e more) (Parameters.goes_on f others) =
+    let (p, q) = one_parameters more others in (ap (λ (ws : List Word). word xs ∷ ws) p, q)
+
+item_begins : {xs r : List Lexeme} {ss : List StageItem} {is : List WrittenItem} → Item xs ss is r → begins_item (next xs) ≡ true
+item_begins (Item.stage e) = ap begins_item e
+item_begins (Item.axiom_line e r) = ap begins_item e
+item_begins (Item.macro e p r) = ap begins_item e
+
+one_item : {xs r s : List Lexeme} {a b : List StageItem} {p q : List WrittenItem} → Item xs a p r → Item xs b q s → (a ≡ b) × (p ≡ q) × (r ≡ s)
+one_item (Item.stage e) (Item.stage f) = (refl, refl, refl)
+one_item (Item.stage e) (Item.axiom_line f r) = absurd (cc)
+one_item (Item.stage e) (Item.macro f p r) = absurd (cc)
+one_item (Item.axiom_line e r) (Item.stage f) = absurd (cc)
+one_item {xs} (Item.axiom_line e r) (Item.axiom_line f s) =
+    let (l, left) = one_row r s in
+    (refl, ap (λ (m : Operands). axiom_ (place xs) (grouped m) ∷ []) l, ap behind left)
+one_item (Item.axiom_line e r) (Item.macro f p s) = absurd (cc)
+one_item (Item.macro e p r) (Item.stage f) = absurd (cc)
+one_item (Item.macro e p r) (Item.axiom_line f s) = absurd (cc)
+one_item {xs} (Item.macro {between = y} {ws = ws} {l = l} e p r) (Item.macro {between = z} {rest = rest} {ws = vs} {l = m} f q s) =
+    let (words, left) = one_parameters p q in
+    let (rows, after) = one_row r (subst (λ (zs : List Lexeme). Row (behind zs) m rest) (sym left) s) in
+    let all : macro_item xs ws l ∷ [] ≡ macro_item xs vs m ∷ [] = λ i. macro_item xs (words i) (rows i) ∷ [] in
+    (refl, all, ap behind after)
+
+pub one_items : {xs : List Lexeme} {a b : List StageItem} {p q : List WrittenItem} → Items xs a p → Items xs b q → (a ≡ b) × (p ≡ q)
+one_items (Items.ends e) (Items.ends f) = (refl, refl)
+one_items (Items.ends e) (Items.goes_on f more) = let begins = item_begins f in absurd (cc)
+one_items (Items.goes_on e more) (Items.ends f) = let begins = item_begins e in absurd (cc)
+one_items (Items.goes_on e more) (Items.goes_on {between = z} {others = others} {more = lines} f rest) =
+    let (ss, is, left) = one_item e f in
+    let (stages, items) = one_items more (subst (λ (xs : List Lexeme). Items xs others lines) (sym left) rest) in
+    (cc, cc)

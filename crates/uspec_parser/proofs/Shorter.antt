@@ -1,10 +1,12 @@
 -- Each step of the descent leaves fewer lexemes.
 use Rattle.std.proofs.Common.{◌≡◌, ◌≢◌, ◌<◌, ◌≤◌, Bool, true, List, [], ◌∷◌, Some, length, ap, sym, arith}
 use Rattle.pc_syntax.specs.declared.term.Arg.{Arg}
-use Rattle.pc_syntax.specs.Written.{Written}
+use Rattle.pc_syntax.specs.declared.term.Word.{Word}
+use Rattle.pc_syntax.specs.declared.model.StageItem.{StageItem}
+use Rattle.pc_syntax.specs.Written.{Written, WrittenItem}
 use Rattle.uspec_parser.specs.Operands.{Connective, Operands}
 use Rattle.uspec_parser.specs.Terminals.{Lexeme}
-use Rattle.uspec_parser.specs.Descent.{next, behind, begins_argument, behind_location_by, behind_node, behind_label_by, behind_label, behind_edge, behind_semicolon_by, behind_semicolon, Arguments, Elements, node, edge, Atom, Start, no_opener, start, connective, Operand, Row, Tail}
+use Rattle.uspec_parser.specs.Descent.{next, behind, begins_argument, behind_location_by, behind_node, behind_label_by, behind_label, behind_edge, behind_semicolon_by, behind_semicolon, Arguments, Elements, node, edge, Atom, Start, no_opener, start, connective, Operand, Row, Tail, is_quoted, Parameters, begins_item, Item}
 use Rattle.uspec_parser.specs.declared.terminal.Terminal.{Terminal}
 use Rattle.uspec_parser.specs.declared.terminal.Terminal.TheVariants.{Open, Comma, Semicolon, OneEdge, OneNode, EdgeList, NodeList, ExpandMacro}
 
@@ -97,3 +99,25 @@ behind_start (x ∷ xs) s not e = omega arith
 pub behind_connective : (xs : List Lexeme) (op : Connective) → connective (next xs) ≡ Some op → length (behind xs) < length xs
 behind_connective [] op e = absurd (cc)
 behind_connective (x ∷ xs) op e = omega arith
+
+pub behind_parameter : (xs : List Lexeme) → is_quoted (next xs) ≡ true → length (behind xs) < length xs
+behind_parameter [] e = absurd (cc)
+behind_parameter (x ∷ xs) e = omega arith
+
+pub parameters_no_longer : {xs rest : List Lexeme} {ws : List Word} → Parameters xs ws rest → length rest ≤ length xs
+parameters_no_longer (Parameters.ends e) = omega arith
+parameters_no_longer {xs} (Parameters.goes_on e more) = omega (arith, parameters_no_longer more, behind_no_longer xs)
+
+behind_item : (xs : List Lexeme) → begins_item (next xs) ≡ true → length (behind xs) < length xs
+behind_item [] e = absurd (cc)
+behind_item (x ∷ xs) e = omega arith
+
+-- an item takes a lexeme at least
+pub item_shorter : {xs rest : List Lexeme} {ss : List StageItem} {is : List WrittenItem} → begins_item (next xs) ≡ true
+    → Item xs ss is rest → length rest < length xs
+item_shorter {xs} e (Item.stage f) =
+    omega (arith, behind_item xs e, behind_no_longer (behind xs), behind_no_longer (behind (behind xs)), behind_no_longer (behind (behind (behind xs))))
+item_shorter {xs} e (Item.axiom_line {rest = rest} f r) =
+    omega (arith, behind_item xs e, behind_no_longer (behind xs), behind_no_longer (behind (behind xs)), row_no_longer r, behind_no_longer rest)
+item_shorter {xs} e (Item.macro {between = between} {rest = rest} f p r) =
+    omega (arith, behind_item xs e, behind_no_longer (behind xs), parameters_no_longer p, behind_no_longer between, row_no_longer r, behind_no_longer rest)

@@ -5,25 +5,26 @@ use Rattle.ll_grammar.specs.Rules.{Derives}
 use Rattle.ll_grammar.specs.FirstFault.{IsAccepted, IsAnswer}
 use Rattle.ll_grammar.specs.declared.fault.Fault.{Fault}
 use Rattle.ll_grammar.specs.declared.fault.Fault.TheVariants.{Syntax, Depth}
-use Rattle.pc_syntax.specs.Written.{Written}
+use Rattle.pc_syntax.specs.declared.model.StageItem.{StageItem}
+use Rattle.pc_syntax.specs.Written.{Written, WrittenItem, WrittenModel}
 use Rattle.uspec_lexer.specs.Token.{Token}
 use Rattle.uspec_parser.specs.Terminals.{Lexeme, terminal, terminal_of, lexeme}
 use Rattle.uspec_parser.specs.Operands.{Operands, grouped}
-use Rattle.uspec_parser.specs.Syntax.{Formula, spelled_formula, meant_operands, meant_formula, DerivesFormula}
-use Rattle.uspec_parser.specs.Marks.{IsMarkedFormula}
+use Rattle.uspec_parser.specs.Syntax.{Formula, spelled_formula, meant_operands, meant_formula, DerivesFormula, Item, spelled_model, stages_of, items_of, meant_model, DerivesModel}
+use Rattle.uspec_parser.specs.Marks.{IsMarkedFormula, IsMarkedModel}
 use Rattle.uspec_parser.specs.Levels.{level_of}
 use Rattle.uspec_parser.specs.Phrases.{rules}
 use Rattle.uspec_parser.specs.Answers.{terminals, refusal_of, IsRefusal}
-use Rattle.uspec_parser.specs.Descent.{Row}
+use Rattle.uspec_parser.specs.Descent.{Row, Items}
 use Rattle.uspec_parser.specs.declared.terminal.Terminal.{Terminal}
 use Rattle.uspec_parser.specs.declared.fault.ParseFault.{ParseFault}
-use Rattle.uspec_parser.specs.declared.phrase.Phrase.TheVariants.{Operand as OperandPhrase}
+use Rattle.uspec_parser.specs.declared.phrase.Phrase.TheVariants.{Operand as OperandPhrase, Items as ItemsPhrase}
 use Rattle.uspec_parser.proofs.Lexemes.{terminal-kept}
 use Rattle.uspec_parser.proofs.Told.{told_tokens}
-use Rattle.uspec_parser.proofs.Spelled.{formula_read}
-use Rattle.uspec_parser.proofs.Reading.{formula_derived}
-use Rattle.uspec_parser.proofs.Complete.{row_of}
-use Rattle.uspec_parser.proofs.OneTree.{one_row}
+use Rattle.uspec_parser.proofs.Spelled.{formula_read, model_read}
+use Rattle.uspec_parser.proofs.Reading.{formula_derived, model_derived}
+use Rattle.uspec_parser.proofs.Complete.{row_of, items_made}
+use Rattle.uspec_parser.proofs.OneTree.{one_row, one_items}
 use Rattle.uspec_parser.proofs.Steps.{RowOf}
 
 pub terminals-lexemes : (ts : List Token) → map terminal (map lexeme ts) ≡ terminals ts
@@ -67,3 +68,22 @@ pub accepted_is : (Marked : List Terminal → List Bool → Type 0) (cs ds : Lis
     → IsAnswer Marked cs found → cs ≡ ds → found ≡ None → IsAccepted Marked ds
 accepted_is Marked cs ds found answer same is =
     subst (λ (f : Option Fault). IsAnswer Marked ds f) is (subst (λ (ts : List Terminal). IsAnswer Marked ts found) same answer)
+
+-- a model's text makes one file
+model_items : (is : List Item) (ss : List StageItem) (lines : List WrittenItem) → Items (spelled_model is) ss lines
+    → record { stages = ss; items = lines } ≡ meant_model is
+model_items is ss lines built =
+    let (stages, items) = one_items built (items_made is) in λ i. record { stages = stages i; items = items i }
+
+pub model_tree : (ts : List Token) (m : WrittenModel) → IsAccepted IsMarkedModel (terminals ts) → Items (map lexeme ts) m.stages m.items
+    → DerivesModel ts m
+model_tree ts m ((marks, marked), none) built =
+    let reads = model_derived (terminals ts) marks marked in
+    let (is, text, _) = model_read (map lexeme ts) marks (told_tokens ts)
+    (subst (λ (cs : List Terminal). Derives rules ItemsPhrase cs marks) (sym (terminals-lexemes ts)) reads) in
+    (is, text, model_items is m.stages m.items (subst (λ (xs : List Lexeme). Items xs m.stages m.items) text built))
+
+pub one_model : (ts : List Token) (m n : WrittenModel) → DerivesModel ts m → DerivesModel ts n → m ≡ n
+one_model ts m n (is, e, p) (js, q, r) =
+    let both = subst (λ (xs : List Lexeme). Items xs (stages_of is) (items_of is)) (sym e ∙ q) (items_made is) in
+    p ∙ model_items js (stages_of is) (items_of is) both ∙ sym r

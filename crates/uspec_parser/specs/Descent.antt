@@ -1,6 +1,6 @@
 -- What the descent that builds the tree makes of lexemes, of which the first is read next. It looks for no fault: of lexemes
 -- that are no text it makes something too. Only private functions are described by it.
-use Rattle.std.specs.Prelude.{◌≡◌, ◌≢◌, ℕ, Bool, true, false, List, [], ◌∷◌, Option, Some, None}
+use Rattle.std.specs.Prelude.{◌≡◌, ◌≢◌, ℕ, Bool, true, false, List, [], ◌∷◌, ◌++◌, Option, Some, None}
 use Rattle.pc_common.specs.declared.place.Place.{Place}
 use Rattle.pc_syntax.specs.declared.term.Sort.{Sort}
 use Rattle.pc_syntax.specs.declared.term.Sort.TheVariants.{Microop as microop, Core as core}
@@ -183,3 +183,39 @@ mutual
     ends : {xs : List Lexeme} {w : Written} → connective (next xs) ≡ None → Tail xs w (only w) xs
     goes_on : {xs between rest : List Lexeme} {w v : Written} {l : Operands} (op : Connective) → connective (next xs) ≡ Some op
         → Operand (behind xs) v between → Tail between v l rest → Tail xs w (joined w op l) rest
+
+abbrev pub is_quoted : Terminal → Bool
+is_quoted Quoted = true
+is_quoted _ = false
+
+-- a macro's parameters, up to the first lexeme that is none
+pub data Parameters : List Lexeme → List Word → List Lexeme → Type 0 where
+  ends : {xs : List Lexeme} → is_quoted (next xs) ≡ false → Parameters xs [] xs
+  goes_on : {xs rest : List Lexeme} {ws : List Word} → is_quoted (next xs) ≡ true → Parameters (behind xs) ws rest
+      → Parameters xs (word xs ∷ ws) rest
+
+abbrev pub begins_item : Terminal → Bool
+begins_item StageName = true
+begins_item Axiom = true
+begins_item DefineMacro = true
+begins_item _ = false
+
+abbrev pub stage_item : List Lexeme → StageItem
+stage_item xs = record { number = number (behind xs); number_at = number_place (behind xs); name = word (behind (behind xs)) }
+
+abbrev pub macro_item : List Lexeme → List Word → Operands → WrittenItem
+macro_item xs ws l = macro_ (record { name = word (behind xs); parameters = ws; body = grouped l })
+
+-- what one item adds to the stages, and what to the axioms and macros
+pub data Item : List Lexeme → List StageItem → List WrittenItem → List Lexeme → Type 0 where
+  stage : {xs : List Lexeme} → next xs ≡ StageName → Item xs (stage_item xs ∷ []) [] (behind (behind (behind (behind xs))))
+  axiom_line : {xs rest : List Lexeme} {l : Operands} → next xs ≡ Axiom → Row (behind (behind (behind xs))) l rest
+      → Item xs [] (axiom_ (place xs) (grouped l) ∷ []) (behind rest)
+  macro : {xs between rest : List Lexeme} {ws : List Word} {l : Operands} → next xs ≡ DefineMacro
+      → Parameters (behind (behind xs)) ws between → Row (behind between) l rest → Item xs [] (macro_item xs ws l ∷ []) (behind rest)
+
+-- items up to the first lexeme that begins none
+pub data Items : List Lexeme → List StageItem → List WrittenItem → Type 0 where
+  ends : {xs : List Lexeme} → begins_item (next xs) ≡ false → Items xs [] []
+  goes_on : {xs between : List Lexeme} {ss others : List StageItem} {is more : List WrittenItem} → Item xs ss is between
+      → Items between others more → Items xs (ss ++ others) (is ++ more)

@@ -4,6 +4,7 @@
 mod cursor;
 mod fault;
 mod formulas;
+mod items;
 mod level;
 mod operands;
 mod parse;
@@ -12,4 +13,4 @@ mod terminal;
 mod terms;
 
 pub use fault::ParseFault;
-pub use parse::parse_formula;
+pub use parse::{parse_formula, parse_model};
