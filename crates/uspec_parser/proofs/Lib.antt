@@ -9,3 +9,4 @@ pub mod Steps
 pub mod OneTree
 pub mod Complete
 pub mod Trees
+pub mod Split
