@@ -2,6 +2,7 @@
 use Rattle.std.proofs.Common.{◌≡◌, Bool, List, [], ◌∷◌, ◌++◌, map, length, Option, Some, None, Result, Ok, Err, IfOk, IfErr, refl, sym, ap, subst, ◌∙◌}
 use Rattle.std.proofs.lemmas.List.{append-nil}
 use Rattle.ll_grammar.specs.Rules.{Derives}
+use Rattle.ll_grammar.specs.Texts.{IsText}
 use Rattle.ll_grammar.specs.FirstFault.{IsAccepted, IsAnswer}
 use Rattle.ll_grammar.specs.declared.fault.Fault.{Fault}
 use Rattle.ll_grammar.specs.declared.fault.Fault.TheVariants.{Syntax, Depth}
@@ -11,7 +12,7 @@ use Rattle.uspec_lexer.specs.Token.{Token}
 use Rattle.uspec_parser.specs.Terminals.{Lexeme, terminal, terminal_of, lexeme}
 use Rattle.uspec_parser.specs.Operands.{Operands, grouped}
 use Rattle.uspec_parser.specs.Syntax.{Formula, spelled_formula, meant_operands, meant_formula, DerivesFormula, Item, spelled_model, stages_of, items_of, meant_model, DerivesModel}
-use Rattle.uspec_parser.specs.Marks.{IsMarkedFormula, IsMarkedModel}
+use Rattle.uspec_parser.specs.Marks.{IsMarkedFormula, IsMarkedModel, marks_model, marks_outer}
 use Rattle.uspec_parser.specs.Levels.{level_of}
 use Rattle.uspec_parser.specs.Phrases.{rules}
 use Rattle.uspec_parser.specs.Answers.{terminals, refusal_of, IsRefusal}
@@ -87,3 +88,24 @@ pub one_model : (ts : List Token) (m n : WrittenModel) → DerivesModel ts m →
 one_model ts m n (is, e, p) (js, q, r) =
     let both = subst (λ (xs : List Lexeme). Items xs (stages_of is) (items_of is)) (sym e ∙ q) (items_made is) in
     p ∙ model_items js (stages_of is) (items_of is) both ∙ sym r
+
+-- tokens have a tree exactly if their terminals are those of a text
+pub model_text : (ts : List Token) → ((m : WrittenModel) × DerivesModel ts m) → IsText IsMarkedModel (terminals ts)
+model_text ts (m, (is, e, p)) = (marks_model is, (is, sym (terminals-lexemes ts) ∙ ap (map terminal) e, refl))
+
+pub text_model : (ts : List Token) → IsText IsMarkedModel (terminals ts) → (m : WrittenModel) × DerivesModel ts m
+text_model ts (marks, marked) =
+    let reads = model_derived (terminals ts) marks marked in
+    let (is, text, _) = model_read (map lexeme ts) marks (told_tokens ts)
+    (subst (λ (cs : List Terminal). Derives rules ItemsPhrase cs marks) (sym (terminals-lexemes ts)) reads) in
+    (meant_model is, (is, text, refl))
+
+pub formula_text : (ts : List Token) → ((w : Written) × DerivesFormula ts w) → IsText IsMarkedFormula (terminals ts)
+formula_text ts (w, (f, e, p)) = (marks_outer f, (f, sym (terminals-lexemes ts) ∙ ap (map terminal) e, refl))
+
+pub text_formula : (ts : List Token) → IsText IsMarkedFormula (terminals ts) → (w : Written) × DerivesFormula ts w
+text_formula ts (marks, marked) =
+    let reads = formula_derived (terminals ts) marks marked in
+    let (f, text, _) = formula_read (map lexeme ts) marks (told_tokens ts)
+    (subst (λ (cs : List Terminal). Derives rules (OperandPhrase (level_of 0) 0) cs marks) (sym (terminals-lexemes ts)) reads) in
+    (meant_formula f, (f, text, refl))
