@@ -1,6 +1,5 @@
 -- Of a text the descent makes what it means.
-use Rattle.std.proofs.Common.{◌≡◌, ℕ, Bool, true, false, List, [], ◌∷◌, ◌++◌, Option, Some, None, map, refl, sym, ap, subst, ◌∙◌, append_assoc}
-use Rattle.std.proofs.lemmas.List.{append-nil}
+use Rattle.std.proofs.Common.{◌≡◌, Bool, true, false, List, [], ◌∷◌, ◌++◌, Option, Some, None, map, refl, sym, ap, subst, ◌∙◌, append_assoc}
 use Rattle.pc_syntax.specs.declared.term.Sort.{Sort}
 use Rattle.pc_syntax.specs.declared.term.Sort.TheVariants.{Microop as microop, Core as core}
 use Rattle.pc_syntax.specs.declared.term.Word.{Word}
@@ -9,14 +8,13 @@ use Rattle.pc_syntax.specs.declared.term.Arg.TheVariants.{Word as word_arg, Numb
 use Rattle.pc_syntax.specs.declared.term.NodeTerm.{NodeTerm}
 use Rattle.pc_syntax.specs.declared.term.EdgeTerm.{EdgeTerm}
 use Rattle.pc_syntax.specs.Written.{Written, edges_, nodes_, axiom_, macro_}
-use Rattle.uspec_parser.specs.Terminals.{Lexeme, plain, placed, name_, quoted, number_, terminal}
-use Rattle.uspec_parser.specs.Operands.{Connective, conjoins, disjoins, implies, Operands, only, joined, grouped}
-use Rattle.uspec_parser.specs.Syntax.{spelled_arg, spelled_location, spelled_node, Label, named, other, spelled_label, Labels, unlabelled, labelled, coloured, spelled_labels, Edge, spelled_edge, Listing, empty, some, spelled_others, spelled_elements, elements, one_edge, one_node, edge_list, node_list, expand, predicate, spelled_atom, meant_atom, Quantifier, spelled_sort, spelled_connective, Formula, last, last_wide, more, Wide, binding, negated_wide, spelled_formula, spelled_operand, spelled_wide, meant_operands, meant_operand, meant_wide, quantified}
+use Rattle.uspec_parser.specs.Terminals.{Lexeme, plain, placed, quoted}
+use Rattle.uspec_parser.specs.Operands.{Connective, conjoins, disjoins, implies, Operands, joined, grouped}
+use Rattle.uspec_parser.specs.Syntax.{spelled_arg, spelled_node, Labels, unlabelled, labelled, coloured, spelled_labels, Edge, spelled_edge, Listing, empty, some, spelled_others, spelled_elements, elements, one_edge, one_node, edge_list, node_list, expand, predicate, spelled_atom, meant_atom, Quantifier, spelled_sort, spelled_connective, Formula, last, last_wide, more, Wide, binding, negated_wide, spelled_formula, spelled_operand, spelled_wide, meant_operands, meant_operand, meant_wide, quantified}
 use Rattle.uspec_parser.specs.Syntax.{Atom as AtomText, Operand as OperandText, spelled_quantifier_word, Item as ItemText, stage as stage_text, axiom_item, macro, spelled_model, stages_of, items_of}
 use Rattle.uspec_parser.specs.Syntax.Operand.{atom as u_atom, bracketed as u_bracketed, negated as u_negated}
-use Rattle.uspec_parser.specs.Descent.{next, behind, word, place, sort_by, begins_argument, argument, Arguments, behind_semicolon, behind_label, Elements, node, behind_node, edge, behind_edge, Atom, Start, no_opener, quantifier, start, connective, Operand, Row, Tail, is_quoted, Parameters, Item, Items}
-use Rattle.uspec_parser.specs.declared.terminal.Terminal.{Terminal}
-use Rattle.uspec_parser.specs.declared.terminal.Terminal.TheVariants.{StageName, Axiom, DefineMacro, ExpandMacro, Forall, Exists, Microop, Core, OneEdge, EdgeList, OneNode, NodeList, Name, Number, Quoted, Text, Open, Close, OpenBracket, CloseBracket, Comma, Semicolon, Colon, Dot, Not, And, Or, Implies}
+use Rattle.uspec_parser.specs.Descent.{next, behind, sort_by, begins_argument, Arguments, behind_semicolon, behind_label, Elements, node, behind_node, edge, behind_edge, connective, Operand, Row, Tail, is_quoted, Parameters, Item, Items}
+use Rattle.uspec_parser.specs.declared.terminal.Terminal.TheVariants.{Forall, Exists, Open, Close, Comma, Colon, Dot}
 
 -- no argument comes next
 abbrev pub EndsAtom : List Lexeme → Type 0
@@ -29,7 +27,7 @@ arguments_of (number_arg n at ∷ args) rest e = Arguments.goes_on refl (argumen
 
 node_parts : (op : Word) (c : Option Arg) (stage : Word) (rest : List Lexeme)
     → let n : NodeTerm = record { op = op; core = c; stage = stage } in
-      (node (spelled_node n ++ rest) ≡ n) × (behind_node (spelled_node n ++ rest) ≡ rest)
+    (node (spelled_node n ++ rest) ≡ n) × (behind_node (spelled_node n ++ rest) ≡ rest)
 node_parts op None stage rest = (refl, refl)
 node_parts op (Some (word_arg w)) stage rest = (refl, refl)
 node_parts op (Some (number_arg n at)) stage rest = (refl, refl)
@@ -59,9 +57,9 @@ edge_of e rest =
     let to_is : node (behind (behind_node (spelled_node from ++ after_from))) ≡ to = ap (λ (xs : List Lexeme). node (behind xs)) left ∙ second in
     let edge_is : edge whole ≡ e.term = λ i. record { from = first i; to = to_is i } in
     let behind_is : behind_edge whole ≡ rest =
-      ap (λ (xs : List Lexeme). behind (behind_label (behind_label (behind_node (behind xs))))) left
-      ∙ ap (λ (xs : List Lexeme). behind (behind_label (behind_label xs))) others
-      ∙ ap behind (labels_of e.labels rest) in
+    ap (λ (xs : List Lexeme). behind (behind_label (behind_label (behind_node (behind xs))))) left
+    ∙ ap (λ (xs : List Lexeme). behind (behind_label (behind_label xs))) others
+    ∙ ap behind (labels_of e.labels rest) in
     (ap edge form ∙ edge_is, ap behind_edge form ∙ behind_is)
 
 module _ {X Y : Type 0} (spelled : X → List Lexeme) (meant : X → Y) (one : List Lexeme → Y) (behind_one : List Lexeme → List Lexeme)
@@ -136,14 +134,14 @@ sort_is core = refl
 binding_of : (q : Quantifier) (xs rest : List Lexeme) (l : Operands) → Row xs l rest
     → (u : Bool) → u ≡ q.universal
     → Operand (placed (spelled_quantifier_word u) q.at ∷ plain (spelled_sort q.sort) ∷ quoted q.bound ∷ plain Comma ∷ xs)
-      (quantified q.universal q.at q.sort q.bound.name (grouped l)) rest
+    (quantified q.universal q.at q.sort q.bound.name (grouped l)) rest
 binding_of q xs rest l body true e =
     let same : quantified true q.at (sort_by (spelled_sort q.sort)) q.bound.name (grouped l) ≡ quantified q.universal q.at q.sort q.bound.name (grouped l) =
-      let s = sort_is q.sort in cc in
+    let s = sort_is q.sort in cc in
     subst (λ (w : Written). Operand (placed Forall q.at ∷ plain (spelled_sort q.sort) ∷ quoted q.bound ∷ plain Comma ∷ xs) w rest) same (Operand.bound true refl body)
 binding_of q xs rest l body false e =
     let same : quantified false q.at (sort_by (spelled_sort q.sort)) q.bound.name (grouped l) ≡ quantified q.universal q.at q.sort q.bound.name (grouped l) =
-      let s = sort_is q.sort in cc in
+    let s = sort_is q.sort in cc in
     subst (λ (w : Written). Operand (placed Exists q.at ∷ plain (spelled_sort q.sort) ∷ quoted q.bound ∷ plain Comma ∷ xs) w rest) same (Operand.bound false refl body)
 
 mutual
@@ -190,4 +188,4 @@ items_made (macro name parameters f ∷ is) =
     let between = plain Colon ∷ (spelled_formula f ++ rest) in
     let words = subst (λ (xs : List Lexeme). Parameters xs parameters between) (sym form) (parameters_of parameters between refl) in
     Items.goes_on {ss = []} {others = stages_of is} {is = macro_ (record { name = name; parameters = parameters; body = grouped (meant_operands f) }) ∷ []}
-      {more = items_of is} (Item.macro refl words (row_of f rest (refl, refl))) (items_made is)
+    {more = items_of is} (Item.macro refl words (row_of f rest (refl, refl))) (items_made is)

@@ -1,7 +1,7 @@
 -- A list of operands grouped from its last one on.
-use Rattle.std.proofs.Common.{◌≡◌, List, [], ◌∷◌, ◌++◌, Option, None, refl, ap}
-use Rattle.pc_syntax.specs.Written.{Written, written}
-use Rattle.uspec_parser.specs.Operands.{Operands, only, joined, Grouped, before, group}
+use Rattle.std.proofs.Common.{◌≡◌, List, [], ◌∷◌, ◌++◌, refl, ap}
+use Rattle.pc_syntax.specs.Written.{written}
+use Rattle.uspec_parser.specs.Operands.{Operands, joined, Grouped, before, group}
 use Rattle.uspec_parser.specs.Grouping.{joins, operands_before, grouped_before}
 use Rattle.uspec_parser.specs.declared.operands.Joined.{Joined}
 

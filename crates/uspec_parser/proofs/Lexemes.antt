@@ -1,10 +1,10 @@
 -- The lexemes that are left, by the place of the next token.
-use Rattle.std.proofs.Common.{◌≡◌, ℕ, zero, suc, ◌+◌, ◌<◌, ◌≤◌, List, [], ◌∷◌, ◌++◌, Some, length, map, take, drop, slice_get, slice_index_or, refl, sym, ap, subst, ◌∙◌, arith, add-one}
+use Rattle.std.proofs.Common.{◌≡◌, ℕ, zero, suc, ◌<◌, ◌≤◌, List, [], ◌∷◌, ◌++◌, Some, length, map, take, drop, slice_get, slice_index_or, refl, sym, ap, arith}
 use Rattle.uspec_lexer.specs.Token.{Token}
-use Rattle.uspec_parser.specs.Terminals.{Lexeme, terminal, terminal_of, kept, lexeme}
+use Rattle.uspec_parser.specs.Terminals.{terminal, terminal_of, kept, lexeme}
 use Rattle.uspec_parser.specs.Descent.{next, behind}
 use Rattle.uspec_parser.specs.declared.terminal.Terminal.{Terminal}
-use Rattle.uspec_parser.specs.declared.terminal.Terminal.TheVariants.{StageName, Axiom, DefineMacro, ExpandMacro, Forall, Exists, Microop, Core, OneEdge, EdgeList, OneNode, NodeList, Name, Number, Quoted, Text, Open, Close, OpenBracket, CloseBracket, Comma, Semicolon, Colon, Dot, Not, And, Or, Implies, Arrow}
+use Rattle.uspec_parser.specs.declared.terminal.Terminal.TheVariants.{Name}
 
 -- what is kept of a token tells its terminal
 pub terminal-kept : (t : Terminal) (token : Token) → terminal (kept t token) ≡ t

@@ -1,13 +1,13 @@
 -- The descent makes one thing of lexemes.
-use Rattle.std.proofs.Common.{◌≡◌, ℕ, Bool, true, List, [], ◌∷◌, ◌++◌, Option, Some, None, refl, sym, ap, subst, ◌∙◌}
+use Rattle.std.proofs.Common.{◌≡◌, Bool, true, List, [], ◌∷◌, refl, sym, ap, subst, ◌∙◌}
 use Rattle.pc_syntax.specs.declared.term.Arg.{Arg}
 use Rattle.pc_syntax.specs.declared.term.Word.{Word}
 use Rattle.pc_syntax.specs.declared.model.StageItem.{StageItem}
 use Rattle.pc_syntax.specs.Written.{Written, not_, edges_, nodes_, static_, expand_, WrittenItem, axiom_}
 use Rattle.uspec_parser.specs.Terminals.{Lexeme}
-use Rattle.uspec_parser.specs.Operands.{Connective, Operands, only, joined, grouped}
+use Rattle.uspec_parser.specs.Operands.{Operands, joined, grouped}
 use Rattle.uspec_parser.specs.Syntax.{quantified}
-use Rattle.uspec_parser.specs.Descent.{next, behind, word, place, sort_by, begins_argument, argument, Arguments, behind_semicolon, Elements, node, behind_node, edge, behind_edge, Atom, Start, quantifier, start, connective, Operand, Row, Tail, Parameters, begins_item, macro_item, Item, Items}
+use Rattle.uspec_parser.specs.Descent.{next, behind, word, place, sort_by, argument, Arguments, Elements, Atom, Operand, Row, Tail, Parameters, begins_item, macro_item, Item, Items}
 use Rattle.uspec_parser.specs.declared.terminal.Terminal.{Terminal}
 use Rattle.uspec_parser.specs.declared.terminal.Terminal.TheVariants.{OneEdge, EdgeList, OneNode, NodeList, ExpandMacro}
 

@@ -1,5 +1,5 @@
 -- Each step of the descent leaves fewer lexemes.
-use Rattle.std.proofs.Common.{◌≡◌, ◌≢◌, ◌<◌, ◌≤◌, Bool, true, List, [], ◌∷◌, Some, length, ap, sym, arith}
+use Rattle.std.proofs.Common.{◌≡◌, ◌≢◌, ◌<◌, ◌≤◌, true, List, [], ◌∷◌, Some, length, ap, sym, arith}
 use Rattle.pc_syntax.specs.declared.term.Arg.{Arg}
 use Rattle.pc_syntax.specs.declared.term.Word.{Word}
 use Rattle.pc_syntax.specs.declared.model.StageItem.{StageItem}
@@ -24,15 +24,26 @@ behind_argument (x ∷ xs) e = omega arith
 
 location_no_longer : (t : Terminal) (xs : List Lexeme) → length (behind_location_by t xs) ≤ length xs
 location_no_longer Open xs =
-    omega (arith, behind_no_longer xs, behind_no_longer (behind xs), behind_no_longer (behind (behind xs)), behind_no_longer (behind (behind (behind xs))),
-      behind_no_longer (behind (behind (behind (behind xs)))))
+    omega (
+      arith,
+      behind_no_longer xs,
+      behind_no_longer (behind xs),
+      behind_no_longer (behind (behind xs)),
+      behind_no_longer (behind (behind (behind xs))),
+      behind_no_longer (behind (behind (behind (behind xs)))),
+    )
 location_no_longer _ xs = behind_no_longer xs
 
 pub node_no_longer : (xs : List Lexeme) → length (behind_node xs) ≤ length (behind xs)
 node_no_longer xs =
     let location = behind (behind (behind xs)) in
-    omega (arith, behind_no_longer (behind xs), behind_no_longer (behind (behind xs)), location_no_longer (next location) location,
-      behind_no_longer (behind_location_by (next location) location))
+    omega (
+      arith,
+      behind_no_longer (behind xs),
+      behind_no_longer (behind (behind xs)),
+      location_no_longer (next location) location,
+      behind_no_longer (behind_location_by (next location) location),
+    )
 
 label_by_no_longer : (t : Terminal) (xs : List Lexeme) → length (behind_label_by t xs) ≤ length xs
 label_by_no_longer Comma xs = omega (arith, behind_no_longer xs, behind_no_longer (behind xs))
@@ -42,9 +53,17 @@ pub edge_no_longer : (xs : List Lexeme) → length (behind_edge xs) ≤ length (
 edge_no_longer xs =
     let from = behind_node (behind xs) in
     let to = behind_node (behind from) in
-    omega (arith, node_no_longer (behind xs), behind_no_longer (behind xs), node_no_longer (behind from), behind_no_longer (behind from), behind_no_longer from,
-      label_by_no_longer (next to) to, label_by_no_longer (next (behind_label to)) (behind_label to),
-      behind_no_longer (behind_label (behind_label to)))
+    omega (
+      arith,
+      node_no_longer (behind xs),
+      behind_no_longer (behind xs),
+      node_no_longer (behind from),
+      behind_no_longer (behind from),
+      behind_no_longer from,
+      label_by_no_longer (next to) to,
+      label_by_no_longer (next (behind_label to)) (behind_label to),
+      behind_no_longer (behind_label (behind_label to)),
+    )
 
 semicolon_by_no_longer : (t : Terminal) (xs : List Lexeme) → length (behind_semicolon_by t xs) ≤ length xs
 semicolon_by_no_longer Semicolon xs = behind_no_longer xs

@@ -1,8 +1,6 @@
 -- What the table reads are texts of the grammar, with the marks of these: each rule spells a production.
 use Rattle.std.proofs.Common.{◌≡◌, ℕ, ◌+◌, Bool, true, false, List, [], ◌∷◌, ◌++◌, Option, Some, None, IsTrue, MatchOption, map, refl, sym, ap, subst, ◌∙◌, append_assoc}
 use Rattle.std.proofs.lemmas.List.{append-nil, map-append}
-use Rattle.pc_common.specs.declared.place.Place.{Place}
-use Rattle.pc_syntax.specs.declared.term.Sort.{Sort}
 use Rattle.pc_syntax.specs.declared.term.Sort.TheVariants.{Microop as microop, Core as core}
 use Rattle.pc_syntax.specs.declared.term.Word.{Word}
 use Rattle.pc_syntax.specs.declared.term.Arg.{Arg}
@@ -14,15 +12,15 @@ use Rattle.ll_grammar.specs.declared.grammar.Symbol.TheVariants.{Class, Part}
 use Rattle.ll_grammar.proofs.Meanings.{IsKept, meaning}
 use Rattle.uspec_parser.proofs.Told.{Payload, tell, AllTold, some_lexeme, told_somes, terminals-somes, EachTold, Means, rule_of}
 use Rattle.uspec_parser.proofs.Told.EachTold.{none, class, part}
-use Rattle.uspec_parser.specs.Terminals.{Lexeme, plain, placed, name_, quoted, number_, terminal}
+use Rattle.uspec_parser.specs.Terminals.{Lexeme, plain, name_, quoted, terminal}
 use Rattle.uspec_parser.specs.Operands.{Connective, conjoins, disjoins, implies}
-use Rattle.uspec_parser.specs.Syntax.{spelled_arg, spelled_location, spelled_node, Label, named, other, spelled_label, Labels, unlabelled, labelled, coloured, spelled_labels, Edge as EdgeText, spelled_edge, Listing, empty, some, spelled_others, spelled_elements, Atom, one_edge, one_node, edge_list, node_list, expand, predicate, spelled_atom, Quantifier, spelled_sort, spelled_quantifier_word, spelled_connective, Formula, last, last_wide, more, Operand as OperandText, atom, bracketed, negated, Wide, binding, negated_wide, spelled_formula, spelled_operand, spelled_wide, Item, stage, axiom_item, macro, spelled_item, spelled_model}
+use Rattle.uspec_parser.specs.Syntax.{spelled_arg, spelled_location, spelled_node, Label, named, other, spelled_label, Labels, unlabelled, labelled, coloured, spelled_labels, Edge as EdgeText, spelled_edge, empty, some, spelled_others, spelled_elements, Atom, one_edge, one_node, edge_list, node_list, expand, predicate, spelled_atom, spelled_sort, spelled_connective, Formula, last, last_wide, more, atom, bracketed, negated, binding, negated_wide, spelled_formula, Item, stage, axiom_item, macro, spelled_model}
 use Rattle.uspec_parser.specs.Levels.{is_deep, level_of, behind_and, behind_or, behind_implies}
-use Rattle.uspec_parser.specs.Marks.{shallow, open_at, level_behind, marks_formula, marks_operand, marks_wide, marks_outer, marks_item, marks_model, IsMarkedFormula, IsMarkedModel}
+use Rattle.uspec_parser.specs.Marks.{shallow, open_at, level_behind, marks_formula, marks_outer, marks_model, IsMarkedFormula, IsMarkedModel}
 use Rattle.uspec_parser.specs.Phrases.{behind, may_end, deep, rules}
 use Rattle.uspec_parser.specs.declared.level.Level.{Level}
 use Rattle.uspec_parser.specs.declared.terminal.Terminal.{Terminal}
-use Rattle.uspec_parser.specs.declared.terminal.Terminal.TheVariants.{StageName, Axiom, DefineMacro, ExpandMacro, Forall, Exists, Microop, Core, OneEdge, EdgeList, OneNode, NodeList, Name, Number, Quoted, Text, Open, Close, OpenBracket, CloseBracket, Comma, Semicolon, Colon, Dot, Not, And, Or, Implies, Arrow}
+use Rattle.uspec_parser.specs.declared.terminal.Terminal.TheVariants.{StageName, Axiom, DefineMacro, ExpandMacro, Forall, Exists, Microop, Core, OneEdge, EdgeList, OneNode, NodeList, Name, Number, Quoted, Text, Open, Close, OpenBracket, CloseBracket, Comma, Semicolon, Colon, Dot, Not, And, Or, Implies}
 use Rattle.uspec_parser.specs.declared.phrase.Phrase.{Phrase}
 use Rattle.uspec_parser.specs.declared.phrase.Phrase.TheVariants.{Items, Parameters, Label as LabelPhrase, Operand, More, Arguments, Argument, Node, Location, Edge, Labels as LabelsPhrase, SecondLabel, SortWord, Nodes, MoreNodes, Edges, MoreEdges}
 
@@ -125,34 +123,46 @@ tail_marks l n a None = sym (append-nil (shallow (spelled_atom a)))
 tail_marks l n a (Some t) = refl
 
 operand_one_edge : (l : Level) (n : ℕ) → Keeps (Operand l n) OneEdge (Part Edge ∷ Part (More l) ∷ [])
-operand_one_edge l n _ _ _ (part (x, e, f) (part (t, g, h) none)) =
-    (with_tail (one_edge x) t,
-      simp (e, g, append-nil, tail_lexemes (one_edge x) t), simp (f, h, append-nil, tail_marks l n (one_edge x) t))
+operand_one_edge l n _ _ _ (part (x, e, f) (part (t, g, h) none)) = (
+  with_tail (one_edge x) t,
+  simp (e, g, append-nil, tail_lexemes (one_edge x) t),
+  simp (f, h, append-nil, tail_marks l n (one_edge x) t),
+)
 
 operand_edges : (l : Level) (n : ℕ) → Keeps (Operand l n) EdgeList (Class OpenBracket ∷ Part Edges ∷ Part (More l) ∷ [])
-operand_edges l n _ _ _ (class _ (part (x, e, f) (part (t, g, h) none))) =
-    (with_tail (edge_list x) t,
-      simp (e, g, append-nil, tail_lexemes (edge_list x) t), simp (f, h, append-nil, tail_marks l n (edge_list x) t))
+operand_edges l n _ _ _ (class _ (part (x, e, f) (part (t, g, h) none))) = (
+  with_tail (edge_list x) t,
+  simp (e, g, append-nil, tail_lexemes (edge_list x) t),
+  simp (f, h, append-nil, tail_marks l n (edge_list x) t),
+)
 
 operand_one_node : (l : Level) (n : ℕ) → Keeps (Operand l n) OneNode (Part Node ∷ Part (More l) ∷ [])
-operand_one_node l n _ _ _ (part (x, e, f) (part (t, g, h) none)) =
-    (with_tail (one_node x) t,
-      simp (e, g, append-nil, tail_lexemes (one_node x) t), simp (f, h, append-nil, tail_marks l n (one_node x) t))
+operand_one_node l n _ _ _ (part (x, e, f) (part (t, g, h) none)) = (
+  with_tail (one_node x) t,
+  simp (e, g, append-nil, tail_lexemes (one_node x) t),
+  simp (f, h, append-nil, tail_marks l n (one_node x) t),
+)
 
 operand_nodes : (l : Level) (n : ℕ) → Keeps (Operand l n) NodeList (Class OpenBracket ∷ Part Nodes ∷ Part (More l) ∷ [])
-operand_nodes l n _ _ _ (class _ (part (x, e, f) (part (t, g, h) none))) =
-    (with_tail (node_list x) t,
-      simp (e, g, append-nil, tail_lexemes (node_list x) t), simp (f, h, append-nil, tail_marks l n (node_list x) t))
+operand_nodes l n _ _ _ (class _ (part (x, e, f) (part (t, g, h) none))) = (
+  with_tail (node_list x) t,
+  simp (e, g, append-nil, tail_lexemes (node_list x) t),
+  simp (f, h, append-nil, tail_marks l n (node_list x) t),
+)
 
 operand_expand : (l : Level) (n : ℕ) → Keeps (Operand l n) ExpandMacro (Class Name ∷ Part Arguments ∷ Part (More l) ∷ [])
-operand_expand l n at _ _ (class w (part (x, e, f) (part (t, g, h) none))) =
-    (with_tail (expand at w x) t,
-      simp (e, g, append-nil, tail_lexemes (expand at w x) t), simp (f, h, append-nil, tail_marks l n (expand at w x) t))
+operand_expand l n at _ _ (class w (part (x, e, f) (part (t, g, h) none))) = (
+  with_tail (expand at w x) t,
+  simp (e, g, append-nil, tail_lexemes (expand at w x) t),
+  simp (f, h, append-nil, tail_marks l n (expand at w x) t),
+)
 
 operand_name : (l : Level) (n : ℕ) → Keeps (Operand l n) Name (Part Arguments ∷ Part (More l) ∷ [])
-operand_name l n w _ _ (part (x, e, f) (part (t, g, h) none)) =
-    (with_tail (predicate w x) t,
-      simp (e, g, append-nil, tail_lexemes (predicate w x) t), simp (f, h, append-nil, tail_marks l n (predicate w x) t))
+operand_name l n w _ _ (part (x, e, f) (part (t, g, h) none)) = (
+  with_tail (predicate w x) t,
+  simp (e, g, append-nil, tail_lexemes (predicate w x) t),
+  simp (f, h, append-nil, tail_marks l n (predicate w x) t),
+)
 
 operand_open : (l : Level) (n : ℕ)
     → Keeps (Operand l n) Open (Part (Operand (level_of (n + 1)) (n + 1)) ∷ Class Close ∷ Part (More l) ∷ [])
@@ -168,15 +178,19 @@ operand_not l n _ _ _ (part (more u op b, e, f) none) = (more (negated u) op b, 
 
 operand_forall : (l : Level) (n : ℕ)
     → Keeps (Operand l n) Forall (Part SortWord ∷ Class Quoted ∷ Class Comma ∷ Part (Operand (level_of (n + 1)) (n + 1)) ∷ [])
-operand_forall l n at _ _ (part (s, e, f) (class w (class _ (part (b, g, h) none)))) =
-    (last_wide (binding (record { universal = true; at = at; sort = s; bound = w }) b),
-      simp (e, g, append-nil), simp (f, h, append-nil))
+operand_forall l n at _ _ (part (s, e, f) (class w (class _ (part (b, g, h) none)))) = (
+  last_wide (binding (record { universal = true; at = at; sort = s; bound = w }) b),
+  simp (e, g, append-nil),
+  simp (f, h, append-nil),
+)
 
 operand_exists : (l : Level) (n : ℕ)
     → Keeps (Operand l n) Exists (Part SortWord ∷ Class Quoted ∷ Class Comma ∷ Part (Operand (level_of (n + 1)) (n + 1)) ∷ [])
-operand_exists l n at _ _ (part (s, e, f) (class w (class _ (part (b, g, h) none)))) =
-    (last_wide (binding (record { universal = false; at = at; sort = s; bound = w }) b),
-      simp (e, g, append-nil), simp (f, h, append-nil))
+operand_exists l n at _ _ (part (s, e, f) (class w (class _ (part (b, g, h) none)))) = (
+  last_wide (binding (record { universal = false; at = at; sort = s; bound = w }) b),
+  simp (e, g, append-nil),
+  simp (f, h, append-nil),
+)
 
 more_and : (l : Level) → Keeps (More l) And (Part (Operand (behind_and l) (l.at_and + 1)) ∷ [])
 more_and l _ _ _ (part (b, e, f) none) = (Some (conjoins, b), simp (e, append-nil), simp (f, append-nil))
@@ -238,10 +252,11 @@ abbrev edge_between : NodeTerm → NodeTerm → Labels → EdgeText
 edge_between m n l = record { term = record { from = m; to = n }; labels = l }
 
 edge_open : Keeps Edge Open (Part Node ∷ Class Comma ∷ Part Node ∷ Part LabelsPhrase ∷ Class Close ∷ [])
-edge_open _ _ _ (part (m, e, f) (class _ (part (n, g, h) (part (l, i, j) (class _ none))))) =
-    (edge_between m n l,
-      simp (e, g, i),
-      simp (f, h, j) (sym (edge_alone mark (plain Open) (plain Comma) (plain Close) (spelled_node m) (spelled_node n) (spelled_labels l))))
+edge_open _ _ _ (part (m, e, f) (class _ (part (n, g, h) (part (l, i, j) (class _ none))))) = (
+  edge_between m n l,
+  simp (e, g, i),
+  simp (f, h, j) (sym (edge_alone mark (plain Open) (plain Comma) (plain Close) (spelled_node m) (spelled_node n) (spelled_labels l))),
+)
 
 labels_comma : Keeps LabelsPhrase Comma (Part LabelPhrase ∷ Part SecondLabel ∷ [])
 labels_comma _ _ _ (part (l, e, f) (part (None, g, h) none)) = (labelled l, simp (e, g), simp (f, h))
@@ -261,10 +276,11 @@ nodes_close _ _ _ none = (empty, refl, refl)
 
 nodes_open : Keeps Nodes Open (Class Name ∷ Class Comma ∷ Part Location ∷ Class Close ∷ Part MoreNodes ∷ [])
 nodes_open _ _ _ (class w (class _ (part (l, e, f) (class _ (part (o, g, h) none))))) =
-    let others = spelled_others spelled_node o.0 o.1 in
-    (some (node_at w l) o.0 o.1,
+    let others = spelled_others spelled_node o.0 o.1 in (
+      some (node_at w l) o.0 o.1,
       simp (e, g, append-nil) (sym (node_behind (plain Open) (name_ w) (plain Comma) (plain Close) (spelled_location l.0 l.1) others)),
-      simp (f, h, append-nil) (sym (node_lexemes mark (plain Open) (name_ w) (plain Comma) (plain Close) (spelled_location l.0 l.1) others)))
+      simp (f, h, append-nil) (sym (node_lexemes mark (plain Open) (name_ w) (plain Comma) (plain Close) (spelled_location l.0 l.1) others)),
+    )
 
 more_nodes_close : Keeps MoreNodes CloseBracket []
 more_nodes_close _ _ _ none = (([], false), refl, refl)
@@ -278,10 +294,11 @@ edges_close _ _ _ none = (empty, refl, refl)
 
 edges_open : Keeps Edges Open (Part Node ∷ Class Comma ∷ Part Node ∷ Part LabelsPhrase ∷ Class Close ∷ Part MoreEdges ∷ [])
 edges_open _ _ _ (part (m, e, f) (class _ (part (n, g, h) (part (l, i, j) (class _ (part (o, k, p) none)))))) =
-    let others = spelled_others spelled_edge o.0 o.1 in
-    (some (edge_between m n l) o.0 o.1,
+    let others = spelled_others spelled_edge o.0 o.1 in (
+      some (edge_between m n l) o.0 o.1,
       simp (e, g, i, k, append-nil) (sym (edge_behind (plain Open) (plain Comma) (plain Close) (spelled_node m) (spelled_node n) (spelled_labels l) others)),
-      simp (f, h, j, p, append-nil) (sym (edge_lexemes mark (plain Open) (plain Comma) (plain Close) (spelled_node m) (spelled_node n) (spelled_labels l) others)))
+      simp (f, h, j, p, append-nil) (sym (edge_lexemes mark (plain Open) (plain Comma) (plain Close) (spelled_node m) (spelled_node n) (spelled_labels l) others)),
+    )
 
 more_edges_close : Keeps MoreEdges CloseBracket []
 more_edges_close _ _ _ none = (([], false), refl, refl)

@@ -73,9 +73,12 @@ parted_before a disjoins l g p = record {
   no_implies = tt;
   no_disjoins = tt;
   split = IsSplit.single;
-  disjoined = (p.disjoints,
+  disjoined = (
+    p.disjoints,
     disjoints_split p.conjunction p.disjoints g.now g.disjoined p.no_implies p.no_disjoins p.split p.disjoined,
-    disjoints_lack p.conjunction p.disjoints g.disjoined p.no_implies p.disjoined, refl);
+    disjoints_lack p.conjunction p.disjoints g.disjoined p.no_implies p.disjoined,
+    refl,
+  );
   implied = longer a disjoins p.disjoints l g.implied p.implied;
 }
 parted_before a implies l g p = record {

@@ -1,12 +1,15 @@
 -- One step of the descent over formulas, as the code takes it.
-use Rattle.std.proofs.Common.{◌≡◌, ◌≢◌, Bool, List, [], ◌++◌, Result, Ok, Err, IfOk, refl, sym, subst, ap, ◌∙◌}
+use Rattle.std.proofs.Common.{◌≡◌, Bool, List, [], ◌∷◌, ◌++◌, Result, Ok, Err, IfOk, refl, sym, subst, ap, ◌∙◌}
 use Rattle.pc_common.specs.declared.place.Place.{Place}
 use Rattle.pc_syntax.specs.declared.term.Sort.{Sort}
-use Rattle.pc_syntax.specs.Written.{Written, not_}
+use Rattle.pc_syntax.specs.Written.{Written, written, not_}
 use Rattle.uspec_parser.specs.Terminals.{Lexeme}
-use Rattle.uspec_parser.specs.Operands.{Operands, only, joined, grouped, Connective}
+use Rattle.uspec_parser.specs.Operands.{Operands, joined, grouped}
+use Rattle.uspec_parser.specs.Grouping.{joins, operands_before}
+use Rattle.uspec_parser.specs.declared.operands.Joined.{Joined}
+use Rattle.uspec_parser.proofs.Grouping.{operands_before-push}
 use Rattle.uspec_parser.specs.Syntax.{quantified}
-use Rattle.uspec_parser.specs.Descent.{next, behind, word, place, sort_by, Atom, Start, negation, bracket, quantifier, no_opener, start, Operand, Row, Tail}
+use Rattle.uspec_parser.specs.Descent.{next, behind, word, place, sort_by, Atom, quantifier, no_opener, start, Operand, Row}
 use Rattle.uspec_parser.specs.declared.terminal.Terminal.{Terminal}
 use Rattle.uspec_parser.specs.declared.terminal.Terminal.TheVariants.{Not, Open, Forall, Exists}
 use Rattle.std.proofs.Common.{ℕ}
@@ -36,7 +39,7 @@ pub bound : (universal : Bool) (xs ys rest : List Lexeme) (w v : Written) (at : 
     → RowOf ys w rest → v ≡ w → Operand xs (quantified universal at sort name v) rest
 bound universal xs ys rest w v at sort name e left at_is sort_is name_is (l, r, same) body =
     let one : quantified universal (place xs) (sort_by (next (behind xs))) (word (behind (behind xs))).name (grouped l)
-        ≡ quantified universal at sort name v = cc in
+    ≡ quantified universal at sort name v = cc in
     subst (λ (z : Written). Operand xs z rest) one
     (Operand.bound universal e (subst (λ (zs : List Lexeme). Row zs l rest) left r))
 
@@ -50,3 +53,10 @@ start-none _ n o f e = refl
 pub atom : (t : Terminal) (xs rest : List Lexeme) (w : Written) → t ≡ next xs
     → (t ≡ Not → ⊥) → (t ≡ Open → ⊥) → (t ≡ Forall → ⊥) → (t ≡ Exists → ⊥) → Atom (next xs) xs w rest → Operand xs w rest
 atom t xs rest w same n o f e a = Operand.atom (ap start (sym same) ∙ start-none t n o f e) a
+
+-- one operand more before what comes
+pub row_pushed : (xs rest : List Lexeme) (new old : List Joined) (j : Joined) (l : Operands) → new ≡ old ++ j ∷ []
+    → Row xs (operands_before old (joined (written j.operand) (joins j.connective) l)) rest → Row xs (operands_before new l) rest
+row_pushed xs rest new old j l e row_of =
+    subst (λ (js : List Joined). Row xs (operands_before js l) rest) (sym e)
+    (subst (λ (m : Operands). Row xs m rest) (sym (operands_before-push old j l)) row_of)

@@ -1,14 +1,14 @@
 -- What tokens tell beside their terminals, and texts of lexemes in place of texts of terminals.
-use Rattle.std.proofs.Common.{◌≡◌, ℕ, Bool, false, List, [], ◌∷◌, ◌++◌, Option, Some, None, IsTrue, MatchOption, map, refl, sym, ap, subst}
+use Rattle.std.proofs.Common.{◌≡◌, ℕ, Bool, false, List, [], ◌∷◌, ◌++◌, Option, Some, None, MatchOption, map, refl, sym, ap, subst}
 use Rattle.pc_common.specs.declared.place.Place.{Place}
 use Rattle.pc_syntax.specs.declared.term.Word.{Word}
 use Rattle.ll_grammar.specs.declared.grammar.Symbol.{Symbol}
 use Rattle.ll_grammar.specs.declared.grammar.Symbol.TheVariants.{Class, Part}
-use Rattle.ll_grammar.proofs.Meanings.{Each, IsKept}
+use Rattle.ll_grammar.proofs.Meanings.{Each}
 use Rattle.ll_grammar.proofs.Meanings.Each.{none as e_none, class as e_class, part as e_part}
 use Rattle.uspec_lexer.specs.Token.{Token}
 use Rattle.uspec_parser.specs.Terminals.{Lexeme, plain, placed, name_, quoted, number_, terminal, kept, lexeme, terminal_of, content, place_of, value}
-use Rattle.uspec_parser.specs.Phrases.{behind, may_end, deep, rules}
+use Rattle.uspec_parser.specs.Phrases.{deep}
 use Rattle.uspec_parser.specs.declared.terminal.Terminal.{Terminal}
 use Rattle.uspec_parser.specs.declared.terminal.Terminal.TheVariants.{Axiom, ExpandMacro, Forall, Exists, Name, Number, Quoted}
 use Rattle.uspec_parser.specs.declared.phrase.Phrase.{Phrase}

@@ -11,7 +11,7 @@ use Rattle.pc_syntax.specs.declared.term.NodeTerm.{NodeTerm}
 use Rattle.pc_syntax.specs.declared.term.EdgeTerm.{EdgeTerm}
 use Rattle.pc_syntax.specs.declared.model.StageItem.{StageItem}
 use Rattle.pc_syntax.specs.Written.{Written, not_, static_, nodes_, edges_, expand_, WrittenItem, axiom_, macro_}
-use Rattle.uspec_parser.specs.Terminals.{Lexeme, plain, placed, name_, quoted, number_, terminal}
+use Rattle.uspec_parser.specs.Terminals.{Lexeme, placed, name_, quoted, number_, terminal}
 use Rattle.uspec_parser.specs.Operands.{Connective, conjoins, disjoins, implies, Operands, only, joined, grouped}
 use Rattle.uspec_parser.specs.Syntax.{quantified}
 use Rattle.uspec_parser.specs.declared.terminal.Terminal.{Terminal}

@@ -1,8 +1,8 @@
 -- Which tokens of a text stand too deep: those that open with 128 openers open already.
 use Rattle.std.specs.Prelude.{◌≡◌, ℕ, ◌+◌, Bool, false, List, [], ◌∷◌, ◌++◌, map}
-use Rattle.uspec_parser.specs.Terminals.{Lexeme, quoted, terminal}
+use Rattle.uspec_parser.specs.Terminals.{quoted, terminal}
 use Rattle.uspec_parser.specs.Operands.{Connective, conjoins, disjoins, implies}
-use Rattle.uspec_parser.specs.Syntax.{Label, Quantifier, Formula, last, last_wide, more, Operand, atom, bracketed, negated, Wide, binding, negated_wide, Item, stage, axiom_item, macro, spelled_atom, spelled_formula, spelled_item, spelled_model}
+use Rattle.uspec_parser.specs.Syntax.{Formula, last, last_wide, more, Operand, atom, bracketed, negated, Wide, binding, negated_wide, Item, stage, axiom_item, macro, spelled_atom, spelled_formula, spelled_item, spelled_model}
 use Rattle.uspec_parser.specs.Levels.{is_deep, level_of, behind_and, behind_or, behind_implies}
 use Rattle.uspec_parser.specs.declared.level.Level.{Level}
 use Rattle.uspec_parser.specs.declared.terminal.Terminal.{Terminal}
@@ -29,10 +29,12 @@ abbrev mutual
   marks_formula l n (last_wide w) = marks_wide n w
   marks_formula l n (more u op f) =
       marks_operand n u ++ is_deep (open_at op l) ∷ marks_formula (level_behind op l) (open_at op l + 1) f
+
   pub marks_operand : ℕ → Operand → List Bool
   marks_operand n (atom a) = shallow (spelled_atom a)
   marks_operand n (bracketed f) = is_deep n ∷ (marks_formula (level_of (n + 1)) (n + 1) f ++ false ∷ [])
   marks_operand n (negated u) = is_deep n ∷ marks_operand (n + 1) u
+
   pub marks_wide : ℕ → Wide → List Bool
   marks_wide n (binding q f) = is_deep n ∷ false ∷ false ∷ false ∷ marks_formula (level_of (n + 1)) (n + 1) f
   marks_wide n (negated_wide w) = is_deep n ∷ marks_wide (n + 1) w

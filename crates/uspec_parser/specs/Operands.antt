@@ -1,6 +1,6 @@
 -- A list of operands is split at its first `=>`, if it has none at its first `\/`, if it has none at its first `/\`, and the
 -- lists on both sides are split likewise.
-use Rattle.std.specs.Prelude.{◌≡◌, ◌≢◌, Option, Some, None}
+use Rattle.std.specs.Prelude.{◌≢◌, Option, Some, None}
 use Rattle.pc_syntax.specs.Written.{Written, and_, or_, implies_}
 
 pub data Connective : Type 0 where

@@ -143,10 +143,12 @@ mutual
     last : Operand → Formula
     last_wide : Wide → Formula
     more : Operand → Connective → Formula → Formula
+
   pub data Operand : Type 0 where
     atom : Atom → Operand
     bracketed : Formula → Operand
     negated : Operand → Operand
+
   pub data Wide : Type 0 where
     binding : Quantifier → Formula → Wide
     negated_wide : Wide → Wide
@@ -156,10 +158,12 @@ abbrev mutual
   spelled_formula (last u) = spelled_operand u
   spelled_formula (last_wide w) = spelled_wide w
   spelled_formula (more u op f) = spelled_operand u ++ plain (spelled_connective op) ∷ spelled_formula f
+
   pub spelled_operand : Operand → List Lexeme
   spelled_operand (atom a) = spelled_atom a
   spelled_operand (bracketed f) = plain Open ∷ (spelled_formula f ++ plain Close ∷ [])
   spelled_operand (negated u) = plain Not ∷ spelled_operand u
+
   pub spelled_wide : Wide → List Lexeme
   spelled_wide (binding q f) = spelled_quantifier q ++ spelled_formula f
   spelled_wide (negated_wide w) = plain Not ∷ spelled_wide w
@@ -170,10 +174,12 @@ abbrev mutual
   meant_operands (last u) = only (meant_operand u)
   meant_operands (last_wide w) = only (meant_wide w)
   meant_operands (more u op f) = joined (meant_operand u) op (meant_operands f)
+
   pub meant_operand : Operand → Written
   meant_operand (atom a) = meant_atom a
   meant_operand (bracketed f) = grouped (meant_operands f)
   meant_operand (negated u) = not_ (meant_operand u)
+
   pub meant_wide : Wide → Written
   meant_wide (binding q f) = quantified q.universal q.at q.sort q.bound.name (grouped (meant_operands f))
   meant_wide (negated_wide w) = not_ (meant_wide w)

@@ -105,7 +105,10 @@ impl Cursor<'_> {
     fn head(&mut self, alloc: Global) -> Result<Head, Memory>
         requires { IsTrue (is_placed (next self.old)) }
         ensures head { IfOk result (λ h. h ≡ record {
-            at = place self.old; sort = sort_by (next (behind self.old)); name = (word (behind (behind self.old))).name }) }
+          at = place self.old;
+          sort = sort_by (next (behind self.old));
+          name = (word (behind (behind self.old))).name;
+        }) }
         ensures rest { OnOk result (self.new ≡ behind (behind (behind (behind self.old)))) }
     {
         let at = self.place();

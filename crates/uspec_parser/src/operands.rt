@@ -47,7 +47,11 @@ struct Grouping {
 }
 
 impl Grouping {
-    fn disjunction(alloc: Global, now: Formula, disjoined: Option<Formula>) -> Result<Formula, Memory>
+    fn disjunction(
+        alloc: Global,
+        now: Formula,
+        disjoined: Option<Formula>,
+    ) -> Result<Formula, Memory>
         ensures { IfOk result (λ f. written f ≡ or_now (written now) (written_option disjoined)) }
     {
         match disjoined {
@@ -75,10 +79,7 @@ impl Grouping {
     {
         match joined.connective {
             Connective::And => Ok(Grouping {
-                now: Formula::And(
-                    Box::new(alloc, joined.operand)?,
-                    Box::new(alloc, self.now)?,
-                ),
+                now: Formula::And(Box::new(alloc, joined.operand)?, Box::new(alloc, self.now)?),
                 disjoined: self.disjoined,
                 implied: self.implied,
             }),

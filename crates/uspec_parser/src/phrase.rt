@@ -50,7 +50,12 @@ impl Grammar<Terminal> for Phrase {
 
     fn may_end(self) -> bool {
         match self {
-            Phrase::Items | Phrase::Parameters | Phrase::More(_) | Phrase::Arguments | Phrase::Labels | Phrase::SecondLabel => true,
+            Phrase::Items
+            | Phrase::Parameters
+            | Phrase::More(_)
+            | Phrase::Arguments
+            | Phrase::Labels
+            | Phrase::SecondLabel => true,
             _ => false,
         }
     }
@@ -86,9 +91,36 @@ fn push_items(class: Terminal, stack: &mut Vec<Waiting>) -> Result<Step, AllocEr
     ensures { IfOk result (λ step. IsStep (behind Phrase.Items class) (deep Phrase.Items class) stack.old.items step stack.new.items) }
 {
     match class {
-        Terminal::StageName => push_body(stack, &[Symbol::Class(Terminal::Number), Symbol::Class(Terminal::Quoted), Symbol::Class(Terminal::Dot), Symbol::Part(Phrase::Items)]),
-        Terminal::Axiom => push_body(stack, &[Symbol::Part(Phrase::Label), Symbol::Class(Terminal::Colon), Symbol::Part(Phrase::Operand(Level::new(0), 0)), Symbol::Class(Terminal::Dot), Symbol::Part(Phrase::Items)]),
-        Terminal::DefineMacro => push_body(stack, &[Symbol::Class(Terminal::Quoted), Symbol::Part(Phrase::Parameters), Symbol::Class(Terminal::Colon), Symbol::Part(Phrase::Operand(Level::new(0), 0)), Symbol::Class(Terminal::Dot), Symbol::Part(Phrase::Items)]),
+        Terminal::StageName => push_body(
+            stack,
+            &[
+                Symbol::Class(Terminal::Number),
+                Symbol::Class(Terminal::Quoted),
+                Symbol::Class(Terminal::Dot),
+                Symbol::Part(Phrase::Items),
+            ],
+        ),
+        Terminal::Axiom => push_body(
+            stack,
+            &[
+                Symbol::Part(Phrase::Label),
+                Symbol::Class(Terminal::Colon),
+                Symbol::Part(Phrase::Operand(Level::new(0), 0)),
+                Symbol::Class(Terminal::Dot),
+                Symbol::Part(Phrase::Items),
+            ],
+        ),
+        Terminal::DefineMacro => push_body(
+            stack,
+            &[
+                Symbol::Class(Terminal::Quoted),
+                Symbol::Part(Phrase::Parameters),
+                Symbol::Class(Terminal::Colon),
+                Symbol::Part(Phrase::Operand(Level::new(0), 0)),
+                Symbol::Class(Terminal::Dot),
+                Symbol::Part(Phrase::Items),
+            ],
+        ),
         _ => Ok(Step::Absent),
     }
 }
@@ -112,21 +144,72 @@ fn push_label(class: Terminal, stack: &mut Vec<Waiting>) -> Result<Step, AllocEr
     }
 }
 
-fn push_operand(level: Level, opened: u8, class: Terminal, stack: &mut Vec<Waiting>) -> Result<Step, AllocError>
+fn push_operand(
+    level: Level,
+    opened: u8,
+    class: Terminal,
+    stack: &mut Vec<Waiting>,
+) -> Result<Step, AllocError>
     ensures { IfOk result (λ step. IsStep (behind (Phrase.Operand level opened) class) (deep (Phrase.Operand level opened) class) stack.old.items step stack.new.items) }
 {
     match class {
-        Terminal::OneEdge => push_body(stack, &[Symbol::Part(Phrase::Edge), Symbol::Part(Phrase::More(level))]),
-        Terminal::EdgeList => push_body(stack, &[Symbol::Class(Terminal::OpenBracket), Symbol::Part(Phrase::Edges), Symbol::Part(Phrase::More(level))]),
-        Terminal::OneNode => push_body(stack, &[Symbol::Part(Phrase::Node), Symbol::Part(Phrase::More(level))]),
-        Terminal::NodeList => push_body(stack, &[Symbol::Class(Terminal::OpenBracket), Symbol::Part(Phrase::Nodes), Symbol::Part(Phrase::More(level))]),
-        Terminal::ExpandMacro => push_body(stack, &[Symbol::Class(Terminal::Name), Symbol::Part(Phrase::Arguments), Symbol::Part(Phrase::More(level))]),
-        Terminal::Name => push_body(stack, &[Symbol::Part(Phrase::Arguments), Symbol::Part(Phrase::More(level))]),
+        Terminal::OneEdge => push_body(
+            stack,
+            &[
+                Symbol::Part(Phrase::Edge),
+                Symbol::Part(Phrase::More(level)),
+            ],
+        ),
+        Terminal::EdgeList => push_body(
+            stack,
+            &[
+                Symbol::Class(Terminal::OpenBracket),
+                Symbol::Part(Phrase::Edges),
+                Symbol::Part(Phrase::More(level)),
+            ],
+        ),
+        Terminal::OneNode => push_body(
+            stack,
+            &[
+                Symbol::Part(Phrase::Node),
+                Symbol::Part(Phrase::More(level)),
+            ],
+        ),
+        Terminal::NodeList => push_body(
+            stack,
+            &[
+                Symbol::Class(Terminal::OpenBracket),
+                Symbol::Part(Phrase::Nodes),
+                Symbol::Part(Phrase::More(level)),
+            ],
+        ),
+        Terminal::ExpandMacro => push_body(
+            stack,
+            &[
+                Symbol::Class(Terminal::Name),
+                Symbol::Part(Phrase::Arguments),
+                Symbol::Part(Phrase::More(level)),
+            ],
+        ),
+        Terminal::Name => push_body(
+            stack,
+            &[
+                Symbol::Part(Phrase::Arguments),
+                Symbol::Part(Phrase::More(level)),
+            ],
+        ),
         Terminal::Open => {
             if opened >= MOST_OPEN {
                 return Ok(Step::Deep);
             }
-            push_body(stack, &[Symbol::Part(Phrase::Operand(Level::new(opened + 1), opened + 1)), Symbol::Class(Terminal::Close), Symbol::Part(Phrase::More(level))])
+            push_body(
+                stack,
+                &[
+                    Symbol::Part(Phrase::Operand(Level::new(opened + 1), opened + 1)),
+                    Symbol::Class(Terminal::Close),
+                    Symbol::Part(Phrase::More(level)),
+                ],
+            )
         }
         Terminal::Not => {
             if opened >= MOST_OPEN {
@@ -134,17 +217,19 @@ fn push_operand(level: Level, opened: u8, class: Terminal, stack: &mut Vec<Waiti
             }
             push_body(stack, &[Symbol::Part(Phrase::Operand(level, opened + 1))])
         }
-        Terminal::Forall => {
+        Terminal::Forall | Terminal::Exists => {
             if opened >= MOST_OPEN {
                 return Ok(Step::Deep);
             }
-            push_body(stack, &[Symbol::Part(Phrase::SortWord), Symbol::Class(Terminal::Quoted), Symbol::Class(Terminal::Comma), Symbol::Part(Phrase::Operand(Level::new(opened + 1), opened + 1))])
-        }
-        Terminal::Exists => {
-            if opened >= MOST_OPEN {
-                return Ok(Step::Deep);
-            }
-            push_body(stack, &[Symbol::Part(Phrase::SortWord), Symbol::Class(Terminal::Quoted), Symbol::Class(Terminal::Comma), Symbol::Part(Phrase::Operand(Level::new(opened + 1), opened + 1))])
+            push_body(
+                stack,
+                &[
+                    Symbol::Part(Phrase::SortWord),
+                    Symbol::Class(Terminal::Quoted),
+                    Symbol::Class(Terminal::Comma),
+                    Symbol::Part(Phrase::Operand(Level::new(opened + 1), opened + 1)),
+                ],
+            )
         }
         _ => Ok(Step::Absent),
     }
@@ -158,19 +243,28 @@ fn push_more(level: Level, class: Terminal, stack: &mut Vec<Waiting>) -> Result<
             if level.at_and >= MOST_OPEN {
                 return Ok(Step::Deep);
             }
-            push_body(stack, &[Symbol::Part(Phrase::Operand(level.behind_and(), level.at_and + 1))])
+            push_body(
+                stack,
+                &[Symbol::Part(Phrase::Operand(level.behind_and(), level.at_and + 1))],
+            )
         }
         Terminal::Or => {
             if level.at_or >= MOST_OPEN {
                 return Ok(Step::Deep);
             }
-            push_body(stack, &[Symbol::Part(Phrase::Operand(level.behind_or(), level.at_or + 1))])
+            push_body(
+                stack,
+                &[Symbol::Part(Phrase::Operand(level.behind_or(), level.at_or + 1))],
+            )
         }
         Terminal::Implies => {
             if level.at_implies >= MOST_OPEN {
                 return Ok(Step::Deep);
             }
-            push_body(stack, &[Symbol::Part(Phrase::Operand(level.behind_implies(), level.at_implies + 1))])
+            push_body(
+                stack,
+                &[Symbol::Part(Phrase::Operand(level.behind_implies(), level.at_implies + 1))],
+            )
         }
         _ => Ok(Step::Absent),
     }
@@ -200,7 +294,15 @@ fn push_node(class: Terminal, stack: &mut Vec<Waiting>) -> Result<Step, AllocErr
     ensures { IfOk result (λ step. IsStep (behind Phrase.Node class) (deep Phrase.Node class) stack.old.items step stack.new.items) }
 {
     match class {
-        Terminal::Open => push_body(stack, &[Symbol::Class(Terminal::Name), Symbol::Class(Terminal::Comma), Symbol::Part(Phrase::Location), Symbol::Class(Terminal::Close)]),
+        Terminal::Open => push_body(
+            stack,
+            &[
+                Symbol::Class(Terminal::Name),
+                Symbol::Class(Terminal::Comma),
+                Symbol::Part(Phrase::Location),
+                Symbol::Class(Terminal::Close),
+            ],
+        ),
         _ => Ok(Step::Absent),
     }
 }
@@ -210,7 +312,15 @@ fn push_location(class: Terminal, stack: &mut Vec<Waiting>) -> Result<Step, Allo
 {
     match class {
         Terminal::Name => push_body(stack, &[]),
-        Terminal::Open => push_body(stack, &[Symbol::Part(Phrase::Argument), Symbol::Class(Terminal::Comma), Symbol::Class(Terminal::Name), Symbol::Class(Terminal::Close)]),
+        Terminal::Open => push_body(
+            stack,
+            &[
+                Symbol::Part(Phrase::Argument),
+                Symbol::Class(Terminal::Comma),
+                Symbol::Class(Terminal::Name),
+                Symbol::Class(Terminal::Close),
+            ],
+        ),
         _ => Ok(Step::Absent),
     }
 }
@@ -219,7 +329,16 @@ fn push_edge(class: Terminal, stack: &mut Vec<Waiting>) -> Result<Step, AllocErr
     ensures { IfOk result (λ step. IsStep (behind Phrase.Edge class) (deep Phrase.Edge class) stack.old.items step stack.new.items) }
 {
     match class {
-        Terminal::Open => push_body(stack, &[Symbol::Part(Phrase::Node), Symbol::Class(Terminal::Comma), Symbol::Part(Phrase::Node), Symbol::Part(Phrase::Labels), Symbol::Class(Terminal::Close)]),
+        Terminal::Open => push_body(
+            stack,
+            &[
+                Symbol::Part(Phrase::Node),
+                Symbol::Class(Terminal::Comma),
+                Symbol::Part(Phrase::Node),
+                Symbol::Part(Phrase::Labels),
+                Symbol::Class(Terminal::Close),
+            ],
+        ),
         _ => Ok(Step::Absent),
     }
 }
@@ -228,7 +347,13 @@ fn push_labels(class: Terminal, stack: &mut Vec<Waiting>) -> Result<Step, AllocE
     ensures { IfOk result (λ step. IsStep (behind Phrase.Labels class) (deep Phrase.Labels class) stack.old.items step stack.new.items) }
 {
     match class {
-        Terminal::Comma => push_body(stack, &[Symbol::Part(Phrase::Label), Symbol::Part(Phrase::SecondLabel)]),
+        Terminal::Comma => push_body(
+            stack,
+            &[
+                Symbol::Part(Phrase::Label),
+                Symbol::Part(Phrase::SecondLabel),
+            ],
+        ),
         _ => Ok(Step::Absent),
     }
 }
@@ -257,7 +382,16 @@ fn push_nodes(class: Terminal, stack: &mut Vec<Waiting>) -> Result<Step, AllocEr
 {
     match class {
         Terminal::CloseBracket => push_body(stack, &[]),
-        Terminal::Open => push_body(stack, &[Symbol::Class(Terminal::Name), Symbol::Class(Terminal::Comma), Symbol::Part(Phrase::Location), Symbol::Class(Terminal::Close), Symbol::Part(Phrase::MoreNodes)]),
+        Terminal::Open => push_body(
+            stack,
+            &[
+                Symbol::Class(Terminal::Name),
+                Symbol::Class(Terminal::Comma),
+                Symbol::Part(Phrase::Location),
+                Symbol::Class(Terminal::Close),
+                Symbol::Part(Phrase::MoreNodes),
+            ],
+        ),
         _ => Ok(Step::Absent),
     }
 }
@@ -277,7 +411,17 @@ fn push_edges(class: Terminal, stack: &mut Vec<Waiting>) -> Result<Step, AllocEr
 {
     match class {
         Terminal::CloseBracket => push_body(stack, &[]),
-        Terminal::Open => push_body(stack, &[Symbol::Part(Phrase::Node), Symbol::Class(Terminal::Comma), Symbol::Part(Phrase::Node), Symbol::Part(Phrase::Labels), Symbol::Class(Terminal::Close), Symbol::Part(Phrase::MoreEdges)]),
+        Terminal::Open => push_body(
+            stack,
+            &[
+                Symbol::Part(Phrase::Node),
+                Symbol::Class(Terminal::Comma),
+                Symbol::Part(Phrase::Node),
+                Symbol::Part(Phrase::Labels),
+                Symbol::Class(Terminal::Close),
+                Symbol::Part(Phrase::MoreEdges),
+            ],
+        ),
         _ => Ok(Step::Absent),
     }
 }

@@ -165,14 +165,20 @@ fn show(out: &mut Vec<u8>, formula: &Formula) -> Result<(), AllocError> {
             out.push(b')')?;
         }
         Formula::Forall {
-            sort, name, body, ..
+            sort,
+            name,
+            body,
+            ..
         } => {
             show_head(out, b"Forall(", *sort, name.as_slice())?;
             show(out, body)?;
             out.push(b')')?;
         }
         Formula::Exists {
-            sort, name, body, ..
+            sort,
+            name,
+            body,
+            ..
         } => {
             show_head(out, b"Exists(", *sort, name.as_slice())?;
             show(out, body)?;
@@ -269,6 +275,9 @@ fn a_model_ends_at_the_first_token_of_no_item(rt: HostRuntime) -> Result<(), Fai
     let text: &[u8] = b"Axiom \"x\": True. True.";
     assert!(rt; text.len() < 1000);
     let read = tokens(rt.alloc(), text)?;
-    assert_eq!(rt; parse_model(rt.alloc(), &read).err(), Some(ParseFault::Syntax(5)));
+    assert_eq!(rt;
+        parse_model(rt.alloc(), &read).err(),
+        Some(ParseFault::Syntax(5))
+    );
     Ok(())
 }

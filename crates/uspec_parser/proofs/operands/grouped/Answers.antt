@@ -1,7 +1,7 @@
-use Rattle.std.proofs.Common.{◌≡◌, ℕ, zero, suc, [], ◌∷◌, ◌++◌, sym, subst, ap, ◌∙◌, List, length, refl, Result, Ok, Err, IfOk, arith}
-use Rattle.pc_syntax.specs.Written.{Written, written}
-use Rattle.uspec_parser.specs.Operands.{before, whole, only, grouped, Grouped}
-use Rattle.uspec_parser.specs.Grouping.{joins, grouped_before, written_grouping, operands_before}
+use Rattle.std.proofs.Common.{◌≡◌, [], ◌∷◌, sym, ap, ◌∙◌, List, length, refl, arith}
+use Rattle.pc_syntax.specs.Written.{written}
+use Rattle.uspec_parser.specs.Operands.{whole, only, grouped, Grouped}
+use Rattle.uspec_parser.specs.Grouping.{grouped_before, written_grouping, operands_before}
 use Rattle.uspec_parser.specs.declared.operands.Joined.{Joined}
 use Rattle.uspec_parser.proofs.Grouping.{grouped_before-push, group-operands}
 use Rattle.uspec_parser.proofs.Steps.{ok_map}

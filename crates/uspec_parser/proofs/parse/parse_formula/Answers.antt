@@ -1,6 +1,6 @@
-use Rattle.std.proofs.Common.{◌≡◌, List, map, subst, ◌∙◌}
+use Rattle.std.proofs.Common.{List, subst, ◌∙◌}
 use Rattle.pc_syntax.specs.Written.{written}
-use Rattle.uspec_parser.specs.Terminals.{Lexeme, lexeme}
+use Rattle.uspec_parser.specs.Terminals.{Lexeme}
 use Rattle.uspec_parser.specs.Marks.{IsMarkedFormula}
 use Rattle.uspec_parser.specs.Answers.{terminals}
 use Rattle.uspec_parser.proofs.Steps.{RowOf}

@@ -1,6 +1,6 @@
-use Rattle.std.proofs.Common.{◌≡◌, List, map, subst, ◌∙◌}
+use Rattle.std.proofs.Common.{List, subst, ◌∙◌}
 use Rattle.pc_syntax.specs.Written.{written_model}
-use Rattle.uspec_parser.specs.Terminals.{Lexeme, lexeme}
+use Rattle.uspec_parser.specs.Terminals.{Lexeme}
 use Rattle.uspec_parser.specs.Marks.{IsMarkedModel}
 use Rattle.uspec_parser.specs.Answers.{terminals}
 use Rattle.uspec_parser.specs.Descent.{Items}

@@ -1,15 +1,13 @@
-use Rattle.std.proofs.Common.{◌≡◌, ◌≤◌, ◌<◌, true, false, List, [], ◌∷◌, ◌++◌, length, sym, subst, ap, ◌∙◌, refl, Result, Ok, Err, IfOk, arith}
-use Rattle.pc_syntax.specs.declared.formula.Formula.{Formula}
-use Rattle.pc_syntax.specs.Written.{Written, written}
+use Rattle.std.proofs.Common.{◌≡◌, ◌<◌, true, false, List, length, sym, subst, ap, ◌∙◌, arith}
+use Rattle.pc_syntax.specs.Written.{written}
 use Rattle.uspec_parser.specs.Terminals.{Lexeme}
-use Rattle.uspec_parser.specs.Operands.{Operands, only, joined, grouped}
+use Rattle.uspec_parser.specs.Operands.{only, joined, grouped}
 use Rattle.uspec_parser.specs.Grouping.{joins, operands_before}
 use Rattle.uspec_parser.specs.declared.formulas.Head.{Head}
 use Rattle.uspec_parser.specs.declared.operands.Joined.{Joined}
-use Rattle.uspec_parser.specs.Descent.{start, next, behind, connective, Atom, Operand, Row, Tail}
-use Rattle.uspec_parser.proofs.Grouping.{operands_before-push}
+use Rattle.uspec_parser.specs.Descent.{start, next, connective, Atom, Operand, Row, Tail}
 use Rattle.uspec_parser.proofs.Shorter.{operand_no_longer, behind_connective, behind_no_longer}
-use Rattle.uspec_parser.proofs.Steps.{ok_map, negated, bracketed, bound, atom, RowOf}
+use Rattle.uspec_parser.proofs.Steps.{row_pushed, ok_map, negated, bracketed, bound, atom, RowOf}
 use Rattle.uspec_parser.proofs.cursor.Cursor.+formula.Goals as goal
 
 pub operand-returns-in_ok-new-in-Not : goal.operand-returns-in_ok-new-in-Not
@@ -76,8 +74,7 @@ formula-loop-connective-preserved t c =
           let operand = subst (λ (xs : List Lexeme). Operand xs (written c.in_ok-last-2.last) c.operand-in-Some.new.self) c.skip.ensures c.in_ok-last-2.ensures in
           let longer = Tail.goes_on {w = last} op (ap connective (sym c.next.ensures) ∙ c.in-Some.ensures) operand tail in
           let all = c.loop-connective.invariant.1 (joined last op more) rest longer in
-          subst (λ (js : List Joined). Row c.args.self.now (operands_before js more) rest) (sym c.in_ok-push.ensures.items)
-          (subst (λ (l : Operands). Row c.args.self.now l rest) (sym (operands_before-push items j more)) all),
+          row_pushed c.args.self.now rest c.push.new.self.items items j more c.in_ok-push.ensures.items all,
     )
 
 pub formula-returns : goal.formula-returns

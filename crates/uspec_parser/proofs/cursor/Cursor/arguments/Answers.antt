@@ -1,4 +1,4 @@
-use Rattle.std.proofs.Common.{◌≡◌, [], ◌∷◌, ◌++◌, sym, subst, ap, ◌∙◌, List}
+use Rattle.std.proofs.Common.{[], ◌∷◌, sym, subst, ◌∙◌, List}
 use Rattle.std.proofs.lemmas.List.{append-nil}
 use Rattle.pc_syntax.specs.declared.term.Arg.{Arg}
 use Rattle.uspec_parser.specs.Terminals.{Lexeme}

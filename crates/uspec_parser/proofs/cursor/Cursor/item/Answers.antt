@@ -5,7 +5,7 @@ use Rattle.pc_syntax.specs.Written.{WrittenItem, written_item, axiom_}
 use Rattle.pc_syntax.specs.declared.model.Item.{Item as ItemTree}
 use Rattle.uspec_parser.specs.Terminals.{Lexeme}
 use Rattle.uspec_parser.specs.Operands.{grouped}
-use Rattle.uspec_parser.specs.Descent.{next, place, behind, begins_item, stage_item, macro_item, Item}
+use Rattle.uspec_parser.specs.Descent.{place, begins_item, stage_item, macro_item, Item}
 use Rattle.uspec_parser.specs.declared.terminal.Terminal.{Terminal}
 use Rattle.uspec_parser.specs.declared.terminal.Terminal.TheVariants.{StageName, Axiom, DefineMacro}
 use Rattle.uspec_parser.proofs.cursor.Cursor.item.Goals as goal

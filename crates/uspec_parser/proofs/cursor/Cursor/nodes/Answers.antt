@@ -1,4 +1,4 @@
-use Rattle.std.proofs.Common.{◌≡◌, ◌<◌, ◌≤◌, [], ◌∷◌, ◌++◌, length, sym, subst, ap, ◌∙◌, List, arith}
+use Rattle.std.proofs.Common.{◌≡◌, ◌<◌, [], ◌∷◌, length, sym, subst, ap, ◌∙◌, List, arith}
 use Rattle.std.proofs.lemmas.List.{append-nil}
 use Rattle.pc_syntax.specs.declared.term.NodeTerm.{NodeTerm}
 use Rattle.uspec_parser.specs.Terminals.{Lexeme}
