@@ -1,4 +1,5 @@
-ghost use Rattle.std.specs.Prelude.{◌≡◌, IfOk};
+ghost use Rattle.std.specs.Prelude.{◌≡◌, ◌∷◌, [], ◌++◌, reverse, IfOk, OnOk};
+ghost use Rattle.uspec_parser.specs.Levels.{level_of};
 ghost use Rattle.ll_grammar.specs.Steps.{IsStep};
 ghost use Rattle.uspec_parser.specs.Phrases.{behind, deep, rules as rules_spec, follow as follow_spec, is_predictable, has_texts as texts_spec};
 
@@ -144,6 +145,26 @@ fn push_label(class: Terminal, stack: &mut Vec<Waiting>) -> Result<Step, AllocEr
     }
 }
 
+/// A formula within this many openers.
+fn within(opened: u8) -> Waiting
+    ensures { result ≡ Symbol.Part (Phrase.Operand (level_of opened) opened) }
+{
+    Symbol::Part(Phrase::Operand(Level::new(opened), opened))
+}
+
+/// Pushes `body`, and behind it what follows an operand of a list.
+fn push_in_list(
+    stack: &mut Vec<Waiting>,
+    body: &[Waiting],
+    level: Level,
+) -> Result<Step, AllocError>
+    ensures pushed { IfOk result (λ step. step ≡ Step.Pushed) }
+    ensures items { OnOk result (stack.new.items ≡ stack.old.items ++ reverse (body.now ++ Symbol.Part (Phrase.More level) ∷ [])) }
+{
+    stack.push(Symbol::Part(Phrase::More(level)))?;
+    push_body(stack, body)
+}
+
 fn push_operand(
     level: Level,
     opened: u8,
@@ -153,62 +174,41 @@ fn push_operand(
     ensures { IfOk result (λ step. IsStep (behind (Phrase.Operand level opened) class) (deep (Phrase.Operand level opened) class) stack.old.items step stack.new.items) }
 {
     match class {
-        Terminal::OneEdge => push_body(
-            stack,
-            &[
-                Symbol::Part(Phrase::Edge),
-                Symbol::Part(Phrase::More(level)),
-            ],
-        ),
-        Terminal::EdgeList => push_body(
+        Terminal::OneEdge => push_in_list(stack, &[Symbol::Part(Phrase::Edge)], level),
+        Terminal::EdgeList => push_in_list(
             stack,
             &[
                 Symbol::Class(Terminal::OpenBracket),
                 Symbol::Part(Phrase::Edges),
-                Symbol::Part(Phrase::More(level)),
             ],
+            level,
         ),
-        Terminal::OneNode => push_body(
-            stack,
-            &[
-                Symbol::Part(Phrase::Node),
-                Symbol::Part(Phrase::More(level)),
-            ],
-        ),
-        Terminal::NodeList => push_body(
+        Terminal::OneNode => push_in_list(stack, &[Symbol::Part(Phrase::Node)], level),
+        Terminal::NodeList => push_in_list(
             stack,
             &[
                 Symbol::Class(Terminal::OpenBracket),
                 Symbol::Part(Phrase::Nodes),
-                Symbol::Part(Phrase::More(level)),
             ],
+            level,
         ),
-        Terminal::ExpandMacro => push_body(
+        Terminal::ExpandMacro => push_in_list(
             stack,
             &[
                 Symbol::Class(Terminal::Name),
                 Symbol::Part(Phrase::Arguments),
-                Symbol::Part(Phrase::More(level)),
             ],
+            level,
         ),
-        Terminal::Name => push_body(
-            stack,
-            &[
-                Symbol::Part(Phrase::Arguments),
-                Symbol::Part(Phrase::More(level)),
-            ],
-        ),
+        Terminal::Name => push_in_list(stack, &[Symbol::Part(Phrase::Arguments)], level),
         Terminal::Open => {
             if opened >= MOST_OPEN {
                 return Ok(Step::Deep);
             }
-            push_body(
+            push_in_list(
                 stack,
-                &[
-                    Symbol::Part(Phrase::Operand(Level::new(opened + 1), opened + 1)),
-                    Symbol::Class(Terminal::Close),
-                    Symbol::Part(Phrase::More(level)),
-                ],
+                &[within(opened + 1), Symbol::Class(Terminal::Close)],
+                level,
             )
         }
         Terminal::Not => {
@@ -227,7 +227,7 @@ fn push_operand(
                     Symbol::Part(Phrase::SortWord),
                     Symbol::Class(Terminal::Quoted),
                     Symbol::Class(Terminal::Comma),
-                    Symbol::Part(Phrase::Operand(Level::new(opened + 1), opened + 1)),
+                    within(opened + 1),
                 ],
             )
         }
