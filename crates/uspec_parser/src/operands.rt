@@ -1,6 +1,6 @@
 ghost use Rattle.std.specs.Prelude.{◌≡◌, IfOk, MatchOption, Some, None};
 ghost use Rattle.pc_syntax.specs.Written.{written, and_, or_, implies_};
-ghost use Rattle.uspec_parser.specs.Operands.{only, or_now, before as before_spec, whole as whole_spec, grouped as grouped_spec};
+ghost use Rattle.uspec_parser.specs.Operands.{conjoins, disjoins, implies, only, or_now, before as before_spec, whole as whole_spec, grouped as grouped_spec};
 ghost use Rattle.uspec_parser.specs.Grouping.{joins, operands_before, written_option, written_grouping};
 ghost use Rattle.uspec_parser.specs.Descent.{connective as connective_spec};
 
@@ -73,26 +73,47 @@ impl Grouping {
         }
     }
 
-    /// The same with an operand before it.
+    /// The same behind an operand and a `/\`.
+    fn behind_and(self, alloc: Global, operand: Formula) -> Result<Grouping, Memory>
+        ensures { IfOk result (λ g. written_grouping g ≡ before_spec (written operand) conjoins (written_grouping self)) }
+    {
+        Ok(Grouping {
+            now: Formula::And(Box::new(alloc, operand)?, Box::new(alloc, self.now)?),
+            disjoined: self.disjoined,
+            implied: self.implied,
+        })
+    }
+
+    /// The same behind an operand and a `\/`.
+    fn behind_or(self, alloc: Global, operand: Formula) -> Result<Grouping, Memory>
+        ensures { IfOk result (λ g. written_grouping g ≡ before_spec (written operand) disjoins (written_grouping self)) }
+    {
+        Ok(Grouping {
+            now: operand,
+            disjoined: Some(Grouping::disjunction(alloc, self.now, self.disjoined)?),
+            implied: self.implied,
+        })
+    }
+
+    /// The same behind an operand and a `=>`.
+    fn behind_implies(self, alloc: Global, operand: Formula) -> Result<Grouping, Memory>
+        ensures { IfOk result (λ g. written_grouping g ≡ before_spec (written operand) implies (written_grouping self)) }
+    {
+        Ok(Grouping {
+            now: operand,
+            disjoined: None,
+            implied: Some(self.whole(alloc)?),
+        })
+    }
+
+    /// The same behind an operand and its connective.
     fn before(self, alloc: Global, joined: Joined) -> Result<Grouping, Memory>
         ensures { IfOk result (λ g. written_grouping g ≡ before_spec (written joined.operand) (joins joined.connective) (written_grouping self)) }
     {
         match joined.connective {
-            Connective::And => Ok(Grouping {
-                now: Formula::And(Box::new(alloc, joined.operand)?, Box::new(alloc, self.now)?),
-                disjoined: self.disjoined,
-                implied: self.implied,
-            }),
-            Connective::Or => Ok(Grouping {
-                now: joined.operand,
-                disjoined: Some(Grouping::disjunction(alloc, self.now, self.disjoined)?),
-                implied: self.implied,
-            }),
-            Connective::Implies => Ok(Grouping {
-                now: joined.operand,
-                disjoined: None,
-                implied: Some(self.whole(alloc)?),
-            }),
+            Connective::And => self.behind_and(alloc, joined.operand),
+            Connective::Or => self.behind_or(alloc, joined.operand),
+            Connective::Implies => self.behind_implies(alloc, joined.operand),
         }
     }
 }
