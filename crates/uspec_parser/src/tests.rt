@@ -1,4 +1,7 @@
 use crate::fault::ParseFault;
+use crate::laws::{
+    formula_texts, model_texts, one_answer, one_formula_tree, one_model_tree, split_of_operands,
+};
 use crate::parse::{parse_formula, parse_model};
 use pc_syntax::{Arg, EdgeTerm, Formula, Item, NodeTerm, Sort};
 use std::alloc::AllocError;
@@ -279,5 +282,17 @@ fn a_model_ends_at_the_first_token_of_no_item(rt: HostRuntime) -> Result<(), Fai
         parse_model(rt.alloc(), &read).err(),
         Some(ParseFault::Syntax(5))
     );
+    Ok(())
+}
+
+#[test]
+fn the_laws_can_be_called(rt: HostRuntime) -> Result<(), Fail> {
+    let read = tokens(rt.alloc(), b"True")?;
+    split_of_operands();
+    one_model_tree(&read);
+    one_formula_tree(&read);
+    model_texts(&read);
+    formula_texts(&read);
+    one_answer(&read);
     Ok(())
 }
