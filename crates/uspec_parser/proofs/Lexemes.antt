@@ -1,0 +1,45 @@
+-- The lexemes that are left, by the place of the next token.
+use Rattle.std.proofs.Common.{◌≡◌, ℕ, zero, suc, ◌<◌, ◌≤◌, List, [], ◌∷◌, ◌++◌, Some, length, map, take, drop, slice_get, slice_index_or, refl, sym, ap, arith}
+use Rattle.uspec_lexer.specs.Token.{Token}
+use Rattle.uspec_parser.specs.Terminals.{terminal, terminal_of, kept, lexeme}
+use Rattle.uspec_parser.specs.Descent.{next, behind}
+use Rattle.uspec_parser.specs.declared.terminal.Terminal.{Terminal}
+use Rattle.uspec_parser.specs.declared.terminal.Terminal.TheVariants.{Name}
+
+-- what is kept of a token tells its terminal
+pub terminal-kept : (t : Terminal) (token : Token) → terminal (kept t token) ≡ t
+terminal-kept Name token = refl
+terminal-kept _ token = refl
+
+pub left_suc : (ts : List Token) (at : ℕ) (t : Token) → slice_get ts at ≡ Some t
+    → drop at (map lexeme ts) ≡ lexeme t ∷ drop (suc at) (map lexeme ts)
+left_suc [] at t e = absurd (cc)
+left_suc (x ∷ ts) zero t e = let same : x ≡ t = cc in ap (λ (y : Token). lexeme y ∷ map lexeme ts) same
+left_suc (x ∷ ts) (suc at) t e = left_suc ts at t e
+
+pub left_none : (ts : List Token) (at : ℕ) → length ts ≤ at → drop at (map lexeme ts) ≡ []
+left_none [] zero h = refl
+left_none [] (suc at) h = refl
+left_none (x ∷ ts) zero h = absurd (omega arith)
+left_none (x ∷ ts) (suc at) h = left_none ts at (omega arith)
+
+pub behind_left : (ts : List Token) (at : ℕ) → at < length ts → drop (suc at) (map lexeme ts) ≡ behind (drop at (map lexeme ts))
+behind_left [] at h = absurd (omega arith)
+behind_left (x ∷ ts) zero h = refl
+behind_left (x ∷ ts) (suc at) h = behind_left ts at (omega arith)
+
+pub behind_none : (ts : List Token) (at : ℕ) → length ts ≤ at → drop at (map lexeme ts) ≡ behind (drop at (map lexeme ts))
+behind_none ts at h = let e = left_none ts at h in cc
+
+pub next_left : (ts : List Token) (at : ℕ) (d : Terminal) → at < length ts
+    → slice_index_or (map terminal_of ts) at d ≡ next (drop at (map lexeme ts))
+next_left [] at d h = absurd (omega arith)
+next_left (x ∷ ts) zero d h = sym (terminal-kept (terminal_of x) x)
+next_left (x ∷ ts) (suc at) d h = next_left ts at d (omega arith)
+
+-- the terminals so far, with one more
+pub terminals_more : (ts : List Token) (k : ℕ) (t : Token) → slice_get ts k ≡ Some t
+    → map terminal_of (take (suc k) ts) ≡ map terminal_of (take k ts) ++ terminal_of t ∷ []
+terminals_more [] k t e = absurd (cc)
+terminals_more (x ∷ ts) zero t e = let same : x ≡ t = cc in ap (λ (y : Token). terminal_of y ∷ []) same
+terminals_more (x ∷ ts) (suc k) t e = ap (λ (cs : List Terminal). terminal_of x ∷ cs) (terminals_more ts k t e)

@@ -1,0 +1,12 @@
+pub mod Told
+pub mod Spelled
+pub mod Reading
+pub mod Lexemes
+pub mod Shorter
+pub mod Pushed
+pub mod Grouping
+pub mod Steps
+pub mod OneTree
+pub mod Complete
+pub mod Trees
+pub mod Split

@@ -1,0 +1,21 @@
+use Rattle.std.proofs.Common.{[], ◌∷◌, sym, subst, ◌∙◌, List}
+use Rattle.std.proofs.lemmas.List.{append-nil}
+use Rattle.pc_syntax.specs.declared.term.Arg.{Arg}
+use Rattle.uspec_parser.specs.Terminals.{Lexeme}
+use Rattle.uspec_parser.specs.Descent.{Arguments, argument}
+use Rattle.uspec_parser.specs.Descent.Arguments.{ends, goes_on}
+use Rattle.uspec_parser.proofs.Pushed.{pushed}
+use Rattle.uspec_parser.proofs.cursor.Cursor.arguments.Goals as goal
+
+pub loop-alloc-preserved : goal.loop-alloc-preserved
+loop-alloc-preserved c = λ more rest others.
+    let left = subst (λ (xs : List Lexeme). Arguments xs more rest) c.skip.ensures others in
+    let all = c.loop-alloc.invariant (argument c.loop-alloc.self ∷ more) rest
+    (goes_on (sym c.is_argument_next.ensures ∙ c.loop-alloc-test.true) left) in
+    subst (λ (args : List Arg). Arguments c.args.self.now args rest)
+    (pushed c.push.new.self c.loop-alloc.args more c.in_ok-argument.field-0 (argument c.loop-alloc.self) c.in_ok-push.ensures c.in_ok-argument.ensures) all
+
+pub returns : goal.returns
+returns c =
+    subst (λ (args : List Arg). Arguments c.args.self.now args c.loop-alloc.self) (append-nil c.loop-alloc.args)
+    (c.loop-alloc.invariant [] c.loop-alloc.self (ends (sym c.is_argument_next.ensures ∙ c.loop-alloc-test.false)))

@@ -1,0 +1,21 @@
+use Rattle.std.proofs.Common.{[], ◌∷◌, sym, subst, ◌∙◌, List}
+use Rattle.std.proofs.lemmas.List.{append-nil}
+use Rattle.pc_syntax.specs.declared.term.Word.{Word}
+use Rattle.uspec_parser.specs.Terminals.{Lexeme}
+use Rattle.uspec_parser.specs.Descent.{Parameters, word}
+use Rattle.uspec_parser.specs.Descent.Parameters.{ends, goes_on}
+use Rattle.uspec_parser.proofs.Pushed.{pushed}
+use Rattle.uspec_parser.proofs.cursor.Cursor.parameters.Goals as goal
+
+pub loop-alloc-preserved : goal.loop-alloc-preserved
+loop-alloc-preserved c = λ more rest others.
+    let left = subst (λ (xs : List Lexeme). Parameters xs more rest) c.skip.ensures others in
+    let all = c.loop-alloc.invariant (word c.loop-alloc.self ∷ more) rest
+    (goes_on (sym c.is_parameter_next.ensures ∙ c.loop-alloc-test.true) left) in
+    subst (λ (args : List Word). Parameters c.args.self.now args rest)
+    (pushed c.push.new.self c.loop-alloc.words more c.in_ok-word.field-0 (word c.loop-alloc.self) c.in_ok-push.ensures c.in_ok-word.ensures) all
+
+pub returns : goal.returns
+returns c =
+    subst (λ (args : List Word). Parameters c.args.self.now args c.loop-alloc.self) (append-nil c.loop-alloc.words)
+    (c.loop-alloc.invariant [] c.loop-alloc.self (ends (sym c.is_parameter_next.ensures ∙ c.loop-alloc-test.false)))

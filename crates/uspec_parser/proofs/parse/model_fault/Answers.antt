@@ -1,0 +1,12 @@
+use Rattle.ll_grammar.specs.Rules.{Derives}
+use Rattle.ll_grammar.proofs.Faults.{if_ok-along}
+use Rattle.uspec_parser.specs.Marks.{IsMarkedModel}
+use Rattle.uspec_parser.specs.Phrases.{rules}
+use Rattle.uspec_parser.specs.declared.phrase.Phrase.TheVariants.{Items}
+use Rattle.uspec_parser.proofs.Spelled.{marked_model_of}
+use Rattle.uspec_parser.proofs.Reading.{model_derived}
+use Rattle.uspec_parser.proofs.parse.model_fault.Goals as goal
+
+pub returns : goal.returns
+returns c =
+    if_ok-along (Derives rules Items) IsMarkedModel marked_model_of model_derived c.args.terminals.now c.first_fault.result c.first_fault.ensures

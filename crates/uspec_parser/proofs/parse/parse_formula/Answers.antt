@@ -1,0 +1,26 @@
+use Rattle.std.proofs.Common.{List, subst, ◌∙◌}
+use Rattle.pc_syntax.specs.Written.{written}
+use Rattle.uspec_parser.specs.Terminals.{Lexeme}
+use Rattle.uspec_parser.specs.Marks.{IsMarkedFormula}
+use Rattle.uspec_parser.specs.Answers.{terminals}
+use Rattle.uspec_parser.proofs.Steps.{RowOf}
+use Rattle.uspec_parser.proofs.Trees.{refusal_is, accepted_is, formula_tree}
+use Rattle.uspec_parser.proofs.parse.parse_formula.Goals as goal
+
+pub returns-in-Some-clause-fault : goal.returns-in-Some-clause-fault
+returns-in-Some-clause-fault c =
+    refusal_is IsMarkedFormula c.deref.result.now (terminals c.args.tokens.now) c.in_ok-fault.field-0 c.in-Some.fault c.refusal.result
+    c.in_ok-fault.ensures (c.deref.ensures.value ∙ c.in_ok-terminals.ensures) c.in-Some.is c.refusal.ensures
+
+pub returns-clause-accepted : goal.returns-clause-accepted
+returns-clause-accepted c =
+    accepted_is IsMarkedFormula c.deref.result.now (terminals c.args.tokens.now) c.in_ok-fault.field-0
+    c.in_ok-fault.ensures (c.deref.ensures.value ∙ c.in_ok-terminals.ensures) c.in_default.is
+
+pub returns-clause-tree : goal.returns-clause-tree
+returns-clause-tree c =
+    let accepted = accepted_is IsMarkedFormula c.deref.result.now (terminals c.args.tokens.now) c.in_ok-fault.field-0
+    c.in_ok-fault.ensures (c.deref.ensures.value ∙ c.in_ok-terminals.ensures) c.in_default.is in
+    let tree = written c.in_ok-formula.field-0 in
+    formula_tree c.args.tokens.now tree c.formula.new.self accepted
+    (subst (λ (xs : List Lexeme). RowOf xs tree c.formula.new.self) c.new-cursor.ensures c.in_ok-formula.ensures)

@@ -1,0 +1,23 @@
+-- What the answers of the two calls mean.
+use Rattle.std.specs.Prelude.{List, Bool, map, ⊤}
+use Rattle.ll_grammar.specs.FirstFault.{IsFirstFault}
+use Rattle.ll_grammar.specs.declared.fault.Fault.{Fault}
+use Rattle.ll_grammar.specs.declared.fault.Fault.TheVariants.{Syntax as syntax_fault, Depth as depth_fault}
+use Rattle.uspec_lexer.specs.Token.{Token}
+use Rattle.uspec_parser.specs.Terminals.{terminal_of}
+use Rattle.uspec_parser.specs.declared.terminal.Terminal.{Terminal}
+use Rattle.uspec_parser.specs.declared.fault.ParseFault.{ParseFault}
+use Rattle.uspec_parser.specs.declared.fault.ParseFault.TheVariants.{Syntax, Depth, Memory}
+
+abbrev pub terminals : List Token → List Terminal
+terminals tokens = map terminal_of tokens
+
+-- a fault of syntax or depth is the first fault of the tokens; want of memory is tied to nothing
+abbrev pub IsRefusal : (List Terminal → List Bool → Type 0) → List Terminal → ParseFault → Type 0
+IsRefusal Marked ts (Syntax k) = IsFirstFault Marked ts (syntax_fault k)
+IsRefusal Marked ts (Depth k) = IsFirstFault Marked ts (depth_fault k)
+IsRefusal Marked ts Memory = ⊤
+
+abbrev pub refusal_of : Fault → ParseFault
+refusal_of (syntax_fault k) = Syntax k
+refusal_of (depth_fault k) = Depth k

@@ -1,0 +1,236 @@
+-- The grammar of models as a table: what stands behind a token where a phrase begins with it.
+use Rattle.std.specs.Prelude.{◌≡◌, ℕ, ◌+◌, Bool, true, false, List, [], ◌∷◌, Option, Some, None, refl, slice_get}
+use Rattle.ll_grammar.specs.Rules.{Rules}
+use Rattle.ll_grammar.specs.Predictable.{IsPredictable, HasTexts}
+use Rattle.ll_grammar.specs.Tables.{predictable_by, texts_by, is_predictable_part, is_ranked_part}
+use Rattle.ll_grammar.specs.declared.grammar.Symbol.{Symbol}
+use Rattle.ll_grammar.specs.declared.grammar.Symbol.TheVariants.{Class, Part}
+use Rattle.uspec_parser.specs.declared.terminal.Terminal.{Terminal}
+use Rattle.uspec_parser.specs.declared.terminal.Terminal.TheVariants.{StageName, Axiom, DefineMacro, ExpandMacro, Forall, Exists, Microop, Core, OneEdge, EdgeList, OneNode, NodeList, Name, Number, Quoted, Text, Open, Close, OpenBracket, CloseBracket, Comma, Semicolon, Colon, Dot, Not, And, Or, Implies, Arrow}
+use Rattle.uspec_parser.specs.declared.phrase.Phrase.{Phrase}
+use Rattle.uspec_parser.specs.declared.phrase.Phrase.TheVariants.{Items, Parameters, Label, Operand, More, Arguments, Argument, Node, Location, Edge, Labels, SecondLabel, SortWord, Nodes, MoreNodes, Edges, MoreEdges}
+use Rattle.uspec_parser.specs.Levels.{is_deep, level_of, behind_implies, behind_or, behind_and}
+
+-- An `Operand` has the level of its list and how many openers are open at its next token: more than the level says
+-- where `~` stand before it. `More` is what follows an operand of the list.
+abbrev pub behind : Phrase → Terminal → Option (List (Symbol Terminal Phrase))
+behind Items StageName = Some (Class Number ∷ Class Quoted ∷ Class Dot ∷ Part Items ∷ [])
+behind Items Axiom = Some (Part Label ∷ Class Colon ∷ Part (Operand (level_of 0) 0) ∷ Class Dot ∷ Part Items ∷ [])
+behind Items DefineMacro = Some (Class Quoted ∷ Part Parameters ∷ Class Colon ∷ Part (Operand (level_of 0) 0) ∷ Class Dot ∷ Part Items ∷ [])
+behind Parameters Quoted = Some (Part Parameters ∷ [])
+behind Label Quoted = Some []
+behind Label Text = Some []
+behind (Operand l n) OneEdge = Some (Part Edge ∷ Part (More l) ∷ [])
+behind (Operand l n) EdgeList = Some (Class OpenBracket ∷ Part Edges ∷ Part (More l) ∷ [])
+behind (Operand l n) OneNode = Some (Part Node ∷ Part (More l) ∷ [])
+behind (Operand l n) NodeList = Some (Class OpenBracket ∷ Part Nodes ∷ Part (More l) ∷ [])
+behind (Operand l n) ExpandMacro = Some (Class Name ∷ Part Arguments ∷ Part (More l) ∷ [])
+behind (Operand l n) Name = Some (Part Arguments ∷ Part (More l) ∷ [])
+behind (Operand l n) Open = Some (Part (Operand (level_of (n + 1)) (n + 1)) ∷ Class Close ∷ Part (More l) ∷ [])
+behind (Operand l n) Not = Some (Part (Operand l (n + 1)) ∷ [])
+behind (Operand l n) Forall = Some (Part SortWord ∷ Class Quoted ∷ Class Comma ∷ Part (Operand (level_of (n + 1)) (n + 1)) ∷ [])
+behind (Operand l n) Exists = Some (Part SortWord ∷ Class Quoted ∷ Class Comma ∷ Part (Operand (level_of (n + 1)) (n + 1)) ∷ [])
+behind (More l) And = Some (Part (Operand (behind_and l) (l.at_and + 1)) ∷ [])
+behind (More l) Or = Some (Part (Operand (behind_or l) (l.at_or + 1)) ∷ [])
+behind (More l) Implies = Some (Part (Operand (behind_implies l) (l.at_implies + 1)) ∷ [])
+behind Arguments Name = Some (Part Arguments ∷ [])
+behind Arguments Number = Some (Part Arguments ∷ [])
+behind Argument Name = Some []
+behind Argument Number = Some []
+behind Node Open = Some (Class Name ∷ Class Comma ∷ Part Location ∷ Class Close ∷ [])
+behind Location Name = Some []
+behind Location Open = Some (Part Argument ∷ Class Comma ∷ Class Name ∷ Class Close ∷ [])
+behind Edge Open = Some (Part Node ∷ Class Comma ∷ Part Node ∷ Part Labels ∷ Class Close ∷ [])
+behind Labels Comma = Some (Part Label ∷ Part SecondLabel ∷ [])
+behind SecondLabel Comma = Some (Part Label ∷ [])
+behind SortWord Microop = Some []
+behind SortWord Core = Some []
+behind Nodes CloseBracket = Some []
+behind Nodes Open = Some (Class Name ∷ Class Comma ∷ Part Location ∷ Class Close ∷ Part MoreNodes ∷ [])
+behind MoreNodes CloseBracket = Some []
+behind MoreNodes Semicolon = Some (Part Nodes ∷ [])
+behind Edges CloseBracket = Some []
+behind Edges Open = Some (Part Node ∷ Class Comma ∷ Part Node ∷ Part Labels ∷ Class Close ∷ Part MoreEdges ∷ [])
+behind MoreEdges CloseBracket = Some []
+behind MoreEdges Semicolon = Some (Part Edges ∷ [])
+behind _ _ = None
+
+abbrev pub may_end : Phrase → Bool
+may_end Items = true
+may_end Parameters = true
+may_end (More l) = true
+may_end Arguments = true
+may_end Labels = true
+may_end SecondLabel = true
+may_end _ = false
+
+abbrev pub deep : Phrase → Terminal → Bool
+deep (Operand l n) Open = is_deep n
+deep (Operand l n) Not = is_deep n
+deep (Operand l n) Forall = is_deep n
+deep (Operand l n) Exists = is_deep n
+deep (More l) And = is_deep l.at_and
+deep (More l) Or = is_deep l.at_or
+deep (More l) Implies = is_deep l.at_implies
+deep _ _ = false
+
+abbrev pub rules : Rules Terminal Phrase
+rules = record { behind = behind; may_end = may_end; deep = deep }
+
+-- what may come next after a phrase; of one that is never without tokens it is not asked
+abbrev pub follow : Phrase → Terminal → Bool
+follow Items _ = false
+follow Parameters Colon = true
+follow Parameters _ = false
+follow Labels Close = true
+follow Labels _ = false
+follow SecondLabel Close = true
+follow SecondLabel _ = false
+follow (Operand l n) Close = true
+follow (Operand l n) Dot = true
+follow (Operand l n) _ = false
+follow (More l) Close = true
+follow (More l) Dot = true
+follow (More l) _ = false
+follow Arguments And = true
+follow Arguments Or = true
+follow Arguments Implies = true
+follow Arguments Close = true
+follow Arguments Dot = true
+follow Arguments _ = false
+follow _ _ = true
+
+abbrev terminals : List Terminal
+terminals = StageName ∷ Axiom ∷ DefineMacro ∷ ExpandMacro ∷ Forall ∷ Exists ∷ Microop ∷ Core ∷ OneEdge ∷ EdgeList ∷ OneNode ∷ NodeList ∷ Name ∷ Number ∷ Quoted ∷ Text ∷ Open ∷ Close ∷ OpenBracket ∷ CloseBracket ∷ Comma ∷ Semicolon ∷ Colon ∷ Dot ∷ Not ∷ And ∷ Or ∷ Implies ∷ Arrow ∷ []
+
+abbrev place : Terminal → ℕ
+place StageName = 0
+place Axiom = 1
+place DefineMacro = 2
+place ExpandMacro = 3
+place Forall = 4
+place Exists = 5
+place Microop = 6
+place Core = 7
+place OneEdge = 8
+place EdgeList = 9
+place OneNode = 10
+place NodeList = 11
+place Name = 12
+place Number = 13
+place Quoted = 14
+place Text = 15
+place Open = 16
+place Close = 17
+place OpenBracket = 18
+place CloseBracket = 19
+place Comma = 20
+place Semicolon = 21
+place Colon = 22
+place Dot = 23
+place Not = 24
+place And = 25
+place Or = 26
+place Implies = 27
+place Arrow = 28
+
+listed : (t : Terminal) → slice_get terminals (place t) ≡ Some t
+listed StageName = refl
+listed Axiom = refl
+listed DefineMacro = refl
+listed ExpandMacro = refl
+listed Forall = refl
+listed Exists = refl
+listed Microop = refl
+listed Core = refl
+listed OneEdge = refl
+listed EdgeList = refl
+listed OneNode = refl
+listed NodeList = refl
+listed Name = refl
+listed Number = refl
+listed Quoted = refl
+listed Text = refl
+listed Open = refl
+listed Close = refl
+listed OpenBracket = refl
+listed CloseBracket = refl
+listed Comma = refl
+listed Semicolon = refl
+listed Colon = refl
+listed Dot = refl
+listed Not = refl
+listed And = refl
+listed Or = refl
+listed Implies = refl
+listed Arrow = refl
+
+predictable_phrase : (n : Phrase) → is_predictable_part rules follow terminals n ≡ true
+predictable_phrase Items = refl
+predictable_phrase Parameters = refl
+predictable_phrase Label = refl
+predictable_phrase (Operand l n) = refl
+predictable_phrase (More l) = refl
+predictable_phrase Arguments = refl
+predictable_phrase Argument = refl
+predictable_phrase Node = refl
+predictable_phrase Location = refl
+predictable_phrase Edge = refl
+predictable_phrase Labels = refl
+predictable_phrase SecondLabel = refl
+predictable_phrase SortWord = refl
+predictable_phrase Nodes = refl
+predictable_phrase MoreNodes = refl
+predictable_phrase Edges = refl
+predictable_phrase MoreEdges = refl
+
+pub is_predictable : IsPredictable rules follow
+is_predictable = predictable_by rules follow terminals place listed predictable_phrase
+
+-- a terminal with which a text of the phrase begins, and a rank above those of the phrases behind it
+abbrev first : Phrase → Terminal
+first Items = StageName
+first Parameters = Quoted
+first Label = Text
+first (Operand l n) = Name
+first (More l) = And
+first Arguments = Name
+first Argument = Name
+first Node = Open
+first Location = Name
+first Edge = Open
+first Labels = Comma
+first SecondLabel = Comma
+first SortWord = Core
+first Nodes = CloseBracket
+first MoreNodes = CloseBracket
+first Edges = CloseBracket
+first MoreEdges = CloseBracket
+
+abbrev rank : Phrase → ℕ
+rank (Operand l n) = 1
+rank Node = 1
+rank Edge = 2
+rank _ = 0
+
+ranked_phrase : (n : Phrase) → is_ranked_part rules first rank n ≡ true
+ranked_phrase Items = refl
+ranked_phrase Parameters = refl
+ranked_phrase Label = refl
+ranked_phrase (Operand l n) = refl
+ranked_phrase (More l) = refl
+ranked_phrase Arguments = refl
+ranked_phrase Argument = refl
+ranked_phrase Node = refl
+ranked_phrase Location = refl
+ranked_phrase Edge = refl
+ranked_phrase Labels = refl
+ranked_phrase SecondLabel = refl
+ranked_phrase SortWord = refl
+ranked_phrase Nodes = refl
+ranked_phrase MoreNodes = refl
+ranked_phrase Edges = refl
+ranked_phrase MoreEdges = refl
+
+pub has_texts : HasTexts rules
+has_texts = texts_by rules first rank ranked_phrase

@@ -1,0 +1,127 @@
+-- The terminals of a model's grammar, and what the tree keeps of a token.
+use Rattle.std.specs.Prelude.{ℕ, ◌-◌, Bool, true, false, ◌&&◌, ◌||◌, List, [], ◌∷◌, length, slice_range, codes, ◌==◌, if◌then◌else◌}
+use Rattle.std.specs.List.{list_all}
+use Rattle.std.specs.Char.{is_ascii_alphabetic, is_ascii_alphanumeric}
+use Rattle.std.specs.Str.{bytes_eq}
+use Rattle.pc_common.specs.declared.place.Place.{Place}
+use Rattle.pc_syntax.specs.declared.term.Word.{Word}
+use Rattle.uspec_lexer.specs.Token.{Token, Kind, name, number, text, symbol}
+use Rattle.uspec_parser.specs.declared.terminal.Terminal.{Terminal}
+use Rattle.uspec_parser.specs.declared.terminal.Terminal.TheVariants.{StageName, Axiom, DefineMacro, ExpandMacro, Forall, Exists, Microop, Core, OneEdge, EdgeList, OneNode, NodeList, Name, Number, Quoted, Text, Open, Close, OpenBracket, CloseBracket, Comma, Semicolon, Colon, Dot, Not, And, Or, Implies, Arrow}
+
+-- the word is one of the two
+abbrev either : List ℕ → List ℕ → List ℕ → Bool
+either word one other = bytes_eq word one || bytes_eq word other
+
+-- a word is its own terminal if it is reserved, else a name
+unfoldable pub word_terminal : List ℕ → Terminal
+word_terminal word =
+    if bytes_eq word (codes "StageName") then StageName
+    else (if bytes_eq word (codes "Axiom") then Axiom
+    else (if bytes_eq word (codes "DefineMacro") then DefineMacro
+    else (if bytes_eq word (codes "ExpandMacro") then ExpandMacro
+    else (if bytes_eq word (codes "forall") then Forall
+    else (if bytes_eq word (codes "exists") then Exists
+    else (if either word (codes "microop") (codes "microops") then Microop
+    else (if either word (codes "core") (codes "cores") then Core
+    else (if either word (codes "AddEdge") (codes "EdgeExists") then OneEdge
+    else (if either word (codes "AddEdges") (codes "EdgesExist") then EdgeList
+    else (if bytes_eq word (codes "NodeExists") then OneNode
+    else (if bytes_eq word (codes "NodesExist") then NodeList
+    else Name)))))))))))
+
+unfoldable pub symbol_terminal : List ℕ → Terminal
+symbol_terminal piece =
+    if bytes_eq piece (codes "(") then Open
+    else (if bytes_eq piece (codes ")") then Close
+    else (if bytes_eq piece (codes "[") then OpenBracket
+    else (if bytes_eq piece (codes "]") then CloseBracket
+    else (if bytes_eq piece (codes ",") then Comma
+    else (if bytes_eq piece (codes ";") then Semicolon
+    else (if bytes_eq piece (codes ":") then Colon
+    else (if bytes_eq piece (codes ".") then Dot
+    else (if bytes_eq piece (codes "~") then Not
+    else (if bytes_eq piece (codes "/\\") then And
+    else (if bytes_eq piece (codes "\\/") then Or
+    else (if bytes_eq piece (codes "=>") then Implies
+    else Arrow)))))))))))
+
+-- a letter, a digit, `_` or `'`
+abbrev pub is_name_byte : ℕ → Bool
+is_name_byte b = is_ascii_alphanumeric b || (b == 95) || (b == 39)
+
+-- a letter, and then letters, digits, `_` and `'`
+unfoldable pub is_spelled_as_name : List ℕ → Bool
+is_spelled_as_name [] = false
+is_spelled_as_name (b ∷ bs) = is_ascii_alphabetic b && list_all is_name_byte bs
+
+-- what a text's quotes enclose
+abbrev pub content : List ℕ → List ℕ
+content piece = slice_range piece 1 (length piece - 1)
+
+-- whether the terminal is a name that is not reserved
+abbrev pub is_name : Terminal → Bool
+is_name Name = true
+is_name _ = false
+
+-- a text tells a name where its content is one that is not reserved
+unfoldable pub text_terminal : List ℕ → Terminal
+text_terminal piece =
+    if is_spelled_as_name (content piece) && is_name (word_terminal (content piece)) then Quoted else Text
+
+abbrev pub terminal_of_kind : Kind → List ℕ → Terminal
+terminal_of_kind name piece = word_terminal piece
+terminal_of_kind (number n) piece = Number
+terminal_of_kind text piece = text_terminal piece
+terminal_of_kind symbol piece = symbol_terminal piece
+
+abbrev pub terminal_of : Token → Terminal
+terminal_of t = terminal_of_kind t.kind t.piece
+
+-- A token as the tree sees it: its terminal, and what the tree keeps of it.
+pub data Lexeme : Type 0 where
+  -- nothing more
+  plain : Terminal → Lexeme
+  -- the place of a quantifier, of `ExpandMacro` or of `Axiom`
+  placed : Terminal → Place → Lexeme
+  -- a name that is not reserved
+  name_ : Word → Lexeme
+  -- a text whose content is such a name; the place is the text's
+  quoted : Word → Lexeme
+  number_ : ℕ → Place → Lexeme
+
+abbrev pub terminal : Lexeme → Terminal
+terminal (plain t) = t
+terminal (placed t at) = t
+terminal (name_ w) = Name
+terminal (quoted w) = Quoted
+terminal (number_ n at) = Number
+
+abbrev pub place_of : Token → Place
+place_of t = record { offset = t.at }
+
+abbrev pub value : Kind → ℕ
+value (number n) = n
+value _ = 0
+
+-- what is kept of a token that is this terminal
+abbrev pub kept : Terminal → Token → Lexeme
+kept Name t = name_ (record { name = t.piece; at = place_of t })
+kept Quoted t = quoted (record { name = content t.piece; at = place_of t })
+kept Number t = number_ (value t.kind) (place_of t)
+kept Forall t = placed Forall (place_of t)
+kept Exists t = placed Exists (place_of t)
+kept ExpandMacro t = placed ExpandMacro (place_of t)
+kept Axiom t = placed Axiom (place_of t)
+kept other t = plain other
+
+abbrev pub lexeme : Token → Lexeme
+lexeme t = kept (terminal_of t) t
+
+-- of these terminals the tree keeps the place
+abbrev pub is_placed : Terminal → Bool
+is_placed Forall = true
+is_placed Exists = true
+is_placed ExpandMacro = true
+is_placed Axiom = true
+is_placed _ = false

@@ -1,0 +1,186 @@
+ghost use Rattle.std.specs.Prelude.{◌≡◌, IsTrue, IfOk, OnOk};
+ghost use Rattle.pc_syntax.specs.Written.{written};
+ghost use Rattle.uspec_parser.specs.Terminals.{is_placed};
+ghost use Rattle.uspec_parser.specs.Operands.{Operands, grouped as grouped_spec};
+ghost use Rattle.uspec_parser.specs.Descent.{next, behind, place, word, sort_by, Atom, Operand, Row};
+
+use super::cursor::Cursor;
+use super::operands::{Joined, connective_of, grouped};
+use super::terminal::Terminal;
+use pc_common::{Memory, Place};
+use pc_syntax::{EdgeTerms, Formula, Name, NodeTerms, Sort};
+use std::alloc::Global;
+
+/// What a quantifier says before its body.
+#[derive(Drop)]
+struct Head {
+    at: Place,
+    sort: Sort,
+    name: Name,
+}
+
+fn sort_of(terminal: Terminal) -> Sort
+    ensures { result ≡ sort_by terminal }
+{
+    match terminal {
+        Terminal::Core => Sort::Core,
+        _ => Sort::Microop,
+    }
+}
+
+impl Cursor<'_> {
+    fn one_edge(&mut self, alloc: Global) -> Result<Formula, Memory>
+        ensures { IfOk result (λ f. Atom Terminal.OneEdge self.old (written f) self.new) }
+    {
+        self.skip();
+        let edge = self.edge(alloc)?;
+        let mut edges = EdgeTerms::new(alloc);
+        edges.push(edge)?;
+        Ok(Formula::Edges(edges))
+    }
+
+    fn one_node(&mut self, alloc: Global) -> Result<Formula, Memory>
+        ensures { IfOk result (λ f. Atom Terminal.OneNode self.old (written f) self.new) }
+    {
+        self.skip();
+        let node = self.node(alloc)?;
+        let mut nodes = NodeTerms::new(alloc);
+        nodes.push(node)?;
+        Ok(Formula::Nodes(nodes))
+    }
+
+    fn edge_list(&mut self, alloc: Global) -> Result<Formula, Memory>
+        ensures { IfOk result (λ f. Atom Terminal.EdgeList self.old (written f) self.new) }
+    {
+        self.skip();
+        self.skip();
+        let edges = self.edges(alloc)?;
+        Ok(Formula::Edges(edges))
+    }
+
+    fn node_list(&mut self, alloc: Global) -> Result<Formula, Memory>
+        ensures { IfOk result (λ f. Atom Terminal.NodeList self.old (written f) self.new) }
+    {
+        self.skip();
+        self.skip();
+        let nodes = self.nodes(alloc)?;
+        Ok(Formula::Nodes(nodes))
+    }
+
+    fn expansion(&mut self, alloc: Global) -> Result<Formula, Memory>
+        requires { IsTrue (is_placed (next self.old)) }
+        ensures { IfOk result (λ f. Atom Terminal.ExpandMacro self.old (written f) self.new) }
+    {
+        let at = self.place();
+        self.skip();
+        let name = self.word(alloc)?;
+        self.skip();
+        let args = self.arguments(alloc)?;
+        Ok(Formula::Expand { at, name, args })
+    }
+
+    fn predicate(&mut self, alloc: Global) -> Result<Formula, Memory>
+        ensures { IfOk result (λ f. Atom Terminal.Name self.old (written f) self.new) }
+    {
+        let pred = self.word(alloc)?;
+        self.skip();
+        let args = self.arguments(alloc)?;
+        Ok(Formula::Static { pred, args })
+    }
+
+    fn atom(&mut self, alloc: Global) -> Result<Formula, Memory>
+        ensures { IfOk result (λ f. Atom (next self.old) self.old (written f) self.new) }
+    {
+        match self.next() {
+            Terminal::OneEdge => self.one_edge(alloc),
+            Terminal::OneNode => self.one_node(alloc),
+            Terminal::EdgeList => self.edge_list(alloc),
+            Terminal::NodeList => self.node_list(alloc),
+            Terminal::ExpandMacro => self.expansion(alloc),
+            _ => self.predicate(alloc),
+        }
+    }
+
+    /// Reads a quantifier up to its comma.
+    fn head(&mut self, alloc: Global) -> Result<Head, Memory>
+        requires { IsTrue (is_placed (next self.old)) }
+        ensures head { IfOk result (λ h. h ≡ record {
+          at = place self.old;
+          sort = sort_by (next (behind self.old));
+          name = (word (behind (behind self.old))).name;
+        }) }
+        ensures rest { OnOk result (self.new ≡ behind (behind (behind (behind self.old)))) }
+    {
+        let at = self.place();
+        self.skip();
+        let sort = sort_of(self.next());
+        self.skip();
+        let word = self.word(alloc)?;
+        self.skip();
+        self.skip();
+        Ok(Head {
+            at,
+            sort,
+            name: word.name,
+        })
+    }
+
+    /// Reads an operand. A quantifier is one with all that its body reaches to.
+    #[cycle(formula)]
+    fn operand(&mut self, alloc: Global) -> Result<Formula, Memory>
+        ensures { IfOk result (λ f. Operand self.old (written f) self.new) }
+    {
+        match self.next() {
+            Terminal::Not => {
+                self.skip();
+                let inner = self.operand(alloc)?;
+                Ok(Formula::Not(Box::new(alloc, inner)?))
+            }
+            Terminal::Open => {
+                self.skip();
+                let inner = self.formula(alloc)?;
+                self.skip();
+                Ok(inner)
+            }
+            Terminal::Forall => {
+                let head = self.head(alloc)?;
+                let body = self.formula(alloc)?;
+                Ok(Formula::Forall {
+                    at: head.at,
+                    sort: head.sort,
+                    name: head.name,
+                    body: Box::new(alloc, body)?,
+                })
+            }
+            Terminal::Exists => {
+                let head = self.head(alloc)?;
+                let body = self.formula(alloc)?;
+                Ok(Formula::Exists {
+                    at: head.at,
+                    sort: head.sort,
+                    name: head.name,
+                    body: Box::new(alloc, body)?,
+                })
+            }
+            _ => self.atom(alloc),
+        }
+    }
+
+    /// Reads a list of operands and groups it. Calls nest as deep as openers do, and no deeper.
+    #[cycle(formula)]
+    pub(crate) fn formula(&mut self, alloc: Global) -> Result<Formula, Memory>
+        ensures { IfOk result (λ f. (l : Operands) × Row self.old l self.new × (written f ≡ grouped_spec l)) }
+    {
+        let mut operands = Vec::new(alloc);
+        let mut last = self.operand(alloc)?;
+        while let Some(connective) = connective_of(self.next()) {
+            self.skip();
+            operands.push(Joined {
+                operand: last,
+                connective,
+            })?;
+            last = self.operand(alloc)?;
+        }
+        grouped(alloc, operands, last)
+    }
+}

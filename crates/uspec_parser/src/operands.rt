@@ -1,0 +1,139 @@
+ghost use Rattle.std.specs.Prelude.{◌≡◌, IfOk, MatchOption, Some, None};
+ghost use Rattle.pc_syntax.specs.Written.{written, and_, or_, implies_};
+ghost use Rattle.uspec_parser.specs.Operands.{conjoins, disjoins, implies, only, or_now, before as before_spec, whole as whole_spec, grouped as grouped_spec};
+ghost use Rattle.uspec_parser.specs.Grouping.{joins, operands_before, written_option, written_grouping};
+ghost use Rattle.uspec_parser.specs.Descent.{connective as connective_spec};
+
+use super::terminal::Terminal;
+use pc_common::Memory;
+use pc_syntax::Formula;
+use std::alloc::Global;
+
+#[derive(Clone, Copy)]
+pub(crate) enum Connective {
+    And,
+    Or,
+    Implies,
+}
+
+/// The connective that a terminal is.
+pub(crate) fn connective_of(terminal: Terminal) -> Option<Connective>
+    ensures { MatchOption result (connective_spec terminal ≡ None) (λ op. connective_spec terminal ≡ Some (joins op)) }
+{
+    match terminal {
+        Terminal::And => Some(Connective::And),
+        Terminal::Or => Some(Connective::Or),
+        Terminal::Implies => Some(Connective::Implies),
+        _ => None,
+    }
+}
+
+/// An operand with the connective behind it.
+#[derive(Drop)]
+pub(crate) struct Joined {
+    pub(crate) operand: Formula,
+    pub(crate) connective: Connective,
+}
+
+/// The end of a list of operands, grouped as far as what stands before it leaves open.
+#[derive(Drop)]
+struct Grouping {
+    /// The conjunction with which it begins.
+    now: Formula,
+    /// What stands behind the `\/` that follows.
+    disjoined: Option<Formula>,
+    /// What stands behind the first `=>`.
+    implied: Option<Formula>,
+}
+
+impl Grouping {
+    fn disjunction(
+        alloc: Global,
+        now: Formula,
+        disjoined: Option<Formula>,
+    ) -> Result<Formula, Memory>
+        ensures { IfOk result (λ f. written f ≡ or_now (written now) (written_option disjoined)) }
+    {
+        match disjoined {
+            Some(rest) => Ok(Formula::Or(Box::new(alloc, now)?, Box::new(alloc, rest)?)),
+            None => Ok(now),
+        }
+    }
+
+    fn whole(self, alloc: Global) -> Result<Formula, Memory>
+        ensures { IfOk result (λ f. written f ≡ whole_spec (written_grouping self)) }
+    {
+        let disjunction = Grouping::disjunction(alloc, self.now, self.disjoined)?;
+        match self.implied {
+            Some(rest) => Ok(Formula::Implies(
+                Box::new(alloc, disjunction)?,
+                Box::new(alloc, rest)?,
+            )),
+            None => Ok(disjunction),
+        }
+    }
+
+    /// The same behind an operand and a `/\`.
+    fn behind_and(self, alloc: Global, operand: Formula) -> Result<Grouping, Memory>
+        ensures { IfOk result (λ g. written_grouping g ≡ before_spec (written operand) conjoins (written_grouping self)) }
+    {
+        Ok(Grouping {
+            now: Formula::And(Box::new(alloc, operand)?, Box::new(alloc, self.now)?),
+            disjoined: self.disjoined,
+            implied: self.implied,
+        })
+    }
+
+    /// The same behind an operand and a `\/`.
+    fn behind_or(self, alloc: Global, operand: Formula) -> Result<Grouping, Memory>
+        ensures { IfOk result (λ g. written_grouping g ≡ before_spec (written operand) disjoins (written_grouping self)) }
+    {
+        Ok(Grouping {
+            now: operand,
+            disjoined: Some(Grouping::disjunction(alloc, self.now, self.disjoined)?),
+            implied: self.implied,
+        })
+    }
+
+    /// The same behind an operand and a `=>`.
+    fn behind_implies(self, alloc: Global, operand: Formula) -> Result<Grouping, Memory>
+        ensures { IfOk result (λ g. written_grouping g ≡ before_spec (written operand) implies (written_grouping self)) }
+    {
+        Ok(Grouping {
+            now: operand,
+            disjoined: None,
+            implied: Some(self.whole(alloc)?),
+        })
+    }
+
+    /// The same behind an operand and its connective.
+    fn before(self, alloc: Global, joined: Joined) -> Result<Grouping, Memory>
+        ensures { IfOk result (λ g. written_grouping g ≡ before_spec (written joined.operand) (joins joined.connective) (written_grouping self)) }
+    {
+        match joined.connective {
+            Connective::And => self.behind_and(alloc, joined.operand),
+            Connective::Or => self.behind_or(alloc, joined.operand),
+            Connective::Implies => self.behind_implies(alloc, joined.operand),
+        }
+    }
+}
+
+/// The formula of a list of operands, from its last one on. Takes time linear in their number.
+pub(crate) fn grouped(
+    alloc: Global,
+    operands: Vec<Joined>,
+    last: Formula,
+) -> Result<Formula, Memory>
+    ensures { IfOk result (λ f. written f ≡ grouped_spec (operands_before operands.items (only (written last)))) }
+{
+    let mut before = operands;
+    let mut grouping = Grouping {
+        now: last,
+        disjoined: None,
+        implied: None,
+    };
+    while let Some(joined) = before.pop() {
+        grouping = grouping.before(alloc, joined)?;
+    }
+    grouping.whole(alloc)
+}
