@@ -1,0 +1,4 @@
+pub mod Expected
+pub mod Syntax
+pub mod Terminals
+pub mod Phrases
