@@ -295,7 +295,7 @@ test_of_derives ts marks reads =
 -- From the grammar to the table: the terminals of a test are read.
 
 -- the terminal of what is expected
-abbrev terminal : Expected → Terminal
+abbrev pub terminal : Expected → Terminal
 terminal (a_word w) = word_terminal w
 terminal (word_at w at) = word_terminal w
 terminal (a_number n) = Number
@@ -303,7 +303,7 @@ terminal (number_at n) = Number
 terminal a_text = Text
 terminal (a_symbol s) = symbol_terminal s
 
-terminal-of_token : (e : Expected) (t : Token) → Is e t → terminal_of t ≡ terminal e
+pub terminal-of_token : (e : Expected) (t : Token) → Is e t → terminal_of t ≡ terminal e
 terminal-of_token (a_word w) t h = ap (λ (k : Kind). kind_terminal k t.piece) h.0 ∙ ap word_terminal h.1
 terminal-of_token (word_at w at) t h = ap (λ (k : Kind). kind_terminal k t.piece) h.0 ∙ ap word_terminal h.1
 terminal-of_token (a_number n) t h = ap (λ (k : Kind). kind_terminal k t.piece) h

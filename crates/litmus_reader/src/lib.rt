@@ -3,5 +3,6 @@
 
 mod item;
 mod phrase;
+mod reading;
 mod syntax;
 mod terminal;
