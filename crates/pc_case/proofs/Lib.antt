@@ -1,1 +1,4 @@
 pub mod Cores
+pub mod Values
+pub mod KindEnds
+pub mod Names

@@ -9,3 +9,7 @@ pub record IsKept (ops : List MicroOp) : Type 0 where
   pub once : (j k : ℕ) (a b : MicroOp) → slice_get ops j ≡ Some a → slice_get ops k ≡ Some b → a.g ≡ b.g → a.n ≡ b.n → j ≡ k
   -- fences alone touch nothing
   pub fences : (k : ℕ) (o : MicroOp) → slice_get ops k ≡ Some o → (o.kind ≡ fence) ↔ IsNone o.touch
+
+-- the micro-op at place k is number n of instruction g
+abbrev pub IsNamed : List MicroOp → ℕ → ℕ → ℕ → Type 0
+IsNamed ops g n k = (o : MicroOp) × (slice_get ops k ≡ Some o) × (o.g ≡ g) × (o.n ≡ n)

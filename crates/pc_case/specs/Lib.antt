@@ -1,2 +1,4 @@
 pub mod Plain
 pub mod Kept
+pub mod Stated
+pub mod Tables

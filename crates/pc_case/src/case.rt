@@ -1,10 +1,15 @@
-ghost use Rattle.std.specs.Prelude.{◌≡◌, ◌<◌, ◌≤◌, [], length, map, slice_get};
-ghost use Rattle.pc_common.specs.Case.{Case as PlainCase, cores_of};
-ghost use Rattle.pc_case.specs.Plain.{micro_op, expectation};
-ghost use Rattle.pc_case.specs.Kept.{IsKept};
+ghost use Rattle.std.specs.Prelude.{◌≡◌, ◌<◌, ◌≤◌, [], ℕ, length, map, slice_get, IfOk, MatchOption};
+ghost use Rattle.std.specs.Option.{option_map};
+ghost use Rattle.pc_common.specs.Case.{Case as PlainCase, number, cores_of};
+ghost use Rattle.pc_case.specs.Plain.{micro_op, dependency, stated_value, address_at, expectation};
+ghost use Rattle.pc_case.specs.Kept.{IsKept, IsNamed};
+ghost use Rattle.pc_case.specs.Stated.{stated_at, initial_at, depends_by, IsStatedOnce, AreWithin};
 
-use super::op::Op;
-use pc_common::Listed;
+use super::dependency::{Dependencies, DependencyTable};
+use super::op::{Op, OpId, Page};
+use super::stated::{StatedValues, ValueTable};
+use pc_common::{Listed, Memory};
+use std::alloc::Global;
 use std::marker::Model;
 
 /// Micro-ops in test order.
@@ -24,15 +29,19 @@ pub struct Case {
     ops: Ops,
     /// One more than the greatest core, or 0 without micro-ops.
     cores: usize,
+    dependencies: DependencyTable,
+    initial: ValueTable,
+    final_values: ValueTable,
     expect: Expect,
 }
 
 impl Model for Case {
     ghost Value = { PlainCase };
 
-    ghost view = { λ c. record { ops = map micro_op c.ops; dependencies = []; initial = []; final = []; expectation = expectation c.expect } };
+    ghost view = { λ c. record { ops = map micro_op c.ops; dependencies = c.dependencies; initial = c.initial; final = c.final_values; expectation = expectation c.expect } };
 
-    ghost invariant = { λ c. IsKept (map micro_op c.ops) × (c.cores ≡ cores_of (map micro_op c.ops)) };
+    ghost invariant = { λ c. IsKept (map micro_op c.ops) × (c.cores ≡ cores_of (map micro_op c.ops))
+        × AreWithin (length c.ops) c.dependencies × IsStatedOnce c.initial × IsStatedOnce c.final_values };
 }
 
 /// One more than the greatest core of these micro-ops, or 0 where there are none.
@@ -58,7 +67,49 @@ impl Case {
         ensures { result ≡ record { ops = map micro_op ops; dependencies = []; initial = []; final = []; expectation = expectation expect } }
     {
         let cores = core_count(&ops);
-        Case { ops, cores, expect }
+        let ops = ops.into_vec();
+        let alloc = *ops.allocator();
+        Case {
+            ops: Listed::from_vec(ops),
+            cores,
+            dependencies: DependencyTable::new(alloc),
+            initial: ValueTable::new(alloc),
+            final_values: ValueTable::new(alloc),
+            expect,
+        }
+    }
+
+    /// The case of these micro-ops, dependencies, initial and final values, each in test order.
+    /// The one error is that memory was refused.
+    pub fn full(
+        alloc: Global,
+        ops: Ops,
+        dependencies: Dependencies,
+        initial: StatedValues,
+        final_values: StatedValues,
+        expect: Expect,
+    ) -> Result<Case, Memory>
+        requires kept { IsKept (map micro_op ops) }
+        requires within { AreWithin (length ops) (map dependency dependencies) }
+        requires initial_once { IsStatedOnce (map stated_value initial) }
+        requires final_once { IsStatedOnce (map stated_value final_values) }
+        ensures { IfOk result (λ c. c ≡ record {
+          ops = map micro_op ops;
+          dependencies = map dependency dependencies;
+          initial = map stated_value initial;
+          final = map stated_value final_values;
+          expectation = expectation expect;
+        }) }
+    {
+        let cores = core_count(&ops);
+        Ok(Case {
+            ops,
+            cores,
+            dependencies: DependencyTable::of(alloc, dependencies)?,
+            initial: ValueTable::of(alloc, &initial)?,
+            final_values: ValueTable::of(alloc, &final_values)?,
+            expect,
+        })
     }
 
     /// How many micro-ops there are, at most 64. Takes no memory.
@@ -90,5 +141,45 @@ impl Case {
         ensures { expectation result ≡ self.now.expectation }
     {
         self.expect
+    }
+
+    /// The value at this physical address at the start: 0 where no line states one. One look-up;
+    /// takes no memory.
+    pub fn initial(&self, pa: Page) -> u64
+        ensures value { number result ≡ initial_at self.now (address_at pa) }
+        ensures once { IsStatedOnce self.now.initial }
+    {
+        self.initial.get(pa).unwrap_or(0)
+    }
+
+    /// The value at this physical address at the end, None where no line states one. One look-up;
+    /// takes no memory.
+    pub fn final_of(&self, pa: Page) -> Option<u64>
+        ensures value { option_map number result ≡ stated_at self.now.final (address_at pa) }
+        ensures once { IsStatedOnce self.now.final }
+    {
+        self.final_values.get(pa)
+    }
+
+    /// Whether a dependency of this kind goes from the micro-op at place `i` to that at place `j`,
+    /// false where there is no such place. Two look-ups; takes no memory.
+    pub fn depends(&self, kind: &[u8], i: usize, j: usize) -> bool
+        ensures value { result ≡ depends_by self.now.dependencies kind.now i j }
+        ensures within { AreWithin (length self.now.ops) self.now.dependencies }
+    {
+        self.dependencies.has(kind, i, j)
+    }
+
+    /// The place of the micro-op of this name, None where there is none. A walk over the at most 64
+    /// micro-ops; takes no memory.
+    pub fn find(&self, id: OpId) -> Option<usize>
+        ensures { MatchOption result ((k : ℕ) → IsNamed self.now.ops id.g id.n k → ⊥) (λ k. IsNamed self.now.ops id.g id.n k) }
+    {
+        for (k, op) in self.ops.as_slice().iter().enumerate() {
+            if op.id == id {
+                return Some(k);
+            }
+        }
+        None
     }
 }

@@ -1,11 +1,20 @@
-//! A case: what a test file says, as lists that are read by place.
+//! A case: all that a test file says.
 //!
-//! The type keeps that there are at most 64 micro-ops, no two with one (g, n), on cores 0 to 63, and
-//! that fences alone have no address and no value.
+//! It takes lists in test order (micro-ops, dependencies, stated initial and final values) and the
+//! expectation, and answers by place, by address, by kind and by name. Addresses and kinds are looked
+//! up by hash, so that no question walks the test; the readers take no memory.
+//!
+//! The type keeps that there are at most 64 micro-ops, no two with one (g, n), on cores 0 to 63, that
+//! fences alone have no address and no value, that a dependency goes between micro-ops of the case,
+//! and that no address has two initial or two final values.
 #![tactic(auto)]
 
 mod case;
+mod dependency;
 mod op;
+mod stated;
 
 pub use case::{Case, Expect, Ops};
+pub use dependency::{Dependencies, Dependency};
 pub use op::{Access, Memop, Op, OpId, Page, TypeNames};
+pub use stated::{Stated, StatedValues};

@@ -1,14 +1,14 @@
 use pc_common::Listed;
 
 /// A micro-op's name: the number of its instruction and its number inside it.
-#[derive(Clone, Copy, Debug, PartialEq, Eq)]
+#[derive(Clone, Copy, Debug, PartialEq, Eq, Hash)]
 pub struct OpId {
     pub g: u64,
     pub n: u64,
 }
 
 /// A page of memory, virtual or physical: its tag and the index inside it.
-#[derive(Clone, Copy, Debug, PartialEq, Eq)]
+#[derive(Clone, Copy, Debug, PartialEq, Eq, Hash)]
 pub struct Page {
     pub tag: u64,
     pub index: u64,

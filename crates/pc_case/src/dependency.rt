@@ -1,0 +1,108 @@
+ghost use Rattle.std.specs.Prelude.{◌≡◌, ◌||◌, false, List, [], IfOk, OnOk, ℕ, map, take};
+ghost use Rattle.pc_case.specs.Plain.{dependency};
+ghost use Rattle.pc_case.specs.Stated.{depends_by};
+ghost use Rattle.pc_case.specs.Tables.{ties, joins};
+
+use indexmap::{IndexMap, IndexSet};
+use pc_common::{Listed, Memory};
+use std::alloc::Global;
+use std::marker::Model;
+
+/// A dependency of a kind, between two micro-ops by their places in test order.
+#[derive(Drop)]
+pub struct Dependency {
+    pub kind: Listed<u8>,
+    pub source: u8,
+    pub target: u8,
+}
+
+/// Dependencies in test order. One may be repeated.
+pub type Dependencies = Listed<Dependency>;
+
+/// The two places that a dependency goes between.
+#[derive(Clone, Copy, PartialEq, Eq, Hash)]
+pub(crate) struct Ends {
+    source: usize,
+    target: usize,
+}
+
+/// The ends of the dependencies of each kind. A test may have many thousands of kinds, so that a
+/// kind is looked up and not searched for.
+type EndsByKind = IndexMap<Vec<u8>, IndexSet<Ends>>;
+
+/// Dependencies in test order, looked up by kind and then by ends.
+#[derive(Drop)]
+pub(crate) struct DependencyTable {
+    listed: Dependencies,
+    ends: EndsByKind,
+}
+
+impl Model for DependencyTable {
+    ghost use Rattle.std.specs.Prelude.{List, map};
+    ghost use Rattle.pc_common.specs.Case.{Dependency as PlainDependency};
+    ghost use Rattle.pc_case.specs.Plain.{dependency};
+    ghost use Rattle.pc_case.specs.Tables.{Ties};
+
+    ghost Value = { List PlainDependency };
+
+    ghost view = { λ t. map dependency t.listed };
+
+    ghost invariant = { λ t. Ties t.ends.entries (map dependency t.listed) };
+}
+
+/// Adds a dependency of this kind.
+fn add(alloc: Global, table: &mut EndsByKind, kind: &[u8], ends: Ends) -> Result<(), Memory>
+    ensures { OnOk result ((k : List ℕ) (i j : ℕ) → ties table.new.entries k i j ≡ (ties table.old.entries k i j || joins kind.now ends k i j)) }
+{
+    match table.get_mut(kind) {
+        Some(known) => {
+            known.insert(ends)?;
+        }
+        None => {
+            let mut known = IndexSet::new(alloc);
+            known.insert(ends)?;
+            table.insert(Vec::from_slice(alloc, kind)?, known)?;
+        }
+    }
+    Ok(())
+}
+
+impl DependencyTable {
+    /// No dependencies. Takes no memory.
+    pub(crate) fn new(alloc: Global) -> Self
+        ensures { result ≡ [] }
+    {
+        DependencyTable {
+            listed: Listed::new(alloc),
+            ends: IndexMap::new(alloc),
+        }
+    }
+
+    /// The table of these dependencies.
+    pub(crate) fn of(alloc: Global, listed: Dependencies) -> Result<DependencyTable, Memory>
+        ensures { IfOk result (λ t. t ≡ map dependency listed) }
+    {
+        let mut ends = IndexMap::new(alloc);
+        for line in listed.as_slice() {
+            let between = Ends {
+                source: line.source as usize,
+                target: line.target as usize,
+            };
+            add(alloc, &mut ends, line.kind.as_slice(), between)?;
+        }
+        Ok(DependencyTable { listed, ends })
+    }
+
+    /// Whether a dependency of this kind goes from place `i` to place `j`. Takes no memory.
+    pub(crate) fn has(&self, kind: &[u8], i: usize, j: usize) -> bool
+        ensures { result ≡ depends_by self.now kind.now i j }
+    {
+        match self.ends.get(kind) {
+            None => false,
+            Some(ends) => ends.contains(&Ends {
+                source: i,
+                target: j,
+            }),
+        }
+    }
+}

@@ -1,0 +1,68 @@
+ghost use Rattle.std.specs.Prelude.{◌≡◌, ◌<◌, List, IfOk, OnOk, length, map, take, ◌++◌, ◌∷◌, [], slice_get, Some, None};
+ghost use Rattle.std.specs.Option.{option_map};
+ghost use Rattle.pc_common.specs.Case.{number};
+ghost use Rattle.pc_case.specs.Plain.{address_at, stated_value};
+ghost use Rattle.pc_case.specs.Stated.{stated_at, IsStatedOnce};
+ghost use Rattle.pc_case.specs.Tables.{pairs_of};
+
+use super::op::Page;
+use indexmap::IndexMap;
+use pc_common::{Listed, Memory};
+use std::alloc::Global;
+use std::marker::Model;
+
+/// What a line states: the value at a physical address.
+#[derive(Clone, Copy, Debug, PartialEq, Eq)]
+pub struct Stated {
+    pub pa: Page,
+    pub value: u64,
+}
+
+/// Stated values in test order.
+pub type StatedValues = Listed<Stated>;
+
+/// Stated values in test order, looked up by address.
+#[derive(Drop)]
+pub(crate) struct ValueTable {
+    values: IndexMap<Page, u64>,
+}
+
+impl Model for ValueTable {
+    ghost use Rattle.std.specs.Prelude.{List};
+    ghost use Rattle.pc_common.specs.Case.{Address, Value as PlainValue};
+    ghost use Rattle.pc_case.specs.Tables.{pairs_of};
+
+    ghost Value = { List (Address × PlainValue) };
+
+    ghost view = { λ t. pairs_of t.values.entries };
+}
+
+impl ValueTable {
+    /// No values. Takes no memory.
+    pub(crate) fn new(alloc: Global) -> Self
+        ensures { result ≡ [] }
+    {
+        ValueTable {
+            values: IndexMap::new(alloc),
+        }
+    }
+
+    /// The table of these values.
+    pub(crate) fn of(alloc: Global, stated: &StatedValues) -> Result<ValueTable, Memory>
+        requires { IsStatedOnce (map stated_value stated.now) }
+        ensures { IfOk result (λ t. t ≡ map stated_value stated.now) }
+    {
+        let mut values = IndexMap::with_capacity(alloc, stated.len())?;
+        for line in stated.as_slice() {
+            values.insert(line.pa, line.value)?;
+        }
+        Ok(ValueTable { values })
+    }
+
+    /// The value that is stated at this address. Takes no memory.
+    pub(crate) fn get(&self, pa: Page) -> Option<u64>
+        ensures { option_map number result ≡ stated_at self.now (address_at pa) }
+    {
+        self.values.get(&pa).copied()
+    }
+}
