@@ -4,3 +4,7 @@ pub mod Bridge
 pub mod SyntaxFaults
 pub mod Places
 pub mod Lines
+pub mod RowFacts
+pub mod ValueFacts
+pub mod KeptFacts
+pub mod CleanFacts
