@@ -45,3 +45,14 @@ IsRefusal bytes (Lexical place) = IsLexicalFault bytes place.offset
 IsRefusal bytes (Syntax place) = IsSyntaxFault bytes place
 IsRefusal bytes (Content kind place) = (items : List Item) × Says bytes items × IsContentFault items kind place
 IsRefusal bytes Memory = ⊤
+
+-- the tokens, which are a test, say this case
+abbrev pub CaseIn : List Token → Case → Type 0
+CaseIn ts case = (items : List Item) × IsTestOf items ts × IsClean items × (case ≡ case_of items)
+
+-- their first fault
+abbrev pub IsContentRefusal : List Token → CaseFault → Type 0
+IsContentRefusal ts (Content kind place) = (items : List Item) × IsTestOf items ts × IsContentFault items kind place
+IsContentRefusal ts Memory = ⊤
+IsContentRefusal ts (Lexical place) = ⊥
+IsContentRefusal ts (Syntax place) = ⊥

@@ -2,8 +2,8 @@ ghost use Rattle.std.specs.Prelude.{◌≡◌, ◌≤◌, [], ◌∷◌, ◌++�
 ghost use Rattle.pc_common.specs.Case.{Expectation};
 ghost use Rattle.pc_common.specs.declared.place.Place.{Place as PlaceAt};
 ghost use Rattle.pc_common.specs.declared.fault.FaultKind.TheVariants.{AgainInitial, AgainFinal};
-ghost use Rattle.pc_case.specs.Plain.{micro_op, dependency};
-ghost use Rattle.litmus_reader.specs.Items.{op_said, dependency_said, case_of, expectations_in};
+ghost use Rattle.pc_case.specs.Plain.{micro_op, dependency, expectation};
+ghost use Rattle.litmus_reader.specs.Items.{op_said, dependency_said, first_said, case_of};
 ghost use Rattle.litmus_reader.specs.Content.{Never, AgainStated, AgainExpected, IsFaultOf, IsClean};
 ghost use Rattle.litmus_reader.specs.Rows.{Answers};
 ghost use Rattle.litmus_reader.specs.Kept.{stated_of, stances, Keeps, AddsMicroop, AddsRelationship};
@@ -117,6 +117,15 @@ fn expectation_fault(stance: Option<Stance>, at: Place) -> Option<Refusal>
     }
 }
 
+fn expect_of(stance: Option<Stance>) -> Expect
+    ensures { expectation result ≡ first_said (stances stance) }
+{
+    match stance {
+        None => Expect::Unstated,
+        Some(stance) => stance.expect,
+    }
+}
+
 impl Kept {
     pub(crate) fn new(alloc: Global) -> Self
         ensures { Keeps result [] }
@@ -196,10 +205,14 @@ impl Kept {
     {
         let initial = self.initial.listed(alloc)?;
         let final_values = self.final_values.listed(alloc)?;
-        let expect = match self.stance {
-            None => Expect::Unstated,
-            Some(stance) => stance.expect,
-        };
-        Case::full(alloc, self.ops, self.dependencies, initial, final_values, expect)
+        let expect = expect_of(self.stance);
+        Case::full(
+            alloc,
+            self.ops,
+            self.dependencies,
+            initial,
+            final_values,
+            expect,
+        )
     }
 }
