@@ -8,3 +8,4 @@ pub mod RowFacts
 pub mod ValueFacts
 pub mod KeptFacts
 pub mod CleanFacts
+pub mod Walk

@@ -40,17 +40,20 @@ pub stands-first : {ts : List Token} {k : ℕ} (e : Expected) (es : List Expecte
 stands-first {ts} {k} e es b =
     let n : k + 0 ≡ k = omega arith in subst (λ (i : ℕ). StandsAt ts i e) n (stands (e ∷ es) b 0 e refl)
 
--- what begins behind
-pub begins-behind : {ts : List Token} {k : ℕ} (es fs : List Expected) → BeginsAt ts k (es ++ fs) → BeginsAt ts (k + length es) fs
-begins-behind {ts} {k} es fs b =
-    let (us, vs, same, front, back) = spell-part es (fs ++ b.others) (drop k ts)
-      (subst (λ (xs : List Expected). Spell xs (drop k ts)) (append_assoc es fs b.others) b.spell) in
+-- what stands behind
+pub spell-behind : (ts : List Token) (k : ℕ) (es fs : List Expected) → Spell (es ++ fs) (drop k ts) → Spell fs (drop (k + length es) ts)
+spell-behind ts k es fs s =
+    let (us, vs, same, front, back) = spell-part es fs (drop k ts) s in
     let n = spell-length es us front in
     let at : drop (k + length us) ts ≡ vs = drop-two k ts us vs same in
-    record {
-      others = b.others;
-      spell = subst (Spell (fs ++ b.others)) (sym at ∙ ap (λ (i : ℕ). drop (k + i) ts) (sym n)) back;
-    }
+    subst (Spell fs) (sym at ∙ ap (λ (i : ℕ). drop (k + i) ts) (sym n)) back
+
+-- what begins behind
+pub begins-behind : {ts : List Token} {k : ℕ} (es fs : List Expected) → BeginsAt ts k (es ++ fs) → BeginsAt ts (k + length es) fs
+begins-behind {ts} {k} es fs b = record {
+  others = b.others;
+  spell = spell-behind ts k es (fs ++ b.others) (subst (λ (xs : List Expected). Spell xs (drop k ts)) (append_assoc es fs b.others) b.spell);
+}
 
 -- the front of what begins there
 pub begins-front : {ts : List Token} {k : ℕ} (es fs : List Expected) → BeginsAt ts k (es ++ fs) → BeginsAt ts k es
