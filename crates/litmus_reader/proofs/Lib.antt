@@ -1,4 +1,4 @@
-pub mod Words
+mod Words
 pub mod Spelling
 pub mod Bridge
 pub mod SyntaxFaults
@@ -9,3 +9,5 @@ pub mod ValueFacts
 pub mod KeptFacts
 pub mod CleanFacts
 pub mod Walk
+pub mod OneReading
+pub mod Exclusive

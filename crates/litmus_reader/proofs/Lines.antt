@@ -7,7 +7,7 @@ use Rattle.uspec_lexer.specs.Token.{Token, Kind, name, number, text, symbol}
 use Rattle.litmus_reader.specs.Expected.{Expected, a_word, word_at, a_number, number_at, a_text, a_symbol, Is, Spell}
 use Rattle.litmus_reader.specs.Syntax.{spelled_page, spelled_data, spelled_memop, spelled_access, spelled_head, spelled_item, open_, close_, dot, arrow}
 use Rattle.litmus_reader.specs.Terminals.{word_terminal, terminal_of}
-use Rattle.litmus_reader.specs.Reading.{StandsAt, BeginsAt, NamesAt, SomeMicroopAt, IsMicroopAt}
+use Rattle.litmus_reader.specs.Reading.{StandsAt, IsNameAt, BeginsAt, NamesAt, SomeMicroopAt, IsMicroopAt}
 use Rattle.litmus_reader.specs.declared.item.Head.{Head}
 use Rattle.litmus_reader.specs.declared.item.Action.{Action}
 use Rattle.litmus_reader.specs.declared.item.Action.TheVariants.{Read as read, Write as write, Fence as fence}
@@ -59,6 +59,20 @@ abbrev pub access_word : Action → Terminal
 access_word (read m) = Read
 access_word (write m) = Write
 access_word fence = Fence
+
+pub access-first : {ts : List Token} {k : ℕ} (types : List (List ℕ)) (action : Action)
+    → BeginsAt ts k (spelled_access types action ++ close_ ∷ []) → IsNameAt ts k
+access-first types (read m) b =
+    let s = stands-first (a_word (codes "Read")) ((map a_word types ++ spelled_memop m) ++ close_ ∷ []) b in record { token = s.token; at = s.at; named = s.is.0 }
+access-first types (write m) b =
+    let s = stands-first (a_word (codes "Write")) ((map a_word types ++ spelled_memop m) ++ close_ ∷ []) b in record { token = s.token; at = s.at; named = s.is.0 }
+access-first types fence b =
+    let s = stands-first (a_word (codes "Fence")) (map a_word types ++ close_ ∷ []) b in record { token = s.token; at = s.at; named = s.is.0 }
+
+-- what is touched, behind a word and the names
+pub access-memop : {ts : List Token} {k : ℕ} (word : List ℕ) (types : List (List ℕ)) (m : Memop)
+    → BeginsAt ts k (a_word word ∷ ((map a_word types ++ spelled_memop m) ++ close_ ∷ [])) → BeginsAt ts (k + 1 + length types) (spelled_memop m)
+access-memop word types m b = begins-front (spelled_memop m) (close_ ∷ []) (touching-memop types m (touching (a_word word) types m b))
 
 pub access-terminal : {ts : List Token} {k : ℕ} (types : List (List ℕ)) (action : Action)
     → BeginsAt ts k (spelled_access types action ++ close_ ∷ []) → (t : Token) → slice_get ts k ≡ Some t → terminal_of t ≡ access_word action

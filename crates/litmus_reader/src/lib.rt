@@ -19,8 +19,8 @@
 //! what they say of one another. So a fault of content is never named before one of syntax.
 //!
 //! `specs/Syntax.antt` has the productions, `specs/Items.antt` the case that the lines make,
-//! `specs/Content.antt` the faults of content and `specs/Answer.antt` the whole. No text has two cases or
-//! a case and a fault, and each has one of them (`proofs/Exclusive.antt`).
+//! `specs/Content.antt` the faults of content and `specs/Answer.antt` the whole. No text has two cases, and
+//! none has a case and a fault (`proofs/Exclusive.antt`).
 #![tactic(auto)]
 
 mod fault;
@@ -33,6 +33,8 @@ mod refusal;
 mod rows;
 mod syntax;
 mod terminal;
+#[cfg(test)]
+mod tests;
 mod values;
 
 pub use fault::CaseFault;
