@@ -1,29 +1,25 @@
 -- The table reads exactly the terminals of the tests.
-use Rattle.std.proofs.Common.{◌≡◌, ℕ, ◌+◌, Bool, true, false, List, [], ◌∷◌, ◌++◌, Option, Some, None, IsTrue, MatchOption, map, codes, refl, sym, ap, subst, ◌∙◌, append_assoc, if◌then◌else◌}
+use Rattle.std.proofs.Common.{◌≡◌, ℕ, Bool, true, false, List, [], ◌∷◌, ◌++◌, Some, None, IsTrue, MatchOption, map, codes, refl, sym, ap, subst, ◌∙◌, append_assoc, if◌then◌else◌}
 use Rattle.std.proofs.lemmas.Bool.{eqb-true}
 use Rattle.std.proofs.lemmas.List.{append-nil, map-append}
-use Rattle.std.specs.List.{flat_map}
 use Rattle.pc_case.specs.declared.op.Page.{Page}
 use Rattle.pc_case.specs.declared.op.Memop.{Memop}
 use Rattle.pc_common.specs.declared.place.Place.{Place}
-use Rattle.ll_grammar.specs.Rules.{Rules, Derives}
+use Rattle.ll_grammar.specs.Rules.{Derives}
 use Rattle.ll_grammar.specs.Texts.{IsText}
 use Rattle.ll_grammar.specs.declared.grammar.Symbol.{Symbol}
 use Rattle.ll_grammar.specs.declared.grammar.Symbol.TheVariants.{Class, Part}
-use Rattle.ll_grammar.proofs.Meanings.{Each, IsKept, meaning, derives-begin, derives-end}
+use Rattle.ll_grammar.proofs.Meanings.{Each, meaning, derives-begin, derives-end}
 use Rattle.ll_grammar.proofs.Meanings.Each.{none, class, part}
-use Rattle.uspec_lexer.specs.Token.{Token, Kind, name, number, text, symbol}
+use Rattle.uspec_lexer.specs.Token.{Token, Kind}
 use Rattle.litmus_reader.specs.Expected.{Expected, a_word, word_at, a_number, number_at, a_text, a_symbol, Is, Spell}
-use Rattle.litmus_reader.specs.Syntax.{spelled_page, spelled_data, spelled_memop, spelled_access, spelled_head, spelled_item, spelled_items, spelled_test, open_, close_, dot, arrow, IsTestOf, IsTest}
+use Rattle.litmus_reader.specs.Syntax.{spelled_page, spelled_data, spelled_memop, spelled_access, spelled_item, spelled_items, spelled_test, open_, close_, dot, arrow, IsTest}
 use Rattle.litmus_reader.specs.Terminals.{word_terminal, symbol_terminal, kind_terminal, terminal_of, is_name}
 use Rattle.litmus_reader.specs.Phrases.{behind, may_end, deep, rules}
 use Rattle.litmus_reader.specs.declared.item.Numeral.{Numeral}
 use Rattle.litmus_reader.specs.declared.item.Head.{Head}
 use Rattle.litmus_reader.specs.declared.item.Action.{Action}
 use Rattle.litmus_reader.specs.declared.item.Action.TheVariants.{Read as read, Write as write, Fence as fence}
-use Rattle.litmus_reader.specs.declared.item.Microop.{Microop as MicroopLine}
-use Rattle.litmus_reader.specs.declared.item.End.{End}
-use Rattle.litmus_reader.specs.declared.item.Relationship.{Relationship as RelationshipLine}
 use Rattle.litmus_reader.specs.declared.item.ValueLine.{ValueLine}
 use Rattle.litmus_reader.specs.declared.item.Item.{Item}
 use Rattle.litmus_reader.specs.declared.item.Item.TheVariants.{Microop as microop, Relationship as relationship, Initial as initial, Final as final, Permitted as permitted, Forbidden as forbidden}
@@ -147,12 +143,14 @@ touching _ _ (part {cs = xs} {ds = ys} names (part {cs = cs} {ds = ds} virtual (
     let (va, s1) = virtual vs1 here1 in
     let (pa, s2) = physical vs3 here2 in
     let (d, s3) = data_ vs4 (behind2 ∙ append-nil gs) in
-    let all : us ++ (vs1 ++ (vs3 ++ vs4)) ≡ ts = cc in
-    (ws, record { va = va; pa = pa; value = d },
+    let all : us ++ (vs1 ++ (vs3 ++ vs4)) ≡ ts = cc in (
+      ws,
+      record { va = va; pa = pa; value = d },
       subst (Spell (map a_word ws ++ (spelled_page (codes "VA") va ++ (spelled_page (codes "PA") pa ++ spelled_data d)))) all
-        (spell-append (map a_word ws) (spelled_page (codes "VA") va ++ (spelled_page (codes "PA") pa ++ spelled_data d)) us (vs1 ++ (vs3 ++ vs4)) s
+          (spell-append (map a_word ws) (spelled_page (codes "VA") va ++ (spelled_page (codes "PA") pa ++ spelled_data d)) us (vs1 ++ (vs3 ++ vs4)) s
           (spell-append (spelled_page (codes "VA") va) (spelled_page (codes "PA") pa ++ spelled_data d) vs1 (vs3 ++ vs4) s1
-            (spell-append (spelled_page (codes "PA") pa) (spelled_data d) vs3 vs4 s2 s3))))
+          (spell-append (spelled_page (codes "PA") pa) (spelled_data d) vs3 vs4 s2 s3))),
+    )
 
 access_read : Keeps Access Read (Part Types ∷ Part VirtualPage ∷ Part PhysicalPage ∷ Part Value ∷ [])
 access_read cs marks each (t ∷ ts) e =
@@ -175,10 +173,11 @@ access_fence _ _ (part names none) [] e = absurd (cc)
 items_expectation : (c : Terminal) (item : Place → Item) → sort_of c ≡ 0 → (c ≡ Name → ⊥)
     → ((at : Place) → spelled_item (item at) ≡ word_at (spelling c) at ∷ dot ∷ []) → Keeps Items c (Class Dot ∷ Part Items ∷ [])
 items_expectation c item s own spells _ _ (class (part {cs = cs} others none)) (t ∷ d ∷ ts) e =
-    let (is, r) = others ts (let rest : map terminal_of ts ≡ cs ++ [] = cc in rest ∙ append-nil cs) in
-    (item (place_of t) ∷ is,
+    let (is, r) = others ts (let rest : map terminal_of ts ≡ cs ++ [] = cc in rest ∙ append-nil cs) in (
+      item (place_of t) ∷ is,
       subst (λ (es : List Expected). Spell (es ++ spelled_items is) (t ∷ d ∷ ts)) (sym (spells (place_of t)))
-        (is_word_at t c s own cc, (is_dot d cc, r)))
+          (is_word_at t c s own cc, (is_dot d cc, r)),
+    )
 items_expectation c item s own spells _ _ (class (part others none)) ts e = absurd (cc)
 
 -- "(" PA t x ")" d "."
@@ -193,12 +192,14 @@ items_value c item s own spells _ _ (part {cs = xs} {ds = ys} page (class (class
     let (v, is_v) = is_number n here1 in
     let (is, q) = others vs2 (behind2 ∙ append-nil cs) in
     let line : ValueLine = record { at = place_of t; pa = pa; value = v } in
-    let all : us ++ (n ∷ d ∷ vs2) ≡ ts = cc in
-    (item line ∷ is,
-      subst (λ (es : List Expected). Spell (es ++ spelled_items is) (t ∷ ts)) (sym (spells line))
-        (is_word_at t c s own cc,
-          subst (Spell (spelled_page (codes "PA") pa ++ (a_number v ∷ dot ∷ spelled_items is))) all
-            (spell-append (spelled_page (codes "PA") pa) (a_number v ∷ dot ∷ spelled_items is) us (n ∷ d ∷ vs2) r (is_v, (is_dot d here2, q)))))
+    let all : us ++ (n ∷ d ∷ vs2) ≡ ts = cc in (
+      item line ∷ is,
+      subst (λ (es : List Expected). Spell (es ++ spelled_items is) (t ∷ ts)) (sym (spells line)) (
+        is_word_at t c s own cc,
+        subst (Spell (spelled_page (codes "PA") pa ++ (a_number v ∷ dot ∷ spelled_items is))) all
+            (spell-append (spelled_page (codes "PA") pa) (a_number v ∷ dot ∷ spelled_items is) us (n ∷ d ∷ vs2) r (is_v, (is_dot d here2, q))),
+      ),
+    )
 items_value c item s own spells _ _ (part page (class (class (part others none)))) [] e = absurd (cc)
 
 items_relationship : Keeps Items Relationship
@@ -217,12 +218,15 @@ items_relationship _ _ (part {cs = xs} {ds = ys} kind (class (class (class (clas
     let (tg, is_tg) = is_number_at g2 here4 in
     let (tn, is_tn) = is_number n2 here5 in
     let (is, q) = others vs6 (behind6 ∙ append-nil cs) in
-    let all : us ++ (g1 ∷ n1 ∷ a ∷ g2 ∷ n2 ∷ d ∷ vs6) ≡ ts = cc in
-    (relationship (record { kind = w; source = record { g = sg; n = sn }; target = record { g = tg; n = tn } }) ∷ is,
-      (is_word t Relationship refl (λ h. cc) cc,
+    let all : us ++ (g1 ∷ n1 ∷ a ∷ g2 ∷ n2 ∷ d ∷ vs6) ≡ ts = cc in (
+      relationship (record { kind = w; source = record { g = sg; n = sn }; target = record { g = tg; n = tn } }) ∷ is,
+      (
+        is_word t Relationship refl (λ h. cc) cc,
         subst (Spell (a_word w ∷ number_at sg ∷ a_number sn ∷ arrow ∷ number_at tg ∷ a_number tn ∷ dot ∷ spelled_items is)) all
-          (spell-append (a_word w ∷ []) (number_at sg ∷ a_number sn ∷ arrow ∷ number_at tg ∷ a_number tn ∷ dot ∷ spelled_items is) us (g1 ∷ n1 ∷ a ∷ g2 ∷ n2 ∷ d ∷ vs6) s
-            (is_sg, (is_sn, (is_symbol a Arrow refl (λ h. cc) here3, (is_tg, (is_tn, (is_dot d here6, q)))))))))
+            (spell-append (a_word w ∷ []) (number_at sg ∷ a_number sn ∷ arrow ∷ number_at tg ∷ a_number tn ∷ dot ∷ spelled_items is) us (g1 ∷ n1 ∷ a ∷ g2 ∷ n2 ∷ d ∷ vs6) s
+            (is_sg, (is_sn, (is_symbol a Arrow refl (λ h. cc) here3, (is_tg, (is_tn, (is_dot d here6, q))))))),
+      ),
+    )
 items_relationship _ _ (part kind (class (class (class (class (class (class (part others none)))))))) [] e = absurd (cc)
 
 items_microop : Keeps Items Microop
@@ -238,13 +242,31 @@ items_microop _ _ (class (class (class (class (class (part {cs = xs} {ds = ys} a
     let (nn, is_n) = is_number n cc in
     let (is, q) = others vs2 (behind2 ∙ append-nil cs) in
     let all : us ++ (z ∷ d ∷ vs2) ≡ ts = cc in
-    let head : Head = record { at = place_of t; g = ng; core = nc; thread = nh; n = nn } in
-    (microop (record { head = head; types = types; action = action }) ∷ is,
-      (is_word_at t Microop refl (λ h. cc) cc, (is_g, (is_c, (is_h, (is_n, (is_open o cc,
-        subst (λ (es : List Expected). Spell es ts) (sym (append_assoc (spelled_access types action) (close_ ∷ dot ∷ []) (spelled_items is)))
-        (subst (Spell (spelled_access types action ++ (close_ ∷ dot ∷ spelled_items is))) all
-          (spell-append (spelled_access types action) (close_ ∷ dot ∷ spelled_items is) us (z ∷ d ∷ vs2) s
-            (is_close z here1, (is_dot d here2, q)))))))))))
+    let head : Head = record { at = place_of t; g = ng; core = nc; thread = nh; n = nn } in (
+      microop (record { head = head; types = types; action = action }) ∷ is,
+      (
+        is_word_at t Microop refl (λ h. cc) cc,
+        (
+          is_g,
+          (
+            is_c,
+            (
+              is_h,
+              (
+                is_n,
+                (
+                  is_open o cc,
+                  subst (λ (es : List Expected). Spell es ts) (sym (append_assoc (spelled_access types action) (close_ ∷ dot ∷ []) (spelled_items is)))
+                      (subst (Spell (spelled_access types action ++ (close_ ∷ dot ∷ spelled_items is))) all
+                      (spell-append (spelled_access types action) (close_ ∷ dot ∷ spelled_items is) us (z ∷ d ∷ vs2) s
+                      (is_close z here1, (is_dot d here2, q)))),
+                ),
+              ),
+            ),
+          ),
+        ),
+      ),
+    )
 items_microop _ _ (class (class (class (class (class (part access (class (class (part others none))))))))) ts e = absurd (cc)
 
 test_litmus : Keeps Test Litmus (Class Text ∷ Class Dot ∷ Part Items ∷ [])
@@ -254,7 +276,7 @@ test_litmus _ _ (class (class (part {cs = cs} others none))) (t ∷ x ∷ d ∷ 
 test_litmus _ _ (class (class (part others none))) ts e = absurd (cc)
 
 rule : (n : Phrase) (c : Terminal) → MatchOption (behind n c) (Unit {0})
-  (λ body. (cs : List Terminal) (marks : List Bool) → Each Means body cs marks → Means n (c ∷ cs) (rules.deep n c ∷ marks))
+    (λ body. (cs : List Terminal) (marks : List Bool) → Each Means body cs marks → Means n (c ∷ cs) (rules.deep n c ∷ marks))
 rule Test Litmus = test_litmus
 rule Test _ = tt
 rule Items Microop = items_microop
@@ -271,13 +293,13 @@ rule Access _ = tt
 rule Types c = by (is_name c) refl
   where
     by : (b : Bool) → is_name c ≡ b → MatchOption (if b then Some (Part Types ∷ []) else None) (Unit {0})
-      (λ body. (cs : List Terminal) (marks : List Bool) → Each Means body cs marks → Means Types (c ∷ cs) (false ∷ marks))
+        (λ body. (cs : List Terminal) (marks : List Bool) → Each Means body cs marks → Means Types (c ∷ cs) (false ∷ marks))
     by true h = types c h
     by false h = tt
 rule AnyName c = by (is_name c) refl
   where
     by : (b : Bool) → is_name c ≡ b → MatchOption (if b then Some [] else None) (Unit {0})
-      (λ body. (cs : List Terminal) (marks : List Bool) → Each Means body cs marks → Means AnyName (c ∷ cs) (false ∷ marks))
+        (λ body. (cs : List Terminal) (marks : List Bool) → Each Means body cs marks → Means AnyName (c ∷ cs) (false ∷ marks))
     by true h = any_name c h
     by false h = tt
 rule VirtualPage Open = virtual_page
@@ -338,7 +360,7 @@ read_types [] = ([], derives-end Types refl)
 read_types (w ∷ ws) =
     let (marks, d) = read_types ws in
     begin Types (word_terminal w) (Part Types ∷ []) (types_behind (word_terminal w) (word_is_name w)) (part d none)
-      (word_terminal w ∷ map terminal (map a_word ws)) (ap (λ (cs : List Terminal). word_terminal w ∷ cs) (sym (append-nil (map terminal (map a_word ws)))))
+    (word_terminal w ∷ map terminal (map a_word ws)) (ap (λ (cs : List Terminal). word_terminal w ∷ cs) (sym (append-nil (map terminal (map a_word ws)))))
 
 read_any_name : (w : List ℕ) → Reads AnyName (word_terminal w ∷ [])
 read_any_name w = begin AnyName (word_terminal w) [] (any_name_behind (word_terminal w) (word_is_name w)) none (word_terminal w ∷ []) refl
@@ -347,13 +369,13 @@ read_virtual : (p : Page) → Reads VirtualPage (map terminal (spelled_page (cod
 unfolding word_terminal symbol_terminal
 read_virtual p =
     begin VirtualPage Open (Class Va ∷ Class Number ∷ Class Number ∷ Class Close ∷ []) refl (class (class (class (class none))))
-      (map terminal (spelled_page (codes "VA") p)) refl
+    (map terminal (spelled_page (codes "VA") p)) refl
 
 read_physical : (p : Page) → Reads PhysicalPage (map terminal (spelled_page (codes "PA") p))
 unfolding word_terminal symbol_terminal
 read_physical p =
     begin PhysicalPage Open (Class Pa ∷ Class Number ∷ Class Number ∷ Class Close ∷ []) refl (class (class (class (class none))))
-      (map terminal (spelled_page (codes "PA") p)) refl
+    (map terminal (spelled_page (codes "PA") p)) refl
 
 read_value : (d : ℕ) → Reads Value (map terminal (spelled_data d))
 unfolding word_terminal symbol_terminal
@@ -368,8 +390,8 @@ read_touching c e ws m =
     let (_, p) = read_physical m.pa in
     let (_, x) = read_value m.value in
     begin Access c (Part Types ∷ Part VirtualPage ∷ Part PhysicalPage ∷ Part Value ∷ []) e (part d (part v (part p (part x none))))
-      (c ∷ map terminal (map a_word ws ++ spelled_memop m))
-      (ap (λ (cs : List Terminal). c ∷ cs) (map-append terminal (map a_word ws) (spelled_memop m)))
+    (c ∷ map terminal (map a_word ws ++ spelled_memop m))
+    (ap (λ (cs : List Terminal). c ∷ cs) (map-append terminal (map a_word ws) (spelled_memop m)))
 
 read_access : (ws : List (List ℕ)) (action : Action) → Reads Access (map terminal (spelled_access ws action))
 unfolding word_terminal
@@ -378,37 +400,37 @@ read_access ws (write m) = read_touching Write refl ws m
 read_access ws fence =
     let (_, d) = read_types ws in
     begin Access Fence (Part Types ∷ []) refl (part d none) (Fence ∷ map terminal (map a_word ws))
-      (ap (λ (cs : List Terminal). Fence ∷ cs) (sym (append-nil (map terminal (map a_word ws)))))
+    (ap (λ (cs : List Terminal). Fence ∷ cs) (sym (append-nil (map terminal (map a_word ws)))))
 
 read_item : (i : Item) (is : List Item) → Reads Items (map terminal (spelled_items is)) → Reads Items (map terminal (spelled_item i ++ spelled_items is))
 unfolding word_terminal symbol_terminal
 read_item (microop m) is (_, q) =
     let (_, a) = read_access m.types m.action in
     begin Items Microop
-      (Class Number ∷ Class Number ∷ Class Number ∷ Class Number ∷ Class Open ∷ Part Access ∷ Class Close ∷ Class Dot ∷ Part Items ∷ []) refl
-      (class (class (class (class (class (part a (class (class (part q none)))))))))
-      (map terminal (spelled_item (microop m) ++ spelled_items is))
-      (ap (λ (cs : List Terminal). Microop ∷ Number ∷ Number ∷ Number ∷ Number ∷ Open ∷ cs)
-        (simp (append_assoc, map-append, append-nil)))
+    (Class Number ∷ Class Number ∷ Class Number ∷ Class Number ∷ Class Open ∷ Part Access ∷ Class Close ∷ Class Dot ∷ Part Items ∷ []) refl
+    (class (class (class (class (class (part a (class (class (part q none)))))))))
+    (map terminal (spelled_item (microop m) ++ spelled_items is))
+    (ap (λ (cs : List Terminal). Microop ∷ Number ∷ Number ∷ Number ∷ Number ∷ Open ∷ cs)
+    (simp (append_assoc, map-append, append-nil)))
 read_item (relationship r) is (_, q) =
     let (_, k) = read_any_name r.kind in
     begin Items Relationship (Part AnyName ∷ Class Number ∷ Class Number ∷ Class Arrow ∷ Class Number ∷ Class Number ∷ Class Dot ∷ Part Items ∷ []) refl
-      (part k (class (class (class (class (class (class (part q none))))))))
-      (map terminal (spelled_item (relationship r) ++ spelled_items is)) (simp append-nil)
+    (part k (class (class (class (class (class (class (part q none))))))))
+    (map terminal (spelled_item (relationship r) ++ spelled_items is)) (simp append-nil)
 read_item (initial v) is (_, q) =
     let (_, p) = read_physical v.pa in
     begin Items Init (Part PhysicalPage ∷ Class Number ∷ Class Dot ∷ Part Items ∷ []) refl (part p (class (class (part q none))))
-      (map terminal (spelled_item (initial v) ++ spelled_items is)) (simp append-nil)
+    (map terminal (spelled_item (initial v) ++ spelled_items is)) (simp append-nil)
 read_item (final v) is (_, q) =
     let (_, p) = read_physical v.pa in
     begin Items Final (Part PhysicalPage ∷ Class Number ∷ Class Dot ∷ Part Items ∷ []) refl (part p (class (class (part q none))))
-      (map terminal (spelled_item (final v) ++ spelled_items is)) (simp append-nil)
+    (map terminal (spelled_item (final v) ++ spelled_items is)) (simp append-nil)
 read_item (permitted at) is (_, q) =
     begin Items Permitted (Class Dot ∷ Part Items ∷ []) refl (class (part q none))
-      (map terminal (spelled_item (permitted at) ++ spelled_items is)) (simp append-nil)
+    (map terminal (spelled_item (permitted at) ++ spelled_items is)) (simp append-nil)
 read_item (forbidden at) is (_, q) =
     begin Items Forbidden (Class Dot ∷ Part Items ∷ []) refl (class (part q none))
-      (map terminal (spelled_item (forbidden at) ++ spelled_items is)) (simp append-nil)
+    (map terminal (spelled_item (forbidden at) ++ spelled_items is)) (simp append-nil)
 
 read_items : (is : List Item) → Reads Items (map terminal (spelled_items is))
 read_items [] = ([], derives-end Items refl)
@@ -419,7 +441,7 @@ unfolding word_terminal symbol_terminal
 read_test is =
     let (_, q) = read_items is in
     begin Test Litmus (Class Text ∷ Class Dot ∷ Part Items ∷ []) refl (class (class (part q none)))
-      (map terminal (spelled_test is)) (simp append-nil)
+    (map terminal (spelled_test is)) (simp append-nil)
 
 -- the terminals of a test are read
 pub derives_of_test : (ts : List Token) → IsTest ts → IsText (Derives rules Test) (map terminal_of ts)

@@ -1,23 +1,21 @@
 -- What holds of items without a fault.
-use Rattle.std.proofs.Common.{◌≡◌, ◌≢◌, ℕ, zero, suc, ◌+◌, ◌<◌, ◌≤◌, Bool, true, false, List, [], ◌∷◌, ◌++◌, Option, Some, None, length, map, slice_get, get_or, refl, sym, ap, subst, ◌∙◌, ◌⊎◌, inl, inr, arith, append_assoc}
+use Rattle.std.proofs.Common.{◌≡◌, ℕ, zero, suc, ◌<◌, ◌≤◌, List, [], ◌∷◌, ◌++◌, Option, Some, None, length, map, slice_get, refl, sym, ap, subst, ◌∙◌, ◌⊎◌, inl, inr, arith, append_assoc}
 use Rattle.std.specs.Prelude.{Contains, ◌↔◌, IsNone}
-use Rattle.std.specs.List.{filter_map, cons_option}
+use Rattle.std.specs.List.{filter_map}
 use Rattle.std.specs.Option.{option_map}
-use Rattle.std.proofs.lemmas.List.{map-append, append-nil, length-append, length-map}
-use Rattle.std.proofs.lemmas.List.Elements.{filter_map-append, Contains-push_cases}
+use Rattle.std.proofs.lemmas.List.{append-nil, length-append, length-map}
+use Rattle.std.proofs.lemmas.List.Elements.{Contains-push_cases}
 use Rattle.std.proofs.lemmas.Option.{slice_get-map, slice_get_within, get_or_from_slice_get}
 use Rattle.pc_common.specs.declared.place.Place.{Place}
 use Rattle.pc_common.specs.declared.fault.FaultKind.{FaultKind}
 use Rattle.pc_common.specs.declared.fault.FaultKind.TheVariants.{CoreNumber, TooManyOps, DuplicateOp, AgainInitial, AgainFinal}
-use Rattle.pc_common.specs.Case.{Address, page, Value, number, MicroOp, Dependency, fence}
+use Rattle.pc_common.specs.Case.{Address, Value, MicroOp, Dependency, fence}
 use Rattle.pc_case.specs.Kept.{IsKept}
 use Rattle.pc_case.specs.Stated.{IsStatedOnce, AreWithin}
 use Rattle.pc_case.specs.Plain.{page_at, address_at}
-use Rattle.pc_case.specs.declared.op.Page.{Page}
 use Rattle.litmus_reader.specs.Items.{microop_of, relationship_of, initial_of, final_of, microops_in, heads_in, relationships_in, initial_in, final_in, kind_said, touch_said, op_said, place_in, dependency_said, value_said}
 use Rattle.litmus_reader.specs.Content.{Never, First, OverCore, OverMany, SplitFrom, DuplicateOf, SomeEarlier, Unknown, AgainStated, MicroopFault, IsFaultOf, IsClean}
 use Rattle.litmus_reader.specs.declared.item.Head.{Head}
-use Rattle.litmus_reader.specs.declared.item.End.{End}
 use Rattle.litmus_reader.specs.declared.item.Action.{Action}
 use Rattle.litmus_reader.specs.declared.item.Action.TheVariants.{Read as reads, Write as writes, Fence as fences}
 use Rattle.litmus_reader.specs.declared.item.Microop.{Microop}
@@ -64,7 +62,7 @@ module _ (P : List Item → Type 0) (first : P []) (step : (b : List Item) (i : 
   go b (i ∷ rest) clean p =
       let together : (b ++ i ∷ []) ++ rest ≡ b ++ i ∷ rest = append_assoc b (i ∷ []) rest in
       subst P together
-        (go (b ++ i ∷ []) rest (subst IsClean (sym together) clean) (step b i (clean-front b (i ∷ rest) clean) (clean b i rest refl) p))
+      (go (b ++ i ∷ []) rest (subst IsClean (sym together) clean) (step b i (clean-front b (i ∷ rest) clean) (clean b i rest refl) p))
 
   pub each_clean : (items : List Item) → IsClean items → P items
   each_clean items clean = go [] items clean first
@@ -155,7 +153,7 @@ SameName a b = (a.g.value ≡ b.g.value) × (a.n ≡ b.n)
 names_step : (b : List Item) (i : Item) → IsClean b → Never (IsFaultOf b i) → Apart SameName (heads_in b) → Apart SameName (heads_in (b ++ i ∷ []))
 names_step b (microop m) clean never apart =
     subst (Apart SameName) (sym (added_head b m))
-      (apart-push SameName (heads_in b) m.head (λ x y r. (sym r.0, sym r.1)) apart (λ e c r. no_duplicate (heads_in b) m.head never e c r.0 r.1))
+    (apart-push SameName (heads_in b) m.head (λ x y r. (sym r.0, sym r.1)) apart (λ e c r. no_duplicate (heads_in b) m.head never e c r.0 r.1))
 names_step b (relationship r) clean never apart = subst (Apart SameName) (sym (same_heads b (relationship r) refl)) apart
 names_step b (initial v) clean never apart = subst (Apart SameName) (sym (same_heads b (initial v) refl)) apart
 names_step b (final v) clean never apart = subst (Apart SameName) (sym (same_heads b (final v) refl)) apart
@@ -178,8 +176,8 @@ module _ (f : Item → Option ValueLine) (word : ℕ → ℕ → FaultKind)
       by None e = subst (Apart SamePage) (sym (same f b i e)) apart
       by (Some v) e =
           subst (Apart SamePage) (sym (added f b i v e))
-            (apart-push SamePage (filter_map f b) v (λ x y r. sym r) apart
-              (λ u c r. judged b i v e never (word u.value v.value) v.at (u, c, r, refl, refl)))
+          (apart-push SamePage (filter_map f b) v (λ x y r. sym r) apart
+          (λ u c r. judged b i v e never (word u.value v.value) v.at (u, c, r, refl, refl)))
 
   pub pages : (items : List Item) → IsClean items → Apart SamePage (filter_map f items)
   pages = each_clean (λ items. Apart SamePage (filter_map f items)) (λ j k a b e g r. absurd (cc)) pages_step
@@ -245,7 +243,7 @@ ops_kept items clean =
           let (m, here, is_a) = mapped_get op_said ms j a at_j in
           let (l, there, is_b) = mapped_get op_said ms k b at_k in
           names items clean j k m.head l.head (get_mapped head ms j m here) (get_mapped head ms k l there)
-            (ap (λ (x : MicroOp). x.g) is_a ∙ g ∙ sym (ap (λ (x : MicroOp). x.g) is_b), ap (λ (x : MicroOp). x.n) is_a ∙ n ∙ sym (ap (λ (x : MicroOp). x.n) is_b));
+          (ap (λ (x : MicroOp). x.g) is_a ∙ g ∙ sym (ap (λ (x : MicroOp). x.g) is_b), ap (λ (x : MicroOp). x.n) is_a ∙ n ∙ sym (ap (λ (x : MicroOp). x.n) is_b));
       fences = λ k o at.
           let (m, here, is) = mapped_get op_said ms k o at in
           subst (λ (x : MicroOp). (x.kind ≡ fence) ↔ IsNone x.touch) is (fence_touches m.action);
@@ -259,7 +257,7 @@ known_same : (b : List Item) (i : Item) → microop_of i ≡ None → relationsh
     → AreKnown (heads_in (b ++ i ∷ [])) (relationships_in (b ++ i ∷ []))
 known_same b i no_op no_line all =
     subst (λ (hs : List Head). AreKnown hs (relationships_in (b ++ i ∷ []))) (sym (same_heads b i no_op))
-      (subst (AreKnown (heads_in b)) (sym (same relationship_of b i no_line)) all)
+    (subst (AreKnown (heads_in b)) (sym (same relationship_of b i no_line)) all)
 
 known_step : (b : List Item) (i : Item) → IsClean b → Never (IsFaultOf b i) → AreKnown (heads_in b) (relationships_in b)
     → AreKnown (heads_in (b ++ i ∷ [])) (relationships_in (b ++ i ∷ []))
@@ -269,15 +267,15 @@ known_step b (microop m) clean never all = λ r c.
     let t = place_in-append (heads_in b) (m.head ∷ []) r.target old.1 in
     let n = length-append (heads_in b) (m.head ∷ []) in
     subst (λ (hs : List Head). (place_in hs r.source < length hs) × (place_in hs r.target < length hs)) (sym (added_head b m))
-      (omega (arith, s, n, old.0), omega (arith, t, n, old.1))
+    (omega (arith, s, n, old.0), omega (arith, t, n, old.1))
 known_step b (relationship q) clean never all = λ r c.
     let hs = heads_in b in
     subst (λ (xs : List Head). (place_in xs r.source < length xs) × (place_in xs r.target < length xs)) (sym (same_heads b (relationship q) refl))
-      (elim (Contains-push_cases (relationships_in b) q r (subst (λ (rs : List Relationship). Contains rs r) (added relationship_of b (relationship q) q refl) c)) [
-        | inl d ↦ all r d
-        | inr e ↦ subst (λ (x : Relationship). (place_in hs x.source < length hs) × (place_in hs x.target < length hs)) e
+    (elim (Contains-push_cases (relationships_in b) q r (subst (λ (rs : List Relationship). Contains rs r) (added relationship_of b (relationship q) q refl) c)) [
+      | inl d ↦ all r d
+      | inr e ↦ subst (λ (x : Relationship). (place_in hs x.source < length hs) × (place_in hs x.target < length hs)) e
           (known hs q.source (never-first (Unknown hs q.source) (Unknown hs q.target) never), known hs q.target (never-others (Unknown hs q.source) (Unknown hs q.target) never))
-      ])
+    ])
 known_step b (initial v) clean never all = known_same b (initial v) refl refl all
 known_step b (final v) clean never all = known_same b (final v) refl refl all
 known_step b (permitted at) clean never all = known_same b (permitted at) refl refl all

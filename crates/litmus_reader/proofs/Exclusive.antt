@@ -1,16 +1,13 @@
 -- A text has a case or a first fault, and one alone.
-use Rattle.std.proofs.Common.{◌≡◌, ◌≢◌, ℕ, ◌+◌, ◌<◌, ◌≤◌, List, [], ◌∷◌, ◌++◌, Some, length, take, drop, refl, sym, ap, subst, ◌∙◌, arith}
+use Rattle.std.proofs.Common.{◌≡◌, ◌≢◌, ℕ, ◌+◌, ◌≤◌, List, length, drop, refl, sym, ap, subst, ◌∙◌, arith}
 use Rattle.std.proofs.lemmas.List.{take-append-drop}
 use Rattle.pc_common.specs.Case.{Case}
-use Rattle.pc_common.specs.declared.place.Place.{Place}
 use Rattle.ll_grammar.specs.FirstFault.{IsFaultAt}
 use Rattle.uspec_lexer.specs.Token.{Token}
-use Rattle.uspec_lexer.specs.Spells.{Spells, IsLexicalFault}
 use Rattle.uspec_lexer.proofs.Spelling.{spells-unique, spells-no_fault}
 use Rattle.litmus_reader.specs.Syntax.{IsTestOf, IsTest}
 use Rattle.litmus_reader.specs.Items.{case_of}
-use Rattle.litmus_reader.specs.Content.{IsClean, IsContentFault}
-use Rattle.litmus_reader.specs.Answer.{Says, CaseOf, IsSyntaxFault, IsRefusal}
+use Rattle.litmus_reader.specs.Answer.{Says, CaseOf, IsRefusal}
 use Rattle.litmus_reader.specs.declared.item.Item.{Item}
 use Rattle.litmus_reader.specs.declared.fault.CaseFault.{CaseFault}
 use Rattle.litmus_reader.specs.declared.fault.CaseFault.TheVariants.{Lexical, Syntax, Content, Memory}

@@ -1,6 +1,6 @@
 -- What is kept of the lines, line by line.
-use Rattle.std.proofs.Common.{◌≡◌, ◌≢◌, ℕ, zero, suc, ◌+◌, ◌<◌, ◌≤◌, Bool, true, false, List, [], ◌∷◌, ◌++◌, Option, Some, None, Result, Ok, Err, OnOk, IfOk, length, map, slice_get, get_or, refl, sym, ap, subst, ◌∙◌, arith, append_assoc, ◌⊎◌, inl, inr}
-use Rattle.std.specs.List.{filter_map, position_or_len, cons_option}
+use Rattle.std.proofs.Common.{◌≡◌, zero, ◌<◌, ◌≤◌, Bool, true, false, List, [], ◌∷◌, ◌++◌, Option, Some, None, Result, Ok, Err, OnOk, IfOk, length, map, refl, sym, ap, ◌∙◌, arith, append_assoc, inl, inr}
+use Rattle.std.specs.List.{filter_map, cons_option}
 use Rattle.std.proofs.lemmas.List.{map-append, append-nil}
 use Rattle.std.proofs.lemmas.List.Elements.{filter_map-append}
 use Rattle.std.proofs.lemmas.List.Sums.{prefix_len-le-length}
@@ -11,7 +11,7 @@ use Rattle.pc_common.specs.Case.{Expectation, MicroOp, Dependency}
 use Rattle.pc_case.specs.Plain.{micro_op, dependency}
 use Rattle.pc_case.specs.declared.stated.Stated.{Stated}
 use Rattle.litmus_reader.specs.Items.{microop_of, relationship_of, initial_of, final_of, expectation_of, microops_in, heads_in, relationships_in, initial_in, final_in, expectations_in, op_said, is_named, place_in, dependency_said}
-use Rattle.litmus_reader.specs.Content.{Never, First, Unknown, IsFaultOf, AgainExpected}
+use Rattle.litmus_reader.specs.Content.{Never, First, Unknown, AgainExpected}
 use Rattle.litmus_reader.specs.Kept.{stated_of, stances, Keeps, AddsMicroop, AddsRelationship}
 use Rattle.litmus_reader.specs.declared.item.Head.{Head}
 use Rattle.litmus_reader.specs.declared.item.End.{End}
@@ -19,7 +19,7 @@ use Rattle.litmus_reader.specs.declared.item.Microop.{Microop}
 use Rattle.litmus_reader.specs.declared.item.Relationship.{Relationship}
 use Rattle.litmus_reader.specs.declared.item.ValueLine.{ValueLine}
 use Rattle.litmus_reader.specs.declared.item.Item.{Item}
-use Rattle.litmus_reader.specs.declared.item.Item.TheVariants.{Microop as microop, Relationship as relationship, Initial as initial, Final as final, Permitted as permitted, Forbidden as forbidden}
+use Rattle.litmus_reader.specs.declared.item.Item.TheVariants.{Microop as microop, Relationship as relationship, Initial as initial, Final as final}
 use Rattle.litmus_reader.specs.declared.kept.Kept.{Kept}
 use Rattle.litmus_reader.specs.declared.kept.Stance.{Stance}
 use Rattle.litmus_reader.proofs.RowFacts.{place_in-none}
@@ -94,11 +94,11 @@ pub keeps-microop : (old new : Kept) (before : List Item) (m : Microop) → Keep
 keeps-microop old new before m k a = record {
   heads = a.heads ∙ ap (λ (hs : List Head). hs ++ m.head ∷ []) k.heads ∙ sym (added_head before m);
   ops = a.ops ∙ ap (λ (os : List MicroOp). os ++ op_said m ∷ []) k.ops ∙ sym (map-append op_said (microops_in before) (m ∷ []))
-    ∙ ap (map op_said) (sym (added microop_of before (microop m) m refl));
+      ∙ ap (map op_said) (sym (added microop_of before (microop m) m refl));
   dependencies = λ more.
       ap (map dependency) a.dependencies ∙ k.dependencies (m.head ∷ more)
       ∙ ap (λ (hs : List Head). map (dependency_said hs) (relationships_in before))
-        (sym (append_assoc (heads_in before) (m.head ∷ []) more) ∙ ap (λ (hs : List Head). hs ++ more) (sym (added_head before m)))
+      (sym (append_assoc (heads_in before) (m.head ∷ []) more) ∙ ap (λ (hs : List Head). hs ++ more) (sym (added_head before m)))
       ∙ ap (map (dependency_said (heads_in (before ++ microop m ∷ []) ++ more))) (sym (same relationship_of before (microop m) refl));
   initial = a.initial ∙ k.initial ∙ ap (map stated_of) (sym (same initial_of before (microop m) refl));
   final_values = a.final_values ∙ k.final_values ∙ ap (map stated_of) (sym (same final_of before (microop m) refl));
@@ -133,7 +133,7 @@ keeps-relationship old new before r k never a =
           a.dependencies
           ∙ ap (λ (ds : List Dependency). ds ++ dependency_said old.heads.items r ∷ []) (k.dependencies more)
           ∙ ap (λ (x : Dependency). map (dependency_said (heads_in before ++ more)) (relationships_in before) ++ x ∷ [])
-            (ap (λ (hs : List Head). dependency_said hs r) k.heads ∙ dependency_said-append (heads_in before) more r never)
+          (ap (λ (hs : List Head). dependency_said hs r) k.heads ∙ dependency_said-append (heads_in before) more r never)
           ∙ sym (map-append (dependency_said (heads_in before ++ more)) (relationships_in before) (r ∷ []))
           ∙ ap (map (dependency_said (heads_in before ++ more))) (sym (added relationship_of before i r refl))
           ∙ ap (λ (hs : List Head). map (dependency_said (hs ++ more)) (relationships_in (before ++ i ∷ []))) (sym (same_heads before i refl));
@@ -147,20 +147,20 @@ pub keeps-initial : (old : Kept) (before : List Item) (v : ValueLine) (lines : L
 keeps-initial old before v lines k e =
     let i = initial v in
     others_kept old (record old { initial = lines }) before i refl refl k refl refl refl
-      (e ∙ ap (λ (ls : List Stated). ls ++ stated_of v ∷ []) k.initial ∙ sym (map-append stated_of (initial_in before) (v ∷ []))
-        ∙ ap (map stated_of) (sym (added initial_of before i v refl)))
-      (k.final_values ∙ ap (map stated_of) (sym (same final_of before i refl)))
-      (k.stance ∙ sym (same expectation_of before i refl))
+    (e ∙ ap (λ (ls : List Stated). ls ++ stated_of v ∷ []) k.initial ∙ sym (map-append stated_of (initial_in before) (v ∷ []))
+    ∙ ap (map stated_of) (sym (added initial_of before i v refl)))
+    (k.final_values ∙ ap (map stated_of) (sym (same final_of before i refl)))
+    (k.stance ∙ sym (same expectation_of before i refl))
 
 pub keeps-final : (old : Kept) (before : List Item) (v : ValueLine) (lines : List Stated) → Keeps old before
     → lines ≡ old.final_values ++ stated_of v ∷ [] → Keeps (record old { final_values = lines }) (before ++ final v ∷ [])
 keeps-final old before v lines k e =
     let i = final v in
     others_kept old (record old { final_values = lines }) before i refl refl k refl refl refl
-      (k.initial ∙ ap (map stated_of) (sym (same initial_of before i refl)))
-      (e ∙ ap (λ (ls : List Stated). ls ++ stated_of v ∷ []) k.final_values ∙ sym (map-append stated_of (final_in before) (v ∷ []))
-        ∙ ap (map stated_of) (sym (added final_of before i v refl)))
-      (k.stance ∙ sym (same expectation_of before i refl))
+    (k.initial ∙ ap (map stated_of) (sym (same initial_of before i refl)))
+    (e ∙ ap (λ (ls : List Stated). ls ++ stated_of v ∷ []) k.final_values ∙ sym (map-append stated_of (final_in before) (v ∷ []))
+    ∙ ap (map stated_of) (sym (added final_of before i v refl)))
+    (k.stance ∙ sym (same expectation_of before i refl))
 
 -- no expectation stands before one that is no fault
 none_expected : (es : List (Expectation × Place)) (at : Place) → Never (AgainExpected es at) → es ≡ []
@@ -173,7 +173,7 @@ pub keeps-expectation : (old : Kept) (before : List Item) (i : Item) (s : Stance
     → Keeps (record old { stance = Some s }) (before ++ i ∷ [])
 keeps-expectation old before i s e k no_op no_line no_initial no_final is said at never =
     others_kept old (record old { stance = Some s }) before i no_op no_line k refl refl refl
-      (k.initial ∙ ap (map stated_of) (sym (same initial_of before i no_initial)))
-      (k.final_values ∙ ap (map stated_of) (sym (same final_of before i no_final)))
-      (said ∙ ap (λ (es : List (Expectation × Place)). es ++ e ∷ []) (sym (none_expected (expectations_in before) at never))
-        ∙ sym (added expectation_of before i e is))
+    (k.initial ∙ ap (map stated_of) (sym (same initial_of before i no_initial)))
+    (k.final_values ∙ ap (map stated_of) (sym (same final_of before i no_final)))
+    (said ∙ ap (λ (es : List (Expectation × Place)). es ++ e ∷ []) (sym (none_expected (expectations_in before) at never))
+    ∙ sym (added expectation_of before i e is))

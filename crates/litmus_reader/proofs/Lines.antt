@@ -1,14 +1,13 @@
 -- What stands in the lines of a test, place by place.
-use Rattle.std.proofs.Common.{◌≡◌, ◌≢◌, ℕ, zero, suc, ◌+◌, ◌<◌, ◌≤◌, List, [], ◌∷◌, ◌++◌, Option, Some, None, map, codes, length, slice_get, take, drop, refl, sym, ap, subst, ◌∙◌, arith, append_assoc, ◌⊎◌, inl, inr}
-use Rattle.std.proofs.lemmas.List.{append-nil, length-append, length-map}
+use Rattle.std.proofs.Common.{◌≡◌, ◌≢◌, ℕ, ◌+◌, ◌≤◌, List, [], ◌∷◌, ◌++◌, Some, map, codes, length, slice_get, refl, sym, ap, subst, ◌∙◌, arith, append_assoc, ◌⊎◌, inl, inr}
+use Rattle.std.proofs.lemmas.List.{length-append, length-map}
 use Rattle.pc_case.specs.declared.op.Memop.{Memop}
 use Rattle.pc_common.specs.declared.place.Place.{Place}
-use Rattle.uspec_lexer.specs.Token.{Token, Kind, name, number, text, symbol}
-use Rattle.litmus_reader.specs.Expected.{Expected, a_word, word_at, a_number, number_at, a_text, a_symbol, Is, Spell}
-use Rattle.litmus_reader.specs.Syntax.{spelled_page, spelled_data, spelled_memop, spelled_access, spelled_head, spelled_item, open_, close_, dot, arrow}
+use Rattle.uspec_lexer.specs.Token.{Token}
+use Rattle.litmus_reader.specs.Expected.{Expected, a_word, word_at, a_symbol}
+use Rattle.litmus_reader.specs.Syntax.{spelled_memop, spelled_access, spelled_head, spelled_item, open_, close_, dot}
 use Rattle.litmus_reader.specs.Terminals.{word_terminal, terminal_of}
 use Rattle.litmus_reader.specs.Reading.{StandsAt, IsNameAt, BeginsAt, NamesAt, SomeMicroopAt, IsMicroopAt}
-use Rattle.litmus_reader.specs.declared.item.Head.{Head}
 use Rattle.litmus_reader.specs.declared.item.Action.{Action}
 use Rattle.litmus_reader.specs.declared.item.Action.TheVariants.{Read as read, Write as write, Fence as fence}
 use Rattle.litmus_reader.specs.declared.item.Microop.{Microop as MicroopLine}
@@ -19,7 +18,7 @@ use Rattle.litmus_reader.specs.declared.item.Item.TheVariants.{Microop as microo
 use Rattle.litmus_reader.specs.declared.terminal.Terminal.{Terminal}
 use Rattle.litmus_reader.specs.declared.terminal.Terminal.TheVariants.{Microop, Relationship, Init, Final, Permitted, Forbidden, Read, Write, Fence}
 use Rattle.litmus_reader.proofs.Bridge.{terminal, terminal-of_token}
-use Rattle.litmus_reader.proofs.Places.{place-stands, stands, stands-first, begins-behind, begins-front, begins-within}
+use Rattle.litmus_reader.proofs.Places.{place-stands, stands-first, begins-behind, begins-front, begins-within}
 
 -- the terminal of the token that stands there
 terminal-stands : {ts : List Token} {k : ℕ} {e : Expected} (t : Token) → slice_get ts k ≡ Some t → StandsAt ts k e → terminal_of t ≡ terminal e
@@ -41,7 +40,7 @@ touching : {ts : List Token} {k : ℕ} (e : Expected) (types : List (List ℕ)) 
     → BeginsAt ts k (e ∷ ((map a_word types ++ spelled_memop m) ++ close_ ∷ [])) → Touching ts (k + 1) types m
 touching {ts} {k} e types m b =
     subst (BeginsAt ts (k + 1)) (append_assoc (map a_word types) (spelled_memop m) (close_ ∷ []))
-      (begins-behind (e ∷ []) ((map a_word types ++ spelled_memop m) ++ close_ ∷ []) b)
+    (begins-behind (e ∷ []) ((map a_word types ++ spelled_memop m) ++ close_ ∷ []) b)
 
 touching-names : {ts : List Token} {k : ℕ} (types : List (List ℕ)) (m : Memop) → Touching ts k types m → NamesAt ts k types
 touching-names types m b = record {
@@ -53,7 +52,7 @@ touching-memop : {ts : List Token} {k : ℕ} (types : List (List ℕ)) (m : Memo
     → BeginsAt ts (k + length types) (spelled_memop m ++ close_ ∷ [])
 touching-memop {ts} {k} types m b =
     subst (λ (n : ℕ). BeginsAt ts (k + n) (spelled_memop m ++ close_ ∷ [])) (length-map types a_word)
-      (begins-behind (map a_word types) (spelled_memop m ++ close_ ∷ []) b)
+    (begins-behind (map a_word types) (spelled_memop m ++ close_ ∷ []) b)
 
 abbrev pub access_word : Action → Terminal
 access_word (read m) = Read
@@ -109,18 +108,21 @@ pub access-said : {ts : List Token} {k : ℕ} (types : List (List ℕ)) (action 
     → (said.0 ≡ action) × (said.1 ≡ k + length (spelled_access types action))
 access-said {ts} {k} types (read m) b word next said is_word behind if_read if_write if_fence =
     let touched = begins-front (spelled_memop m) (close_ ∷ []) (touching-memop types m (touching (a_word (codes "Read")) types m b)) in
-    let so = if_read m is_word (subst (λ (n : ℕ). BeginsAt ts n (spelled_memop m)) (sym behind) touched) in
-    (ap (λ (p : Action × ℕ). p.0) so,
-      ap (λ (p : Action × ℕ). p.1) so ∙ (let n = length-append (map a_word types) (spelled_memop m) in let l = length-map types a_word in omega arith))
+    let so = if_read m is_word (subst (λ (n : ℕ). BeginsAt ts n (spelled_memop m)) (sym behind) touched) in (
+      ap (λ (p : Action × ℕ). p.0) so,
+      ap (λ (p : Action × ℕ). p.1) so ∙ (let n = length-append (map a_word types) (spelled_memop m) in let l = length-map types a_word in omega arith),
+    )
 access-said {ts} {k} types (write m) b word next said is_word behind if_read if_write if_fence =
     let touched = begins-front (spelled_memop m) (close_ ∷ []) (touching-memop types m (touching (a_word (codes "Write")) types m b)) in
-    let so = if_write m is_word (subst (λ (n : ℕ). BeginsAt ts n (spelled_memop m)) (sym behind) touched) in
-    (ap (λ (p : Action × ℕ). p.0) so,
-      ap (λ (p : Action × ℕ). p.1) so ∙ (let n = length-append (map a_word types) (spelled_memop m) in let l = length-map types a_word in omega arith))
+    let so = if_write m is_word (subst (λ (n : ℕ). BeginsAt ts n (spelled_memop m)) (sym behind) touched) in (
+      ap (λ (p : Action × ℕ). p.0) so,
+      ap (λ (p : Action × ℕ). p.1) so ∙ (let n = length-append (map a_word types) (spelled_memop m) in let l = length-map types a_word in omega arith),
+    )
 access-said {ts} {k} types fence b word next said is_word behind if_read if_write if_fence =
-    let so = if_fence is_word in
-    (ap (λ (p : Action × ℕ). p.0) so,
-      ap (λ (p : Action × ℕ). p.1) so ∙ (let l = length-map types a_word in omega arith))
+    let so = if_fence is_word in (
+      ap (λ (p : Action × ℕ). p.0) so,
+      ap (λ (p : Action × ℕ). p.1) so ∙ (let l = length-map types a_word in omega arith),
+    )
 
 -- the parts of a micro-op's line
 pub microop-head : {ts : List Token} {k : ℕ} (m : MicroopLine) → BeginsAt ts k (spelled_item (microop m)) → BeginsAt ts k (spelled_head m.head)
@@ -130,7 +132,7 @@ pub microop-access : {ts : List Token} {k : ℕ} (m : MicroopLine) → BeginsAt 
     → BeginsAt ts (k + 6) (spelled_access m.types m.action ++ close_ ∷ [])
 microop-access m b =
     up_to_symbol (spelled_access m.types m.action) (codes ")") (dot ∷ [])
-      (begins-behind (spelled_head m.head ++ open_ ∷ []) (spelled_access m.types m.action ++ (close_ ∷ dot ∷ [])) b)
+    (begins-behind (spelled_head m.head ++ open_ ∷ []) (spelled_access m.types m.action ++ (close_ ∷ dot ∷ [])) b)
 
 pub microop-length : (m : MicroopLine) → length (spelled_item (microop m)) ≡ 6 + length (spelled_access m.types m.action) + 2
 microop-length m = let n = length-append (spelled_access m.types m.action) (close_ ∷ dot ∷ []) in omega arith

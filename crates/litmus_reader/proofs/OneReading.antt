@@ -1,24 +1,21 @@
 -- Tokens are a test of one list of items at most.
-use Rattle.std.proofs.Common.{◌≡◌, ◌≢◌, ℕ, zero, suc, ◌+◌, ◌<◌, ◌≤◌, List, [], ◌∷◌, ◌++◌, Option, Some, None, codes, length, map, drop, slice_get, refl, sym, ap, subst, ◌∙◌, arith, append_assoc}
-use Rattle.std.proofs.lemmas.List.{append-nil, length-append}
+use Rattle.std.proofs.Common.{◌≡◌, ℕ, ◌+◌, List, [], ◌∷◌, ◌++◌, Some, codes, length, map, drop, slice_get, refl, sym, ap, subst, ◌∙◌, arith}
+use Rattle.std.proofs.lemmas.List.{length-append}
 use Rattle.pc_common.specs.declared.place.Place.{Place}
-use Rattle.pc_case.specs.declared.op.Page.{Page}
 use Rattle.pc_case.specs.declared.op.Memop.{Memop}
-use Rattle.uspec_lexer.specs.Token.{Token, Kind, name, number, text, symbol}
-use Rattle.litmus_reader.specs.Expected.{Expected, a_word, word_at, a_number, number_at, a_text, a_symbol, Is, Spell}
-use Rattle.litmus_reader.specs.Syntax.{spelled_page, spelled_data, spelled_memop, spelled_access, spelled_head, spelled_item, spelled_items, open_, close_, dot, arrow, IsTestOf}
+use Rattle.uspec_lexer.specs.Token.{Token, name, symbol}
+use Rattle.litmus_reader.specs.Expected.{Expected, a_word, word_at, a_number, number_at, a_symbol, Spell}
+use Rattle.litmus_reader.specs.Syntax.{spelled_memop, spelled_access, spelled_head, spelled_item, spelled_items, close_, IsTestOf}
 use Rattle.litmus_reader.specs.Reading.{StandsAt, IsNameAt, BeginsAt, NamesAt}
 use Rattle.litmus_reader.specs.declared.item.Numeral.{Numeral}
 use Rattle.litmus_reader.specs.declared.item.Head.{Head}
 use Rattle.litmus_reader.specs.declared.item.Action.{Action}
 use Rattle.litmus_reader.specs.declared.item.Action.TheVariants.{Read as read, Write as write, Fence as fence}
 use Rattle.litmus_reader.specs.declared.item.Microop.{Microop as MicroopLine}
-use Rattle.litmus_reader.specs.declared.item.Relationship.{Relationship as RelationshipLine}
-use Rattle.litmus_reader.specs.declared.item.ValueLine.{ValueLine}
 use Rattle.litmus_reader.specs.declared.item.Item.{Item}
 use Rattle.litmus_reader.specs.declared.item.Item.TheVariants.{Microop as microop, Relationship as relationship, Initial as initial, Final as final, Permitted as permitted, Forbidden as forbidden}
 use Rattle.litmus_reader.proofs.Spelling.{spell-length}
-use Rattle.litmus_reader.proofs.Places.{stands, stands-first, spell-behind, begins-behind, begins-front, names-none, names-more}
+use Rattle.litmus_reader.proofs.Places.{stands, stands-first, spell-behind, begins-behind, names-none, names-more}
 use Rattle.litmus_reader.proofs.Lines.{access_word, access-terminal, access-names, access-memop, access-first, microop-head, microop-access, item_word, item-terminal}
 use Rattle.litmus_reader.proofs.Walk.{item-some}
 
@@ -48,9 +45,9 @@ one_names : {ts : List Token} (xs ys : List (List ℕ)) (k : ℕ) → NamesAt ts
 one_names [] ys k n m =
     let s = stands-first (a_symbol n.behind) [] n.they in
     sym (names-none ys m (λ named.
-      let same : s.token ≡ named.token = let a = s.at in let b = named.at in cc in
-      let a : s.token.kind ≡ symbol = s.is.0 in
-      let b : s.token.kind ≡ name = ap (λ (x : Token). x.kind) same ∙ named.named in cc))
+    let same : s.token ≡ named.token = let a = s.at in let b = named.at in cc in
+    let a : s.token.kind ≡ symbol = s.is.0 in
+    let b : s.token.kind ≡ name = ap (λ (x : Token). x.kind) same ∙ named.named in cc))
 one_names (w ∷ xs) ys k n m =
     let s = stands-first (a_word w) (map a_word xs ++ a_symbol n.behind ∷ []) n.they in
     let named : IsNameAt _ _ = record { token = s.token; at = s.at; named = s.is.0 } in
@@ -95,10 +92,10 @@ one_microop {ts} {k} m n b c =
     let at_n = microop-access n c in
     let s = access-first m.types m.action at_m in
     let word : access_word m.action ≡ access_word n.action =
-      sym (access-terminal m.types m.action at_m s.token s.at) ∙ access-terminal n.types n.action at_n s.token s.at in
+    sym (access-terminal m.types m.action at_m s.token s.at) ∙ access-terminal n.types n.action at_n s.token s.at in
     let types = one_names m.types n.types (k + 6 + 1) (access-names m.types m.action at_m) (access-names n.types n.action at_n) in
     let action = one_action n.types m.action n.action word
-      (subst (λ (ws : List (List ℕ)). BeginsAt ts (k + 6) (spelled_access ws m.action ++ close_ ∷ [])) types at_m) at_n in
+    (subst (λ (ws : List (List ℕ)). BeginsAt ts (k + 6) (spelled_access ws m.action ++ close_ ∷ [])) types at_m) at_n in
     λ i. record { head = head i; types = types i; action = action i }
 
 one_item : {ts : List Token} {k : ℕ} (x y : Item) → item_word x ≡ item_word y → BeginsAt ts k (spelled_item x) → BeginsAt ts k (spelled_item y) → x ≡ y
@@ -161,7 +158,7 @@ one_list ts k (x ∷ xs) (y ∷ ys) s t =
     let a = spell-behind ts k (spelled_item x) (spelled_items xs) s in
     let b = spell-behind ts k (spelled_item y) (spelled_items ys) t in
     let rest = one_list ts (k + length (spelled_item x)) xs ys a
-      (subst (λ (i : Item). Spell (spelled_items ys) (drop (k + length (spelled_item i)) ts)) (sym same) b) in
+    (subst (λ (i : Item). Spell (spelled_items ys) (drop (k + length (spelled_item i)) ts)) (sym same) b) in
     λ i. same i ∷ rest i
 
 -- tokens are a test of one list of items

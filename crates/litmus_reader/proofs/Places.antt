@@ -1,15 +1,14 @@
 -- What stands at the places of the tokens.
-use Rattle.std.proofs.Common.{◌≡◌, ℕ, zero, suc, ◌+◌, ◌<◌, ◌≤◌, List, [], ◌∷◌, ◌++◌, Option, Some, None, map, length, slice_get, take, drop, refl, sym, ap, subst, ◌∙◌, arith, append_assoc}
-use Rattle.std.proofs.lemmas.List.{append-nil}
+use Rattle.std.proofs.Common.{◌≡◌, ℕ, zero, suc, ◌+◌, ◌<◌, ◌≤◌, List, [], ◌∷◌, ◌++◌, Some, map, length, slice_get, drop, refl, sym, ap, subst, ◌∙◌, arith, append_assoc}
 use Rattle.std.proofs.lemmas.Option.{slice_get_within}
-use Rattle.std.proofs.Math.Nat.{suc-add, add-suc}
+use Rattle.std.proofs.Math.Nat.{suc-add}
 use Rattle.std.proofs.Math.Seq.{drop-append_seam}
 use Rattle.std.proofs.lemmas.List.{length-drop, length-append}
 use Rattle.pc_common.specs.declared.place.Place.{Place}
-use Rattle.uspec_lexer.specs.Token.{Token, Kind, name, number, text, symbol}
-use Rattle.litmus_reader.specs.Expected.{Expected, a_word, word_at, a_number, number_at, a_text, a_symbol, Is, Spell}
+use Rattle.uspec_lexer.specs.Token.{Token, name}
+use Rattle.litmus_reader.specs.Expected.{Expected, a_word, word_at, a_symbol, Spell}
 use Rattle.litmus_reader.specs.Reading.{StandsAt, IsNameAt, BeginsAt, NamesAt}
-use Rattle.litmus_reader.proofs.Spelling.{spell-append, spell-part, spell-length, spell-get}
+use Rattle.litmus_reader.proofs.Spelling.{spell-part, spell-length, spell-get}
 
 slice_get-drop : {A : Type 0} (k : ℕ) (xs : List A) (j : ℕ) → slice_get (drop k xs) j ≡ slice_get xs (k + j)
 slice_get-drop zero xs j = let e : j ≡ 0 + j = omega arith in ap (λ (i : ℕ). slice_get xs i) e
@@ -88,9 +87,11 @@ names-more [] ns n =
 names-more (w ∷ ws) ns n =
     let s = stands-first (a_word w) (map a_word ws ++ a_symbol ns.behind ∷ []) ns.they in
     let same : s.token ≡ n.token = let h = s.at in let g = n.at in cc in
-    let piece : n.token.piece ≡ w = sym (ap (λ (u : Token). u.piece) same) ∙ s.is.1 in
-    (ws, ap (λ (x : List ℕ). x ∷ ws) (sym piece),
-      record { behind = ns.behind; they = begins-behind (a_word w ∷ []) (map a_word ws ++ a_symbol ns.behind ∷ []) ns.they })
+    let piece : n.token.piece ≡ w = sym (ap (λ (u : Token). u.piece) same) ∙ s.is.1 in (
+      ws,
+      ap (λ (x : List ℕ). x ∷ ws) (sym piece),
+      record { behind = ns.behind; they = begins-behind (a_word w ∷ []) (map a_word ws ++ a_symbol ns.behind ∷ []) ns.they },
+    )
 
 -- the place of the word that stands there
 pub place-stands : {ts : List Token} {k : ℕ} {w : List ℕ} (here there : Place) (t : Token) → slice_get ts k ≡ Some t

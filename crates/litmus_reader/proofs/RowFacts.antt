@@ -1,7 +1,6 @@
 -- The rows of the table of faults, one after the other, and over all earlier micro-ops.
-use Rattle.std.proofs.Common.{◌≡◌, ℕ, ◌+◌, ◌<◌, ◌≤◌, Bool, true, false, ◌==◌, ◌&&◌, List, [], ◌∷◌, ◌++◌, Option, Some, None, length, slice_get, get_or, refl, sym, ap, subst, ◌∙◌, ◌⊎◌, inl, inr, arith, eq-eqb}
+use Rattle.std.proofs.Common.{◌≡◌, ℕ, ◌+◌, ◌<◌, ◌≤◌, Bool, true, false, ◌==◌, ◌&&◌, List, Option, Some, None, length, get_or, refl, sym, ap, subst, ◌∙◌, inl, inr, arith, eq-eqb}
 use Rattle.std.specs.Prelude.{Contains}
-use Rattle.std.specs.List.{position_or_len}
 use Rattle.std.proofs.lemmas.Bool.{eqb-true}
 use Rattle.std.proofs.lemmas.Option.{slice_get-get_or}
 use Rattle.std.proofs.lemmas.List.Sums.{fails_before_first, passes_at_first, position_or_len_is}
@@ -50,7 +49,7 @@ pub never-more : (before : List Head) (i : ℕ) (Row : Head → FaultKind → Pl
     → NeverBelow before i Row → Never (Row (get_or before i d)) → NeverBelow before (i + 1) Row
 never-more before i Row d within below here = λ k e less there.
     below_more (λ (j : ℕ). (h : Head) → get_or before j h ≡ h → Never (Row h)) i (λ j lower h is. below j h lower is)
-      (λ h is. subst (λ (y : Head). Never (Row y)) (same_item before i (get_or before i d) h within (at_itself before i d within) is) here) k less e there
+    (λ h is. subst (λ (y : Head). Never (Row y)) (same_item before i (get_or before i d) h within (at_itself before i d within) is) here) k less e there
 
 pub never-all : (before : List Head) (Row : Head → FaultKind → Place → Type 0) → NeverBelow before (length before) Row → Never (SomeEarlier before Row)
 never-all before Row below = λ kind at h. below h.1.0 h.0 h.1.1 h.1.2 kind at h.2

@@ -1,7 +1,7 @@
 -- Tokens that spell what is expected.
-use Rattle.std.proofs.Common.{◌≡◌, ℕ, zero, suc, ◌+◌, List, [], ◌∷◌, ◌++◌, Option, Some, None, map, length, slice_get, take, drop, refl, sym, ap, subst, ◌∙◌}
-use Rattle.uspec_lexer.specs.Token.{Token, Kind, name, number, text, symbol}
-use Rattle.litmus_reader.specs.Expected.{Expected, a_word, word_at, a_number, number_at, a_text, a_symbol, Is, Spell}
+use Rattle.std.proofs.Common.{◌≡◌, ℕ, zero, suc, List, [], ◌∷◌, ◌++◌, Some, map, length, slice_get, refl, ap, subst, ◌∙◌}
+use Rattle.uspec_lexer.specs.Token.{Token}
+use Rattle.litmus_reader.specs.Expected.{Expected, Is, Spell}
 
 -- one row of tokens behind another
 pub spell-append : (es fs : List Expected) (ts us : List Token) → Spell es ts → Spell fs us → Spell (es ++ fs) (ts ++ us)

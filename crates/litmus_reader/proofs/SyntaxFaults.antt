@@ -1,5 +1,5 @@
 -- The faults of the terminals are those of the tokens.
-use Rattle.std.proofs.Common.{◌≡◌, ℕ, ◌+◌, ◌<◌, Bool, List, [], ◌∷◌, ◌++◌, Option, Some, None, Result, Ok, Err, IfOk, map, take, length, codes, refl, sym, ap, subst, ◌∙◌, arith}
+use Rattle.std.proofs.Common.{◌≡◌, ℕ, ◌+◌, List, [], ◌∷◌, ◌++◌, Option, Some, None, map, take, codes, refl, sym, ap, subst, ◌∙◌, arith}
 use Rattle.std.proofs.lemmas.List.{map-append, take-map, length-map}
 use Rattle.ll_grammar.specs.Rules.{Derives}
 use Rattle.ll_grammar.specs.Texts.{IsText, IsViable}
@@ -74,7 +74,7 @@ test_of ts (marks, d) = test_of_derives ts marks d
 viable : (ts : List Token) → IsViable Text_of (map terminal_of ts) → IsViable IsTest ts
 viable ts (others, begun) =
     let same : map terminal_of (ts ++ map some others) ≡ map terminal_of ts ++ others =
-      map-append terminal_of ts (map some others) ∙ ap (λ (cs : List Terminal). map terminal_of ts ++ cs) (all_some others) in
+    map-append terminal_of ts (map some others) ∙ ap (λ (cs : List Terminal). map terminal_of ts ++ cs) (all_some others) in
     (map some others, test_of (ts ++ map some others) (subst Text_of (sym same) begun))
 
 viable_terminals : (ts : List Token) → IsViable IsTest ts → IsViable Text_of (map terminal_of ts)

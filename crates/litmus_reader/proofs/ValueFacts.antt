@@ -1,12 +1,11 @@
 -- Values by address.
-use Rattle.std.proofs.Common.{◌≡◌, ◌≢◌, ℕ, zero, suc, ◌+◌, ◌<◌, ◌≤◌, Bool, true, false, ◌==◌, ◌&&◌, List, [], ◌∷◌, ◌++◌, Option, Some, None, length, map, cond, if◌then◌else◌, slice_get, get_or, refl, sym, ap, subst, ◌∙◌, ◌⊎◌, inl, inr, arith, eq-eqb}
+use Rattle.std.proofs.Common.{◌≡◌, ◌≢◌, ℕ, zero, suc, Bool, true, false, ◌==◌, ◌&&◌, List, [], ◌∷◌, ◌++◌, Option, Some, None, map, cond, refl, sym, ap, ◌∙◌, ◌⊎◌, inl, inr, arith, eq-eqb}
 use Rattle.std.specs.Prelude.{Contains}
 use Rattle.std.specs.Map.{lookup}
 use Rattle.std.proofs.lemmas.Bool.{eqb-true}
 use Rattle.std.proofs.lemmas.List.{map-append}
 use Rattle.indexmap.specs.IndexMap.{IndexMap, get, insert_entry}
 use Rattle.indexmap.proofs.CallerLemmas.{insert_entry-new}
-use Rattle.pc_common.specs.declared.place.Place.{Place}
 use Rattle.pc_common.specs.declared.fault.FaultKind.{FaultKind}
 use Rattle.pc_case.specs.declared.op.Page.{Page}
 use Rattle.pc_case.specs.declared.stated.Stated.{Stated}
@@ -69,7 +68,7 @@ value_at pa (e ∷ es) = by (value_at pa es) (page_eq.it pa e.0) refl
         → IsValueAt (map stated_entry (e ∷ es)) pa (cond b (Some e.1) (lookup (page_eq.it pa) es))
     by rest true h = (stated_entry e, (zero, omega arith, refl), sym (page_is pa e.0 h), refl)
     by rest false h = later (lookup (page_eq.it pa) es)
-      (λ same. let yes = page_itself pa in let no : page_eq.it pa pa ≡ false = ap (page_eq.it pa) same ∙ h in cc) rest
+        (λ same. let yes = page_itself pa in let no : page_eq.it pa pa ≡ false = ap (page_eq.it pa) same ∙ h in cc) rest
 
 none_of : (lines : List Stated) (pa : Page) (o : Option ℕ) → IsUnstated lines pa → IsValueAt lines pa o → o ≡ None
 none_of lines pa None none at = refl

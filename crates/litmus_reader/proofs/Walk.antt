@@ -1,5 +1,5 @@
 -- The walk over the lines of a test.
-use Rattle.std.proofs.Common.{◌≡◌, ◌≢◌, ℕ, zero, suc, ◌+◌, ◌<◌, ◌≤◌, List, [], ◌∷◌, ◌++◌, Option, Some, None, length, map, drop, refl, sym, ap, subst, ◌∙◌, arith, append_assoc}
+use Rattle.std.proofs.Common.{◌≡◌, ℕ, ◌+◌, ◌<◌, ◌≤◌, List, [], ◌∷◌, ◌++◌, length, drop, refl, sym, ap, subst, ◌∙◌, arith, append_assoc}
 use Rattle.std.proofs.lemmas.List.{append-nil, length-append, length-drop, drop_all}
 use Rattle.pc_common.specs.declared.place.Place.{Place}
 use Rattle.pc_common.specs.declared.fault.FaultKind.{FaultKind}
@@ -61,7 +61,7 @@ next : (ts : List Token) (at : ℕ) (rest : List Item) → at < length ts → Sp
 next ts at [] below s = absurd (let n = spell-length [] (drop at ts) s in omega (arith, n, length-drop at ts))
 next ts at (i ∷ rest) below s =
     let b : BeginsAt ts at (spelled_item i ++ spelled_items rest) =
-      record { others = []; spell = subst (λ (es : List Expected). Spell es (drop at ts)) (sym (append-nil (spelled_item i ++ spelled_items rest))) s } in
+    record { others = []; spell = subst (λ (es : List Expected). Spell es (drop at ts)) (sym (append-nil (spelled_item i ++ spelled_items rest))) s } in
     record {
       item = i;
       after = rest;
@@ -110,14 +110,18 @@ reached-next {ts} r item to s new never keeps = record {
 pub fault-of : {ts : List Token} {at : ℕ} {k : Kept} (r : Reached ts at k) (item : Item) (to : ℕ) (s : Said ts at r.rest item to)
     → (kind : FaultKind) (place : Place) → IsFaultOf r.before item kind place
     → (items : List Item) × IsTestOf items ts × IsContentFault items kind place
-fault-of r item to s kind place here = (r.before ++ r.rest, r.test, record {
-  before = r.before;
-  item = item;
-  after = s.after;
-  are = ap (λ (is : List Item). r.before ++ is) s.are;
-  clean = r.clean;
-  here = here;
-})
+fault-of r item to s kind place here = (
+  r.before ++ r.rest,
+  r.test,
+  record {
+    before = r.before;
+    item = item;
+    after = s.after;
+    are = ap (λ (is : List Item). r.before ++ is) s.are;
+    clean = r.clean;
+    here = here;
+  },
+)
 
 none_left : (rest : List Item) → Spell (spelled_items rest) [] → rest ≡ []
 none_left [] s = refl

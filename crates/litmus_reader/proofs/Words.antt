@@ -1,11 +1,11 @@
 -- What a token is, by its terminal.
-use Rattle.std.proofs.Common.{◌≡◌, ℕ, Bool, true, false, ◌&&◌, ◌==◌, List, [], ◌∷◌, codes, cond, if◌then◌else◌, refl, sym, ap, subst, ◌∙◌, ◌⊎◌, inl, inr, arith, rules}
+use Rattle.std.proofs.Common.{◌≡◌, ℕ, Bool, true, false, ◌&&◌, ◌==◌, List, [], ◌∷◌, codes, if◌then◌else◌, refl, sym, ap, subst, ◌∙◌, ◌⊎◌, inl, inr, arith}
 use Rattle.std.specs.List.{list_all}
 use Rattle.std.specs.Str.{bytes_eq}
 use Rattle.std.proofs.lemmas.Bool.{eqb-true}
 use Rattle.std.proofs.lemmas.Slice.Eq.{bytes_eq-Decides}
-use Rattle.uspec_lexer.specs.Token.{Token, Kind, name, number, text, symbol}
-use Rattle.litmus_reader.specs.Terminals.{word_terminal, symbol_terminal, kind_terminal, terminal_of, is_name}
+use Rattle.uspec_lexer.specs.Token.{Kind, name, number, text, symbol}
+use Rattle.litmus_reader.specs.Terminals.{word_terminal, symbol_terminal, kind_terminal, is_name}
 use Rattle.litmus_reader.specs.declared.terminal.Terminal.{Terminal}
 use Rattle.litmus_reader.specs.declared.terminal.Terminal.TheVariants.{Litmus, Microop, Relationship, Init, Final, Permitted, Forbidden, Read, Write, Fence, Va, Pa, Data, Name, Number, Text, Open, Close, Dot, Arrow, Other}
 

@@ -1,7 +1,7 @@
 -- What a production has at the place of one token, and the tokens that spell a production.
 use Rattle.std.specs.Prelude.{◌≡◌, ℕ, ⊤, List, [], ◌∷◌}
 use Rattle.pc_common.specs.declared.place.Place.{Place}
-use Rattle.uspec_lexer.specs.Token.{Token, Kind, name, number, text, symbol}
+use Rattle.uspec_lexer.specs.Token.{Token, name, number, text, symbol}
 use Rattle.litmus_reader.specs.declared.item.Numeral.{Numeral}
 
 pub data Expected : Type 0 where

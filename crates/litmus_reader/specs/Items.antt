@@ -5,7 +5,6 @@ use Rattle.pc_common.specs.declared.place.Place.{Place}
 use Rattle.pc_common.specs.Case.{Address, Value, number, Touch, Kind, read, write, fence, MicroOp, Dependency, Expectation, permitted, forbidden, unstated, Case}
 use Rattle.pc_case.specs.declared.op.Memop.{Memop}
 use Rattle.pc_case.specs.Plain.{page_at, address_at}
-use Rattle.litmus_reader.specs.declared.item.Numeral.{Numeral}
 use Rattle.litmus_reader.specs.declared.item.Head.{Head}
 use Rattle.litmus_reader.specs.declared.item.Action.{Action}
 use Rattle.litmus_reader.specs.declared.item.Action.TheVariants.{Read as reads, Write as writes, Fence as fences}

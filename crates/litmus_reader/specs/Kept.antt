@@ -1,9 +1,8 @@
 -- What the reader has kept of the lines so far.
-use Rattle.std.specs.Prelude.{◌≡◌, ◌≢◌, ℕ, List, [], ◌∷◌, ◌++◌, Option, Some, None, map, Contains}
+use Rattle.std.specs.Prelude.{◌≡◌, List, [], ◌∷◌, ◌++◌, Option, Some, None, map}
 use Rattle.pc_common.specs.declared.place.Place.{Place}
 use Rattle.pc_common.specs.Case.{Expectation}
 use Rattle.pc_case.specs.Plain.{micro_op, dependency, expectation}
-use Rattle.pc_case.specs.declared.op.Page.{Page}
 use Rattle.pc_case.specs.declared.stated.Stated.{Stated}
 use Rattle.litmus_reader.specs.Items.{microops_in, heads_in, relationships_in, initial_in, final_in, expectations_in, op_said, dependency_said}
 use Rattle.litmus_reader.specs.declared.item.Head.{Head}

@@ -1,5 +1,5 @@
 -- What is read at a place of the tokens.
-use Rattle.std.specs.Prelude.{◌≡◌, ℕ, ◌+◌, ◌<◌, ◌≤◌, List, [], ◌∷◌, ◌++◌, Some, length, map, drop, slice_get}
+use Rattle.std.specs.Prelude.{◌≡◌, ℕ, ◌+◌, List, [], ◌∷◌, ◌++◌, Some, length, map, drop, slice_get}
 use Rattle.uspec_lexer.specs.Token.{Token, name}
 use Rattle.litmus_reader.specs.Expected.{Expected, a_word, a_symbol, Is, Spell}
 use Rattle.litmus_reader.specs.Syntax.{spelled_item, spelled_access, close_}

@@ -6,14 +6,9 @@ use Rattle.pc_case.specs.declared.op.Page.{Page}
 use Rattle.pc_case.specs.declared.op.Memop.{Memop}
 use Rattle.uspec_lexer.specs.Token.{Token}
 use Rattle.litmus_reader.specs.Expected.{Expected, a_word, word_at, a_number, number_at, a_text, a_symbol, Spell}
-use Rattle.litmus_reader.specs.declared.item.Numeral.{Numeral}
 use Rattle.litmus_reader.specs.declared.item.Head.{Head}
 use Rattle.litmus_reader.specs.declared.item.Action.{Action}
 use Rattle.litmus_reader.specs.declared.item.Action.TheVariants.{Read, Write, Fence}
-use Rattle.litmus_reader.specs.declared.item.Microop.{Microop}
-use Rattle.litmus_reader.specs.declared.item.End.{End}
-use Rattle.litmus_reader.specs.declared.item.Relationship.{Relationship}
-use Rattle.litmus_reader.specs.declared.item.ValueLine.{ValueLine}
 use Rattle.litmus_reader.specs.declared.item.Item.{Item}
 use Rattle.litmus_reader.specs.declared.item.Item.TheVariants.{Microop as microop, Relationship as relationship, Initial as initial, Final as final, Permitted as permitted, Forbidden as forbidden}
 

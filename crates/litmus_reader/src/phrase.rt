@@ -128,10 +128,7 @@ impl Grammar<Terminal> for Phrase {
     }
 }
 
-fn push_item(
-    class: Terminal,
-    stack: &mut Vec<Symbol<Terminal, Phrase>>,
-) -> Result<Step, AllocError>
+fn push_item(class: Terminal, stack: &mut Vec<Symbol<Terminal, Phrase>>) -> Result<Step, AllocError>
     ensures { IfOk result (λ step.
         IsStep (behind items class) (deep items class) stack.old.items step stack.new.items) }
 {
@@ -174,10 +171,7 @@ fn push_item(
         ),
         Terminal::Permitted | Terminal::Forbidden => push_body(
             stack,
-            &[
-                Symbol::Class(Terminal::Dot),
-                Symbol::Part(Phrase::Items),
-            ],
+            &[Symbol::Class(Terminal::Dot), Symbol::Part(Phrase::Items)],
         ),
         _ => Ok(Step::Absent),
     }

@@ -207,11 +207,7 @@ fn value_line_at(tokens: &Tokens<'_>, k: usize) -> ValueLine
 }
 
 /// The line that begins at `k`, and where the next one begins.
-pub(crate) fn item_at(
-    alloc: Global,
-    tokens: &Tokens<'_>,
-    k: usize,
-) -> Result<(Item, usize), Memory>
+pub(crate) fn item_at(alloc: Global, tokens: &Tokens<'_>, k: usize) -> Result<(Item, usize), Memory>
     requires begins { SomeItemAt tokens.now k }
     requires few { length tokens.now < 2 ^ 63 }
     ensures { IfOk result (λ r. IsItemAt tokens.now k r.0 r.1) }

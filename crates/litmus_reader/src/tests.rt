@@ -24,10 +24,7 @@ const FAULTS: &[Refused] = &[
     ),
     (
         b"Litmus \"d\".\nMicroop 0 64 0 0 (Fence).",
-        CaseFault::Content(
-            FaultKind::CoreNumber { number: 64 },
-            Place { offset: 22 },
-        ),
+        CaseFault::Content(FaultKind::CoreNumber { number: 64 }, Place { offset: 22 }),
     ),
     (
         b"Litmus \"d\".\nMicroop 0 0 0 0 (Fence).\nMicroop 0 1 5 1 (Fence).",
@@ -55,17 +52,11 @@ const FAULTS: &[Refused] = &[
     ),
     (
         b"Litmus \"d\".\nRelationship addr 0 0 -> 1 0.",
-        CaseFault::Content(
-            FaultKind::OpUnknown { g: 0, n: 0 },
-            Place { offset: 30 },
-        ),
+        CaseFault::Content(FaultKind::OpUnknown { g: 0, n: 0 }, Place { offset: 30 }),
     ),
     (
         b"Litmus \"d\".\nMicroop 0 0 0 0 (Fence).\nRelationship addr 0 0 -> 1 0.\nMicroop 1 0 0 0 (Fence).",
-        CaseFault::Content(
-            FaultKind::OpUnknown { g: 1, n: 0 },
-            Place { offset: 62 },
-        ),
+        CaseFault::Content(FaultKind::OpUnknown { g: 1, n: 0 }, Place { offset: 62 }),
     ),
     (
         b"Litmus \"d\".\nInit (PA 0 0) 1.\nInit (PA 0 0) 2.",
@@ -131,7 +122,8 @@ Final (PA 1 2) 5.";
 
 #[test]
 fn no_word_is_reserved(rt: HostRuntime) -> Result<(), Fail> {
-    let text = b"Litmus \"\". Microop 0 0 0 0 (Read Microop VA (VA 1 2) (PA 3 4) (Data 5)). Relationship Fence 0 0 -> 0 0.";
+    let text =
+        b"Litmus \"\". Microop 0 0 0 0 (Read Microop VA (VA 1 2) (PA 3 4) (Data 5)). Relationship Fence 0 0 -> 0 0.";
     assert!(rt; text.len() < 400);
     let case = read_case(rt.alloc(), text)?;
     assert!(rt; 0 < case.ops());
@@ -151,10 +143,7 @@ fn the_65th_micro_op_is_one_too_many(rt: HostRuntime) -> Result<(), Fail> {
     assert!(rt; text.len() < 4000);
     assert_eq!(rt;
         read_case(rt.alloc(), text.as_bytes()).err(),
-        Some(CaseFault::Content(
-            FaultKind::TooManyOps { limit: 64 },
-            Place { offset: 1666 },
-        ))
+        Some(CaseFault::Content(FaultKind::TooManyOps { limit: 64 }, Place { offset: 1666 },))
     );
     Ok(())
 }

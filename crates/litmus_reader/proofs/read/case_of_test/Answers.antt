@@ -1,7 +1,7 @@
-use Rattle.std.proofs.Common.{◌≡◌, Some, None, subst, sym, ap, ◌∙◌, arith}
+use Rattle.std.proofs.Common.{subst, arith}
 use Rattle.litmus_reader.specs.Content.{Never, IsFaultOf}
 use Rattle.litmus_reader.specs.Rows.{Answers}
-use Rattle.litmus_reader.proofs.Walk.{Reached, Said, reached-first, reached-item, said, reached-next, fault-of, reached-end}
+use Rattle.litmus_reader.proofs.Walk.{reached-first, reached-item, said, reached-next, fault-of, reached-end}
 use Rattle.litmus_reader.proofs.read.case_of_test.Goals as goal
 
 pub loop-at-init : goal.loop-at-init
@@ -15,7 +15,7 @@ returns-in-Some-clause-err c =
     let r = c.loop-at.invariant in
     let s = said r (omega arith) c.in_ok-item.item c.in_ok-item.next c.in_ok-item.ensures in
     fault-of r c.in_ok-item.item c.in_ok-item.next s c.in-Some.refusal.kind c.in-Some.refusal.place
-      (subst (Answers (IsFaultOf r.before c.in_ok-item.item)) c.in-Some.is (c.fault.ensures r.before r.keeps))
+    (subst (Answers (IsFaultOf r.before c.in_ok-item.item)) c.in-Some.is (c.fault.ensures r.before r.keeps))
 
 pub add-requires : goal.add-requires
 add-requires c =
@@ -33,7 +33,7 @@ loop-at-preserved c =
     let r = c.loop-at.invariant in
     let s = said r (omega arith) c.in_ok-item.item c.in_ok-item.next c.in_ok-item.ensures in
     let never : Never (IsFaultOf r.before c.in_ok-item.item) =
-      subst (Answers (IsFaultOf r.before c.in_ok-item.item)) c.in_default.is (c.fault.ensures r.before r.keeps) in
+    subst (Answers (IsFaultOf r.before c.in_ok-item.item)) c.in_default.is (c.fault.ensures r.before r.keeps) in
     reached-next r c.in_ok-item.item c.in_ok-item.next s c.add.new.self never (c.in_ok-add.ensures r.before r.keeps r.clean never)
 
 pub returns-clause-ok : goal.returns-clause-ok

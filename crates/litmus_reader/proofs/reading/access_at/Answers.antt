@@ -1,4 +1,4 @@
-use Rattle.std.proofs.Common.{◌≡◌, ◌≢◌, ◌+◌, ℕ, length, arith, sym, ◌∙◌}
+use Rattle.std.proofs.Common.{arith, ◌∙◌}
 use Rattle.uspec_lexer.specs.View.{plain}
 use Rattle.litmus_reader.proofs.Lines.{access-terminal, access-names, access-room, access-said}
 use Rattle.litmus_reader.proofs.reading.access_at.Goals as goal
@@ -15,5 +15,5 @@ returns c = λ types action b.
     let word = c.terminal_of-word.ensures ∙ access-terminal types action b (plain c.get.result) c.get.ensures in
     let read = c.in_ok-types.ensures.names types (access-names types action b) in
     let said = access-said types action b c.terminal_of-word.result c.in_ok-types.next c.action_at-action.result word read.1
-      c.action_at-action.ensures.read c.action_at-action.ensures.write c.action_at-action.ensures.fence in
+    c.action_at-action.ensures.read c.action_at-action.ensures.write c.action_at-action.ensures.fence in
     (read.0, said.0, said.1)

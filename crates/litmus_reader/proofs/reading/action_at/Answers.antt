@@ -1,6 +1,5 @@
-use Rattle.std.proofs.Common.{◌≡◌, ◌+◌, ℕ, ap, refl}
-use Rattle.litmus_reader.specs.declared.item.Action.{Action}
-use Rattle.litmus_reader.specs.declared.item.Action.TheVariants.{Read as read, Write as write, Fence as fence}
+use Rattle.std.proofs.Common.{◌+◌}
+use Rattle.litmus_reader.specs.declared.item.Action.TheVariants.{Read as read, Write as write}
 use Rattle.litmus_reader.proofs.reading.action_at.Goals as goal
 
 pub returns-in-Read-clause-read : goal.returns-in-Read-clause-read

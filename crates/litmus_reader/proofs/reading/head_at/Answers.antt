@@ -1,4 +1,4 @@
-use Rattle.std.proofs.Common.{◌≡◌, refl, codes, [], ◌∷◌}
+use Rattle.std.proofs.Common.{refl, codes, [], ◌∷◌}
 use Rattle.uspec_lexer.specs.View.{plain}
 use Rattle.litmus_reader.specs.Expected.{word_at, a_number, number_at}
 use Rattle.litmus_reader.specs.Syntax.{spelled_head}

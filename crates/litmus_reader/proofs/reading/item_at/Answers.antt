@@ -1,10 +1,6 @@
-use Rattle.std.proofs.Common.{◌≡◌, ◌≢◌, ℕ, List, ap, sym, ◌∙◌, refl, inl, inr, slice_get, Some}
-use Rattle.uspec_lexer.specs.Token.{Token}
+use Rattle.std.proofs.Common.{◌≡◌, ℕ, ap, sym, ◌∙◌, refl, inl, inr, slice_get, Some}
 use Rattle.uspec_lexer.specs.View.{plain}
-use Rattle.litmus_reader.specs.Syntax.{spelled_item}
-use Rattle.litmus_reader.specs.Reading.{BeginsAt}
 use Rattle.litmus_reader.specs.declared.item.Item.{Item}
-use Rattle.litmus_reader.specs.declared.terminal.Terminal.{Terminal}
 use Rattle.litmus_reader.proofs.Lines.{item_word, item-terminal, IsSaid, microop-begins, eight-within, microop-said, relationship-said, initial-said, final-said, permitted-said, forbidden-said}
 use Rattle.litmus_reader.proofs.reading.item_at.Goals as goal
 use Rattle.litmus_reader.proofs.reading.item_at.Goals.{in-Microop+in_ok-microop-in-Microop, in-Relationship+in_ok-relationship_at-in-Relationship, in-Init, in-Final, in-Permitted, in_default}
@@ -40,13 +36,13 @@ returns c = λ i b.
     let word : c.terminal_of.result ≡ item_word i = c.terminal_of.ensures ∙ item-terminal i b t at in
     elim c.match-terminal_of.branch [
       | in-Microop+in_ok-microop-in-Microop w ↦ joined c.args.k i c.match-terminal_of.result _ w.result-is
-        (microop-said i b (sym word ∙ w.in-Microop.is) w.in_ok-microop-in-Microop.microop w.in_ok-microop-in-Microop.next w.in_ok-microop-in-Microop.ensures)
+          (microop-said i b (sym word ∙ w.in-Microop.is) w.in_ok-microop-in-Microop.microop w.in_ok-microop-in-Microop.next w.in_ok-microop-in-Microop.ensures)
       | in-Relationship+in_ok-relationship_at-in-Relationship w ↦ joined c.args.k i c.match-terminal_of.result _ w.result-is
-        (relationship-said i b (sym word ∙ w.in-Relationship.is) w.in_ok-relationship_at-in-Relationship.field-0 w.in_ok-relationship_at-in-Relationship.ensures)
+          (relationship-said i b (sym word ∙ w.in-Relationship.is) w.in_ok-relationship_at-in-Relationship.field-0 w.in_ok-relationship_at-in-Relationship.ensures)
       | in-Init w ↦ joined c.args.k i c.match-terminal_of.result _ w.result-is (initial-said i b (sym word ∙ w.in-Init.is) w.value_line_at.result w.value_line_at.ensures.initial)
       | in-Final w ↦ joined c.args.k i c.match-terminal_of.result _ w.result-is (final-said i b (sym word ∙ w.in-Final.is) w.value_line_at-in-Final.result w.value_line_at-in-Final.ensures.final_)
       | in-Permitted w ↦ joined c.args.k i c.match-terminal_of.result _ w.result-is (permitted-said i b (sym word ∙ w.in-Permitted.is) t at c.get-word.result.at refl)
       | in_default w ↦ joined c.args.k i c.match-terminal_of.result _ w.result-is
-        (forbidden-said i b (λ h. w.in_default.not-Microop (word ∙ h)) (λ h. w.in_default.not-Relationship (word ∙ h)) (λ h. w.in_default.not-Init (word ∙ h))
+          (forbidden-said i b (λ h. w.in_default.not-Microop (word ∙ h)) (λ h. w.in_default.not-Relationship (word ∙ h)) (λ h. w.in_default.not-Init (word ∙ h))
           (λ h. w.in_default.not-Final (word ∙ h)) (λ h. w.in_default.not-Permitted (word ∙ h)) t at c.get-word.result.at refl)
     ]

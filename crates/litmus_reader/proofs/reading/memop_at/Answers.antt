@@ -12,7 +12,7 @@ returns c = λ m b.
     let eight : c.args.k + 8 ≡ c.args.k + 5 + 3 = omega arith in
     let va = c.page_at.ensures m.va (stands (spelled_memop m) b 2 (a_number m.va.tag) refl) (stands (spelled_memop m) b 3 (a_number m.va.index) refl) in
     let pa = c.page_at-2.ensures m.pa
-      (subst (λ (k : ℕ). StandsAt ts k (a_number m.pa.tag)) seven (stands (spelled_memop m) b 7 (a_number m.pa.tag) refl))
-      (subst (λ (k : ℕ). StandsAt ts k (a_number m.pa.index)) eight (stands (spelled_memop m) b 8 (a_number m.pa.index) refl)) in
+    (subst (λ (k : ℕ). StandsAt ts k (a_number m.pa.tag)) seven (stands (spelled_memop m) b 7 (a_number m.pa.tag) refl))
+    (subst (λ (k : ℕ). StandsAt ts k (a_number m.pa.index)) eight (stands (spelled_memop m) b 8 (a_number m.pa.index) refl)) in
     let value = c.numeral_at.ensures.value m.value (stands (spelled_memop m) b 12 (a_number m.value) refl) in
     λ i. record { va = va i; pa = pa i; value = value i }

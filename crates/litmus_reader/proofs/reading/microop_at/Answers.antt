@@ -1,5 +1,4 @@
-use Rattle.std.proofs.Common.{◌≡◌, ◌+◌, ℕ, length, arith, sym, ◌∙◌}
-use Rattle.litmus_reader.specs.Syntax.{spelled_head}
+use Rattle.std.proofs.Common.{arith}
 use Rattle.litmus_reader.specs.declared.item.Item.TheVariants.{Microop as microop}
 use Rattle.litmus_reader.proofs.Lines.{microop-head, microop-access, microop-length, item-within}
 use Rattle.litmus_reader.proofs.reading.microop_at.Goals as goal

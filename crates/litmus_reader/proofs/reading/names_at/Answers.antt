@@ -1,9 +1,7 @@
-use Rattle.std.proofs.Common.{◌≡◌, ℕ, ◌+◌, ◌<◌, ◌≤◌, List, [], ◌∷◌, ◌++◌, Some, None, length, slice_get, arith, sym, ap, ◌∙◌, refl, append_assoc}
+use Rattle.std.proofs.Common.{◌≡◌, ℕ, ◌+◌, List, [], ◌∷◌, ◌++◌, length, arith, sym, ap, ◌∙◌, refl, append_assoc}
 use Rattle.std.proofs.lemmas.List.{append-nil, length-append}
 use Rattle.std.proofs.lemmas.Option.{slice_get_within}
-use Rattle.uspec_lexer.specs.Token.{Token, name}
-use Rattle.uspec_lexer.specs.View.{plain}
-use Rattle.litmus_reader.specs.Reading.{NamesAt, IsNameAt}
+use Rattle.litmus_reader.specs.Reading.{IsNameAt}
 use Rattle.litmus_reader.proofs.Places.{names-more, names-none}
 use Rattle.litmus_reader.proofs.reading.names_at.Goals as goal
 use Rattle.litmus_reader.proofs.reading.names_at.Goals.{then-loop-next-test+else-is_name_at, else-loop-next-test}
@@ -12,19 +10,20 @@ pub loop-next-preserved : goal.loop-next-preserved
 loop-next-preserved c =
     let n : IsNameAt c.args.tokens.now c.loop-next.next = c.is_name_at.ensures.0 c.if-is_name_at.true in
     let read : c.in_ok-name_at.field-0 ≡ n.token.piece =
-      c.in_ok-name_at.ensures n.token.piece (record { token = n.token; at = n.at; is = (n.named, refl) }) in
+    c.in_ok-name_at.ensures n.token.piece (record { token = n.token; at = n.at; is = (n.named, refl) }) in
     let pushed : c.push.new.self ≡ c.loop-next.names ++ n.token.piece ∷ [] =
-      c.in_ok-push.ensures ∙ ap (λ (x : List ℕ). c.loop-next.names ++ x ∷ []) read in
+    c.in_ok-push.ensures ∙ ap (λ (x : List ℕ). c.loop-next.names ++ x ∷ []) read in
     record {
       reached = omega (arith, c.loop-next.invariant.reached, ap length pushed, length-append c.loop-next.names (n.token.piece ∷ []));
       within = omega arith;
       agree = λ names at.
           let (ws, are, those) = c.loop-next.invariant.agree names at in
-          let (others, first, these) = names-more ws those n in
-          (others,
+          let (others, first, these) = names-more ws those n in (
+            others,
             are ∙ ap (λ (x : List (List ℕ)). c.loop-next.names ++ x) first ∙ sym (append_assoc c.loop-next.names (n.token.piece ∷ []) others)
-            ∙ ap (λ (x : List (List ℕ)). x ++ others) (sym pushed),
-            these);
+                ∙ ap (λ (x : List (List ℕ)). x ++ others) (sym pushed),
+            these,
+          );
     }
 
 pub returns-clause-names : goal.returns-clause-names

@@ -6,7 +6,7 @@ abbrev pub invariant-loop-next : goal.invariant-loop-next
 invariant-loop-next l = record {
   reached : l.next ≡ l.k + length l.names;
   within : l.next ≤ length l.tokens;
-  agree : (names : List (List ℕ)) → NamesAt l.tokens l.k names → (ws : List (List ℕ)) × (names ≡ l.names ++ ws) × NamesAt l.tokens l.next ws
+  agree : (names : List (List ℕ)) → NamesAt l.tokens l.k names → (ws : List (List ℕ)) × (names ≡ l.names ++ ws) × NamesAt l.tokens l.next ws;
 }
 
 abbrev pub decreases-loop-next : goal.decreases-loop-next

@@ -13,7 +13,7 @@ returns c = λ r b.
     let six : c.args.k + 6 ≡ c.args.k + 5 + 1 = omega arith in
     let kind = c.in_ok-name_at.ensures r.kind (stands (spelled_item (relationship r)) b 1 (a_word r.kind) refl) in
     let source = c.end_at.ensures r.source (stands (spelled_item (relationship r)) b 2 (number_at r.source.g) refl)
-      (subst (λ (k : ℕ). StandsAt ts k (a_number r.source.n)) three (stands (spelled_item (relationship r)) b 3 (a_number r.source.n) refl)) in
+    (subst (λ (k : ℕ). StandsAt ts k (a_number r.source.n)) three (stands (spelled_item (relationship r)) b 3 (a_number r.source.n) refl)) in
     let target = c.end_at-2.ensures r.target (stands (spelled_item (relationship r)) b 5 (number_at r.target.g) refl)
-      (subst (λ (k : ℕ). StandsAt ts k (a_number r.target.n)) six (stands (spelled_item (relationship r)) b 6 (a_number r.target.n) refl)) in
+    (subst (λ (k : ℕ). StandsAt ts k (a_number r.target.n)) six (stands (spelled_item (relationship r)) b 6 (a_number r.target.n) refl)) in
     λ i. record { kind = kind i; source = source i; target = target i }

@@ -1,4 +1,4 @@
-use Rattle.std.proofs.Common.{◌≡◌, ℕ, ◌<◌, refl, subst, arith}
+use Rattle.std.proofs.Common.{refl, arith}
 use Rattle.litmus_reader.proofs.RowFacts.{place_in-named, place_in-none, nobody}
 use Rattle.litmus_reader.proofs.rows.unknown.Goals as goal
 

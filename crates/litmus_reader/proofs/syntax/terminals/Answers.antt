@@ -1,4 +1,4 @@
-use Rattle.std.proofs.Common.{◌≡◌, ℕ, ◌+◌, map, take, List, [], ◌∷◌, ◌++◌, Some, sym, ap, ◌∙◌, get_or, arith}
+use Rattle.std.proofs.Common.{◌≡◌, map, take, List, [], ◌∷◌, ◌++◌, sym, ap, ◌∙◌, get_or, arith}
 use Rattle.std.proofs.lemmas.List.{map_more}
 use Rattle.std.proofs.lemmas.Option.{get_or_from_slice_get}
 use Rattle.uspec_lexer.specs.View.{plain}

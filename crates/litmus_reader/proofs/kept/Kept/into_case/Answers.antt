@@ -1,12 +1,11 @@
-use Rattle.std.proofs.Common.{◌≡◌, ℕ, List, [], ◌∷◌, ◌++◌, map, length, subst, sym, ap, ◌∙◌, refl}
+use Rattle.std.proofs.Common.{◌≡◌, ℕ, List, [], ◌∷◌, map, length, subst, sym, ap, ◌∙◌, refl}
 use Rattle.std.proofs.lemmas.List.{append-nil, length-map}
-use Rattle.pc_common.specs.Case.{Address, Value, Dependency, Case}
+use Rattle.pc_common.specs.Case.{Address, Value}
 use Rattle.pc_case.specs.Kept.{IsKept}
 use Rattle.pc_case.specs.Stated.{IsStatedOnce, AreWithin}
-use Rattle.pc_case.specs.Plain.{micro_op, dependency, stated_value, expectation}
+use Rattle.pc_case.specs.Plain.{micro_op, dependency, stated_value}
 use Rattle.pc_case.specs.declared.stated.Stated.{Stated}
-use Rattle.litmus_reader.specs.Items.{microops_in, heads_in, relationships_in, initial_in, final_in, op_said, dependency_said, value_said, first_said, case_of}
-use Rattle.litmus_reader.specs.Content.{IsClean}
+use Rattle.litmus_reader.specs.Items.{microops_in, heads_in, relationships_in, initial_in, final_in, op_said, dependency_said, value_said, first_said}
 use Rattle.litmus_reader.specs.Kept.{Keeps, stated_of}
 use Rattle.litmus_reader.specs.declared.item.Head.{Head}
 use Rattle.litmus_reader.specs.declared.item.Microop.{Microop}
@@ -42,7 +41,7 @@ pub full-requires-clause-within : goal.full-requires-clause-within
 full-requires-clause-within c =
     let (items, keeps, clean) = c.requires in
     subst (λ (n : ℕ). AreWithin n (map dependency c.args.self.dependencies)) (count c.args.self items keeps)
-      (subst (AreWithin (length (heads_in items))) (sym (dependencies_said c.args.self items keeps)) (dependencies_within items clean))
+    (subst (AreWithin (length (heads_in items))) (sym (dependencies_said c.args.self items keeps)) (dependencies_within items clean))
 
 pub full-requires-clause-initial_once : goal.full-requires-clause-initial_once
 full-requires-clause-initial_once c =
@@ -57,11 +56,11 @@ full-requires-clause-final_once c =
 pub returns : goal.returns
 returns c =
     if_ok c.full.result
-      (λ case is items keeps clean.
-        let ops = keeps.ops in
-        let dependencies = dependencies_said c.args.self items keeps in
-        let initial = said c.in_ok-initial.initial c.args.self.initial (initial_in items) c.in_ok-initial.ensures keeps.initial in
-        let final = said c.in_ok-final_values.final_values c.args.self.final_values (final_in items) c.in_ok-final_values.ensures keeps.final_values in
-        let stance = c.expect_of-expect.ensures ∙ ap first_said keeps.stance in
-        is ∙ (λ i. record { ops = ops i; dependencies = dependencies i; initial = initial i; final = final i; expectation = stance i }))
-      c.full.ensures
+    (λ case is items keeps clean.
+    let ops = keeps.ops in
+    let dependencies = dependencies_said c.args.self items keeps in
+    let initial = said c.in_ok-initial.initial c.args.self.initial (initial_in items) c.in_ok-initial.ensures keeps.initial in
+    let final = said c.in_ok-final_values.final_values c.args.self.final_values (final_in items) c.in_ok-final_values.ensures keeps.final_values in
+    let stance = c.expect_of-expect.ensures ∙ ap first_said keeps.stance in
+    is ∙ (λ i. record { ops = ops i; dependencies = dependencies i; initial = initial i; final = final i; expectation = stance i }))
+    c.full.ensures

@@ -11,4 +11,4 @@ returns c =
     let es = c.self.inside.by_page.entries in
     let found : c.copied.result ≡ lookup (page_eq.it c.args.pa) es = c.copied.ensures ∙ c.get.ensures.value in
     subst (λ (o : Option ℕ). IsValueAt c.args.self.now c.args.pa o) (sym found)
-      (subst (λ (lines : List Stated). IsValueAt lines c.args.pa (lookup (page_eq.it c.args.pa) es)) c.self.view_is (value_at c.args.pa es))
+    (subst (λ (lines : List Stated). IsValueAt lines c.args.pa (lookup (page_eq.it c.args.pa) es)) c.self.view_is (value_at c.args.pa es))
