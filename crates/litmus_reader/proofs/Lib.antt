@@ -1,0 +1,13 @@
+mod Words
+pub mod Spelling
+pub mod Bridge
+pub mod SyntaxFaults
+pub mod Places
+pub mod Lines
+pub mod RowFacts
+pub mod ValueFacts
+pub mod KeptFacts
+pub mod CleanFacts
+pub mod Walk
+pub mod OneReading
+pub mod Exclusive

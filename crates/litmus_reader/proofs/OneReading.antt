@@ -1,0 +1,169 @@
+-- Tokens are a test of one list of items at most.
+use Rattle.std.proofs.Common.{◌≡◌, ℕ, ◌+◌, List, [], ◌∷◌, ◌++◌, Some, codes, length, map, drop, slice_get, refl, sym, ap, subst, ◌∙◌, arith}
+use Rattle.std.proofs.lemmas.List.{length-append}
+use Rattle.pc_common.specs.declared.place.Place.{Place}
+use Rattle.pc_case.specs.declared.op.Memop.{Memop}
+use Rattle.uspec_lexer.specs.Token.{Token, name, symbol}
+use Rattle.litmus_reader.specs.Expected.{Expected, a_word, word_at, a_number, number_at, a_symbol, Spell}
+use Rattle.litmus_reader.specs.Syntax.{spelled_memop, spelled_access, spelled_head, spelled_item, spelled_items, close_, IsTestOf}
+use Rattle.litmus_reader.specs.Reading.{StandsAt, IsNameAt, BeginsAt, NamesAt}
+use Rattle.litmus_reader.specs.declared.item.Numeral.{Numeral}
+use Rattle.litmus_reader.specs.declared.item.Head.{Head}
+use Rattle.litmus_reader.specs.declared.item.Action.{Action}
+use Rattle.litmus_reader.specs.declared.item.Action.TheVariants.{Read as read, Write as write, Fence as fence}
+use Rattle.litmus_reader.specs.declared.item.Microop.{Microop as MicroopLine}
+use Rattle.litmus_reader.specs.declared.item.Item.{Item}
+use Rattle.litmus_reader.specs.declared.item.Item.TheVariants.{Microop as microop, Relationship as relationship, Initial as initial, Final as final, Permitted as permitted, Forbidden as forbidden}
+use Rattle.litmus_reader.proofs.Spelling.{spell-length}
+use Rattle.litmus_reader.proofs.Places.{stands, stands-first, spell-behind, begins-behind, names-none, names-more}
+use Rattle.litmus_reader.proofs.Lines.{access_word, access-terminal, access-names, access-memop, access-first, microop-head, microop-access, item_word, item-terminal}
+use Rattle.litmus_reader.proofs.Walk.{item-some}
+
+-- the token at a place is one
+one_token : {ts : List Token} {k : ℕ} {e f : Expected} (s : StandsAt ts k e) (t : StandsAt ts k f) → s.token ≡ t.token
+one_token s t = let a = s.at in let b = t.at in cc
+
+one_number : {ts : List Token} {k : ℕ} (n m : ℕ) → StandsAt ts k (a_number n) → StandsAt ts k (a_number m) → n ≡ m
+one_number n m s t = let e = one_token s t in let a = s.is in let b = t.is in let c = ap (λ (x : Token). x.kind) e in cc
+
+one_numeral : {ts : List Token} {k : ℕ} (n m : Numeral) → StandsAt ts k (number_at n) → StandsAt ts k (number_at m) → n ≡ m
+one_numeral n m s t =
+    let e = one_token s t in
+    let value : n.value ≡ m.value = let a = s.is.0 in let b = t.is.0 in let c = ap (λ (x : Token). x.kind) e in cc in
+    let offset : n.at.offset ≡ m.at.offset = sym s.is.1 ∙ ap (λ (x : Token). x.at) e ∙ t.is.1 in
+    λ i. record { value = value i; at = record { offset = offset i } }
+
+one_word : {ts : List Token} {k : ℕ} (v w : List ℕ) → StandsAt ts k (a_word v) → StandsAt ts k (a_word w) → v ≡ w
+one_word v w s t = sym s.is.1 ∙ ap (λ (x : Token). x.piece) (one_token s t) ∙ t.is.1
+
+one_place : {ts : List Token} {k : ℕ} {v w : List ℕ} (p q : Place) → StandsAt ts k (word_at v p) → StandsAt ts k (word_at w q) → p ≡ q
+one_place p q s t =
+    let offset : p.offset ≡ q.offset = sym s.is.2 ∙ ap (λ (x : Token). x.at) (one_token s t) ∙ t.is.2 in
+    λ i. record { offset = offset i }
+
+one_names : {ts : List Token} (xs ys : List (List ℕ)) (k : ℕ) → NamesAt ts k xs → NamesAt ts k ys → xs ≡ ys
+one_names [] ys k n m =
+    let s = stands-first (a_symbol n.behind) [] n.they in
+    sym (names-none ys m (λ named.
+    let same : s.token ≡ named.token = let a = s.at in let b = named.at in cc in
+    let a : s.token.kind ≡ symbol = s.is.0 in
+    let b : s.token.kind ≡ name = ap (λ (x : Token). x.kind) same ∙ named.named in cc))
+one_names (w ∷ xs) ys k n m =
+    let s = stands-first (a_word w) (map a_word xs ++ a_symbol n.behind ∷ []) n.they in
+    let named : IsNameAt _ _ = record { token = s.token; at = s.at; named = s.is.0 } in
+    let (others, are, those) = names-more ys m named in
+    let rest = one_names xs others (k + 1) (record { behind = n.behind; they = begins-behind (a_word w ∷ []) (map a_word xs ++ a_symbol n.behind ∷ []) n.they }) those in
+    (λ i. sym s.is.1 i ∷ rest i) ∙ sym are
+
+one_memop : {ts : List Token} {k : ℕ} (m n : Memop) → BeginsAt ts k (spelled_memop m) → BeginsAt ts k (spelled_memop n) → m ≡ n
+one_memop m n b c =
+    let a2 = one_number m.va.tag n.va.tag (stands (spelled_memop m) b 2 _ refl) (stands (spelled_memop n) c 2 _ refl) in
+    let a3 = one_number m.va.index n.va.index (stands (spelled_memop m) b 3 _ refl) (stands (spelled_memop n) c 3 _ refl) in
+    let a7 = one_number m.pa.tag n.pa.tag (stands (spelled_memop m) b 7 _ refl) (stands (spelled_memop n) c 7 _ refl) in
+    let a8 = one_number m.pa.index n.pa.index (stands (spelled_memop m) b 8 _ refl) (stands (spelled_memop n) c 8 _ refl) in
+    let a12 = one_number m.value n.value (stands (spelled_memop m) b 12 _ refl) (stands (spelled_memop n) c 12 _ refl) in
+    λ i. record { va = record { tag = a2 i; index = a3 i }; pa = record { tag = a7 i; index = a8 i }; value = a12 i }
+
+one_head : {ts : List Token} {k : ℕ} (g h : Head) → BeginsAt ts k (spelled_head g) → BeginsAt ts k (spelled_head h) → g ≡ h
+one_head g h b c =
+    let a0 = one_place g.at h.at (stands (spelled_head g) b 0 _ refl) (stands (spelled_head h) c 0 _ refl) in
+    let a1 = one_numeral g.g h.g (stands (spelled_head g) b 1 _ refl) (stands (spelled_head h) c 1 _ refl) in
+    let a2 = one_numeral g.core h.core (stands (spelled_head g) b 2 _ refl) (stands (spelled_head h) c 2 _ refl) in
+    let a3 = one_numeral g.thread h.thread (stands (spelled_head g) b 3 _ refl) (stands (spelled_head h) c 3 _ refl) in
+    let a4 = one_number g.n h.n (stands (spelled_head g) b 4 _ refl) (stands (spelled_head h) c 4 _ refl) in
+    λ i. record { at = a0 i; g = a1 i; core = a2 i; thread = a3 i; n = a4 i }
+
+one_action : {ts : List Token} {k : ℕ} (types : List (List ℕ)) (a b : Action) → access_word a ≡ access_word b
+    → BeginsAt ts k (spelled_access types a ++ close_ ∷ []) → BeginsAt ts k (spelled_access types b ++ close_ ∷ []) → a ≡ b
+one_action types (read m) (read n) w b c = ap read (one_memop m n (access-memop (codes "Read") types m b) (access-memop (codes "Read") types n c))
+one_action types (write m) (write n) w b c = ap write (one_memop m n (access-memop (codes "Write") types m b) (access-memop (codes "Write") types n c))
+one_action types fence fence w b c = refl
+one_action types (read m) (write n) w b c = absurd (cc)
+one_action types (read m) fence w b c = absurd (cc)
+one_action types (write m) (read n) w b c = absurd (cc)
+one_action types (write m) fence w b c = absurd (cc)
+one_action types fence (read n) w b c = absurd (cc)
+one_action types fence (write n) w b c = absurd (cc)
+
+one_microop : {ts : List Token} {k : ℕ} (m n : MicroopLine) → BeginsAt ts k (spelled_item (microop m)) → BeginsAt ts k (spelled_item (microop n)) → m ≡ n
+one_microop {ts} {k} m n b c =
+    let head = one_head m.head n.head (microop-head m b) (microop-head n c) in
+    let at_m = microop-access m b in
+    let at_n = microop-access n c in
+    let s = access-first m.types m.action at_m in
+    let word : access_word m.action ≡ access_word n.action =
+    sym (access-terminal m.types m.action at_m s.token s.at) ∙ access-terminal n.types n.action at_n s.token s.at in
+    let types = one_names m.types n.types (k + 6 + 1) (access-names m.types m.action at_m) (access-names n.types n.action at_n) in
+    let action = one_action n.types m.action n.action word
+    (subst (λ (ws : List (List ℕ)). BeginsAt ts (k + 6) (spelled_access ws m.action ++ close_ ∷ [])) types at_m) at_n in
+    λ i. record { head = head i; types = types i; action = action i }
+
+one_item : {ts : List Token} {k : ℕ} (x y : Item) → item_word x ≡ item_word y → BeginsAt ts k (spelled_item x) → BeginsAt ts k (spelled_item y) → x ≡ y
+one_item (microop m) (microop n) w b c = ap microop (one_microop m n b c)
+one_item (relationship r) (relationship s) w b c =
+    let es = spelled_item (relationship r) in
+    let fs = spelled_item (relationship s) in
+    let a1 = one_word r.kind s.kind (stands es b 1 _ refl) (stands fs c 1 _ refl) in
+    let a2 = one_numeral r.source.g s.source.g (stands es b 2 _ refl) (stands fs c 2 _ refl) in
+    let a3 = one_number r.source.n s.source.n (stands es b 3 _ refl) (stands fs c 3 _ refl) in
+    let a5 = one_numeral r.target.g s.target.g (stands es b 5 _ refl) (stands fs c 5 _ refl) in
+    let a6 = one_number r.target.n s.target.n (stands es b 6 _ refl) (stands fs c 6 _ refl) in
+    λ i. relationship (record { kind = a1 i; source = record { g = a2 i; n = a3 i }; target = record { g = a5 i; n = a6 i } })
+one_item (initial u) (initial v) w b c =
+    let es = spelled_item (initial u) in
+    let fs = spelled_item (initial v) in
+    let a0 = one_place u.at v.at (stands es b 0 _ refl) (stands fs c 0 _ refl) in
+    let a3 = one_number u.pa.tag v.pa.tag (stands es b 3 _ refl) (stands fs c 3 _ refl) in
+    let a4 = one_number u.pa.index v.pa.index (stands es b 4 _ refl) (stands fs c 4 _ refl) in
+    let a6 = one_number u.value v.value (stands es b 6 _ refl) (stands fs c 6 _ refl) in
+    λ i. initial (record { at = a0 i; pa = record { tag = a3 i; index = a4 i }; value = a6 i })
+one_item (final u) (final v) w b c =
+    let es = spelled_item (final u) in
+    let fs = spelled_item (final v) in
+    let a0 = one_place u.at v.at (stands es b 0 _ refl) (stands fs c 0 _ refl) in
+    let a3 = one_number u.pa.tag v.pa.tag (stands es b 3 _ refl) (stands fs c 3 _ refl) in
+    let a4 = one_number u.pa.index v.pa.index (stands es b 4 _ refl) (stands fs c 4 _ refl) in
+    let a6 = one_number u.value v.value (stands es b 6 _ refl) (stands fs c 6 _ refl) in
+    λ i. final (record { at = a0 i; pa = record { tag = a3 i; index = a4 i }; value = a6 i })
+one_item (permitted p) (permitted q) w b c = ap permitted (one_place p q (stands-first _ _ b) (stands-first _ _ c))
+one_item (forbidden p) (forbidden q) w b c = ap forbidden (one_place p q (stands-first _ _ b) (stands-first _ _ c))
+one_item x y w b c = absurd (cc)
+
+first_token : {ts : List Token} {k : ℕ} (i : Item) → BeginsAt ts k (spelled_item i) → (t : Token) × (slice_get ts k ≡ Some t)
+first_token (microop m) b = let s = stands-first _ _ b in (s.token, s.at)
+first_token (relationship r) b = let s = stands-first _ _ b in (s.token, s.at)
+first_token (initial v) b = let s = stands-first _ _ b in (s.token, s.at)
+first_token (final v) b = let s = stands-first _ _ b in (s.token, s.at)
+first_token (permitted p) b = let s = stands-first _ _ b in (s.token, s.at)
+first_token (forbidden p) b = let s = stands-first _ _ b in (s.token, s.at)
+
+one_line : {ts : List Token} {k : ℕ} (x y : Item) → BeginsAt ts k (spelled_item x) → BeginsAt ts k (spelled_item y) → x ≡ y
+one_line x y b c =
+    let (t, at) = first_token x b in
+    one_item x y (sym (item-terminal x b t at) ∙ item-terminal y c t at) b c
+
+begins : (ts : List Token) (k : ℕ) (i : Item) (is : List Item) → Spell (spelled_items (i ∷ is)) (drop k ts) → BeginsAt ts k (spelled_item i)
+begins ts k i is s = record { others = spelled_items is; spell = s }
+
+one_list : (ts : List Token) (k : ℕ) (xs ys : List Item) → Spell (spelled_items xs) (drop k ts) → Spell (spelled_items ys) (drop k ts) → xs ≡ ys
+one_list ts k [] [] s t = refl
+one_list ts k [] (y ∷ ys) s t = absurd (
+    let a = spell-length [] (drop k ts) s in let b = spell-length (spelled_item y ++ spelled_items ys) (drop k ts) t in
+    omega (arith, a, b, length-append (spelled_item y) (spelled_items ys), item-some y))
+one_list ts k (x ∷ xs) [] s t = absurd (
+    let a = spell-length [] (drop k ts) t in let b = spell-length (spelled_item x ++ spelled_items xs) (drop k ts) s in
+    omega (arith, a, b, length-append (spelled_item x) (spelled_items xs), item-some x))
+one_list ts k (x ∷ xs) (y ∷ ys) s t =
+    let same = one_line x y (begins ts k x xs s) (begins ts k y ys t) in
+    let a = spell-behind ts k (spelled_item x) (spelled_items xs) s in
+    let b = spell-behind ts k (spelled_item y) (spelled_items ys) t in
+    let rest = one_list ts (k + length (spelled_item x)) xs ys a
+    (subst (λ (i : Item). Spell (spelled_items ys) (drop (k + length (spelled_item i)) ts)) (sym same) b) in
+    λ i. same i ∷ rest i
+
+-- tokens are a test of one list of items
+pub one_test : (ts : List Token) (xs ys : List Item) → IsTestOf xs ts → IsTestOf ys ts → xs ≡ ys
+one_test [] xs ys s t = absurd s
+one_test (a ∷ []) xs ys s t = absurd s.1
+one_test (a ∷ b ∷ []) xs ys s t = absurd s.1.1
+one_test (a ∷ b ∷ c ∷ ts) xs ys s t = one_list ts 0 xs ys s.1.1.1 t.1.1.1

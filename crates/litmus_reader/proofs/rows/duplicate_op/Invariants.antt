@@ -1,0 +1,7 @@
+use Rattle.std.proofs.Common.{◌≡◌, ℕ, ◌<◌, get_or}
+use Rattle.litmus_reader.specs.Content.{Never, DuplicateOf}
+use Rattle.litmus_reader.specs.declared.item.Head.{Head}
+use Rattle.litmus_reader.proofs.rows.duplicate_op.Given as goal
+
+abbrev pub invariant-loop-earlier : goal.invariant-loop-earlier
+invariant-loop-earlier l = (k : ℕ) (e : Head) → k < l.earlier-index → get_or l.before k e ≡ e → Never (DuplicateOf l.head e)

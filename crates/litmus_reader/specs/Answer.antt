@@ -1,0 +1,58 @@
+-- What a test's bytes say: a case, or the first fault. Lexical faults are judged before those of syntax, and these
+-- before those of content.
+use Rattle.std.specs.Prelude.{◌≡◌, ℕ, ⊤, List, Option, Some, None, length, slice_get}
+use Rattle.ll_grammar.specs.FirstFault.{IsFaultAt}
+use Rattle.pc_common.specs.Case.{Case}
+use Rattle.pc_common.specs.declared.place.Place.{Place}
+use Rattle.uspec_lexer.specs.Token.{Token}
+use Rattle.uspec_lexer.specs.Spells.{Spells, IsLexicalFault}
+use Rattle.litmus_reader.specs.Syntax.{IsTestOf, IsTest}
+use Rattle.litmus_reader.specs.Items.{case_of}
+use Rattle.litmus_reader.specs.Content.{IsClean, IsContentFault}
+use Rattle.litmus_reader.specs.declared.item.Item.{Item}
+use Rattle.litmus_reader.specs.declared.fault.CaseFault.{CaseFault}
+use Rattle.litmus_reader.specs.declared.fault.CaseFault.TheVariants.{Lexical, Syntax, Content, Memory}
+
+-- the bytes spell a test of these items
+pub record Says (bytes : List ℕ) (items : List Item) : Type 0 where
+  pub tokens : List Token
+  pub spelled : Spells bytes tokens
+  pub test : IsTestOf items tokens
+
+-- the bytes say this case
+pub record CaseOf (bytes : List ℕ) (case : Case) : Type 0 where
+  pub items : List Item
+  pub said : Says bytes items
+  pub clean : IsClean items
+  pub is : case ≡ case_of items
+
+-- the place of token k, or the length of the text at the end
+abbrev pub token_place : ℕ → Option Token → ℕ
+token_place end None = end
+token_place end (Some t) = t.at
+
+-- the bytes spell tokens, and no test goes on at the one at this place
+pub record IsSyntaxFault (bytes : List ℕ) (place : Place) : Type 0 where
+  pub tokens : List Token
+  pub spelled : Spells bytes tokens
+  pub k : ℕ
+  pub fault : IsFaultAt IsTest tokens k
+  pub at : place.offset ≡ token_place (length bytes) (slice_get tokens k)
+
+-- the first fault of a test; want of memory is tied to nothing
+abbrev pub IsRefusal : List ℕ → CaseFault → Type 0
+IsRefusal bytes (Lexical place) = IsLexicalFault bytes place.offset
+IsRefusal bytes (Syntax place) = IsSyntaxFault bytes place
+IsRefusal bytes (Content kind place) = (items : List Item) × Says bytes items × IsContentFault items kind place
+IsRefusal bytes Memory = ⊤
+
+-- the tokens, which are a test, say this case
+abbrev pub CaseIn : List Token → Case → Type 0
+CaseIn ts case = (items : List Item) × IsTestOf items ts × IsClean items × (case ≡ case_of items)
+
+-- their first fault
+abbrev pub IsContentRefusal : List Token → CaseFault → Type 0
+IsContentRefusal ts (Content kind place) = (items : List Item) × IsTestOf items ts × IsContentFault items kind place
+IsContentRefusal ts Memory = ⊤
+IsContentRefusal ts (Lexical place) = ⊥
+IsContentRefusal ts (Syntax place) = ⊥

@@ -1,0 +1,108 @@
+-- What the items of a test say, and the case that they make.
+use Rattle.std.specs.Prelude.{ℕ, Bool, ◌==◌, ◌&&◌, List, [], ◌∷◌, Option, Some, None, map}
+use Rattle.std.specs.List.{filter_map, position_or_len}
+use Rattle.pc_common.specs.declared.place.Place.{Place}
+use Rattle.pc_common.specs.Case.{Address, Value, number, Touch, Kind, read, write, fence, MicroOp, Dependency, Expectation, permitted, forbidden, unstated, Case}
+use Rattle.pc_case.specs.declared.op.Memop.{Memop}
+use Rattle.pc_case.specs.Plain.{page_at, address_at}
+use Rattle.litmus_reader.specs.declared.item.Head.{Head}
+use Rattle.litmus_reader.specs.declared.item.Action.{Action}
+use Rattle.litmus_reader.specs.declared.item.Action.TheVariants.{Read as reads, Write as writes, Fence as fences}
+use Rattle.litmus_reader.specs.declared.item.Microop.{Microop}
+use Rattle.litmus_reader.specs.declared.item.End.{End}
+use Rattle.litmus_reader.specs.declared.item.Relationship.{Relationship}
+use Rattle.litmus_reader.specs.declared.item.ValueLine.{ValueLine}
+use Rattle.litmus_reader.specs.declared.item.Item.{Item}
+use Rattle.litmus_reader.specs.declared.item.Item.TheVariants.{Microop as microop_line, Relationship as relationship_line, Initial as initial_line, Final as final_line, Permitted as permitted_line, Forbidden as forbidden_line}
+
+abbrev pub microop_of : Item → Option Microop
+microop_of (microop_line m) = Some m
+microop_of _ = None
+
+abbrev pub relationship_of : Item → Option Relationship
+relationship_of (relationship_line r) = Some r
+relationship_of _ = None
+
+abbrev pub initial_of : Item → Option ValueLine
+initial_of (initial_line v) = Some v
+initial_of _ = None
+
+abbrev pub final_of : Item → Option ValueLine
+final_of (final_line v) = Some v
+final_of _ = None
+
+abbrev pub expectation_of : Item → Option (Expectation × Place)
+expectation_of (permitted_line at) = Some (permitted, at)
+expectation_of (forbidden_line at) = Some (forbidden, at)
+expectation_of _ = None
+
+-- in text order
+abbrev pub microops_in : List Item → List Microop
+microops_in items = filter_map microop_of items
+
+abbrev pub heads_in : List Item → List Head
+heads_in items = map (λ (m : Microop). m.head) (microops_in items)
+
+abbrev pub relationships_in : List Item → List Relationship
+relationships_in items = filter_map relationship_of items
+
+abbrev pub initial_in : List Item → List ValueLine
+initial_in items = filter_map initial_of items
+
+abbrev pub final_in : List Item → List ValueLine
+final_in items = filter_map final_of items
+
+abbrev pub expectations_in : List Item → List (Expectation × Place)
+expectations_in items = filter_map expectation_of items
+
+abbrev pub kind_said : Action → Kind
+kind_said (reads m) = read
+kind_said (writes m) = write
+kind_said fences = fence
+
+abbrev pub touched : Memop → Touch
+touched m = record { va = page_at m.va; pa = address_at m.pa; value = number m.value }
+
+abbrev pub touch_said : Action → Option Touch
+touch_said (reads m) = Some (touched m)
+touch_said (writes m) = Some (touched m)
+touch_said fences = None
+
+abbrev pub op_said : Microop → MicroOp
+op_said m = record {
+  g = m.head.g.value;
+  n = m.head.n;
+  core = m.head.core.value;
+  thread = m.head.thread.value;
+  types = m.types;
+  kind = kind_said m.action;
+  touch = touch_said m.action;
+}
+
+-- whether the micro-op is the one that a relationship names
+abbrev pub is_named : End → Head → Bool
+is_named e h = (h.g.value == e.g.value) && (h.n == e.n)
+
+-- the place of the micro-op that a relationship names: the first of this name
+abbrev pub place_in : List Head → End → ℕ
+place_in heads e = position_or_len (is_named e) heads
+
+abbrev pub dependency_said : List Head → Relationship → Dependency
+dependency_said heads r = record { kind = r.kind; source = place_in heads r.source; target = place_in heads r.target }
+
+abbrev pub value_said : ValueLine → Address × Value
+value_said v = (address_at v.pa, number v.value)
+
+abbrev pub first_said : List (Expectation × Place) → Expectation
+first_said [] = unstated
+first_said (e ∷ es) = e.0
+
+-- the case that the items say
+abbrev pub case_of : List Item → Case
+case_of items = record {
+  ops = map op_said (microops_in items);
+  dependencies = map (dependency_said (heads_in items)) (relationships_in items);
+  initial = map value_said (initial_in items);
+  final = map value_said (final_in items);
+  expectation = first_said (expectations_in items);
+}

@@ -1,0 +1,12 @@
+pub mod Expected
+pub mod Syntax
+pub mod Items
+pub mod Content
+pub mod Answer
+pub mod Terminals
+pub mod Phrases
+pub mod Answers
+pub mod Reading
+pub mod Rows
+pub mod Values
+pub mod Kept

@@ -1,0 +1,149 @@
+-- The grammar of tests as a table: what stands behind a token where a phrase begins with it.
+use Rattle.std.specs.Prelude.{◌≡◌, ℕ, Bool, true, false, List, [], ◌∷◌, Option, Some, None, refl, slice_get, if◌then◌else◌}
+use Rattle.ll_grammar.specs.Rules.{Rules}
+use Rattle.ll_grammar.specs.Predictable.{IsPredictable, HasTexts}
+use Rattle.ll_grammar.specs.Tables.{predictable_by, texts_by, is_predictable_part, is_ranked_part}
+use Rattle.ll_grammar.specs.declared.grammar.Symbol.{Symbol}
+use Rattle.ll_grammar.specs.declared.grammar.Symbol.TheVariants.{Class, Part}
+use Rattle.litmus_reader.specs.Terminals.{is_name}
+use Rattle.litmus_reader.specs.declared.terminal.Terminal.{Terminal}
+use Rattle.litmus_reader.specs.declared.terminal.Terminal.TheVariants.{Litmus, Microop, Relationship, Init, Final, Permitted, Forbidden, Read, Write, Fence, Va, Pa, Data, Name, Number, Text, Open, Close, Dot, Arrow, Other}
+use Rattle.litmus_reader.specs.declared.phrase.Phrase.{Phrase}
+use Rattle.litmus_reader.specs.declared.phrase.Phrase.TheVariants.{Test, Items, Access, Types, AnyName, VirtualPage, PhysicalPage, Value}
+
+abbrev pub behind : Phrase → Terminal → Option (List (Symbol Terminal Phrase))
+behind Test Litmus = Some (Class Text ∷ Class Dot ∷ Part Items ∷ [])
+behind Items Microop =
+    Some (Class Number ∷ Class Number ∷ Class Number ∷ Class Number ∷ Class Open ∷ Part Access ∷ Class Close ∷ Class Dot ∷ Part Items ∷ [])
+behind Items Relationship =
+    Some (Part AnyName ∷ Class Number ∷ Class Number ∷ Class Arrow ∷ Class Number ∷ Class Number ∷ Class Dot ∷ Part Items ∷ [])
+behind Items Init = Some (Part PhysicalPage ∷ Class Number ∷ Class Dot ∷ Part Items ∷ [])
+behind Items Final = Some (Part PhysicalPage ∷ Class Number ∷ Class Dot ∷ Part Items ∷ [])
+behind Items Permitted = Some (Class Dot ∷ Part Items ∷ [])
+behind Items Forbidden = Some (Class Dot ∷ Part Items ∷ [])
+behind Access Read = Some (Part Types ∷ Part VirtualPage ∷ Part PhysicalPage ∷ Part Value ∷ [])
+behind Access Write = Some (Part Types ∷ Part VirtualPage ∷ Part PhysicalPage ∷ Part Value ∷ [])
+behind Access Fence = Some (Part Types ∷ [])
+behind Types c = if is_name c then Some (Part Types ∷ []) else None
+behind AnyName c = if is_name c then Some [] else None
+behind VirtualPage Open = Some (Class Va ∷ Class Number ∷ Class Number ∷ Class Close ∷ [])
+behind PhysicalPage Open = Some (Class Pa ∷ Class Number ∷ Class Number ∷ Class Close ∷ [])
+behind Value Open = Some (Class Data ∷ Class Number ∷ Class Close ∷ [])
+behind _ _ = None
+
+abbrev pub may_end : Phrase → Bool
+may_end Items = true
+may_end Types = true
+may_end _ = false
+
+-- nothing nests, so no token stands too deep
+abbrev pub deep : Phrase → Terminal → Bool
+deep n c = false
+
+abbrev pub rules : Rules Terminal Phrase
+rules = record { behind = behind; may_end = may_end; deep = deep }
+
+-- which terminals may come next after a phrase
+abbrev pub follow : Phrase → Terminal → Bool
+follow Access Close = true
+follow Types Open = true
+follow Types Close = true
+follow AnyName Number = true
+follow VirtualPage Open = true
+follow PhysicalPage Open = true
+follow PhysicalPage Number = true
+follow Value Close = true
+follow _ _ = false
+
+abbrev terminals : List Terminal
+terminals =
+    Litmus ∷ Microop ∷ Relationship ∷ Init ∷ Final ∷ Permitted ∷ Forbidden ∷ Read ∷ Write ∷ Fence ∷ Va ∷ Pa ∷ Data ∷ Name ∷ Number ∷ Text
+    ∷ Open ∷ Close ∷ Dot ∷ Arrow ∷ Other ∷ []
+
+abbrev place : Terminal → ℕ
+place Litmus = 0
+place Microop = 1
+place Relationship = 2
+place Init = 3
+place Final = 4
+place Permitted = 5
+place Forbidden = 6
+place Read = 7
+place Write = 8
+place Fence = 9
+place Va = 10
+place Pa = 11
+place Data = 12
+place Name = 13
+place Number = 14
+place Text = 15
+place Open = 16
+place Close = 17
+place Dot = 18
+place Arrow = 19
+place Other = 20
+
+listed : (c : Terminal) → slice_get terminals (place c) ≡ Some c
+listed Litmus = refl
+listed Microop = refl
+listed Relationship = refl
+listed Init = refl
+listed Final = refl
+listed Permitted = refl
+listed Forbidden = refl
+listed Read = refl
+listed Write = refl
+listed Fence = refl
+listed Va = refl
+listed Pa = refl
+listed Data = refl
+listed Name = refl
+listed Number = refl
+listed Text = refl
+listed Open = refl
+listed Close = refl
+listed Dot = refl
+listed Arrow = refl
+listed Other = refl
+
+predictable_part : (n : Phrase) → is_predictable_part rules follow terminals n ≡ true
+predictable_part Test = refl
+predictable_part Items = refl
+predictable_part Access = refl
+predictable_part Types = refl
+predictable_part AnyName = refl
+predictable_part VirtualPage = refl
+predictable_part PhysicalPage = refl
+predictable_part Value = refl
+
+pub rules_predictable : IsPredictable rules follow
+rules_predictable = predictable_by rules follow terminals place listed predictable_part
+
+-- a terminal that leads to shorter phrases
+abbrev first : Phrase → Terminal
+first Test = Litmus
+first Items = Permitted
+first Access = Fence
+first Types = Name
+first AnyName = Name
+first VirtualPage = Open
+first PhysicalPage = Open
+first Value = Open
+
+abbrev rank : Phrase → ℕ
+rank Test = 2
+rank Access = 1
+rank _ = 0
+
+ranked_part : (n : Phrase) → is_ranked_part rules first rank n ≡ true
+ranked_part Test = refl
+ranked_part Items = refl
+ranked_part Access = refl
+ranked_part Types = refl
+ranked_part AnyName = refl
+ranked_part VirtualPage = refl
+ranked_part PhysicalPage = refl
+ranked_part Value = refl
+
+pub rules_texts : HasTexts rules
+rules_texts = texts_by rules first rank ranked_part

@@ -1,0 +1,218 @@
+ghost use Rattle.std.specs.Prelude.{◌≡◌, ◌≤◌, [], ◌∷◌, ◌++◌, List, length, map, vec_len, IfOk, OnOk};
+ghost use Rattle.pc_common.specs.Case.{Expectation};
+ghost use Rattle.pc_common.specs.declared.place.Place.{Place as PlaceAt};
+ghost use Rattle.pc_common.specs.declared.fault.FaultKind.TheVariants.{AgainInitial, AgainFinal};
+ghost use Rattle.pc_case.specs.Plain.{micro_op, dependency, expectation};
+ghost use Rattle.litmus_reader.specs.Items.{op_said, dependency_said, first_said, case_of};
+ghost use Rattle.litmus_reader.specs.Content.{Never, AgainStated, AgainExpected, IsFaultOf, IsClean};
+ghost use Rattle.litmus_reader.specs.Rows.{Answers};
+ghost use Rattle.litmus_reader.specs.Kept.{stated_of, stances, Keeps, AddsMicroop, AddsRelationship};
+ghost use Rattle.litmus_reader.specs.declared.item.ValueLine.{ValueLine as ValueSaid};
+ghost use Rattle.litmus_reader.specs.declared.item.Item.{Item as ItemSaid};
+
+use super::item::{Action, Head, Item, Microop, Relationship, ValueLine};
+use super::refusal::Refusal;
+use super::rows::{microop_fault, place_of, relationship_fault};
+use super::values::Values;
+use pc_case::{Access, Case, Dependencies, Dependency, Expect, Op, OpId, Ops};
+use pc_common::{FaultKind, Listed, Memory, Place};
+use std::alloc::Global;
+
+/// An expectation, and where its word stands.
+#[derive(Clone, Copy)]
+pub(crate) struct Stance {
+    pub(crate) expect: Expect,
+    pub(crate) at: Place,
+}
+
+/// What the lines so far say.
+#[derive(Drop)]
+pub(crate) struct Kept {
+    pub(crate) heads: Vec<Head>,
+    pub(crate) ops: Ops,
+    pub(crate) dependencies: Dependencies,
+    pub(crate) initial: Values,
+    pub(crate) final_values: Values,
+    pub(crate) stance: Option<Stance>,
+}
+
+fn op_from(microop: Microop) -> Op
+    requires { microop.head.core.value ≤ 63 }
+    ensures { micro_op result ≡ op_said microop }
+{
+    let (access, memop) = match microop.action {
+        Action::Read(memop) => (Access::Read, Some(memop)),
+        Action::Write(memop) => (Access::Write, Some(memop)),
+        Action::Fence => (Access::Fence, None),
+    };
+    Op {
+        id: OpId {
+            g: microop.head.g.value,
+            n: microop.head.n,
+        },
+        core: microop.head.core.value as u8,
+        thread: microop.head.thread.value,
+        types: microop.types,
+        access,
+        memop,
+    }
+}
+
+#[tactic(auto, using(crate::proofs::KeptFacts::place_in_within))]
+fn dependency_from(heads: &[Head], relationship: Relationship) -> Dependency
+    requires { length heads.now ≤ 64 }
+    ensures { dependency result ≡ dependency_said heads.now relationship }
+{
+    Dependency {
+        kind: relationship.kind,
+        source: place_of(heads, relationship.source) as u8,
+        target: place_of(heads, relationship.target) as u8,
+    }
+}
+
+fn initial_fault(values: &Values, line: ValueLine) -> Option<Refusal>
+    ensures { (before : List ValueSaid) → values.now ≡ map stated_of before
+        → Answers (AgainStated AgainInitial before line) result }
+{
+    match values.get(line.pa) {
+        None => None,
+        Some(first) => Some(Refusal {
+            kind: FaultKind::AgainInitial {
+                first,
+                again: line.value,
+            },
+            place: line.at,
+        }),
+    }
+}
+
+fn final_fault(values: &Values, line: ValueLine) -> Option<Refusal>
+    ensures { (before : List ValueSaid) → values.now ≡ map stated_of before
+        → Answers (AgainStated AgainFinal before line) result }
+{
+    match values.get(line.pa) {
+        None => None,
+        Some(first) => Some(Refusal {
+            kind: FaultKind::AgainFinal {
+                first,
+                again: line.value,
+            },
+            place: line.at,
+        }),
+    }
+}
+
+fn expectation_fault(stance: Option<Stance>, at: Place) -> Option<Refusal>
+    ensures { Answers (AgainExpected (stances stance) at) result }
+{
+    match stance {
+        None => None,
+        Some(first) => Some(Refusal {
+            kind: FaultKind::AgainExpectation {
+                first: first.at,
+                again: at,
+            },
+            place: at,
+        }),
+    }
+}
+
+fn expect_of(stance: Option<Stance>) -> Expect
+    ensures { expectation result ≡ first_said (stances stance) }
+{
+    match stance {
+        None => Expect::Unstated,
+        Some(stance) => stance.expect,
+    }
+}
+
+impl Kept {
+    pub(crate) fn new(alloc: Global) -> Self
+        ensures { Keeps result [] }
+    {
+        Kept {
+            heads: Vec::new(alloc),
+            ops: Listed::new(alloc),
+            dependencies: Listed::new(alloc),
+            initial: Values::new(alloc),
+            final_values: Values::new(alloc),
+            stance: None,
+        }
+    }
+
+    /// The fault of a line behind those so far.
+    pub(crate) fn fault(&self, item: &Item) -> Option<Refusal>
+        ensures { (before : List ItemSaid) → Keeps self.now before → Answers (IsFaultOf before item.now) result }
+    {
+        match item {
+            Item::Microop(microop) => microop_fault(&self.heads, microop.head),
+            Item::Relationship(line) => relationship_fault(&self.heads, line.source, line.target),
+            Item::Initial(line) => initial_fault(&self.initial, *line),
+            Item::Final(line) => final_fault(&self.final_values, *line),
+            Item::Permitted(at) => expectation_fault(self.stance, *at),
+            Item::Forbidden(at) => expectation_fault(self.stance, *at),
+        }
+    }
+
+    fn add_microop(&mut self, microop: Microop) -> Result<(), Memory>
+        requires { microop.head.core.value ≤ 63 }
+        ensures { OnOk result (AddsMicroop self.old self.new microop) }
+    {
+        self.heads.push(microop.head)?;
+        self.ops.push(op_from(microop))
+    }
+
+    fn add_relationship(&mut self, relationship: Relationship) -> Result<(), Memory>
+        requires { vec_len self.old.heads ≤ 64 }
+        ensures { OnOk result (AddsRelationship self.old self.new relationship) }
+    {
+        let line = dependency_from(&self.heads, relationship);
+        self.dependencies.push(line)
+    }
+
+    /// Keeps one more line. After an `Err` the lines are not to be read on.
+    pub(crate) fn add(&mut self, item: Item) -> Result<(), Memory>
+        requires { (before : List ItemSaid) × Keeps self.old before × IsClean before × Never (IsFaultOf before item) }
+        ensures { OnOk result ((before : List ItemSaid) → Keeps self.old before → IsClean before
+            → Never (IsFaultOf before item) → Keeps self.new (before ++ item ∷ [])) }
+    {
+        match item {
+            Item::Microop(microop) => self.add_microop(microop),
+            Item::Relationship(relationship) => self.add_relationship(relationship),
+            Item::Initial(line) => self.initial.add(line.pa, line.value),
+            Item::Final(line) => self.final_values.add(line.pa, line.value),
+            Item::Permitted(at) => {
+                self.stance = Some(Stance {
+                    expect: Expect::Permitted,
+                    at,
+                });
+                Ok(())
+            }
+            Item::Forbidden(at) => {
+                self.stance = Some(Stance {
+                    expect: Expect::Forbidden,
+                    at,
+                });
+                Ok(())
+            }
+        }
+    }
+
+    /// The case that the lines say.
+    pub(crate) fn into_case(self, alloc: Global) -> Result<Case, Memory>
+        requires { (items : List ItemSaid) × Keeps self items × IsClean items }
+        ensures { IfOk result (λ c. (items : List ItemSaid) → Keeps self items → IsClean items → c ≡ case_of items) }
+    {
+        let initial = self.initial.listed(alloc)?;
+        let final_values = self.final_values.listed(alloc)?;
+        let expect = expect_of(self.stance);
+        Case::full(
+            alloc,
+            self.ops,
+            self.dependencies,
+            initial,
+            final_values,
+            expect,
+        )
+    }
+}

@@ -1,0 +1,65 @@
+ghost use Rattle.std.specs.Prelude.{◌≡◌, ◌<◌, ◌^◌, length, slice_get, IfOk, IfErr};
+ghost use Rattle.litmus_reader.specs.Syntax.{IsTest};
+ghost use Rattle.litmus_reader.specs.Answer.{CaseOf, IsRefusal, CaseIn, IsContentRefusal, token_place};
+
+use super::fault::CaseFault;
+use super::kept::Kept;
+use super::reading::item_at;
+use super::syntax::syntax_fault;
+use pc_case::Case;
+use pc_common::Place;
+use std::alloc::Global;
+use uspec_lexer::{Tokens, tokens};
+
+/// The case that a test file says.
+///
+/// `Lexical` and `Syntax` come before every fault of content, and the lines are judged in their order,
+/// each by the lines before it. Takes time linear in the bytes, and memory for the tokens and for what
+/// the lines say. The condition is met by every file of fewer than 2^32 bytes.
+pub fn read_case(alloc: Global, bytes: &[u8]) -> Result<Case, CaseFault>
+    requires { length bytes.now < 2 ^ 32 }
+    ensures ok { IfOk result (CaseOf bytes.now) }
+    ensures err { IfErr result (IsRefusal bytes.now) }
+{
+    let tokens = tokens(alloc, bytes)?;
+    if let Some(k) = syntax_fault(alloc, &tokens)? {
+        return Err(CaseFault::Syntax(place_of_token(bytes, &tokens, k)));
+    }
+    case_of_test(alloc, &tokens)
+}
+
+/// The place of the token at `k`, or of the end of the bytes.
+fn place_of_token(bytes: &[u8], tokens: &Tokens<'_>, k: usize) -> Place
+    requires { length bytes.now < 2 ^ 32 }
+    ensures { result.offset ≡ token_place (length bytes.now) (slice_get tokens.now k) }
+{
+    if k < tokens.len() {
+        tokens.get(k).at
+    } else {
+        Place {
+            offset: bytes.len() as u32,
+        }
+    }
+}
+
+/// How many tokens stand before the first line: `Litmus`, its text and a dot.
+const TITLE: usize = 3;
+
+/// The case of tokens that are a test.
+fn case_of_test(alloc: Global, tokens: &Tokens<'_>) -> Result<Case, CaseFault>
+    requires { IsTest tokens.now }
+    ensures ok { IfOk result (CaseIn tokens.now) }
+    ensures err { IfErr result (IsContentRefusal tokens.now) }
+{
+    let mut kept = Kept::new(alloc);
+    let mut at = TITLE;
+    while at < tokens.len() {
+        let (item, next) = item_at(alloc, tokens, at)?;
+        if let Some(refusal) = kept.fault(&item) {
+            return Err(CaseFault::Content(refusal.kind, refusal.place));
+        }
+        kept.add(item)?;
+        at = next;
+    }
+    Ok(kept.into_case(alloc)?)
+}

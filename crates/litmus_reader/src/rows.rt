@@ -1,0 +1,162 @@
+ghost use Rattle.std.specs.Prelude.{◌≡◌, ◌<◌, ◌^◌, length};
+ghost use Rattle.litmus_reader.specs.Items.{place_in};
+ghost use Rattle.litmus_reader.specs.Content.{First, OverCore, OverMany, SplitFrom, DuplicateOf, SomeEarlier, Unknown, MicroopFault};
+ghost use Rattle.litmus_reader.specs.Rows.{Answers};
+
+use super::item::{End, Head};
+use super::refusal::Refusal;
+use pc_common::FaultKind;
+
+/// The greatest core number.
+const LAST_CORE: u64 = 63;
+
+/// How many micro-ops a test may have.
+const MOST_OPS: usize = 64;
+
+/// The fault of a micro-op behind the micro-ops of these heads.
+pub(crate) fn microop_fault(before: &[Head], head: Head) -> Option<Refusal>
+    requires { length before.now < 2 ^ 63 }
+    ensures { Answers (MicroopFault before.now head) result }
+{
+    if let Some(refusal) = core_number(head) {
+        return Some(refusal);
+    }
+    if let Some(refusal) = too_many_ops(before, head) {
+        return Some(refusal);
+    }
+    if let Some(refusal) = split_instruction(before, head) {
+        return Some(refusal);
+    }
+    duplicate_op(before, head)
+}
+
+fn core_number(head: Head) -> Option<Refusal>
+    ensures { Answers (OverCore head) result }
+{
+    if head.core.value <= LAST_CORE {
+        return None;
+    }
+    Some(Refusal {
+        kind: FaultKind::CoreNumber {
+            number: head.core.value,
+        },
+        place: head.core.at,
+    })
+}
+
+fn too_many_ops(before: &[Head], head: Head) -> Option<Refusal>
+    ensures { Answers (OverMany before.now head) result }
+{
+    if before.len() < MOST_OPS {
+        return None;
+    }
+    Some(Refusal {
+        kind: FaultKind::TooManyOps {
+            limit: MOST_OPS as u64,
+        },
+        place: head.at,
+    })
+}
+
+fn split_instruction(before: &[Head], head: Head) -> Option<Refusal>
+    ensures { Answers (SomeEarlier before.now (SplitFrom head)) result }
+{
+    for earlier in before {
+        if let Some(refusal) = split_from(head, *earlier) {
+            return Some(refusal);
+        }
+    }
+    None
+}
+
+/// The fault where the two are of one instruction and on other cores or threads.
+fn split_from(head: Head, earlier: Head) -> Option<Refusal>
+    ensures { Answers (SplitFrom head earlier) result }
+{
+    if earlier.g.value != head.g.value {
+        return None;
+    }
+    if earlier.core.value != head.core.value {
+        return Some(Refusal {
+            kind: FaultKind::SplitInstruction {
+                first: earlier.core.value,
+                again: head.core.value,
+            },
+            place: head.core.at,
+        });
+    }
+    if earlier.thread.value != head.thread.value {
+        return Some(Refusal {
+            kind: FaultKind::SplitInstruction {
+                first: earlier.thread.value,
+                again: head.thread.value,
+            },
+            place: head.thread.at,
+        });
+    }
+    None
+}
+
+fn duplicate_op(before: &[Head], head: Head) -> Option<Refusal>
+    ensures { Answers (SomeEarlier before.now (DuplicateOf head)) result }
+{
+    for earlier in before {
+        if let Some(refusal) = duplicate_of(head, *earlier) {
+            return Some(refusal);
+        }
+    }
+    None
+}
+
+/// The fault where the two have one name.
+fn duplicate_of(head: Head, earlier: Head) -> Option<Refusal>
+    ensures { Answers (DuplicateOf head earlier) result }
+{
+    if earlier.g.value != head.g.value || earlier.n != head.n {
+        return None;
+    }
+    Some(Refusal {
+        kind: FaultKind::DuplicateOp {
+            first: earlier.g.at,
+            again: head.g.at,
+        },
+        place: head.g.at,
+    })
+}
+
+/// The place of the micro-op that a relationship names, or their number where it names none.
+pub(crate) fn place_of(before: &[Head], end: End) -> usize
+    ensures { result ≡ place_in before.now end }
+{
+    for (k, head) in before.iter().enumerate() {
+        if head.g.value == end.g.value && head.n == end.n {
+            return k;
+        }
+    }
+    before.len()
+}
+
+fn unknown(before: &[Head], end: End) -> Option<Refusal>
+    ensures { Answers (Unknown before.now end) result }
+{
+    if place_of(before, end) < before.len() {
+        return None;
+    }
+    Some(Refusal {
+        kind: FaultKind::OpUnknown {
+            g: end.g.value,
+            n: end.n,
+        },
+        place: end.g.at,
+    })
+}
+
+/// The fault of a relationship behind the micro-ops of these heads.
+pub(crate) fn relationship_fault(before: &[Head], source: End, target: End) -> Option<Refusal>
+    ensures { Answers (First (Unknown before.now source) (Unknown before.now target)) result }
+{
+    if let Some(refusal) = unknown(before, source) {
+        return Some(refusal);
+    }
+    unknown(before, target)
+}
