@@ -8,6 +8,8 @@
 
 mod one_op;
 mod table;
+#[cfg(test)]
+mod tests;
 mod two_ops;
 mod value;
 

@@ -56,5 +56,8 @@ pub(crate) fn has_type(case: &Case, name: &[u8], place: usize) -> bool
 fn is_among(name: &[u8], types: &TypeNames) -> bool
     ensures { result ≡ list_any (λ known. same_name known name.now) types.now }
 {
-    types.as_slice().iter().any(|known| known.as_slice() == name)
+    types
+        .as_slice()
+        .iter()
+        .any(|known| known.as_slice() == name)
 }

@@ -22,6 +22,7 @@ pub fn holds(case: &Case, pred: Pred, args: &ClosedArgs, env: &Env) -> bool
 {
     match (pred, args.as_slice()) {
         (Pred::True, _) => true,
+        (Pred::False, _) => false,
         (Pred::AccessType, [name, op]) => has_type(case, name_of(name), op_of(op, env)),
         (Pred::OnCore, [core, op]) => case.op(op_of(op, env)).core == core_of(core, env),
         (Pred::HasDependency, [kind, source, target]) => {
@@ -29,6 +30,6 @@ pub fn holds(case: &Case, pred: Pred, args: &ClosedArgs, env: &Env) -> bool
         }
         (_, [op]) => of_op(case, pred, op_of(op, env)),
         (_, [first, second]) => of_two_ops(case, pred, op_of(first, env), op_of(second, env)),
-        _ => false,
+        _ => unreachable!(),
     }
 }
