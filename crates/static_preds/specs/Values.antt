@@ -1,0 +1,31 @@
+-- What the arguments of a predicate stand for, where the slots stand for these micro-ops and cores.
+use Rattle.std.specs.Prelude.{ℕ, ◌<◌, List, [], ◌∷◌, map}
+use Rattle.pc_syntax.specs.declared.term.Sort.{Sort}
+use Rattle.pc_syntax.specs.declared.term.Sort.TheVariants.{Microop, Core as core_sort}
+use Rattle.pc_syntax.specs.declared.bound.Bound.{Bound}
+use Rattle.pc_syntax.specs.declared.bound.Bound.TheVariants.{Op, Core}
+use Rattle.pc_syntax.specs.declared.closed_term.ClosedArg.{ClosedArg}
+use Rattle.pc_syntax.specs.Predicates.{Argument, op_at, core_at, plain_name}
+use Rattle.pc_syntax.specs.Closed.{meaning_of, closed_argument}
+
+-- a slot's micro-op or core, a core's number, or a plain name
+abbrev pub value_of : List Bound → ClosedArg → Argument
+value_of slots arg = closed_argument (map meaning_of slots) arg
+
+abbrev pub values_of : List Bound → List ClosedArg → List Argument
+values_of slots args = map (value_of slots) args
+
+abbrev pub sort_bound : Bound → Sort
+sort_bound (Op i) = Microop
+sort_bound (Core k) = core_sort
+
+-- the sorts of the slots
+abbrev pub scope_of : List Bound → List Sort
+scope_of slots = map sort_bound slots
+
+-- the micro-ops among the arguments are among the first n
+abbrev pub AreOpsBelow : ℕ → List Argument → Type 0
+AreOpsBelow n [] = Unit {0}
+AreOpsBelow n (op_at i ∷ rest) = (i < n) × AreOpsBelow n rest
+AreOpsBelow n (core_at k ∷ rest) = AreOpsBelow n rest
+AreOpsBelow n (plain_name t ∷ rest) = AreOpsBelow n rest
