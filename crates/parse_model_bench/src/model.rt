@@ -1,0 +1,28 @@
+ghost use Rattle.std.specs.Prelude.{◌≡◌, ◌^◌, ◌<◌, length, IfSome};
+ghost use Rattle.pc_syntax.specs.Written.{written_model};
+ghost use Rattle.uspec_parser.specs.Syntax.{DerivesModel};
+
+use pc_syntax::ModelFile;
+use std::alloc::Global;
+use uspec_lexer::{Tokens, tokens};
+use uspec_parser::parse_model;
+
+/// The tree of the tokens, or None where they have none or memory was refused.
+fn parsed(alloc: Global, tokens: &Tokens<'_>) -> Option<ModelFile>
+    ensures { IfSome result (λ m. DerivesModel tokens.now (written_model m)) }
+{
+    match parse_model(alloc, tokens) {
+        Ok(model) => Some(model),
+        Err(_) => None,
+    }
+}
+
+/// Whether the bytes are a model of the grammar. It is false too where memory was refused.
+pub fn is_model(alloc: Global, bytes: &[u8]) -> bool
+    requires { length bytes.now < 2 ^ 32 }
+{
+    match tokens(alloc, bytes) {
+        Ok(tokens) => parsed(alloc, &tokens).is_some(),
+        Err(_) => false,
+    }
+}
