@@ -2,7 +2,7 @@
 use Rattle.std.proofs.Common.{◌≡◌, ℕ, ◌+◌, zero, suc, List, [], ◌∷◌, Some, None, refl}
 use Rattle.std.specs.Prelude.{codes}
 use Rattle.pc_common.specs.declared.place.Place.{Place}
-use Rattle.pc_common.specs.declared.fault.FaultKind.TheVariants.{StageNumber, StageAgain, MacroUnknown, MacroArguments, ParameterAgain, PredicateUnknown, Arity, Unbound, WrongSort, CoreNumber, StageUnknown, TooManyVariables}
+use Rattle.pc_common.specs.declared.fault.FaultKind.TheVariants.{StageNumber, StageAgain, MacroAgain, MacroUnknown, MacroArguments, ParameterAgain, PredicateUnknown, Arity, Unbound, WrongSort, CoreNumber, StageUnknown, TooManyVariables}
 use Rattle.pc_syntax.specs.declared.term.Sort.TheVariants.{Microop, Core}
 use Rattle.pc_syntax.specs.declared.term.Word.{Word}
 use Rattle.pc_syntax.specs.declared.term.Arg.{Arg}
@@ -73,6 +73,27 @@ macro_arguments :
     ≡ Some (MacroArguments 0 1, at 57)
 unfolding truth
 macro_arguments = refl
+
+-- of two macros of one name an axiom before the second names the first
+first_of_two :
+    first_macro_fault
+    (model []
+    (macro_ (record { name = word (codes "m") 12; parameters = word (codes "a") 16 ∷ []; body = truth })
+    ∷ axiom_ (at 34) (expand_ (at 45) (word (codes "m") 57) [])
+    ∷ macro_ (record { name = word (codes "m") 72; parameters = []; body = truth }) ∷ []))
+    ≡ Some (MacroArguments 0 1, at 57)
+unfolding truth
+first_of_two = refl
+
+macro_again :
+    first_macro_fault
+    (model []
+    (macro_ (record { name = word (codes "m") 12; parameters = []; body = truth })
+    ∷ axiom_ (at 34) (expand_ (at 45) (word (codes "m") 57) [])
+    ∷ macro_ (record { name = word (codes "m") 72; parameters = word (codes "a") 76 ∷ []; body = truth }) ∷ []))
+    ≡ Some (MacroAgain (at 12) (at 72), at 72)
+unfolding truth
+macro_again = refl
 
 wrong_sort :
     first_name_fault (axiom_alone (forall_ (at 11) Core (codes "c") (static_ (word (codes "IsAnyRead") 29) (variable (codes "c") 39 ∷ []))))

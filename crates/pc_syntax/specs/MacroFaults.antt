@@ -7,10 +7,10 @@ use Rattle.pc_syntax.specs.declared.term.Word.{Word}
 use Rattle.pc_syntax.specs.declared.term.Arg.{Arg}
 use Rattle.pc_syntax.specs.Predicates.{same_name}
 use Rattle.pc_syntax.specs.Written.{Written, not_, and_, or_, implies_, forall_, exists_, static_, nodes_, edges_, expand_, bind_, MacroAt, WrittenItem, axiom_, macro_, WrittenModel}
-use Rattle.pc_syntax.specs.Observable.{macros_of}
+use Rattle.pc_syntax.specs.Observable.{macros_in_order}
 use Rattle.pc_syntax.specs.Fault.{Fault}
 
--- the latest macro of this name; the macros are listed latest first
+-- the first macro of this name in the list
 abbrev pub macro_called : List MacroAt → List ℕ → Option MacroAt
 macro_called [] name = None
 macro_called (m ∷ ms) name = if same_name m.name.name name then Some m else macro_called ms name
@@ -64,12 +64,13 @@ abbrev pub macro_fault : List MacroAt → MacroAt → Option Fault
 macro_fault earlier m =
     option_or (macro_again earlier m.name) (option_or (parameters_fault [] m.parameters) (body_fault earlier m.body))
 
--- the first fault of a list of items, where an axiom may name any of `all`, a macro the earlier ones
+-- the first fault of a list of items, where an axiom may name any of `all`, a macro the earlier ones,
+-- which are listed latest first
 abbrev pub items_fault : List MacroAt → List MacroAt → List WrittenItem → Option Fault
 items_fault all earlier [] = None
 items_fault all earlier (axiom_ at body ∷ items) = option_or (body_fault all body) (items_fault all earlier items)
 items_fault all earlier (macro_ m ∷ items) = option_or (macro_fault earlier m) (items_fault all (m ∷ earlier) items)
 
--- the first macro fault of a model
+-- the first macro fault of a model. Of two macros of one name an axiom before the second names the first
 abbrev pub first_macro_fault : WrittenModel → Option Fault
-first_macro_fault m = items_fault (macros_of m) [] m.items
+first_macro_fault m = items_fault (macros_in_order m) [] m.items

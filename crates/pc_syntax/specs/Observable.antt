@@ -17,9 +17,13 @@ macro_of (macro_ m) = m ∷ []
 abbrev pub axioms_of : WrittenModel → List Written
 axioms_of m = flat_map axiom_of m.items
 
+-- all macros of the file, in the text's order
+abbrev pub macros_in_order : WrittenModel → List MacroAt
+macros_in_order m = flat_map macro_of m.items
+
 -- all macros of the file, latest first
 abbrev pub macros_of : WrittenModel → List MacroAt
-macros_of m = reverse (flat_map macro_of m.items)
+macros_of m = reverse (macros_in_order m)
 
 abbrev pub setting : WrittenModel → Case → World → Setting
 setting m c w = record { stages = m.stages; case = c; world = w }

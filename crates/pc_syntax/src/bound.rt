@@ -9,5 +9,12 @@ pub enum Bound {
     Core(u8),
 }
 
+/// What fills the room of an environment that isn't in use.
+impl Default for Bound {
+    fn default() -> Self {
+        Bound::Core(0)
+    }
+}
+
 /// What the slots stand for, from the outermost binding.
 pub type Env = ArrayVec<Bound, 32>;
