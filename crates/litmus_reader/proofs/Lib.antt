@@ -11,3 +11,4 @@ pub mod CleanFacts
 pub mod Walk
 pub mod OneReading
 pub mod Exclusive
+pub mod Within
