@@ -121,7 +121,7 @@ cores : (items : List Item) → IsClean items → AreCores (heads_in items)
 cores = each_clean (λ items. AreCores (heads_in items)) (λ h c. let k = c.1 in absurd (omega arith)) cores_step
 
 -- no two elements are related
-abbrev Apart : {X : Type 0} → (X → X → Type 0) → List X → Type 0
+abbrev pub Apart : {X : Type 0} → (X → X → Type 0) → List X → Type 0
 Apart {X} R xs = (j k : ℕ) (a b : X) → slice_get xs j ≡ Some a → slice_get xs k ≡ Some b → R a b → j ≡ k
 
 last_or : {X : Type 0} (xs : List X) (x : X) (j : ℕ) (a : X) → slice_get (xs ++ x ∷ []) j ≡ Some a → (slice_get xs j ≡ Some a) ⊎ ((j ≡ length xs) × (a ≡ x))
@@ -147,7 +147,7 @@ apart-push {X} R xs x flips apart none j k a b at_j at_k r =
       ]
     ]
 
-abbrev SameName : Head → Head → Type 0
+abbrev pub SameName : Head → Head → Type 0
 SameName a b = (a.g.value ≡ b.g.value) × (a.n ≡ b.n)
 
 names_step : (b : List Item) (i : Item) → IsClean b → Never (IsFaultOf b i) → Apart SameName (heads_in b) → Apart SameName (heads_in (b ++ i ∷ []))
@@ -160,10 +160,10 @@ names_step b (final v) clean never apart = subst (Apart SameName) (sym (same_hea
 names_step b (permitted at) clean never apart = subst (Apart SameName) (sym (same_heads b (permitted at) refl)) apart
 names_step b (forbidden at) clean never apart = subst (Apart SameName) (sym (same_heads b (forbidden at) refl)) apart
 
-names : (items : List Item) → IsClean items → Apart SameName (heads_in items)
+pub names : (items : List Item) → IsClean items → Apart SameName (heads_in items)
 names = each_clean (λ items. Apart SameName (heads_in items)) (λ j k a b e f r. absurd (cc)) names_step
 
-abbrev SamePage : ValueLine → ValueLine → Type 0
+abbrev pub SamePage : ValueLine → ValueLine → Type 0
 SamePage a b = a.pa ≡ b.pa
 
 -- lines of one kind state each address once
@@ -182,7 +182,7 @@ module _ (f : Item → Option ValueLine) (word : ℕ → ℕ → FaultKind)
   pub pages : (items : List Item) → IsClean items → Apart SamePage (filter_map f items)
   pages = each_clean (λ items. Apart SamePage (filter_map f items)) (λ j k a b e g r. absurd (cc)) pages_step
 
-judged_initial : (b : List Item) (i : Item) (v : ValueLine) → initial_of i ≡ Some v → Never (IsFaultOf b i) → Never (AgainStated AgainInitial (initial_in b) v)
+pub judged_initial : (b : List Item) (i : Item) (v : ValueLine) → initial_of i ≡ Some v → Never (IsFaultOf b i) → Never (AgainStated AgainInitial (initial_in b) v)
 judged_initial b (initial u) v e never = let is : u ≡ v = cc in subst (λ (x : ValueLine). Never (AgainStated AgainInitial (initial_in b) x)) is never
 judged_initial b (microop _) v e never = absurd (cc)
 judged_initial b (relationship _) v e never = absurd (cc)
@@ -190,7 +190,7 @@ judged_initial b (final _) v e never = absurd (cc)
 judged_initial b (permitted _) v e never = absurd (cc)
 judged_initial b (forbidden _) v e never = absurd (cc)
 
-judged_final : (b : List Item) (i : Item) (v : ValueLine) → final_of i ≡ Some v → Never (IsFaultOf b i) → Never (AgainStated AgainFinal (final_in b) v)
+pub judged_final : (b : List Item) (i : Item) (v : ValueLine) → final_of i ≡ Some v → Never (IsFaultOf b i) → Never (AgainStated AgainFinal (final_in b) v)
 judged_final b (final u) v e never = let is : u ≡ v = cc in subst (λ (x : ValueLine). Never (AgainStated AgainFinal (final_in b) x)) is never
 judged_final b (microop _) v e never = absurd (cc)
 judged_final b (relationship _) v e never = absurd (cc)

@@ -22,7 +22,7 @@ one_reading bytes xs ys s t =
 pub one_case : (bytes : List ℕ) (c d : Case) → CaseOf bytes c → CaseOf bytes d → c ≡ d
 one_case bytes c d s t = s.is ∙ ap case_of (one_reading bytes s.items t.items s.said t.said) ∙ sym t.is
 
-no_syntax_fault : (ts : List Token) (k : ℕ) → IsTest ts → IsFaultAt IsTest ts k → ⊥
+pub no_syntax_fault : (ts : List Token) (k : ℕ) → IsTest ts → IsFaultAt IsTest ts k → ⊥
 no_syntax_fault ts k test f =
     let within : k ≤ length ts = f.within in
     let not_end : k ≡ length ts → ⊥ = λ end. f.at_end end test in

@@ -163,7 +163,7 @@ keeps-final old before v lines k e =
     (k.stance ∙ sym (same expectation_of before i refl))
 
 -- no expectation stands before one that is no fault
-none_expected : (es : List (Expectation × Place)) (at : Place) → Never (AgainExpected es at) → es ≡ []
+pub none_expected : (es : List (Expectation × Place)) (at : Place) → Never (AgainExpected es at) → es ≡ []
 none_expected [] at never = refl
 none_expected (e ∷ es) at never = absurd (never _ at (e, (zero, omega arith, refl), refl, refl))
 

@@ -12,3 +12,4 @@ pub mod Walk
 pub mod OneReading
 pub mod Exclusive
 pub mod Within
+pub mod OneFault
