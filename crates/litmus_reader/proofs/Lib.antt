@@ -12,4 +12,5 @@ pub mod Walk
 pub mod OneReading
 pub mod Exclusive
 pub mod Within
+pub mod OneContentFault
 pub mod OneFault
