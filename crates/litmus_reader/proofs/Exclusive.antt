@@ -1,4 +1,4 @@
--- A text has a case or a first fault, and one alone.
+-- A text has one case at most, and none where it has a first fault.
 use Rattle.std.proofs.Common.{◌≡◌, ◌≢◌, ℕ, ◌+◌, ◌≤◌, List, length, drop, refl, sym, ap, subst, ◌∙◌, arith}
 use Rattle.std.proofs.lemmas.List.{take-append-drop}
 use Rattle.pc_common.specs.Case.{Case}

@@ -9,10 +9,11 @@ use Rattle.uspec_lexer.specs.Token.{Token}
 use Rattle.uspec_lexer.proofs.Spelling.{spells-unique}
 use Rattle.edge_model.specs.EdgeModel.{ReadsModel}
 use Rattle.edge_model.proofs.LineLists.{one_model}
-use Rattle.edge_test.specs.EdgeTest.{ReadsTest}
-use Rattle.edge_test.proofs.TestLines.{one_case}
+use Rattle.litmus_reader.specs.declared.fault.CaseFault.{CaseFault}
+use Rattle.litmus_reader.specs.declared.fault.CaseFault.TheVariants.{Memory as no_room}
+use Rattle.litmus_reader.proofs.Exclusive.{one_case, no_fault}
 use Rattle.pipecheck_run.specs.Command.{IsCheck}
-use Rattle.pipecheck_run.specs.Language.{Contents, IsRead, IsTooLarge, IsFirstFault, large_model, large_test, no_model, no_test, SaysModel, SaysTest, Says}
+use Rattle.pipecheck_run.specs.Language.{Contents, IsRead, IsTooLarge, IsFirstFault, large_model, large_test, no_model, no_test, SaysModel, SaysTest, told_fault, Says}
 use Rattle.pipecheck_run.specs.Output.{Answers, usage, refused, seen, unseen}
 use Rattle.pipecheck_run.specs.Headline.{IsTrueOf, IsDue}
 use Rattle.pipecheck_run.proofs.Texts.{graph_observable, cycle_unobservable}
@@ -22,17 +23,12 @@ one_said_model bytes m n x y =
     let P : List Token → Type 0 = λ ts. ReadsModel ts n in
     one_model x.0 m n x.2 (subst P (spells-unique y.1 x.1) y.2)
 
-one_said_test : (bytes : List ℕ) (c d : Case) → SaysTest bytes c → SaysTest bytes d → c ≡ d
-one_said_test bytes c d x y =
-    let P : List Token → Type 0 = λ ts. ReadsTest ts d in
-    one_case x.0 c d x.2 (subst P (spells-unique y.1 x.1) y.2)
-
 value_of : List ℕ → Option (List ℕ) → List ℕ
 value_of d None = d
 value_of d (Some x) = x
 
 -- a name holds one thing
-one_held : (holds : Contents) (name a b : List ℕ) → holds name ≡ Some a → holds name ≡ Some b → a ≡ b
+pub one_held : (holds : Contents) (name a b : List ℕ) → holds name ≡ Some a → holds name ≡ Some b → a ≡ b
 unfolding value_of
 one_held holds name a b x y = ap (value_of a) (sym x ∙ y)
 
@@ -58,14 +54,18 @@ one_said holds model test m n c d x y =
     let Q : List ℕ → Type 0 = λ b. SaysTest b d in (
       one_said_model x.model_bytes m n x.says_model
           (subst P (one_held holds model y.model_bytes x.model_bytes y.model_read.held x.model_read.held) y.says_model),
-      one_said_test x.test_bytes c d x.says_test
+      one_case x.test_bytes c d x.says_test
           (subst Q (one_held holds test y.test_bytes x.test_bytes y.test_read.held x.test_read.held) y.says_test),
     )
 
-never_both : (holds : Contents) (name bytes : List ℕ) → IsRead holds name bytes → IsTooLarge holds name → ⊥
+pub never_both : (holds : Contents) (name bytes : List ℕ) → IsRead holds name bytes → IsTooLarge holds name → ⊥
 never_both holds name bytes r l =
     let same : length bytes ≡ length l.bytes = ap length (one_held holds name bytes l.bytes r.held l.held) in
     omega (arith, same, r.within, l.past)
+
+-- want of memory is told as no fault
+pub untold : (f : InputFault) → told_fault no_room ≡ Some f → ⊥
+untold f told = cc
 
 -- what says something has no fault
 no_fault_said : (holds : Contents) (model test : List ℕ) (m : WrittenModel) (c : Case) (f : InputFault)
@@ -75,9 +75,10 @@ no_fault_said holds model test m c _ says (large_test r l) = never_both holds te
 no_fault_said holds model test m c _ says (no_model {mb = mb} {tb = tb} rm rt none) =
     let P : List ℕ → Type 0 = λ b. SaysModel b m in
     none m (subst P (one_held holds model says.model_bytes mb says.model_read.held rm.held) says.says_model)
-no_fault_said holds model test m c _ says (no_test {mb = mb} {tb = tb} rm rt said none) =
+no_fault_said holds model test m c _ says (no_test {mb = mb} {tb = tb} {fault = f} rm rt said is) =
     let P : List ℕ → Type 0 = λ b. SaysTest b c in
-    none c (subst P (one_held holds test says.test_bytes tb says.test_read.held rt.held) says.says_test)
+    no_fault tb c is.found (subst P (one_held holds test says.test_bytes tb says.test_read.held rt.held) says.says_test)
+    (λ memory. untold f (sym (ap told_fault memory) ∙ is.told)) is.first
 
 -- what was said under these names is what is said under those
 moved : (words : List (List ℕ)) (holds : Contents) (model test model2 test2 : List ℕ) (m : WrittenModel) (c : Case)

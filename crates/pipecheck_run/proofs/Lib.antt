@@ -20,4 +20,5 @@ pub mod NodeTexts
 pub mod VerdictTexts
 pub mod Decided
 pub mod Headline
+pub mod OneFault
 pub mod Told

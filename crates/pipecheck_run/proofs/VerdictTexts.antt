@@ -2,7 +2,6 @@
 use Rattle.std.proofs.Common.{◌≡◌, ℕ, List, [], ◌∷◌, ◌++◌, Option, Some, None, map, refl, sym, ◌∙◌, ap, subst, arith, append_assoc, Vec, Global}
 use Rattle.std.specs.Prelude.{codes, slice_get}
 use Rattle.std.specs.List.{flat_map}
-use Rattle.std.proofs.lemmas.Option.{slice_get_within, get_or_from_slice_get}
 use Rattle.pc_common.specs.Case.{Case, MicroOp, Expectation}
 use Rattle.pc_common.specs.World.{Node, Edge}
 use Rattle.pc_common.specs.Lines.{Names, Line as Line', Verdict as Kind, observable, unobservable, verdict, second, node, edge, end, line_text, lines_text, nodes_text}
@@ -10,8 +9,7 @@ use Rattle.pc_common.specs.declared.status.Status.{Status}
 use Rattle.pc_common.specs.declared.status.Status.TheVariants.{Observable, Unobservable}
 use Rattle.pc_syntax.specs.Written.{WrittenModel}
 use Rattle.edge_model.specs.EdgeModel.{IsEdgeModel}
-use Rattle.edge_test.specs.EdgeTest.{ReadsTest, ops_in}
-use Rattle.uspec_lexer.specs.Token.{Token}
+use Rattle.litmus_reader.proofs.CleanFacts.{ops_kept}
 use Rattle.edge_graph.specs.Joins.{IsCycle, IsAcyclic}
 use Rattle.pipecheck_run.specs.declared.verdict.Verdict.{Verdict}
 use Rattle.pipecheck_run.specs.declared.graph.NodeKey.{NodeKey}
@@ -20,7 +18,7 @@ use Rattle.pipecheck_run.specs.Graphs.{key_node, node_at, edge_at}
 use Rattle.pipecheck_run.specs.Writing.{names_by}
 use Rattle.pipecheck_run.specs.Verdicts.{IsVerdict, verdict_text, status_of}
 use Rattle.pipecheck_run.specs.Command.{IsCheck}
-use Rattle.pipecheck_run.specs.Language.{Contents, Says}
+use Rattle.pipecheck_run.specs.Language.{Contents, SaysTest, Says}
 use Rattle.pipecheck_run.specs.Output.{Answers, seen, unseen}
 use Rattle.pipecheck_run.proofs.Taken.{flat_append}
 use Rattle.pipecheck_run.proofs.Went.{flat_map_map}
@@ -47,15 +45,8 @@ text_of found names e keys edges =
     line_text names (verdict (kind_by found)) ++ (line_text names (second (kind_by found) e) ++ (body_by names keys edges found ++ codes "end\n"))
 
 -- the cores of a test that is read are below 64
-pub test_cores : (ts : List Token) (c : Case) → ReadsTest ts c → Cores c
-test_cores ts c reads k o at =
-    let ops : List MicroOp = ops_in reads.0 in
-    let is : c.ops ≡ ops = ap (λ (x : Case). x.ops) reads.3 in
-    let here : slice_get ops k ≡ Some o = ap (λ (xs : List MicroOp). slice_get xs k) (sym is) ∙ at in
-    let low = reads.2.cores_in_range k o (slice_get_within ops k o here) in
-    let same = get_or_from_slice_get ops k o o here in
-    let core_is = ap (λ (x : MicroOp). x.core) same in
-    omega arith
+pub test_cores : (bytes : List ℕ) (c : Case) → SaysTest bytes c → Cores c
+test_cores bytes c said = subst Cores (sym said.is) (ops_kept said.items said.clean).cores
 
 end_text : (names : Names) → line_text names end ++ [] ≡ codes "end\n"
 end_text names = refl

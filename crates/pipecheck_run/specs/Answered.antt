@@ -11,12 +11,11 @@ use Rattle.pipecheck_run.specs.Output.{usage_text, file_word}
 use Rattle.pipecheck_run.specs.Verdicts.{verdict_text, status_of, IsVerdict}
 use Rattle.pc_common.specs.LineColumn.{line_of, column_of}
 use Rattle.pc_common.specs.Case.{Case}
-use Rattle.pc_common.specs.declared.fault.Which.TheVariants.{Model, Test}
 use Rattle.pc_syntax.specs.Written.{WrittenModel}
 use Rattle.pc_common.specs.declared.fault.Which.{Which}
 use Rattle.pc_common.specs.declared.reading.ReadEnd.{ReadEnd}
 use Rattle.pc_common.specs.declared.reading.ReadEnd.TheVariants.{ReadFault as an_outside_fault, TooLarge as past_limit, Memory as no_memory}
-use Rattle.pipecheck_run.specs.Language.{SaysModel, SaysTest, not_said, too_large}
+use Rattle.pipecheck_run.specs.Language.{SaysModel, SaysTest, no_edge_model, IsTestFault, too_large}
 
 abbrev pub refusal_text : Refusal → List ℕ
 refusal_text r =
@@ -45,8 +44,8 @@ IsPlaced bytes r = (r.line ≡ line_of bytes r.fault.place.offset) × (r.column 
 -- what is decided of the bytes of two files that were read
 abbrev pub Decides : List ℕ → List ℕ → Answer → Type 0
 Decides model test (a_refusal r) =
-    ((r.fault ≡ not_said Model) × IsPlaced model r × ((m : WrittenModel) → SaysModel model m → ⊥))
-    ⊎ ((r.fault ≡ not_said Test) × IsPlaced test r × ((m : WrittenModel) × SaysModel model m) × ((c : Case) → SaysTest test c → ⊥))
+    ((r.fault ≡ no_edge_model) × IsPlaced model r × ((m : WrittenModel) → SaysModel model m → ⊥))
+    ⊎ (IsTestFault test r.fault × IsPlaced test r × ((m : WrittenModel) × SaysModel model m))
 Decides model test (a_verdict v) = (m : WrittenModel) × (c : Case) × SaysModel model m × SaysTest test c × IsVerdict m c v
 Decides model test _ = ⊥
 

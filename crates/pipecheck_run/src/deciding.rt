@@ -3,30 +3,42 @@ ghost use Rattle.std.specs.String.{string_bytes};
 ghost use Rattle.pc_common.specs.Faults.{Rose};
 ghost use Rattle.pc_common.specs.declared.status.Status.TheVariants.{Usage as SUsage, ReadFault as SReadFault, Memory as SMemory};
 ghost use Rattle.pipecheck_run.specs.Command.{IsCheck, IsNoCommand};
-ghost use Rattle.pipecheck_run.specs.Language.{Comes};
+ghost use Rattle.pipecheck_run.specs.Language.{Comes, fault_at, start};
 ghost use Rattle.pipecheck_run.specs.Output.{Answers};
 ghost use Rattle.pipecheck_run.specs.Answered.{IsPlaced, Decides, IsEnded, answer_text, answer_status};
 
 use super::answer::{Answer, Refusal};
 use super::command::{Check, command};
-use super::language::{read_model, read_test};
+use super::language::{edge_model_of, test_fault};
 use super::solving::solve;
+use litmus_reader::read_case;
 use pc_common::{FaultKind, Files, InputFault, Memory, Place, ReadEnd, Which, line_col, read_all};
 use std::alloc::Global;
 
 /// How many bytes a model or a test may have.
 const FILE_LIMIT: usize = 1_048_576;
 
-/// A fault that stands at the first byte of a file with these bytes.
-fn refusal(file: Which, kind: FaultKind, bytes: &[u8]) -> Refusal
-    requires { length bytes.now < 4294967295 }
-    ensures fault { result.fault ≡ record { file = file; place = record { offset = 0 }; kind = kind } }
+/// A fault that stands at the first byte of a file.
+fn at_start(file: Which, kind: FaultKind) -> InputFault
+    ensures { result ≡ fault_at file kind start }
+{
+    InputFault {
+        file,
+        place: Place { offset: 0 },
+        kind,
+    }
+}
+
+/// A fault with its line and column in the bytes of its file.
+fn refusal(fault: InputFault, bytes: &[u8]) -> Refusal
+    requires short { length bytes.now < 4294967295 }
+    requires within { fault.place.offset ≤ length bytes.now }
+    ensures fault { result.fault ≡ fault }
     ensures placed { IsPlaced bytes.now result }
 {
-    let place = Place { offset: 0 };
-    let (line, column) = line_col(bytes, place);
+    let (line, column) = line_col(bytes, fault.place);
     Refusal {
-        fault: InputFault { file, place, kind },
+        fault,
         line,
         column,
     }
@@ -38,11 +50,13 @@ fn decide(alloc: Global, model: &[u8], test: &[u8]) -> Result<Answer, Memory>
     requires test_short { length test.now ≤ 1048576 }
     ensures { IfOk result (Decides model.now test.now) }
 {
-    let Some(written) = read_model(alloc, model)? else {
-        return Ok(Answer::Refused(refusal(Which::Model, FaultKind::Syntax, model)));
+    let Some(written) = edge_model_of(alloc, model)? else {
+        let fault = at_start(Which::Model, FaultKind::Syntax);
+        return Ok(Answer::Refused(refusal(fault, model)));
     };
-    let Some(case) = read_test(alloc, test)? else {
-        return Ok(Answer::Refused(refusal(Which::Test, FaultKind::Syntax, test)));
+    let case = match read_case(alloc, test) {
+        Ok(case) => case,
+        Err(fault) => return Ok(Answer::Refused(refusal(test_fault(fault)?, test))),
     };
     let verdict = solve(alloc, written, case)?;
     Ok(Answer::Decided(verdict))
@@ -55,13 +69,10 @@ fn ended(file: Which, end: ReadEnd) -> Answer
     match end {
         ReadEnd::ReadFault => Answer::ReadFault,
         ReadEnd::Memory => Answer::Memory,
-        ReadEnd::TooLarge => Answer::Refused(refusal(
-            file,
-            FaultKind::TooLarge {
-                limit: FILE_LIMIT as u64,
-            },
-            b"",
-        )),
+        ReadEnd::TooLarge => {
+            let limit = FILE_LIMIT as u64;
+            Answer::Refused(refusal(at_start(file, FaultKind::TooLarge { limit }), b""))
+        }
     }
 }
 

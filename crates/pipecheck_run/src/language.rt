@@ -1,18 +1,16 @@
-ghost use Rattle.std.specs.Prelude.{◌^◌, ◌<◌, length, IfOk, MatchOption};
-ghost use Rattle.pc_common.specs.Case.{Case as PlainCase};
+ghost use Rattle.std.specs.Prelude.{◌≡◌, ◌^◌, ◌<◌, Some, length, IfOk, MatchOption};
 ghost use Rattle.pc_syntax.specs.Written.{WrittenModel, written_model};
-ghost use Rattle.pipecheck_run.specs.Language.{SaysModel, SaysTest};
+ghost use Rattle.pipecheck_run.specs.Language.{SaysModel, told_fault};
 
 use edge_model::read_edge_model;
-use edge_test::read_edge_test;
-use pc_case::Case;
-use pc_common::Memory;
+use litmus_reader::CaseFault;
+use pc_common::{FaultKind, InputFault, Memory, Which};
 use pc_syntax::ModelFile;
 use std::alloc::Global;
 use uspec_lexer::{LexFault, tokens};
 
 /// The model that the bytes say, or None where they are not of the language.
-pub(crate) fn read_model(alloc: Global, bytes: &[u8]) -> Result<Option<ModelFile>, Memory>
+pub(crate) fn edge_model_of(alloc: Global, bytes: &[u8]) -> Result<Option<ModelFile>, Memory>
     requires { length bytes.now < 2 ^ 32 }
     ensures { IfOk result (λ found. MatchOption found ((m : WrittenModel) → SaysModel bytes.now m → ⊥) (λ m. SaysModel bytes.now (written_model m))) }
 {
@@ -23,14 +21,19 @@ pub(crate) fn read_model(alloc: Global, bytes: &[u8]) -> Result<Option<ModelFile
     }
 }
 
-/// The case that the bytes say, or None where they are not of the language.
-pub(crate) fn read_test(alloc: Global, bytes: &[u8]) -> Result<Option<Case>, Memory>
-    requires { length bytes.now < 2 ^ 32 }
-    ensures { IfOk result (λ found. MatchOption found ((c : PlainCase) → SaysTest bytes.now c → ⊥) (λ c. SaysTest bytes.now c)) }
+/// The fault of a test as it is told: its kind and its place. The one error is that memory was refused.
+pub(crate) fn test_fault(fault: CaseFault) -> Result<InputFault, Memory>
+    ensures { IfOk result (λ told. told_fault fault ≡ Some told) }
 {
-    match tokens(alloc, bytes) {
-        Ok(tokens) => read_edge_test(alloc, &tokens),
-        Err(LexFault::Lexical(_)) => Ok(None),
-        Err(LexFault::Memory) => Err(Memory),
-    }
+    let (kind, place) = match fault {
+        CaseFault::Lexical(place) => (FaultKind::Lexical, place),
+        CaseFault::Syntax(place) => (FaultKind::Syntax, place),
+        CaseFault::Content(kind, place) => (kind, place),
+        CaseFault::Memory => return Err(Memory),
+    };
+    Ok(InputFault {
+        file: Which::Test,
+        place,
+        kind,
+    })
 }

@@ -23,6 +23,13 @@ Microop 1 0 0 0 (Write (VA 0 0) (PA 0 0) (Data 2)).
 Permitted.
 ";
 
+const AGAIN: &str = "Litmus \"d\".
+Init (PA 0 0) 1.
+Init (PA 0 0) 1.
+Permitted.
+Forbidden.
+";
+
 const SEEN: &str = "observable
 test permitted: ok
 node 0.0@0:S
@@ -72,7 +79,7 @@ fn a_check_ends_with_its_status_and_its_text(rt: HostRuntime) -> Result<(), Fail
     let alloc = rt.alloc();
     let words = check_words(alloc)?;
     // model, test, calls of the files that fail, calls of the sink that fail, status, what the sink holds
-    let table: [(Option<&str>, Option<&str>, &[u64], &[u64], Status, &str); 11] = [
+    let table: [(Option<&str>, Option<&str>, &[u64], &[u64], Status, &str); 12] = [
         (Some(ORDERED), Some(TWO), &[], &[], Status::Observable, SEEN),
         (
             Some(REVERSE),
@@ -97,6 +104,15 @@ fn a_check_ends_with_its_status_and_its_text(rt: HostRuntime) -> Result<(), Fail
             &[],
             Status::Refused,
             "refused test syntax at 1:1\n",
+        ),
+        // the test's first fault, in the text's order
+        (
+            Some(ORDERED),
+            Some(AGAIN),
+            &[],
+            &[],
+            Status::Refused,
+            "refused test again-initial at 3:1\n",
         ),
         // a missing name, the model's before the test's
         (Some(ORDERED), None, &[], &[], Status::ReadFault, ""),

@@ -1,4 +1,0 @@
-mod TestOneReading
-mod TestConditions
-mod TestKept
-pub mod TestLines

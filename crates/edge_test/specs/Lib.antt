@@ -1,3 +1,0 @@
-pub mod EdgeTestTokens
-pub mod EdgeTest
-pub mod EdgeTestKept
