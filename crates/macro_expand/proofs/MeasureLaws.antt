@@ -95,3 +95,21 @@ measures_more ms measures m x known here is = λ k y within found.
     get_last measures x ∙ ap Some is
     ∙ ap (λ n. Some (measure_of (before ms (length measures)) n.body)) (same_macro m z (sym here ∙ at)))
     k (omega (arith, length_push measures x, within)) y found
+
+module _ (at : Place) (name : Word) (args : List Arg) (ms : List MacroAt) where
+  -- the body of an expansion's macro is lower than the expansion
+  pub lower : (p : MacroAt × List MacroAt) → called ms name.name ≡ Some p → height_of p.1 p.0.body < height_of ms (expand_ at name args)
+  lower p e =
+      let height = height_called at name args ms ∙ ap (λ o. elim o [ None ↦ 0 | Some q ↦ 1 + height_of q.1 q.0.body ]) e in
+      omega (arith, height)
+
+  pub expansion_found : (p : MacroAt × List MacroAt) → called ms name.name ≡ Some p
+      → expansion_of ms (expand_ at name args) ≡ bind_ at (parameter_names p.0) args (expansion_of p.1 p.0.body)
+  expansion_found p e =
+      expansion_called at name args ms
+      ∙ ap (λ o. elim o [ None ↦ expand_ at name args | Some q ↦ bind_ at (parameter_names q.0) args (expansion_of q.1 q.0.body) ]) e
+
+  pub expansion_not_found : called ms name.name ≡ None → expansion_of ms (expand_ at name args) ≡ expand_ at name args
+  expansion_not_found e =
+      expansion_called at name args ms
+      ∙ ap (λ o. elim o [ None ↦ expand_ at name args | Some q ↦ bind_ at (parameter_names q.0) args (expansion_of q.1 q.0.body) ]) e

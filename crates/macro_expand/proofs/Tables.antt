@@ -118,7 +118,7 @@ looked_up first (e ∷ es) name numbered new =
           refl,
           not_called_yet (macro_at e.1) (entered_in es) name,
           called_at_once (macro_at e.1) (entered_in es) name (is_same e.1.name.now.name name (sym same))
-          (subst (λ w. macro_called (entered_in es) w ≡ None) (sym same) new.0),
+              (subst (λ w. macro_called (entered_in es) w ≡ None) (sym same) new.0),
         )
     by false s None h =
         never_called (macro_at e.1) (entered_in es) name
@@ -129,7 +129,7 @@ looked_up first (e ∷ es) name numbered new =
           omega (arith, h.1),
           h.2,
           not_called_before (macro_at e.1) (entered_in es) name d
-          (ap (λ w. same_name w name) (sym numbered.0) ∙ same_either e.0.now name ∙ s) h.3,
+              (ap (λ w. same_name w name) (sym numbered.0) ∙ same_either e.0.now name ∙ s) h.3,
           called_later (macro_at e.1) (entered_in es) name d (macro_at m) h.4,
         )
 
@@ -175,8 +175,8 @@ new_more (x ∷ ms) m new none = by (same_name x.name.name m.name.name) refl non
     by true e h rest = cc
     by false e h rest = (
       macro_called_after ms m x.name.name
-      ∙ ap (λ o. option_or o (cond (same_name m.name.name x.name.name) (Some m) None)) new.0
-      ∙ ap (λ b. cond {A = Option MacroAt} b (Some m) None) (same_either m.name.name x.name.name ∙ e),
+          ∙ ap (λ o. option_or o (cond (same_name m.name.name x.name.name) (Some m) None)) new.0
+          ∙ ap (λ b. cond {A = Option MacroAt} b (Some m) None) (same_either m.name.name x.name.name ∙ e),
       rest h,
     )
 

@@ -5,7 +5,7 @@ use Rattle.std.specs.Borrow.{Bor}
 use Rattle.pc_common.specs.declared.place.Place.{Place}
 use Rattle.pc_syntax.specs.declared.term.Word.{Word}
 use Rattle.pc_syntax.specs.Predicates.{same_name}
-use Rattle.pc_syntax.specs.Written.{written, MacroAt, WrittenItem, axiom_, macro_}
+use Rattle.pc_syntax.specs.Written.{Written, written, MacroAt, WrittenItem, axiom_, macro_}
 use Rattle.pc_syntax.specs.Fault.{Fault}
 use Rattle.pc_syntax.specs.MacroFaults.{macro_called, body_fault, macro_fault}
 use Rattle.macro_expand.specs.declared.macros.Macro.{Macro}
@@ -51,3 +51,8 @@ word_at e = record { name = e.0.now; at = e.1 }
 abbrev pub item_fault : List MacroAt → ℕ → WrittenItem → Option Fault
 item_fault ms n (axiom_ at body) = body_fault (before ms (length ms)) body
 item_fault ms n (macro_ m) = macro_fault (before ms n) m
+
+-- P holds of an axiom's body
+abbrev pub OfAxiom : (Written → Type 0) → WrittenItem → Type 0
+OfAxiom P (axiom_ at body) = P body
+OfAxiom P (macro_ m) = Unit {0}

@@ -52,9 +52,10 @@ pub(crate) fn check_body(
     ensures { Judges (body_fault (before (listed macros.now) earlier) (written formula.now)) result }
 {
     match formula {
-        Formula::Not(body) | Formula::Forall { body, .. } | Formula::Exists { body, .. } | Formula::Bind { body, .. } => {
-            check_body(macros, earlier, body)
-        }
+        Formula::Not(body)
+        | Formula::Forall { body, .. }
+        | Formula::Exists { body, .. }
+        | Formula::Bind { body, .. } => { check_body(macros, earlier, body) }
         Formula::And(left, right) | Formula::Or(left, right) | Formula::Implies(left, right) => {
             check_body(macros, earlier, left)?;
             check_body(macros, earlier, right)

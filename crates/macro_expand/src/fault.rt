@@ -24,16 +24,28 @@ pub enum MacroFault {
     },
     /// No macro that is seen here has the name.
     #[error("no macro has the name at byte {}", .at.offset)]
-    Unknown { at: Place },
+    Unknown {
+        at: Place,
+    },
     /// The macro has `wanted` parameters, and is given `found` arguments.
     #[error("{found} arguments at byte {}, where the macro has {wanted} parameters", .at.offset)]
-    Arguments { at: Place, found: u64, wanted: u64 },
+    Arguments {
+        at: Place,
+        found: u64,
+        wanted: u64,
+    },
     /// The expanded axiom has an atom of greater height than `limit`.
     #[error("the axiom at byte {} is deeper than {limit}", .at.offset)]
-    TooDeep { at: Place, limit: u64 },
+    TooDeep {
+        at: Place,
+        limit: u64,
+    },
     /// The expanded axioms up to this one are together of a greater size than `limit`.
     #[error("the axioms up to byte {} are larger than {limit}", .at.offset)]
-    TooBig { at: Place, limit: u64 },
+    TooBig {
+        at: Place,
+        limit: u64,
+    },
     /// Memory was refused.
     #[error("out of memory")]
     Memory,

@@ -9,6 +9,7 @@ mod items;
 mod macros;
 mod measure;
 mod parameters;
+mod parts;
 mod sizes;
 mod stages;
 mod top;

@@ -109,7 +109,7 @@ impl<'a> Macros<'a> {
         ensures { MatchOption result
             (called_in (before (listed self.now) earlier) name.now ≡ None)
             (λ m. (m.number < earlier) × (slice_get (listed self.now) m.number ≡ Some (macro_at m)) ×
-                (called_in (before (listed self.now) earlier) name.now ≡ Some (macro_at m, before (listed self.now) m.number))) }
+            (called_in (before (listed self.now) earlier) name.now ≡ Some (macro_at m, before (listed self.now) m.number))) }
     {
         match self.by_name.get(name) {
             Some(found) if found.number < earlier => Some(*found),

@@ -35,9 +35,10 @@ fn measure(macros: &Macros<'_>, measures: &[Measure], formula: &Formula) -> Meas
     ensures { result ≡ measure_of (before (listed macros.now) (length measures.now)) (written formula.now) }
 {
     match formula {
-        Formula::Not(body) | Formula::Forall { body, .. } | Formula::Exists { body, .. } | Formula::Bind { body, .. } => {
-            measure(macros, measures, body).above()
-        }
+        Formula::Not(body)
+        | Formula::Forall { body, .. }
+        | Formula::Exists { body, .. }
+        | Formula::Bind { body, .. } => { measure(macros, measures, body).above() }
         Formula::And(left, right) | Formula::Or(left, right) | Formula::Implies(left, right) => {
             measure(macros, measures, left).joined(measure(macros, measures, right))
         }

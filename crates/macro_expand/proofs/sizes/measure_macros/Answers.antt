@@ -20,6 +20,6 @@ loop-number-preserved c =
     c.measure-measured.ensures
     ∙ ap (λ old. measure_of (before ms (length old)) (written c.get.result.body.now)) c.deref.ensures.value in (
       subst (AreMeasures ms) (sym c.in_ok-push.ensures.items)
-      (measures_more ms measures (macro_at c.get.result) x c.loop-number.invariant.0 here is),
+          (measures_more ms measures (macro_at c.get.result) x c.loop-number.invariant.0 here is),
       ap length c.in_ok-push.ensures.items ∙ length_push measures x ∙ ap (λ n. n + 1) c.loop-number.invariant.1,
     )

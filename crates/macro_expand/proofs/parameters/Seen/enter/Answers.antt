@@ -18,8 +18,8 @@ returns c =
     let es = c.self.inside.places.entries in
     let none = sym c.in_default.ensures.value in (
       ap (λ (ws : List Word). word_called ws c.args.word.now.name) (sym c.self.view_is)
-      ∙ ap (λ name. word_called (map word_at es) name) (sym c.as_slice-name.ensures.value)
-      ∙ no_place es c.as_slice-name.result.now none,
+          ∙ ap (λ name. word_called (map word_at es) name) (sym c.as_slice-name.ensures.value)
+          ∙ no_place es c.as_slice-name.result.now none,
       word_more c.self.inside.places c.insert.new.self.entries c.as_slice-name.result c.args.word.now.at none c.in_ok-insert.ensures.entries
-      ∙ (λ i. c.self.view_is i ++ record { name = c.as_slice-name.ensures.value i; at = c.args.word.now.at } ∷ []),
+          ∙ (λ i. c.self.view_is i ++ record { name = c.as_slice-name.ensures.value i; at = c.args.word.now.at } ∷ []),
     )
