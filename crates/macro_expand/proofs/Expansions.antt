@@ -1,0 +1,90 @@
+-- What the expanded axioms of a model are, and that expansion keeps their truth.
+use Rattle.std.proofs.Common.{◌≡◌, ℕ, ◌<◌, List, [], ◌∷◌, ◌++◌, length, map, take, reverse, get_or, Option, Some, None, All, refl, sym, ap, subst, ◌∙◌, arith}
+use Rattle.std.specs.List.{flat_map}
+use Rattle.std.specs.Option.{option_or}
+use Rattle.std.proofs.lemmas.List.{take_all, get_or-map, length-map}
+use Rattle.std.proofs.lemmas.List.Elements.{All-nil, All-cons}
+use Rattle.pc_syntax.specs.declared.model.ModelFile.{ModelFile}
+use Rattle.pc_syntax.specs.declared.model.Item.{Item}
+use Rattle.pc_syntax.specs.declared.expanded.Expanded.{Expanded}
+use Rattle.pc_syntax.specs.Written.{Written, written, MacroAt, WrittenItem, axiom_, macro_, written_item, WrittenModel, written_model}
+use Rattle.pc_syntax.specs.Observable.{axiom_of, macro_of, macros_in_order, macros_of, axioms_of}
+use Rattle.pc_syntax.specs.Truth.{Environment, Setting, is_true}
+use Rattle.pc_syntax.specs.Expansion.{expansion_of, IsExpanded}
+use Rattle.pc_syntax.specs.MacroFaults.{body_fault, macro_fault, items_fault, first_macro_fault}
+use Rattle.pc_syntax.specs.Sizes.{sizes_fault, first_size_fault}
+use Rattle.pc_syntax.proofs.NoFault.{none_first, none_second}
+use Rattle.pc_syntax.proofs.ExpandedLaws.{axioms_expanded}
+use Rattle.pc_syntax.proofs.ExpansionLaws.{expansion_true}
+use Rattle.macro_expand.specs.declared.macros.Macro.{Macro}
+use Rattle.macro_expand.specs.Faults.{AreExpansions}
+use Rattle.macro_expand.specs.Tables.{before, macro_at, listed, OfAxiom}
+
+pub latest_first : (ms : List Macro) → before (listed ms) (length ms) ≡ reverse (listed ms)
+latest_first ms = ap reverse (take_all (length ms) (listed ms) (omega (arith, length-map ms macro_at)))
+
+-- where items have no macro fault, each axiom's body is as bodies with no fault are
+of_axioms : (P : Written → Type 0) (all earlier : List MacroAt) (items : List WrittenItem) → ((w : Written) → body_fault all w ≡ None → P w)
+    → items_fault all earlier items ≡ None → All (OfAxiom P) items
+of_axioms P all earlier [] each fine = All-nil (OfAxiom P)
+of_axioms P all earlier (axiom_ at body ∷ items) each fine =
+    All-cons (OfAxiom P) (axiom_ at body) items (each body (none_first (body_fault all body) (items_fault all earlier items) fine))
+    (of_axioms P all earlier items each (none_second (body_fault all body) (items_fault all earlier items) fine))
+of_axioms P all earlier (macro_ m ∷ items) each fine =
+    All-cons (OfAxiom P) (macro_ m) items tt
+    (of_axioms P all (m ∷ earlier) items each (none_second (macro_fault earlier m) (items_fault all (m ∷ earlier) items) fine))
+
+-- the axioms of a model without macro faults are expanded by all its macros
+pub axioms_are_expanded : (m : WrittenModel) → first_macro_fault m ≡ None
+    → All (OfAxiom (λ w. IsExpanded (expansion_of (macros_of m) w))) m.items
+axioms_are_expanded m fine =
+    of_axioms (λ w. IsExpanded (expansion_of (macros_of m) w)) (macros_in_order m) [] m.items (axioms_expanded m fine).1 fine
+
+pub item_of_axiom : (P : Written → Type 0) (items : List Item) (i : ℕ) (x : Item) → i < length items → x ≡ get_or items i x
+    → All (OfAxiom P) (map written_item items) → OfAxiom P (written_item x)
+item_of_axiom P items i x within here all =
+    let long : i < length (map written_item items) = omega (arith, length-map items written_item) in
+    subst (λ y. OfAxiom P (written_item y)) (sym here)
+    (subst (OfAxiom P) (get_or-map written_item items i x (written_item x) within) (all i (written_item x) long))
+
+-- what the checks of a model found, and its table of macros
+module _ (model : ModelFile) (items : List Item) (value : items ≡ model.items) (table : List Macro)
+    (all : listed table ≡ flat_map macro_of (map written_item items))
+    (judged : items_fault (flat_map macro_of (map written_item items)) [] (map written_item items) ≡ None) where
+  pub no_macro_fault : first_macro_fault (written_model model) ≡ None
+  no_macro_fault = subst (λ xs. items_fault (flat_map macro_of (map written_item xs)) [] (map written_item xs) ≡ None) value judged
+
+  sees_all : before (listed table) (length table) ≡ macros_of (written_model model)
+  sees_all = latest_first table ∙ ap reverse (all ∙ ap (λ xs. flat_map macro_of (map written_item xs)) value)
+
+  pub ready : All (OfAxiom (λ w. IsExpanded (expansion_of (before (listed table) (length table)) w))) (map written_item items)
+  ready =
+      subst (λ ms. All (OfAxiom (λ w. IsExpanded (expansion_of ms w))) (map written_item items)) (sym sees_all)
+      (subst (λ xs. All (OfAxiom (λ w. IsExpanded (expansion_of (macros_of (written_model model)) w))) (map written_item xs)) (sym value)
+      (axioms_are_expanded (written_model model) no_macro_fault))
+
+  pub same_size_fault : (n : ℕ) → n ≡ length table
+      → sizes_fault (before (listed table) n) 0 (map written_item items) ≡ first_size_fault (written_model model)
+  same_size_fault n whole =
+      ap (λ k. sizes_fault (before (listed table) k) 0 (map written_item items)) whole
+      ∙ ap (λ ms. sizes_fault ms 0 (map written_item items)) sees_all
+      ∙ ap (λ xs. sizes_fault (macros_of (written_model model)) 0 (map written_item xs)) value
+
+  pub all_expansions : (es : List Expanded)
+      → map (λ e. written e.body) es ≡ map (expansion_of (before (listed table) (length table))) (flat_map axiom_of (map written_item items))
+      → AreExpansions (written_model model) es
+  all_expansions es are =
+      are
+      ∙ ap (λ ms. map (expansion_of ms) (flat_map axiom_of (map written_item items))) sees_all
+      ∙ ap (λ xs. map (expansion_of (macros_of (written_model model))) (flat_map axiom_of (map written_item xs))) value
+
+true_alike : (s : Setting) (ms : List MacroAt) (env : Environment) (ws : List Written)
+    → map (is_true s ms env) ws ≡ map (is_true s [] env) (map (expansion_of ms) ws)
+true_alike s ms env [] = refl
+true_alike s ms env (w ∷ ws) = λ i. expansion_true s ms env w i ∷ true_alike s ms env ws i
+
+-- in every setting and environment the expanded axioms are true as the written ones are, one by one
+pub expand_true : (m : WrittenModel) (es : List Expanded) → AreExpansions m es → (s : Setting) (env : Environment)
+    → map (is_true s (macros_of m) env) (axioms_of m) ≡ map (is_true s [] env) (map (λ e. written e.body) es)
+expand_true m es are s env =
+    true_alike s (macros_of m) env (axioms_of m) ∙ ap (map (is_true s [] env)) (sym are)

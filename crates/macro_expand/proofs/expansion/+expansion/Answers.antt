@@ -1,0 +1,47 @@
+use Rattle.std.proofs.Common.{◌≡◌, ◌<◌, None, Some, IfOk, sym, ap, subst, ◌∙◌, arith}
+use Rattle.std.proofs.lemmas.Result.{IfOk-weaker}
+use Rattle.pc_syntax.specs.declared.formula.Formula.{Formula}
+use Rattle.pc_syntax.specs.Written.{written, expand_, bind_}
+use Rattle.pc_syntax.specs.Sizes.{height_of}
+use Rattle.pc_syntax.specs.Expansion.{parameter_names, expansion_of}
+use Rattle.macro_expand.specs.Tables.{called, before, listed, macro_at}
+use Rattle.macro_expand.proofs.MeasureLaws.{lower, expansion_found, expansion_not_found}
+use Rattle.macro_expand.proofs.expansion.+expansion.Goals as goal
+
+pub expansion-requires : goal.expansion-requires
+expansion-requires t c =
+    let ms = before (listed c.args.macros.now) c.args.earlier in
+    let callee = c.in-Some.callee in
+    let below =
+    lower c.in-Expand.at c.in-Expand.name c.in-Expand.args ms (macro_at callee, before (listed c.args.macros.now) callee.number)
+    (ap (called ms) (sym c.as_slice.ensures.value) ∙ c.in-Some.ensures.2) in
+    let here = ap (λ f. height_of ms (written f)) c.in-Expand.is in
+    let fact : height_of (before (listed c.args.macros.now) callee.number) (written callee.body.now) < t = omega (arith, c.decreases, here, below) in
+    (fact, tt)
+
+pub returns-in_ok-inner-in-Some : goal.returns-in_ok-inner-in-Some
+returns-in_ok-inner-in-Some t c =
+    let ms = before (listed c.args.macros.now) c.args.earlier in
+    let callee = c.in-Some.callee in
+    let inside = before (listed c.args.macros.now) callee.number in
+    let at = c.in-Expand.at in
+    let same =
+    expansion_found at c.in-Expand.name c.in-Expand.args ms (macro_at callee, inside)
+    (ap (called ms) (sym c.as_slice.ensures.value) ∙ c.in-Some.ensures.2) in
+    IfOk-weaker c.bound.result
+    (λ f. written f ≡ bind_ at (parameter_names (macro_at callee)) c.in-Expand.args (written c.in_ok-inner-in-Some.inner))
+    (λ f. written f ≡ expansion_of ms (written c.args.formula.now))
+    (λ f e.
+    e ∙ ap (bind_ at (parameter_names (macro_at callee)) c.in-Expand.args) c.in_ok-inner-in-Some.ensures
+    ∙ sym same ∙ ap (λ g. expansion_of ms (written g)) (sym c.in-Expand.is))
+    c.bound.ensures
+
+pub returns-in-None : goal.returns-in-None
+returns-in-None t c =
+    let ms = before (listed c.args.macros.now) c.args.earlier in
+    let same : written c.args.formula.now ≡ expansion_of ms (written c.args.formula.now) =
+    ap written c.in-Expand.is
+    ∙ sym (expansion_not_found c.in-Expand.at c.in-Expand.name c.in-Expand.args ms (ap (called ms) (sym c.as_slice.ensures.value) ∙ c.in-None.ensures))
+    ∙ ap (λ f. expansion_of ms (written f)) (sym c.in-Expand.is) in
+    IfOk-weaker c.copy.result (λ f. written f ≡ written c.args.formula.now) (λ f. written f ≡ expansion_of ms (written c.args.formula.now))
+    (λ f e. e ∙ same) c.copy.ensures

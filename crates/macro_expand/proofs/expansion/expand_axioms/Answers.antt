@@ -1,0 +1,13 @@
+use Rattle.std.proofs.Common.{length, subst, arith}
+use Rattle.pc_syntax.specs.Written.{Written, written, written_item}
+use Rattle.pc_syntax.specs.Expansion.{expansion_of, IsExpanded}
+use Rattle.macro_expand.specs.Tables.{before, listed, OfAxiom}
+use Rattle.macro_expand.proofs.Expansions.{item_of_axiom}
+use Rattle.macro_expand.proofs.expansion.expand_axioms.Goals as goal
+
+pub expanded-requires : goal.expanded-requires
+expanded-requires c =
+    let ms = before (listed c.args.macros.now) (length c.args.macros.now) in
+    let P : Written → Type 0 = λ w. IsExpanded (expansion_of ms w) in
+    subst (λ x. OfAxiom P (written_item x)) c.in-Axiom.is
+    (item_of_axiom P c.args.items.now c.loop-item.item-index c.item-item.result (omega arith) c.item-item.is c.requires)

@@ -1,0 +1,58 @@
+-- Macros in the text's order, of which each may name the earlier ones.
+use Rattle.std.specs.Prelude.{◌≡◌, ℕ, suc, List, [], ◌∷◌, ◌++◌, Option, Some, None, length, map, take, reverse, if◌then◌else◌}
+use Rattle.std.specs.List.{fold}
+use Rattle.std.specs.Borrow.{Bor}
+use Rattle.pc_common.specs.declared.place.Place.{Place}
+use Rattle.pc_syntax.specs.declared.term.Word.{Word}
+use Rattle.pc_syntax.specs.Predicates.{same_name}
+use Rattle.pc_syntax.specs.Written.{Written, written, MacroAt, WrittenItem, axiom_, macro_}
+use Rattle.pc_syntax.specs.Fault.{Fault}
+use Rattle.pc_syntax.specs.MacroFaults.{macro_called, body_fault, macro_fault}
+use Rattle.macro_expand.specs.declared.macros.Macro.{Macro}
+
+-- the macro that a name calls, with those that its body may name; macros are listed latest first
+abbrev pub called : List MacroAt → List ℕ → Option (MacroAt × List MacroAt)
+called [] name = None
+called (m ∷ ms) name = if same_name m.name.name name then Some (m, ms) else called ms name
+
+-- the first n macros, latest first
+abbrev pub before : List MacroAt → ℕ → List MacroAt
+before ms n = reverse (take n ms)
+
+-- one more macro, unless an earlier one has its name
+abbrev pub entered : List MacroAt → MacroAt → List MacroAt
+entered ms m = elim (macro_called ms m.name.name) [ None ↦ ms ++ m ∷ [] | Some first ↦ ms ]
+
+-- of macros of one name the first
+abbrev pub first_of_names : List MacroAt → List MacroAt
+first_of_names ms = fold entered [] ms
+
+-- no macro has the name of an earlier one
+abbrev pub AreNew : List MacroAt → Type 0
+AreNew [] = Unit {0}
+AreNew (m ∷ ms) = (macro_called ms m.name.name ≡ None) × AreNew ms
+
+abbrev pub macro_at : Macro → MacroAt
+macro_at m = record { name = m.name.now; parameters = m.parameters.now; body = written m.body.now }
+
+abbrev pub listed : List Macro → List MacroAt
+listed ms = map macro_at ms
+
+-- the entries from the n-th on: each is kept under its own name and with its own number
+abbrev pub AreNumbered : ℕ → List (Bor (List ℕ) × Macro) → Type 0
+AreNumbered n [] = Unit {0}
+AreNumbered n (e ∷ es) = (e.0.now ≡ e.1.name.now.name) × (e.1.number ≡ n) × AreNumbered (suc n) es
+
+-- a name with its place
+abbrev pub word_at : Bor (List ℕ) × Place → Word
+word_at e = record { name = e.0.now; at = e.1 }
+
+-- the macro fault of an item, where `ms` are the file's macros and the first n are before it
+abbrev pub item_fault : List MacroAt → ℕ → WrittenItem → Option Fault
+item_fault ms n (axiom_ at body) = body_fault (before ms (length ms)) body
+item_fault ms n (macro_ m) = macro_fault (before ms n) m
+
+-- P holds of an axiom's body
+abbrev pub OfAxiom : (Written → Type 0) → WrittenItem → Type 0
+OfAxiom P (axiom_ at body) = P body
+OfAxiom P (macro_ m) = Unit {0}

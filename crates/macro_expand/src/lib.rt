@@ -1,0 +1,19 @@
+//! Macros: which fault of its stages, its macros and its sizes is a model's first, and its axioms with
+//! each macro in its place.
+#![tactic(auto)]
+
+mod calls;
+mod expansion;
+mod fault;
+mod items;
+mod macros;
+mod measure;
+mod parameters;
+mod parts;
+mod sizes;
+mod stages;
+mod top;
+
+pub use fault::MacroFault;
+pub use stages::stage_faults;
+pub use top::expand;

@@ -1,0 +1,127 @@
+ghost use Rattle.std.specs.Prelude.{◌≡◌, ◌<◌, ◌^◌, length, slice_get, Some, None, IfOk, OnOk, MatchOption, map, []};
+ghost use Rattle.std.specs.List.{flat_map};
+ghost use Rattle.pc_syntax.specs.Written.{written, written_item};
+ghost use Rattle.pc_syntax.specs.Observable.{macro_of};
+ghost use Rattle.macro_expand.specs.Tables.{called as called_in, before, entered, first_of_names, macro_at, listed};
+
+use indexmap::IndexMap;
+use pc_common::Memory;
+use pc_syntax::{Formula, Item, Word, Words};
+use std::alloc::Global;
+use std::marker::Model;
+
+/// A macro of the file.
+#[derive(Clone, Copy)]
+pub(crate) struct Macro<'a> {
+    /// How many macros of other names are before it.
+    pub number: usize,
+    pub name: &'a Word,
+    pub parameters: &'a Words,
+    pub body: &'a Formula,
+}
+
+/// The macros of a file in the text's order, looked up by name. Of macros of one name it has the first.
+#[derive(Drop)]
+pub(crate) struct Macros<'a> {
+    by_name: IndexMap<&'a [u8], Macro<'a>>,
+}
+
+impl<'a> Model for Macros<'a> {
+    ghost use Rattle.std.specs.Prelude.{List, map};
+    ghost use Rattle.std.specs.Coded.{codes};
+    ghost use Rattle.macro_expand.specs.declared.macros.Macro.{Macro as SMacro};
+    ghost use Rattle.pc_syntax.specs.contracts.formula.Formula as formula;
+    ghost use Rattle.macro_expand.specs.Tables.{listed, AreNew, AreNumbered};
+
+    ghost Value = { List SMacro };
+
+    ghost coded = { Prim.hlevel (codes, formula.the_row.coded) };
+
+    ghost view = { λ s. map (λ e. e.1) s.by_name.entries };
+
+    ghost invariant = { λ s. AreNumbered 0 s.by_name.entries × AreNew (listed (map (λ e. e.1) s.by_name.entries)) };
+}
+
+impl<'a> Macros<'a> {
+    /// No macros. Takes no memory.
+    fn new(alloc: Global) -> Self
+        ensures { result ≡ [] }
+    {
+        Macros {
+            by_name: IndexMap::new(alloc),
+        }
+    }
+
+    /// The macros of these items.
+    pub(crate) fn of(alloc: Global, items: &'a [Item]) -> Result<Macros<'a>, Memory>
+        ensures { IfOk result (λ ms. listed ms ≡ first_of_names (flat_map macro_of (map written_item items.now))) }
+    {
+        let mut macros = Macros::new(alloc);
+        for item in items {
+            if let Item::Macro {
+                name,
+                parameters,
+                body,
+            } = item
+            {
+                macros.enter(name, parameters, body)?;
+            }
+        }
+        Ok(macros)
+    }
+
+    /// Puts a macro last, unless one of its name is there.
+    fn enter(
+        &mut self,
+        name: &'a Word,
+        parameters: &'a Words,
+        body: &'a Formula,
+    ) -> Result<(), Memory>
+        ensures { OnOk result (listed self.new ≡ entered (listed self.old)
+            (record { name = name.now; parameters = parameters.now; body = written body.now })) }
+    {
+        let key = name.name.as_slice();
+        if self.by_name.get(key).is_none() {
+            let number = self.by_name.len();
+            self.by_name.insert(
+                key,
+                Macro {
+                    number,
+                    name,
+                    parameters,
+                    body,
+                },
+            )?;
+        }
+        Ok(())
+    }
+
+    /// How many macros there are.
+    pub(crate) fn len(&self) -> usize
+        ensures value { result ≡ length self.now }
+        ensures bound { length self.now < 2 ^ 63 }
+    {
+        self.by_name.len()
+    }
+
+    /// The macro of this name, if it is one of the first `earlier`.
+    pub(crate) fn called(&self, name: &[u8], earlier: usize) -> Option<Macro<'a>>
+        ensures { MatchOption result
+            (called_in (before (listed self.now) earlier) name.now ≡ None)
+            (λ m. (m.number < earlier) × (slice_get (listed self.now) m.number ≡ Some (macro_at m)) ×
+            (called_in (before (listed self.now) earlier) name.now ≡ Some (macro_at m, before (listed self.now) m.number))) }
+    {
+        match self.by_name.get(name) {
+            Some(found) if found.number < earlier => Some(*found),
+            _ => None,
+        }
+    }
+
+    /// The macro of this number.
+    pub(crate) fn get(&self, number: usize) -> Macro<'a>
+        requires { number < length self.now }
+        ensures { slice_get self.now number ≡ Some result }
+    {
+        self.by_name[number]
+    }
+}

@@ -1,0 +1,50 @@
+ghost use Rattle.std.specs.Prelude.{◌≡◌, ◌+◌, max};
+ghost use Rattle.macro_expand.specs.Measures.{capped};
+
+/// The greatest size of all axioms of a model together, with their macros expanded.
+pub(crate) const MOST_SIZE: u64 = 1_000_000;
+
+/// The greatest height of an atom.
+pub(crate) const MOST_HEIGHT: u64 = 512;
+
+/// The size and the height of a formula with its macros followed. What is past a limit counts as one past
+/// it, so that macros whose sizes double from each to the next are measured in no time.
+#[derive(Clone, Copy)]
+pub(crate) struct Measure {
+    pub size: u64,
+    pub height: u64,
+}
+
+impl Measure {
+    fn capped(size: u64, height: u64) -> Measure
+        ensures { result ≡ capped size height }
+    {
+        Measure {
+            size: size.min(MOST_SIZE + 1),
+            height: height.min(MOST_HEIGHT + 1),
+        }
+    }
+
+    /// An atom, or a list of so many atoms.
+    pub(crate) fn atoms(count: usize) -> Measure
+        ensures { result ≡ capped (1 + count) 0 }
+    {
+        Measure::capped((count as u64).saturating_add(1), 0)
+    }
+
+    /// A formula of one part.
+    pub(crate) fn above(self) -> Measure
+        ensures { result ≡ capped (1 + self.size) (1 + self.height) }
+    {
+        Measure::capped(self.size.saturating_add(1), self.height.saturating_add(1))
+    }
+
+    /// A formula of two parts.
+    pub(crate) fn joined(self, other: Measure) -> Measure
+        ensures { result ≡ capped (1 + (self.size + other.size)) (1 + max self.height other.height) }
+    {
+        let size = self.size.saturating_add(other.size);
+        let height = self.height.max(other.height);
+        Measure::capped(size.saturating_add(1), height.saturating_add(1))
+    }
+}

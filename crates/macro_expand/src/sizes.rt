@@ -1,0 +1,119 @@
+ghost use Rattle.std.specs.Prelude.{◌≡◌, ◌+◌, ◌≤◌, List, map, length, IfOk};
+ghost use Rattle.pc_common.specs.declared.place.Place.{Place as SPlace};
+ghost use Rattle.pc_syntax.specs.declared.term.Arg.{Arg};
+ghost use Rattle.pc_syntax.specs.Written.{written, written_item, expand_};
+ghost use Rattle.pc_syntax.specs.Sizes.{depth_fault, total_fault, sizes_fault};
+ghost use Rattle.std.specs.Option.{option_or};
+ghost use Rattle.macro_expand.specs.Tables.{before, listed};
+ghost use Rattle.macro_expand.specs.Measures.{capped, measure_of, AreMeasures, item_size_fault, total_after};
+ghost use Rattle.macro_expand.specs.Faults.{Judges};
+
+use super::fault::MacroFault;
+use super::macros::Macros;
+use super::measure::{MOST_HEIGHT, MOST_SIZE, Measure};
+use pc_common::{Memory, Place};
+use pc_syntax::{Formula, Item, Word};
+use std::alloc::Global;
+
+/// The measure of an expansion, `measures` being those of the macros that it may name.
+fn measure_call(macros: &Macros<'_>, measures: &[Measure], name: &Word) -> Measure
+    requires { AreMeasures (listed macros.now) measures.now }
+    ensures { (at : SPlace) (args : List Arg) →
+        result ≡ measure_of (before (listed macros.now) (length measures.now)) (expand_ at name.now args) }
+{
+    match macros.called(name.name.as_slice(), measures.len()) {
+        Some(callee) => measures[callee.number].above(),
+        None => Measure::atoms(0),
+    }
+}
+
+/// The measure of a formula, `measures` being those of the macros that it may name.
+///
+/// It nests a call for each connective and quantifier above an atom.
+fn measure(macros: &Macros<'_>, measures: &[Measure], formula: &Formula) -> Measure
+    requires { AreMeasures (listed macros.now) measures.now }
+    ensures { result ≡ measure_of (before (listed macros.now) (length measures.now)) (written formula.now) }
+{
+    match formula {
+        Formula::Not(body)
+        | Formula::Forall { body, .. }
+        | Formula::Exists { body, .. }
+        | Formula::Bind { body, .. } => { measure(macros, measures, body).above() }
+        Formula::And(left, right) | Formula::Or(left, right) | Formula::Implies(left, right) => {
+            measure(macros, measures, left).joined(measure(macros, measures, right))
+        }
+        Formula::Static { .. } => Measure::atoms(0),
+        Formula::Nodes(nodes) => Measure::atoms(nodes.len()),
+        Formula::Edges(edges) => Measure::atoms(edges.len()),
+        Formula::Expand { name, .. } => measure_call(macros, measures, name),
+    }
+}
+
+/// The measures of all macros' bodies, each once.
+pub(crate) fn measure_macros(alloc: Global, macros: &Macros<'_>) -> Result<Vec<Measure>, Memory>
+    ensures { IfOk result (λ measures. AreMeasures (listed macros.now) measures.items × (length measures.items ≡ length macros.now)) }
+{
+    let mut measures = Vec::new(alloc);
+    for number in 0..macros.len() {
+        let body = macros.get(number).body;
+        let measured = measure(macros, &measures, body);
+        measures.push(measured)?;
+    }
+    Ok(measures)
+}
+
+/// Whether an axiom is within the limits, where those before it are of the size `total` together: the size
+/// with this one. Its height is judged first.
+fn check_size(at: Place, axiom: Measure, total: u64) -> Result<u64, MacroFault>
+    requires { total ≤ 1000000 }
+    ensures judged { Judges (option_or (depth_fault at axiom.height) (total_fault at (total + axiom.size))) result }
+    ensures total { IfOk result (λ now. (now ≡ total + axiom.size) × (now ≤ 1000000)) }
+{
+    if axiom.height > MOST_HEIGHT {
+        return Err(MacroFault::TooDeep {
+            at,
+            limit: MOST_HEIGHT,
+        });
+    }
+    if axiom.size > MOST_SIZE - total {
+        return Err(MacroFault::TooBig {
+            at,
+            limit: MOST_SIZE,
+        });
+    }
+    Ok(total + axiom.size)
+}
+
+/// The same of an item: a macro counts only where an axiom expands it.
+fn check_item_size(
+    macros: &Macros<'_>,
+    measures: &[Measure],
+    item: &Item,
+    total: u64,
+) -> Result<u64, MacroFault>
+    requires measures { AreMeasures (listed macros.now) measures.now }
+    requires total { total ≤ 1000000 }
+    ensures judged { Judges (item_size_fault (before (listed macros.now) (length measures.now)) total (written_item item.now)) result }
+    ensures total { IfOk result (λ now. (now ≡ total_after (before (listed macros.now) (length measures.now)) total (written_item item.now)) × (now ≤ 1000000)) }
+{
+    match item {
+        Item::Axiom { at, body } => check_size(*at, measure(macros, measures, body), total),
+        Item::Macro { .. } => Ok(total),
+    }
+}
+
+/// Whether the axioms are within the limits. Nothing is expanded for it.
+pub(crate) fn check_sizes(
+    macros: &Macros<'_>,
+    measures: &[Measure],
+    items: &[Item],
+) -> Result<(), MacroFault>
+    requires { AreMeasures (listed macros.now) measures.now }
+    ensures { Judges (sizes_fault (before (listed macros.now) (length measures.now)) 0 (map written_item items.now)) result }
+{
+    let mut total = 0;
+    for item in items {
+        total = check_item_size(macros, measures, item, total)?;
+    }
+    Ok(())
+}
