@@ -1,0 +1,106 @@
+ghost use Rattle.std.specs.Prelude.{◌≡◌, [], IfOk, IfErr, None};
+ghost use Rattle.pc_syntax.specs.Written.{written, written_model};
+ghost use Rattle.pc_syntax.specs.Expansion.{IsExpanded};
+ghost use Rattle.pc_syntax.specs.StageFaults.{stages_fault, first_stage_fault};
+ghost use Rattle.pc_syntax.specs.NameFaults.{name_fault};
+ghost use Rattle.pc_syntax.specs.Closed.{plain_closed};
+ghost use Rattle.pc_syntax.specs.Closing.{IsClosingOf};
+ghost use Rattle.pc_syntax.proofs.ClosingShape.{closed_axiom_closed};
+ghost use Rattle.scope_check.specs.FirstFault.{Answers};
+
+use super::arguments::close_values;
+use super::fault::NameFault;
+use super::nodes::{close_edges, close_nodes};
+use super::scope::Scope;
+use super::statics::close_static;
+use pc_syntax::{Closed, ClosedFormula, Expanded, Formula, ModelFile, StageItems};
+use std::alloc::Global;
+
+/// Closes an axiom of a model: slots for its variables, numbers for its stages, rows for its
+/// predicates. An `Err` is the axiom's first name fault, unless memory was refused.
+///
+/// The model has no stage fault, so its stages are at most 64 and have numbers from 0 to 63. Of the
+/// model nothing but these is read. It nests a call for each connective, quantifier and binding above an
+/// atom, which in a model without faults are at most 512.
+pub fn close(alloc: Global, model: &ModelFile, axiom: &Expanded) -> Result<Closed, NameFault>
+    requires { first_stage_fault (written_model model.now) ≡ None }
+    ensures ok { IfOk result (λ closed. IsClosingOf model.now.stages [] (written «axiom».now.body) (plain_closed closed.body)) }
+    ensures err { IfErr result (Answers (name_fault model.now.stages [] [] (written «axiom».now.body))) }
+{
+    let body = close_formula(alloc, &model.stages, &Scope::new(), &axiom.body)?;
+    Ok(Closed { body })
+}
+
+/// Closes a formula in a scope. The walk goes outside before inside and left before right.
+fn close_formula<'a>(
+    alloc: Global,
+    stages: &StageItems,
+    scope: &Scope<'a>,
+    formula: &'a Formula,
+) -> Result<ClosedFormula, NameFault>
+    requires stages { stages_fault [] stages.now ≡ None }
+    requires expanded { IsExpanded (written formula.now) }
+    ensures ok { IfOk result (λ closed. IsClosingOf stages.now scope.now (written formula.now) (plain_closed closed)) }
+    ensures err { IfErr result (Answers (name_fault stages.now [] scope.now (written formula.now))) }
+{
+    match formula {
+        Formula::Not(body) => {
+            let body = close_formula(alloc, stages, scope, body)?;
+            Ok(ClosedFormula::negation(alloc, body)?)
+        }
+        Formula::And(left, right) => {
+            let left = close_formula(alloc, stages, scope, left)?;
+            let right = close_formula(alloc, stages, scope, right)?;
+            Ok(ClosedFormula::conjunction(alloc, left, right)?)
+        }
+        Formula::Or(left, right) => {
+            let left = close_formula(alloc, stages, scope, left)?;
+            let right = close_formula(alloc, stages, scope, right)?;
+            Ok(ClosedFormula::disjunction(alloc, left, right)?)
+        }
+        Formula::Implies(left, right) => {
+            let left = close_formula(alloc, stages, scope, left)?;
+            let right = close_formula(alloc, stages, scope, right)?;
+            Ok(ClosedFormula::implication(alloc, left, right)?)
+        }
+        Formula::Forall {
+            at,
+            sort,
+            name,
+            body,
+        } => {
+            let inside = scope.quantified(*at, *sort, name)?;
+            let body = close_formula(alloc, stages, &inside, body)?;
+            Ok(ClosedFormula::forall(alloc, *sort, body)?)
+        }
+        Formula::Exists {
+            at,
+            sort,
+            name,
+            body,
+        } => {
+            let inside = scope.quantified(*at, *sort, name)?;
+            let body = close_formula(alloc, stages, &inside, body)?;
+            Ok(ClosedFormula::exists(alloc, *sort, body)?)
+        }
+        Formula::Static { pred, args } => close_static(alloc, scope, pred, args),
+        Formula::Nodes(nodes) => {
+            Ok(ClosedFormula::Nodes(close_nodes(alloc, stages, scope, nodes)?))
+        }
+        Formula::Edges(edges) => {
+            Ok(ClosedFormula::Edges(close_edges(alloc, stages, scope, edges)?))
+        }
+        Formula::Bind {
+            at,
+            names,
+            args,
+            body,
+        } => {
+            let values = close_values(alloc, scope, names, args)?;
+            let inside = scope.bound(*at, names, args)?;
+            let body = close_formula(alloc, stages, &inside, body)?;
+            Ok(ClosedFormula::bind(alloc, values, body)?)
+        }
+        Formula::Expand { .. } => unreachable!(),
+    }
+}
