@@ -1,0 +1,6 @@
+pub mod FaultLaws
+pub mod Walks
+pub mod ScopeLists
+pub mod StageWalk
+pub mod StaticLaws
+pub mod ClosesTruth

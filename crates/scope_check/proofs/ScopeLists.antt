@@ -1,0 +1,89 @@
+-- The variables of a scope as its bindings.
+use Rattle.std.proofs.Common.{◌≡◌, ℕ, zero, suc, ◌+◌, ◌<◌, ◌≤◌, min, Bool, true, false, List, [], ◌∷◌, ◌++◌, Option, Some, None, length, drop, map, option_map, cond, refl, sym, ap, ◌∙◌, append_assoc, append-nil, length-append, length-drop, arith}
+use Rattle.pc_common.specs.declared.place.Place.{Place}
+use Rattle.pc_common.specs.declared.fault.FaultKind.TheVariants.{TooManyVariables}
+use Rattle.pc_syntax.specs.declared.term.Arg.{Arg}
+use Rattle.pc_syntax.specs.NameFaults.{scope_fault}
+use Rattle.std.proofs.lemmas.Bool.Decides.{nat_tests}
+use Rattle.std.specs.List.{find}
+use Rattle.pc_syntax.specs.Predicates.{same_name}
+use Rattle.pc_syntax.specs.Scope.{Binding, Scope, binding_of, sort_of_arg, bindings_from, bound_in}
+use Rattle.scope_check.specs.declared.scope.Variable.{Variable}
+use Rattle.scope_check.specs.Bindings.{binding}
+
+first_or : (b : Bool) (v : Variable) (vs : List Variable) (name : List ℕ)
+    → option_map binding (find (λ w. same_name w.name.now name) vs) ≡ binding_of (map binding vs) name
+    → option_map binding (cond b (Some v) (find (λ w. same_name w.name.now name) vs)) ≡ cond b (Some (binding v)) (binding_of (map binding vs) name)
+first_or true v vs name rest = refl
+first_or false v vs name rest = rest
+
+-- the first variable of a name is its first binding
+pub find_is : (vs : List Variable) (name : List ℕ)
+    → option_map binding (find (λ w. same_name w.name.now name) vs) ≡ binding_of (map binding vs) name
+find_is [] name = refl
+find_is (v ∷ vs) name = first_or (same_name v.name.now name) v vs name (find_is vs name)
+
+-- no more than 32 variables, or more
+pub scope_within : (at : Place) (scope : Scope) → length scope ≤ 32 → scope_fault at scope ≡ None
+scope_within at scope few = grind (arith, nat_tests)
+
+pub scope_over : (at : Place) (scope : Scope) → 32 < length scope → scope_fault at scope ≡ Some (TooManyVariables 32, at)
+scope_over at scope many = grind (arith, nat_tests)
+
+-- as many bindings as the shorter list is long
+pub bindings_length : (scope : Scope) (slot : ℕ) (names : List (List ℕ)) (args : List Arg)
+    → length (bindings_from scope slot names args) ≡ min (length names) (length args)
+bindings_length scope slot [] args = omega arith
+bindings_length scope slot (n ∷ ns) [] = omega arith
+bindings_length scope slot (n ∷ ns) (a ∷ as_) = omega (arith, bindings_length scope (slot + 1) ns as_)
+
+pub bound_in_length : (scope : Scope) (names : List (List ℕ)) (args : List Arg)
+    → length (bound_in scope names args) ≡ length scope + min (length names) (length args)
+bound_in_length scope names args =
+    omega (
+      arith,
+      length-append (bindings_from scope (length scope) names args) scope,
+      bindings_length scope (length scope) names args,
+    )
+
+empty : {A : Type 0} (xs : List A) → length xs ≡ 0 → xs ≡ []
+empty [] h = refl
+empty (x ∷ xs) h = absurd (omega arith)
+
+module _ (scope : Scope) (names : List (List ℕ)) (args : List Arg) where
+  -- the first k names are bound
+  abbrev pub AreBoundUpTo : ℕ → Scope → Type 0
+  AreBoundUpTo k inside =
+      (length inside ≡ k) ×
+      (bindings_from scope (length scope) names args ≡
+      inside ++ bindings_from scope (length scope + k) (drop k names) (drop k args))
+
+  pub bound_none : AreBoundUpTo 0 []
+  bound_none =
+      let slots : length scope ≡ length scope + 0 = omega arith in
+      (refl, ap (λ slot. bindings_from scope slot names args) slots)
+
+  pub bound_one_more : (k : ℕ) (n : List ℕ) (a : Arg) (b : Binding) (inside : Scope)
+      → drop k names ≡ n ∷ drop (k + 1) names → drop k args ≡ a ∷ drop (k + 1) args
+      → b ≡ record { name = n; sort = sort_of_arg scope a; slot = length scope + k }
+      → AreBoundUpTo k inside → AreBoundUpTo (k + 1) (inside ++ b ∷ [])
+  bound_one_more k n a b inside next_name next is h =
+      let slots : (length scope + k) + 1 ≡ length scope + (k + 1) = omega arith in
+      let rest = bindings_from scope (length scope + (k + 1)) (drop (k + 1) names) (drop (k + 1) args) in (
+        omega (arith, h.0, length-append inside (b ∷ [])),
+        rw (h.1, next_name, next, slots) (ap (λ c. inside ++ c ∷ rest) (sym is) ∙ sym (append_assoc inside (b ∷ []) rest)),
+      )
+
+  pub bound_whole : (k : ℕ) (inside : Scope) → k ≡ min (length names) (length args) → AreBoundUpTo k inside
+      → inside ≡ bindings_from scope (length scope) names args
+  bound_whole k inside whole h =
+      let rest = bindings_from scope (length scope + k) (drop k names) (drop k args) in
+      let none : length rest ≡ 0 =
+      omega (
+        arith,
+        bindings_length scope (length scope + k) (drop k names) (drop k args),
+        length-drop k names,
+        length-drop k args,
+        whole,
+      ) in
+      sym (h.1 ∙ ap (λ r. inside ++ r) (empty rest none) ∙ append-nil inside)

@@ -1,0 +1,49 @@
+-- The first fault of a predicate that the table has.
+use Rattle.std.proofs.Common.{◌≡◌, ℕ, ◌==◌, Bool, true, false, List, Option, Some, None, length, option_map, cond, refl, sym, ap, subst, ◌∙◌, arith}
+use Rattle.std.proofs.lemmas.Bool.Decides.{nat_tests}
+use Rattle.std.specs.Option.{option_or}
+use Rattle.pc_common.specs.declared.fault.FaultKind.TheVariants.{PredicateUnknown, Arity}
+use Rattle.pc_syntax.specs.declared.term.Word.{Word}
+use Rattle.pc_syntax.specs.declared.term.Arg.{Arg}
+use Rattle.pc_syntax.specs.declared.pred.Pred.{Pred}
+use Rattle.pc_syntax.specs.Predicates.{Row}
+use Rattle.pc_syntax.specs.Preds.{pred_named, takes_of, row_of}
+use Rattle.pc_syntax.specs.Scope.{Scope}
+use Rattle.pc_syntax.specs.Fault.{Fault}
+use Rattle.pc_syntax.specs.NameFaults.{arity_fault, arguments_fault, static_fault}
+use Rattle.pc_syntax.proofs.PredLaws.{row_named-pred_named}
+
+module _ (scope : Scope) (word : Word) (args : List Arg) where
+  -- the fault, where the name has this row
+  of_row : Option Row → Option Fault
+  of_row o =
+      elim o [
+        | None ↦ Some (PredicateUnknown, word.at)
+        | Some r ↦ option_or (arity_fault word args r.takes) (arguments_fault scope r.takes args)
+      ]
+
+  pub static_unknown : pred_named word.name ≡ None → static_fault scope word args ≡ Some (PredicateUnknown, word.at)
+  unfolding of_row
+  static_unknown h = ap of_row (row_named-pred_named word.name ∙ ap (option_map row_of) h)
+
+  known : (p : Pred) → pred_named word.name ≡ Some p
+      → static_fault scope word args ≡ option_or (arity_fault word args (takes_of p)) (arguments_fault scope (takes_of p) args)
+  unfolding of_row
+  known p h = ap of_row (row_named-pred_named word.name ∙ ap (option_map row_of) h)
+
+  arity_other : (p : Pred) → (length args ≡ length (takes_of p) → ⊥)
+      → arity_fault word args (takes_of p) ≡ Some (Arity (length args) (length (takes_of p)), word.at)
+  arity_other p other = grind (arith, nat_tests)
+
+  arity_same : (p : Pred) → length args ≡ length (takes_of p) → arity_fault word args (takes_of p) ≡ None
+  arity_same p same = grind (arith, nat_tests)
+
+  pub static_arity : (p : Pred) → pred_named word.name ≡ Some p → (length args ≡ length (takes_of p) → ⊥)
+      → static_fault scope word args ≡ Some (Arity (length args) (length (takes_of p)), word.at)
+  static_arity p h other =
+      known p h ∙ ap (λ o. option_or o (arguments_fault scope (takes_of p) args)) (arity_other p other)
+
+  pub static_arguments : (p : Pred) → pred_named word.name ≡ Some p → length args ≡ length (takes_of p)
+      → static_fault scope word args ≡ arguments_fault scope (takes_of p) args
+  static_arguments p h same =
+      known p h ∙ ap (λ o. option_or o (arguments_fault scope (takes_of p) args)) (arity_same p same)

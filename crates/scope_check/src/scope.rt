@@ -1,0 +1,183 @@
+ghost use Rattle.std.specs.Prelude.{◌≡◌, ◌+◌, ◌<◌, ◌≤◌, ◌++◌, ◌∷◌, [], IfOk, IfErr, MatchBool, Some, None, length, option_map};
+ghost use Rattle.std.specs.List.{find};
+ghost use Rattle.pc_common.specs.declared.fault.FaultKind.TheVariants.{TooManyVariables};
+ghost use Rattle.pc_syntax.specs.Predicates.{same_name};
+ghost use Rattle.pc_syntax.specs.Scope.{binding_of, sort_of_arg, quantified_in, bound_in};
+ghost use Rattle.pc_syntax.specs.NameFaults.{scope_fault};
+ghost use Rattle.scope_check.specs.Bindings.{binding};
+ghost use Rattle.scope_check.specs.FirstFault.{Answers, fault_told};
+
+use super::fault::NameFault;
+use arrayvec::ArrayVec;
+use pc_common::Place;
+use pc_syntax::{Arg, Args, Name, Names, Sort};
+use std::marker::Model;
+
+/// How many variables may be in scope at a place.
+const MOST_VARIABLES: usize = 32;
+
+/// A bound name, lent from the axiom.
+#[derive(Clone, Copy)]
+pub(crate) struct Variable<'a> {
+    pub(crate) name: &'a [u8],
+    pub(crate) sort: Sort,
+    /// How many bindings came before it, from 0.
+    pub(crate) slot: u8,
+}
+
+/// What fills the room of a scope that isn't in use.
+impl<'a> Default for Variable<'a> {
+    fn default() -> Self {
+        Variable {
+            name: b"",
+            sort: Sort::Core,
+            slot: 0,
+        }
+    }
+}
+
+/// The variables at a place of a formula, innermost first.
+#[derive(Drop)]
+pub(crate) struct Scope<'a> {
+    variables: ArrayVec<Variable<'a>, 32>,
+}
+
+impl<'a> Model for Scope<'a> {
+    ghost use Rattle.std.specs.Prelude.{List, map, ◌≤◌, length};
+    ghost use Rattle.pc_syntax.specs.Scope.{Binding};
+    ghost use Rattle.scope_check.specs.Bindings.{binding as binding_seen};
+
+    ghost Value = { List Binding };
+
+    ghost view = { λ s. map binding_seen s.variables.items };
+}
+
+impl<'a> Scope<'a> {
+    /// No variables.
+    pub(crate) fn new() -> Self
+        ensures { result ≡ [] }
+    {
+        Scope {
+            variables: ArrayVec::new(),
+        }
+    }
+
+    /// The variable that a name stands for: the innermost of its bindings, if it has one.
+    pub(crate) fn find(&self, name: &[u8]) -> Option<Variable<'a>>
+        ensures { option_map binding result ≡ binding_of self.now name.now }
+    {
+        first_named(self.variables.as_slice(), name)
+    }
+
+    /// The sort of an argument: a number is a core, and so is a name without binding.
+    fn sort_of(&self, arg: &Arg) -> Sort
+        ensures { result ≡ sort_of_arg self.now arg.now }
+    {
+        match arg {
+            Arg::Word(word) => match self.find(word.name.as_slice()) {
+                Some(variable) => variable.sort,
+                None => Sort::Core,
+            },
+            Arg::Number(..) => Sort::Core,
+        }
+    }
+
+    /// How many variables are in scope: 0 to 32.
+    fn len(&self) -> usize
+        ensures value { result ≡ length self.now }
+        ensures fits { length self.now ≤ 32 }
+    {
+        self.variables.len()
+    }
+
+    /// Whether so many variables more may be in scope.
+    fn has_room(&self, count: usize) -> bool
+        ensures { MatchBool result (length self.now + count ≤ 32) (32 < length self.now + count) }
+    {
+        count <= MOST_VARIABLES - self.len()
+    }
+
+    /// Puts a variable outside all others.
+    fn push(&mut self, name: &'a [u8], sort: Sort, slot: u8)
+        requires { length self.old < 32 }
+        ensures { self.new ≡ self.old ++ record { name = name.now; sort = sort; slot = slot } ∷ [] }
+    {
+        self.variables.push(Variable { name, sort, slot });
+    }
+
+    /// Puts the variables of another scope outside all others, in their order.
+    fn extend(&mut self, outer: &Scope<'a>)
+        requires { length self.old + length outer.now ≤ 32 }
+        ensures { self.new ≡ self.old ++ outer.now }
+    {
+        let outer = outer.variables.as_slice();
+        if self.variables.try_extend_from_slice(outer).is_err() {
+            unreachable!()
+        }
+    }
+
+    /// The scope inside a quantifier at `at`, whose variable takes the next slot.
+    pub(crate) fn quantified(
+        &self,
+        at: Place,
+        sort: Sort,
+        name: &'a Name,
+    ) -> Result<Scope<'a>, NameFault>
+        ensures ok { let inside = quantified_in self.now name.now sort in
+            IfOk result (λ s. (scope_fault at inside ≡ None) × (s ≡ inside)) }
+        ensures err { IfErr result (Answers (scope_fault at (quantified_in self.now name.now sort))) }
+    {
+        if !self.has_room(1) {
+            return Err(too_many_variables(at));
+        }
+        let mut inside = Scope::new();
+        inside.push(name.as_slice(), sort, self.len() as u8);
+        inside.extend(self);
+        Ok(inside)
+    }
+
+    /// The scope inside a binding at `at`, of each name to its argument. Both lists are read as far as
+    /// the shorter one goes. The names take the next slots in their order, and have the sorts that their
+    /// arguments have out here.
+    pub(crate) fn bound(
+        &self,
+        at: Place,
+        names: &'a Names,
+        args: &Args,
+    ) -> Result<Scope<'a>, NameFault>
+        ensures ok { let inside = bound_in self.now names.now args.now in
+            IfOk result (λ s. (scope_fault at inside ≡ None) × (s ≡ inside)) }
+        ensures err { IfErr result (Answers (scope_fault at (bound_in self.now names.now args.now))) }
+    {
+        let count = names.len().min(args.len());
+        if !self.has_room(count) {
+            return Err(too_many_variables(at));
+        }
+        let mut inside = Scope::new();
+        for k in 0..count {
+            let sort = self.sort_of(args.get(k));
+            inside.push(names.get(k).as_slice(), sort, (self.len() + k) as u8);
+        }
+        inside.extend(self);
+        Ok(inside)
+    }
+}
+
+/// The first of these variables that has the name.
+fn first_named<'a>(variables: &[Variable<'a>], name: &[u8]) -> Option<Variable<'a>>
+    ensures { result ≡ find (λ v. same_name v.name.now name.now) variables.now }
+{
+    variables
+        .iter()
+        .copied()
+        .find(|variable| variable.name == name)
+}
+
+fn too_many_variables(at: Place) -> NameFault
+    ensures { fault_told result ≡ Some (TooManyVariables 32, at) }
+{
+    NameFault::TooManyVariables {
+        at,
+        limit: MOST_VARIABLES as u64,
+    }
+}
