@@ -1,14 +1,17 @@
 -- What the expanded axioms of a model are, and that expansion keeps their truth.
-use Rattle.std.proofs.Common.{◌≡◌, ℕ, ◌<◌, List, [], ◌∷◌, ◌++◌, length, map, take, reverse, get_or, Option, Some, None, All, refl, sym, ap, subst, ◌∙◌, arith}
-use Rattle.std.specs.List.{flat_map}
+use Rattle.std.proofs.Common.{◌≡◌, ℕ, ◌<◌, List, [], ◌∷◌, ◌++◌, length, map, take, reverse, get_or, slice_get, option_map, ◌&&◌, Option, Some, None, All, refl, sym, ap, subst, ◌∙◌, arith}
+use Rattle.std.specs.List.{list_all, flat_map}
 use Rattle.std.specs.Option.{option_or}
 use Rattle.std.proofs.lemmas.List.{take_all, get_or-map, length-map}
+use Rattle.std.proofs.lemmas.Option.{slice_get-map}
 use Rattle.std.proofs.lemmas.List.Elements.{All-nil, All-cons}
+use Rattle.pc_common.specs.Case.{Case}
+use Rattle.pc_common.specs.World.{World}
 use Rattle.pc_syntax.specs.declared.model.ModelFile.{ModelFile}
 use Rattle.pc_syntax.specs.declared.model.Item.{Item}
 use Rattle.pc_syntax.specs.declared.expanded.Expanded.{Expanded}
 use Rattle.pc_syntax.specs.Written.{Written, written, MacroAt, WrittenItem, axiom_, macro_, written_item, WrittenModel, written_model}
-use Rattle.pc_syntax.specs.Observable.{axiom_of, macro_of, macros_in_order, macros_of, axioms_of}
+use Rattle.pc_syntax.specs.Observable.{axiom_of, macro_of, macros_in_order, macros_of, axioms_of, setting, satisfies}
 use Rattle.pc_syntax.specs.Truth.{Environment, Setting, is_true}
 use Rattle.pc_syntax.specs.Expansion.{expansion_of, IsExpanded}
 use Rattle.pc_syntax.specs.MacroFaults.{body_fault, macro_fault, items_fault, first_macro_fault}
@@ -78,13 +81,36 @@ module _ (model : ModelFile) (items : List Item) (value : items ≡ model.items)
       ∙ ap (λ ms. map (expansion_of ms) (flat_map axiom_of (map written_item items))) sees_all
       ∙ ap (λ xs. map (expansion_of (macros_of (written_model model))) (flat_map axiom_of (map written_item xs))) value
 
-true_alike : (s : Setting) (ms : List MacroAt) (env : Environment) (ws : List Written)
-    → map (is_true s ms env) ws ≡ map (is_true s [] env) (map (expansion_of ms) ws)
-true_alike s ms env [] = refl
-true_alike s ms env (w ∷ ws) = λ i. expansion_true s ms env w i ∷ true_alike s ms env ws i
+same_written : (v w : Written) → ◌≡◌ {A = Option Written} (Some v) (Some w) → v ≡ w
+same_written v w e = cc
 
--- in every setting and environment the expanded axioms are true as the written ones are, one by one
-pub expand_true : (m : WrittenModel) (es : List Expanded) → AreExpansions m es → (s : Setting) (env : Environment)
-    → map (is_true s (macros_of m) env) (axioms_of m) ≡ map (is_true s [] env) (map (λ e. written e.body) es)
-expand_true m es are s env =
-    true_alike s (macros_of m) env (axioms_of m) ∙ ap (map (is_true s [] env)) (sym are)
+-- what is known of the expanded axioms of a model
+module _ (m : WrittenModel) (es : List Expanded) (are : AreExpansions m es) where
+  -- in every setting and environment each axiom is true where its expansion is
+  pub true_alike : (k : ℕ) (w : Written) (e : Expanded) → slice_get (axioms_of m) k ≡ Some w → slice_get es k ≡ Some e
+      → (s : Setting) (env : Environment) → is_true s (macros_of m) env w ≡ is_true s [] env (written e.body)
+  true_alike k w e asked expanded s env =
+      let same : expansion_of (macros_of m) w ≡ written e.body =
+      same_written (expansion_of (macros_of m) w) (written e.body)
+      (sym (slice_get-map (expansion_of (macros_of m)) (axioms_of m) k ∙ ap (option_map (expansion_of (macros_of m))) asked)
+      ∙ ap (λ ws. slice_get ws k) (sym are)
+      ∙ slice_get-map (λ x. written x.body) es k ∙ ap (option_map (λ x. written x.body)) expanded) in
+      expansion_true s (macros_of m) env w ∙ ap (is_true s [] env) same
+
+  all_expanded : (s : Setting) (ms : List MacroAt) (ws : List Written)
+      → list_all (is_true s ms []) ws ≡ list_all (is_true s [] []) (map (expansion_of ms) ws)
+  all_expanded s ms [] = refl
+  all_expanded s ms (w ∷ ws) = λ i. expansion_true s ms [] w i && all_expanded s ms ws i
+
+  all_mapped : (s : Setting) (xs : List Expanded)
+      → list_all (is_true s [] []) (map (λ e. written e.body) xs) ≡ list_all (λ e. is_true s [] [] (written e.body)) xs
+  all_mapped s [] = refl
+  all_mapped s (x ∷ xs) = ap (λ b. is_true s [] [] (written x.body) && b) (all_mapped s xs)
+
+  -- a world satisfies the model where the expanded axioms are true in it
+  pub satisfied_alike : (c : Case) (w : World)
+      → satisfies m c w ≡ list_all (λ e. is_true (setting m c w) [] [] (written e.body)) es
+  satisfied_alike c w =
+      all_expanded (setting m c w) (macros_of m) (axioms_of m)
+      ∙ ap (list_all (is_true (setting m c w) [] [])) (sym are)
+      ∙ all_mapped (setting m c w) es

@@ -12,6 +12,8 @@ mod parameters;
 mod parts;
 mod sizes;
 mod stages;
+#[cfg(test)]
+mod tests;
 mod top;
 
 pub use fault::MacroFault;
