@@ -1,10 +1,9 @@
-use Rattle.std.proofs.Common.{◌≡◌, Some, length, sym, ap, ◌∙◌, unwrap_or}
+use Rattle.std.proofs.Common.{◌≡◌, length, sym, ap, ◌∙◌, unwrap_or}
 use Rattle.std.proofs.lemmas.Result.{err_from_is_err_and}
-use Rattle.pc_syntax.specs.Preds.{pred_named, takes_of}
+use Rattle.pc_syntax.specs.Preds.{takes_of}
 use Rattle.pc_syntax.specs.declared.pred.Pred.TheVariants.{True}
 use Rattle.pc_syntax.specs.Closed.{closed_static}
 use Rattle.pc_syntax.specs.Closing.{closing_of_static}
-use Rattle.scope_check.specs.FirstFault.{IsNoneOr, fault_told}
 use Rattle.scope_check.proofs.StaticLaws.{static_arity, static_arguments}
 use Rattle.scope_check.proofs.statics.close_static.Goals as goal
 
