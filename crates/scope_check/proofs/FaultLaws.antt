@@ -1,5 +1,5 @@
 -- The first fault of several parts, from those of the parts.
-use Rattle.std.proofs.Common.{◌≡◌, Option, Some, None, refl}
+use Rattle.std.proofs.Common.{◌≡◌, Option, Some, None}
 use Rattle.std.specs.Option.{option_or}
 use Rattle.pc_syntax.specs.Fault.{Fault}
 use Rattle.scope_check.specs.FirstFault.{IsNoneOr}

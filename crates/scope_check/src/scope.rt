@@ -19,7 +19,7 @@ const MOST_VARIABLES: usize = 32;
 /// A bound name, lent from the axiom.
 #[derive(Clone, Copy)]
 pub(crate) struct Variable<'a> {
-    pub(crate) name: &'a [u8],
+    name: &'a [u8],
     pub(crate) sort: Sort,
     /// How many bindings came before it, from 0.
     pub(crate) slot: u8,
@@ -27,6 +27,11 @@ pub(crate) struct Variable<'a> {
 
 /// What fills the room of a scope that isn't in use.
 impl<'a> Default for Variable<'a> {
+    ghost use Rattle.std.specs.Prelude.{◌≡◌, []};
+    ghost use Rattle.pc_syntax.specs.declared.term.Sort.TheVariants.{Core};
+
+    ghost is_default = { λ v. (v.name.now ≡ []) × (v.sort ≡ Core) × (v.slot ≡ 0) };
+
     fn default() -> Self {
         Variable {
             name: b"",

@@ -26,11 +26,13 @@ pub(crate) fn close_static(
     let Some(pred) = Pred::of_name(word.name.as_slice()) else {
         return Err(NameFault::UnknownPredicate { at: word.at });
     };
-    if args.len() != pred.arity() {
+    let found = args.len();
+    let wanted = pred.arity();
+    if found != wanted {
         return Err(NameFault::Arity {
             at: word.at,
-            found: args.len() as u64,
-            wanted: pred.arity() as u64,
+            found: found as u64,
+            wanted: wanted as u64,
         });
     }
     let args = close_arguments(alloc, scope, pred, args)?;

@@ -88,9 +88,10 @@ fn axiom_of(alloc: Global, pred: &[u8], row: &[Written]) -> Result<Expanded, Mem
     Ok(Expanded { body })
 }
 
+/// A number of one or two digits.
 fn say_number(number: u8, out: &mut Listed<u8>) -> Result<(), Memory> {
     if number >= 10 {
-        say_number(number / 10, out)?;
+        out.push(b'0' + number / 10 % 10)?;
     }
     out.push(b'0' + number % 10)
 }

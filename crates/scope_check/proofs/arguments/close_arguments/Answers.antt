@@ -1,4 +1,4 @@
-use Rattle.std.proofs.Common.{◌≡◌, ◌<◌, length, refl, arith}
+use Rattle.std.proofs.Common.{refl, arith}
 use Rattle.std.proofs.lemmas.Result.{err_from_is_err_and}
 use Rattle.pc_syntax.specs.Preds.{takes_of, takes_meant}
 use Rattle.scope_check.proofs.Walks.{drop_at, arguments_more, arguments_stop, arguments_all}

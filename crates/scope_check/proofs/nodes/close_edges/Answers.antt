@@ -1,8 +1,7 @@
-use Rattle.std.proofs.Common.{◌≡◌, ◌<◌, length, ap, refl, arith}
+use Rattle.std.proofs.Common.{◌<◌, length, ap, refl, arith}
 use Rattle.std.proofs.lemmas.Result.{err_from_is_err_and}
 use Rattle.pc_syntax.specs.NameFaults.{edge_fault}
 use Rattle.pc_syntax.specs.Closing.{closing_of_edge}
-use Rattle.scope_check.specs.FirstFault.{fault_told}
 use Rattle.scope_check.proofs.Walks.{drop_item, closed_more, closed_fault, closed_all}
 use Rattle.scope_check.proofs.nodes.close_edges.Goals as goal
 

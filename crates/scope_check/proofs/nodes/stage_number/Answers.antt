@@ -1,4 +1,4 @@
-use Rattle.std.proofs.Common.{◌≡◌, ◌<◌, sym, arith}
+use Rattle.std.proofs.Common.{◌<◌, sym, arith}
 use Rattle.pc_syntax.proofs.ClosingShape.{no_stage_fault-below}
 use Rattle.scope_check.proofs.nodes.stage_number.Goals as goal
 

@@ -1,4 +1,4 @@
-use Rattle.std.proofs.Common.{◌≡◌, ◌<◌, ◌≤◌, length, min, refl, arith}
+use Rattle.std.proofs.Common.{◌<◌, ◌≤◌, length, refl, arith}
 use Rattle.pc_syntax.specs.Scope.{bound_in}
 use Rattle.scope_check.proofs.Walks.{drop_at}
 use Rattle.scope_check.proofs.ScopeLists.{scope_within, scope_over, bound_in_length, bound_none, bound_one_more, bound_whole}

@@ -1,5 +1,4 @@
 -- The first names are bound, with the slots from here on for the rest.
-use Rattle.std.proofs.Common.{◌≡◌}
 use Rattle.scope_check.proofs.ScopeLists.{AreBoundUpTo}
 use Rattle.scope_check.proofs.scope.Scope.bound.Given as goal
 

@@ -1,4 +1,4 @@
-use Rattle.std.proofs.Common.{◌≡◌, option_map, subst, ap, ◌∙◌}
+use Rattle.std.proofs.Common.{option_map, ap, ◌∙◌}
 use Rattle.pc_syntax.specs.Scope.{binding_of}
 use Rattle.scope_check.specs.Bindings.{binding}
 use Rattle.scope_check.proofs.ScopeLists.{find_is}
