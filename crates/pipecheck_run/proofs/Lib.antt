@@ -21,4 +21,5 @@ pub mod VerdictTexts
 pub mod Decided
 pub mod Headline
 pub mod OneFault
+pub mod FrontLaws
 pub mod Told

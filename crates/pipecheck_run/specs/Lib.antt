@@ -10,3 +10,5 @@ pub mod Verdicts
 pub mod Writing
 pub mod Answered
 pub mod Headline
+pub mod ModelFront
+pub mod ModelSteps

@@ -9,7 +9,9 @@ mod deciding;
 mod graph;
 mod language;
 mod lines;
+mod model_front;
 mod parts;
+mod reading;
 mod report;
 mod scope;
 mod solving;
@@ -20,4 +22,6 @@ mod verdict;
 mod words;
 mod writing;
 
+pub use model_front::{Axioms, FrontEnd, ModelFront, Stage, Stages};
+pub use reading::read_model;
 pub use top::run;
