@@ -1,5 +1,5 @@
 -- Faults that are judged one after another.
-use Rattle.std.proofs.Common.{◌≡◌, ℕ, Bool, true, false, List, [], ◌∷◌, ◌++◌, map, Option, Some, None, Result, Ok, Err, MatchOption, cond, refl, sym, ap, subst, ◌∙◌, option_map}
+use Rattle.std.proofs.Common.{◌≡◌, ℕ, Bool, true, false, List, [], ◌∷◌, Option, Some, None, Result, MatchOption, cond, refl, sym, ap, subst, ◌∙◌, option_map}
 use Rattle.std.specs.Option.{option_or}
 use Rattle.pc_common.specs.declared.fault.FaultKind.TheVariants.{MacroAgain, MacroUnknown}
 use Rattle.pc_syntax.specs.declared.term.Word.{Word}
@@ -9,7 +9,6 @@ use Rattle.pc_syntax.specs.Written.{MacroAt}
 use Rattle.pc_syntax.specs.Fault.{Fault}
 use Rattle.pc_syntax.specs.MacroFaults.{macro_called, macro_again, count_fault, call_fault}
 use Rattle.macro_expand.specs.declared.fault.MacroFault.{MacroFault}
-use Rattle.macro_expand.specs.declared.fault.MacroFault.TheVariants.{Again}
 use Rattle.macro_expand.specs.Faults.{fault_told, IsFault, Judges}
 use Rattle.macro_expand.specs.Tables.{called}
 

@@ -1,14 +1,14 @@
 -- Measures of expansions and of limits.
-use Rattle.std.proofs.Common.{◌≡◌, ℕ, ◌+◌, ◌<◌, ◌≤◌, Bool, true, false, List, [], ◌∷◌, ◌++◌, length, min, max, slice_get, Option, Some, None, cond, zero, suc, refl, sym, ap, subst, ◌∙◌, arith}
+use Rattle.std.proofs.Common.{◌≡◌, ℕ, ◌+◌, ◌<◌, Bool, true, false, List, [], ◌∷◌, ◌++◌, length, min, slice_get, Option, Some, None, cond, zero, suc, refl, sym, ap, ◌∙◌, arith}
 use borrow.Author.Count.{below_more}
 use Rattle.std.proofs.lemmas.List.{length_push}
 use Rattle.pc_common.specs.declared.place.Place.{Place}
 use Rattle.pc_syntax.specs.declared.term.Word.{Word}
 use Rattle.pc_syntax.specs.declared.term.Arg.{Arg}
 use Rattle.pc_syntax.specs.Predicates.{same_name}
-use Rattle.pc_syntax.specs.Written.{Written, expand_, bind_, MacroAt}
+use Rattle.pc_syntax.specs.Written.{expand_, bind_, MacroAt}
 use Rattle.pc_syntax.specs.Expansion.{parameter_names, expansion_of}
-use Rattle.pc_syntax.specs.Sizes.{size_of, height_of, depth_fault, total_fault}
+use Rattle.pc_syntax.specs.Sizes.{size_of, height_of}
 use Rattle.macro_expand.specs.declared.measure.Measure.{Measure}
 use Rattle.macro_expand.specs.Tables.{called, before}
 use Rattle.macro_expand.specs.Measures.{capped, measure_of, AreMeasures}

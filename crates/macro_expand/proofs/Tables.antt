@@ -1,5 +1,5 @@
 -- What a look-up by name finds among macros in the text's order, of which each may name the earlier ones.
-use Rattle.std.proofs.Common.{◌≡◌, ℕ, zero, suc, ◌+◌, ◌<◌, ◌≤◌, Bool, true, false, List, [], ◌∷◌, ◌++◌, length, map, take, reverse, slice_get, Option, Some, None, MatchOption, cond, option_copied, Bor, refl, sym, ap, subst, ◌∙◌, option_map, arith}
+use Rattle.std.proofs.Common.{◌≡◌, ℕ, zero, suc, ◌+◌, ◌<◌, ◌≤◌, Bool, true, false, List, [], ◌∷◌, ◌++◌, length, map, take, slice_get, Option, Some, None, MatchOption, cond, option_copied, Bor, refl, sym, ap, subst, ◌∙◌, option_map, arith}
 use Rattle.std.specs.Map.{lookup}
 use Rattle.std.specs.Option.{option_or, is_some}
 use Rattle.std.proofs.lemmas.List.{reverse-append, map-append}

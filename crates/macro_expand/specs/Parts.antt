@@ -1,5 +1,5 @@
 -- Formulas with other parts in place of their own.
-use Rattle.pc_syntax.specs.Written.{Written, not_, and_, or_, implies_, forall_, exists_, static_, nodes_, edges_, expand_, bind_}
+use Rattle.pc_syntax.specs.Written.{Written, not_, and_, or_, implies_, forall_, exists_, bind_}
 
 -- the formula with `q` in place of its one part
 abbrev pub with_part : Written → Written → Written

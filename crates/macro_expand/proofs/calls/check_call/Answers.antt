@@ -1,4 +1,4 @@
-use Rattle.std.proofs.Common.{◌≡◌, Some, None, ap, sym, ◌∙◌}
+use Rattle.std.proofs.Common.{ap, sym, ◌∙◌}
 use Rattle.macro_expand.specs.Tables.{called, before, listed, macro_at}
 use Rattle.macro_expand.proofs.FaultLaws.{call_found, call_unknown}
 use Rattle.macro_expand.proofs.calls.check_call.Goals as goal

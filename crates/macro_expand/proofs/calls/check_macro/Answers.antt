@@ -3,7 +3,6 @@ use Rattle.std.specs.Option.{option_or}
 use Rattle.std.proofs.lemmas.Result.{err_from_is_err_and}
 use Rattle.pc_syntax.specs.Written.{written}
 use Rattle.pc_syntax.specs.MacroFaults.{macro_again, parameters_fault, body_fault, macro_fault}
-use Rattle.macro_expand.specs.declared.fault.MacroFault.TheVariants.{Again}
 use Rattle.macro_expand.specs.Faults.{IsFault}
 use Rattle.macro_expand.specs.Tables.{called, before, listed, macro_at}
 use Rattle.macro_expand.proofs.FaultLaws.{first_kept, second_kept, second_judged, named_again, named_newly}

@@ -1,7 +1,6 @@
-use Rattle.std.proofs.Common.{◌≡◌, ◌<◌, None, Some, IfOk, sym, ap, subst, ◌∙◌, arith}
+use Rattle.std.proofs.Common.{◌≡◌, ◌<◌, sym, ap, ◌∙◌, arith}
 use Rattle.std.proofs.lemmas.Result.{IfOk-weaker}
-use Rattle.pc_syntax.specs.declared.formula.Formula.{Formula}
-use Rattle.pc_syntax.specs.Written.{written, expand_, bind_}
+use Rattle.pc_syntax.specs.Written.{written, bind_}
 use Rattle.pc_syntax.specs.Sizes.{height_of}
 use Rattle.pc_syntax.specs.Expansion.{parameter_names, expansion_of}
 use Rattle.macro_expand.specs.Tables.{called, before, listed, macro_at}

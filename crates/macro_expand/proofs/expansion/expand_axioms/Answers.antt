@@ -1,5 +1,5 @@
 use Rattle.std.proofs.Common.{length, subst, arith}
-use Rattle.pc_syntax.specs.Written.{Written, written, written_item}
+use Rattle.pc_syntax.specs.Written.{Written, written_item}
 use Rattle.pc_syntax.specs.Expansion.{expansion_of, IsExpanded}
 use Rattle.macro_expand.specs.Tables.{before, listed, OfAxiom}
 use Rattle.macro_expand.proofs.Expansions.{item_of_axiom}

@@ -1,4 +1,4 @@
-use Rattle.std.proofs.Common.{◌≡◌, length, get_or, ap, sym, ◌∙◌}
+use Rattle.std.proofs.Common.{length, get_or, ap, sym, ◌∙◌}
 use Rattle.std.proofs.lemmas.Option.{get_or_from_slice_get}
 use Rattle.macro_expand.specs.Tables.{called, before, listed, macro_at}
 use Rattle.macro_expand.specs.Measures.{measure_of}
