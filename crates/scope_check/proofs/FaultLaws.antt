@@ -1,21 +1,16 @@
--- The first fault of several parts, from those of the parts.
-use Rattle.std.proofs.Common.{◌≡◌, Option, Some, None}
+-- The first fault of two parts, from that of the first.
+use Rattle.std.proofs.Common.{◌≡◌, Option, Some, None, refl}
 use Rattle.std.specs.Option.{option_or}
 use Rattle.pc_syntax.specs.Fault.{Fault}
 use Rattle.scope_check.specs.FirstFault.{IsNoneOr}
 
--- neither part has a fault
-pub none_both : (a b : Option Fault) → a ≡ None → b ≡ None → option_or a b ≡ None
-none_both None b h k = k
-none_both (Some x) b h k = cc
+-- a part without fault is passed
+pub pass : (a b : Option Fault) → a ≡ None → option_or a b ≡ b
+pass None b h = refl
+pass (Some f) b h = cc
 
--- the first part's fault is the first
+-- the fault of the first part is the first
 pub or_first : (a b told : Option Fault) → IsNoneOr a told → IsNoneOr (option_or a b) told
 or_first a b None h = tt
 or_first None b (Some f) h = cc
 or_first (Some x) b (Some f) h = h
-
--- where the first part has no fault, that of the rest is the first
-pub or_second : (a b told : Option Fault) → a ≡ None → IsNoneOr b told → IsNoneOr (option_or a b) told
-or_second None b told h k = k
-or_second (Some x) b told h k = cc

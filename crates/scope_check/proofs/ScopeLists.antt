@@ -10,6 +10,7 @@ use Rattle.pc_syntax.specs.Predicates.{same_name}
 use Rattle.pc_syntax.specs.Scope.{Binding, Scope, binding_of, sort_of_arg, bindings_from, bound_in}
 use Rattle.scope_check.specs.declared.scope.Variable.{Variable}
 use Rattle.scope_check.specs.Bindings.{binding}
+use Rattle.scope_check.proofs.Walks.{empty}
 
 first_or : (b : Bool) (v : Variable) (vs : List Variable) (name : List ℕ)
     → option_map binding (find (λ w. same_name w.name.now name) vs) ≡ binding_of (map binding vs) name
@@ -45,10 +46,6 @@ bound_in_length scope names args =
       length-append (bindings_from scope (length scope) names args) scope,
       bindings_length scope (length scope) names args,
     )
-
-empty : {A : Type 0} (xs : List A) → length xs ≡ 0 → xs ≡ []
-empty [] h = refl
-empty (x ∷ xs) h = absurd (omega arith)
 
 module _ (scope : Scope) (names : List (List ℕ)) (args : List Arg) where
   -- the first k names are bound

@@ -22,10 +22,6 @@ module _ (scope : Scope) (word : Word) (args : List Arg) where
         | Some r ↦ option_or (arity_fault word args r.takes) (arguments_fault scope r.takes args)
       ]
 
-  pub static_unknown : pred_named word.name ≡ None → static_fault scope word args ≡ Some (PredicateUnknown, word.at)
-  unfolding of_row
-  static_unknown h = ap of_row (row_named-pred_named word.name ∙ ap (option_map row_of) h)
-
   known : (p : Pred) → pred_named word.name ≡ Some p
       → static_fault scope word args ≡ option_or (arity_fault word args (takes_of p)) (arguments_fault scope (takes_of p) args)
   unfolding of_row

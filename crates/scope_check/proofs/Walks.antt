@@ -1,7 +1,6 @@
 -- How far a walk over a list has come: what was walked has no fault and is closed, and the rest is to do.
 use Rattle.std.proofs.Common.{◌≡◌, ℕ, zero, suc, ◌+◌, ◌<◌, ◌≤◌, List, [], ◌∷◌, ◌++◌, Option, Some, None, length, map, drop, get_or, slice_get, refl, sym, ap, ◌∙◌, append_assoc, append-nil, add-one, length-drop, arith}
 use Rattle.std.proofs.Math.Seq.{drop-cons, drop-length}
-use Rattle.std.specs.Option.{option_or}
 use Rattle.pc_syntax.specs.declared.term.Arg.{Arg}
 use Rattle.pc_syntax.specs.declared.closed_term.ClosedArg.{ClosedArg}
 use Rattle.pc_syntax.specs.Predicates.{Takes}
@@ -10,7 +9,7 @@ use Rattle.pc_syntax.specs.Fault.{Fault, first_fault}
 use Rattle.pc_syntax.specs.NameFaults.{value_fault, argument_fault, arguments_fault}
 use Rattle.pc_syntax.specs.Closing.{closing_of_value, closing_of_bound, closing_of_arg, closing_of_args}
 use Rattle.scope_check.specs.FirstFault.{IsNoneOr}
-use Rattle.scope_check.proofs.FaultLaws.{or_first}
+use Rattle.scope_check.proofs.FaultLaws.{pass, or_first}
 
 drop_next : {A : Type 0} (xs : List A) (k : ℕ) (x : A) → slice_get xs k ≡ Some x → drop k xs ≡ x ∷ drop (suc k) xs
 drop_next [] k x h = cc
@@ -24,17 +23,12 @@ drop_at xs k x h = rw add-one (drop_next xs k x h)
 pub drop_item : {A : Type 0} (xs : List A) (k : ℕ) (x : A) → k < length xs → x ≡ get_or xs k x → drop k xs ≡ x ∷ drop (k + 1) xs
 drop_item xs k x within is = rw add-one (drop-cons xs k x within ∙ ap (λ y. y ∷ drop (suc k) xs) (sym is))
 
-empty : {A : Type 0} (xs : List A) → length xs ≡ 0 → xs ≡ []
+pub empty : {A : Type 0} (xs : List A) → length xs ≡ 0 → xs ≡ []
 empty [] h = refl
 empty (x ∷ xs) h = absurd (omega arith)
 
 drop_past : {A : Type 0} (xs : List A) (k : ℕ) → length xs ≤ k → drop k xs ≡ []
 drop_past xs k past = empty (drop k xs) (omega (arith, length-drop k xs))
-
--- a member that has no fault is passed
-pass : (a b : Option Fault) → a ≡ None → option_or a b ≡ b
-pass None b h = refl
-pass (Some f) b h = cc
 
 module _ {X Y : Type 0} (fault : X → Option Fault) (closing : X → Y) (xs : List X) where
   -- ys is what closing makes of the first k
@@ -115,9 +109,6 @@ module _ (scope : Scope) (names : List (List ℕ)) (args : List Arg) where
         rw (h.0, next) (pass (value_fault scope a) (first_fault (value_fault scope) (drop (k + 1) args)) none),
         rw (h.1, next_name, next, is) (sym (append_assoc ys (closing_of_value scope a ∷ []) (closing_of_bound scope (drop (k + 1) names) (drop (k + 1) args)))),
       )
-
-  nothing_bound : (as_ : List Arg) → closing_of_bound scope [] as_ ≡ []
-  nothing_bound as_ = refl
 
   nothing_to_bind : (ns : List (List ℕ)) → closing_of_bound scope ns [] ≡ []
   nothing_to_bind [] = refl
