@@ -64,7 +64,10 @@ fn parsed(alloc: Global, bytes: &[u8]) -> Result<ModelFile, FrontEnd>
         }
         Err(ParseFault::Depth(k)) => {
             let limit = MOST_OPENERS;
-            Err(refused(FaultKind::Depth { limit }, place_of_token(bytes, &tokens, k)))
+            Err(refused(
+                FaultKind::Depth { limit },
+                place_of_token(bytes, &tokens, k),
+            ))
         }
         Err(ParseFault::Memory) => Err(FrontEnd::Memory),
     }
@@ -85,11 +88,7 @@ fn place_of_token(bytes: &[u8], tokens: &Tokens<'_>, k: usize) -> Place
 }
 
 /// The expanded axioms, closed.
-fn close_axioms(
-    alloc: Global,
-    model: &ModelFile,
-    axioms: &[Expanded],
-) -> Result<Axioms, NameFault>
+fn close_axioms(alloc: Global, model: &ModelFile, axioms: &[Expanded]) -> Result<Axioms, NameFault>
     requires { first_stage_fault (written_model model.now) ≡ None }
     ensures ok { IfOk result (λ closed. AreClosings model.now.stages axioms.now (plain_axioms closed)) }
     ensures err { IfErr result (Answers (first_fault (axiom_fault model.now.stages) axioms.now)) }
