@@ -22,4 +22,5 @@ pub mod Decided
 pub mod Headline
 pub mod OneFault
 pub mod FrontLaws
+pub mod OneModel
 pub mod Told

@@ -22,8 +22,11 @@ const MOST_OPENERS: u64 = 128;
 /// The stages and the closed axioms of a whole model.
 ///
 /// `Refused` comes with the model's first fault: of its bytes, its tokens, its stages, its macros, its
-/// sizes, and then of its names. The size of the file isn't judged. Takes time linear in the bytes and
-/// in the size of the expanded axioms, which is at most 1,000,000.
+/// sizes, and then of its names. The size of the file isn't judged.
+///
+/// Takes time and memory in proportion to the bytes and to the expanded axioms. These have a size of at
+/// most 1,000,000, but a part of theirs holds its names and arguments besides, whatever their length: a
+/// macro's are copied for each of its expansions.
 pub fn read_model(alloc: Global, bytes: &[u8]) -> Result<ModelFront, FrontEnd>
     requires { length bytes.now < 2 ^ 32 }
     ensures ok { IfOk result (IsFront bytes.now) }
