@@ -1,8 +1,10 @@
 ghost use Rattle.std.specs.Prelude.{◌≡◌, ◌^◌, ◌<◌, length, IfSome};
 ghost use Rattle.pc_syntax.specs.Written.{written_model};
 ghost use Rattle.uspec_parser.specs.Syntax.{DerivesModel};
+ghost use Rattle.pipecheck_run.specs.ModelFront.{IsFront};
 
 use pc_syntax::ModelFile;
+use pipecheck_run::{ModelFront, read_model};
 use std::alloc::Global;
 use uspec_lexer::{Tokens, tokens};
 use uspec_parser::parse_model;
@@ -17,6 +19,17 @@ fn parsed(alloc: Global, tokens: &Tokens<'_>) -> Option<ModelFile>
     }
 }
 
+/// The stages and the closed axioms of the bytes, or None where these have a fault or memory was refused.
+fn front(alloc: Global, bytes: &[u8]) -> Option<ModelFront>
+    requires { length bytes.now < 2 ^ 32 }
+    ensures { IfSome result (λ front. IsFront bytes.now front) }
+{
+    match read_model(alloc, bytes) {
+        Ok(front) => Some(front),
+        Err(_) => None,
+    }
+}
+
 /// Whether the bytes are a model of the grammar. It is false too where memory was refused.
 pub fn is_model(alloc: Global, bytes: &[u8]) -> bool
     requires { length bytes.now < 2 ^ 32 }
@@ -25,4 +38,11 @@ pub fn is_model(alloc: Global, bytes: &[u8]) -> bool
         Ok(tokens) => parsed(alloc, &tokens).is_some(),
         Err(_) => false,
     }
+}
+
+/// Whether the bytes are a model without faults. It is false too where memory was refused.
+pub fn is_without_faults(alloc: Global, bytes: &[u8]) -> bool
+    requires { length bytes.now < 2 ^ 32 }
+{
+    front(alloc, bytes).is_some()
 }
