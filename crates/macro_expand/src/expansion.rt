@@ -50,12 +50,12 @@ fn expansion(
     }
 }
 
-/// An axiom, which may name any macro, with its macros expanded.
-fn expanded(alloc: Global, macros: &Macros<'_>, axiom: &Formula) -> Result<Expanded, Memory>
-    requires { IsExpanded (expansion_of (before (listed macros.now) (length macros.now)) (written axiom.now)) }
-    ensures { IfOk result (λ e. written e.body ≡ expansion_of (before (listed macros.now) (length macros.now)) (written axiom.now)) }
+/// An axiom's body, which may name any macro, with its macros expanded.
+fn expanded(alloc: Global, macros: &Macros<'_>, body: &Formula) -> Result<Expanded, Memory>
+    requires { IsExpanded (expansion_of (before (listed macros.now) (length macros.now)) (written body.now)) }
+    ensures { IfOk result (λ e. written e.body ≡ expansion_of (before (listed macros.now) (length macros.now)) (written body.now)) }
 {
-    let body = expansion(alloc, macros, macros.len(), axiom)?;
+    let body = expansion(alloc, macros, macros.len(), body)?;
     Ok(Expanded { body })
 }
 

@@ -64,24 +64,24 @@ pub(crate) fn measure_macros(alloc: Global, macros: &Macros<'_>) -> Result<Vec<M
 
 /// Whether an axiom is within the limits, where those before it are of the size `total` together: the size
 /// with this one. Its height is judged first.
-fn check_size(at: Place, axiom: Measure, total: u64) -> Result<u64, MacroFault>
+fn check_size(at: Place, measured: Measure, total: u64) -> Result<u64, MacroFault>
     requires { total ≤ 1000000 }
-    ensures judged { Judges (option_or (depth_fault at axiom.height) (total_fault at (total + axiom.size))) result }
-    ensures total { IfOk result (λ now. (now ≡ total + axiom.size) × (now ≤ 1000000)) }
+    ensures judged { Judges (option_or (depth_fault at measured.height) (total_fault at (total + measured.size))) result }
+    ensures total { IfOk result (λ now. (now ≡ total + measured.size) × (now ≤ 1000000)) }
 {
-    if axiom.height > MOST_HEIGHT {
+    if measured.height > MOST_HEIGHT {
         return Err(MacroFault::TooDeep {
             at,
             limit: MOST_HEIGHT,
         });
     }
-    if axiom.size > MOST_SIZE - total {
+    if measured.size > MOST_SIZE - total {
         return Err(MacroFault::TooBig {
             at,
             limit: MOST_SIZE,
         });
     }
-    Ok(total + axiom.size)
+    Ok(total + measured.size)
 }
 
 /// The same of an item: a macro counts only where an axiom expands it.
