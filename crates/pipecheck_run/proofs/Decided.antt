@@ -5,7 +5,7 @@ use Rattle.std.specs.Fmt.{decimal}
 use Rattle.pc_common.specs.LineColumn.{line_of, column_of}
 use Rattle.pc_common.specs.declared.fault.InputFault.{InputFault}
 use Rattle.pc_common.specs.declared.fault.Which.{Which}
-use Rattle.pc_common.specs.declared.fault.Which.TheVariants.{Model, Test}
+use Rattle.pc_common.specs.declared.fault.Which.TheVariants.{Test}
 use Rattle.pc_common.specs.declared.reading.ReadEnd.{ReadEnd}
 use Rattle.pc_common.specs.declared.reading.ReadEnd.TheVariants.{ReadFault as an_outside_fault, TooLarge as past_limit, Memory as no_memory}
 use Rattle.pc_common.specs.declared.status.Status.TheVariants.{Refused, ReadFault, Memory}
@@ -13,7 +13,7 @@ use Rattle.pipecheck_run.specs.declared.answer.Refusal.{Refusal}
 use Rattle.pipecheck_run.specs.declared.answer.Answer.{Answer}
 use Rattle.pipecheck_run.specs.declared.answer.Answer.TheVariants.{Usage as a_usage, ReadFault as a_read_fault, Memory as a_memory, Refused as a_refusal, Decided as a_verdict}
 use Rattle.pipecheck_run.specs.Command.{IsCheck}
-use Rattle.pipecheck_run.specs.Language.{Contents, IsRead, IsTooLarge, IsFirstFault, no_model, no_test, too_large, no_edge_model, IsTestFault, told_fault, Says}
+use Rattle.pipecheck_run.specs.Language.{Contents, IsRead, IsTooLarge, IsFirstFault, no_model, no_test, too_large, no_edge_model, told_fault, Says}
 use Rattle.pipecheck_run.specs.Output.{Answers, refused, refused_text, file_word, name_of}
 use Rattle.pipecheck_run.specs.Words.{fault_word}
 use Rattle.pipecheck_run.specs.Answered.{refusal_text, answer_text, answer_status, Decides, IsEnded}

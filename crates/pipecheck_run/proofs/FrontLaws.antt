@@ -1,5 +1,5 @@
 -- What a whole model's stages, expansions and closings say of the model.
-use Rattle.std.proofs.Common.{◌≡◌, ℕ, ◌<◌, zero, suc, Bool, ◌&&◌, List, [], ◌∷◌, ◌++◌, Option, Some, None, map, length, get_or, nat_lt, ltb-false, refl, sym, ◌∙◌, ap, arith}
+use Rattle.std.proofs.Common.{◌≡◌, ℕ, ◌<◌, zero, suc, ◌&&◌, List, [], ◌∷◌, ◌++◌, Option, Some, None, map, length, get_or, nat_lt, ltb-false, refl, sym, ◌∙◌, ap, arith}
 use Rattle.std.specs.List.{list_all}
 use Rattle.std.specs.Option.{option_or}
 use Rattle.std.specs.Prelude.{MatchOption}
@@ -17,7 +17,7 @@ use Rattle.pc_syntax.specs.ModelFault.{first_model_fault}
 use Rattle.pc_syntax.specs.Observable.{axioms_of, macros_of, setting, satisfies}
 use Rattle.pc_syntax.specs.Truth.{is_true}
 use Rattle.pc_syntax.specs.Expansion.{expansion_of}
-use Rattle.pc_syntax.specs.Closed.{PlainClosed, closed_true}
+use Rattle.pc_syntax.specs.Closed.{closed_true}
 use Rattle.pc_syntax.specs.Closing.{closing_of}
 use Rattle.pc_syntax.proofs.ExpansionLaws.{expansion_true, expansion_faults}
 use Rattle.pc_syntax.proofs.ClosingTruth.{closed_axiom_true}

@@ -9,7 +9,6 @@ use Rattle.uspec_lexer.specs.Token.{Token}
 use Rattle.uspec_lexer.proofs.Spelling.{spells-unique}
 use Rattle.edge_model.specs.EdgeModel.{ReadsModel}
 use Rattle.edge_model.proofs.LineLists.{one_model}
-use Rattle.litmus_reader.specs.declared.fault.CaseFault.{CaseFault}
 use Rattle.litmus_reader.specs.declared.fault.CaseFault.TheVariants.{Memory as no_room}
 use Rattle.litmus_reader.proofs.Exclusive.{one_case, no_fault}
 use Rattle.pipecheck_run.specs.Command.{IsCheck}

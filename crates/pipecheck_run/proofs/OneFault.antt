@@ -1,8 +1,7 @@
 -- Two files have one first fault at most.
-use Rattle.std.proofs.Common.{◌≡◌, ℕ, List, Some, refl, sym, ◌∙◌, ap, subst}
+use Rattle.std.proofs.Common.{◌≡◌, ℕ, List, refl, sym, ◌∙◌, ap, subst}
 use Rattle.std.specs.Prelude.{unwrap_or}
 use Rattle.pc_common.specs.declared.fault.InputFault.{InputFault}
-use Rattle.litmus_reader.specs.Answer.{IsRefusal}
 use Rattle.litmus_reader.proofs.OneFault.{one_fault}
 use Rattle.pipecheck_run.specs.Language.{Contents, IsFirstFault, large_model, large_test, no_model, no_test, SaysModel, IsTestFault, told_fault}
 use Rattle.pipecheck_run.proofs.Headline.{one_held, never_both, untold}

@@ -2,7 +2,7 @@
 use Rattle.std.proofs.Common.{◌≡◌, ℕ, List, Some, None, sym, ◌∙◌, ap, subst}
 use Rattle.pc_common.specs.declared.place.Place.{Place}
 use Rattle.pc_common.specs.declared.fault.FaultKind.{FaultKind}
-use Rattle.ll_grammar.specs.FirstFault.{IsFirstFault, IsAccepted}
+use Rattle.ll_grammar.specs.FirstFault.{IsFirstFault}
 use Rattle.ll_grammar.specs.declared.fault.Fault.{Fault as TokenFault}
 use Rattle.ll_grammar.specs.declared.fault.Fault.TheVariants.{Syntax as a_syntax_fault, Depth as a_depth_fault}
 use Rattle.ll_grammar.proofs.Faults.{one_answer}

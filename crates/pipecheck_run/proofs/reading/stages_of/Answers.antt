@@ -1,4 +1,4 @@
-use Rattle.std.proofs.Common.{◌≡◌, ◌<◌, length, ap, arith}
+use Rattle.std.proofs.Common.{◌<◌, length, ap, arith}
 use Rattle.pipecheck_run.proofs.FrontLaws.{number_below}
 use Rattle.pipecheck_run.proofs.reading.stages_of.Goals as goal
 
