@@ -14,3 +14,7 @@ pub mod Exclusive
 pub mod Within
 pub mod OneContentFault
 pub mod OneFault
+mod Decisions
+pub mod SyntaxTotality
+pub mod ContentTotality
+pub mod Totality
