@@ -1,9 +1,17 @@
--- Two files have one first fault at most.
-use Rattle.std.proofs.Common.{◌≡◌, ℕ, List, refl, sym, ◌∙◌, ap, subst}
+-- Two files have one first fault at most, and beside a model of the language a test has a case or a fault.
+use Rattle.std.proofs.Common.{◌≡◌, ◌≢◌, ℕ, List, ◌⊎◌, inl, inr, refl, sym, ◌∙◌, ap, subst}
 use Rattle.std.specs.Prelude.{unwrap_or}
+use Rattle.pc_common.specs.Case.{Case}
+use Rattle.pc_common.specs.declared.fault.FaultKind.TheVariants.{Lexical, Syntax}
 use Rattle.pc_common.specs.declared.fault.InputFault.{InputFault}
+use Rattle.pc_common.specs.declared.fault.Which.TheVariants.{Test}
+use Rattle.pc_syntax.specs.Written.{WrittenModel}
+use Rattle.litmus_reader.specs.Answer.{CaseOf, IsRefusal}
+use Rattle.litmus_reader.specs.declared.fault.CaseFault.{CaseFault}
+use Rattle.litmus_reader.specs.declared.fault.CaseFault.TheVariants.{Lexical as a_lexical_fault, Syntax as a_syntax_fault, Content as a_fault_of_content, Memory as no_room}
 use Rattle.litmus_reader.proofs.OneFault.{one_fault}
-use Rattle.pipecheck_run.specs.Language.{Contents, IsFirstFault, large_model, large_test, no_model, no_test, SaysModel, IsTestFault, told_fault}
+use Rattle.litmus_reader.proofs.Totality.{case_or_fault}
+use Rattle.pipecheck_run.specs.Language.{Contents, IsRead, Says, fault_at, IsFirstFault, large_model, large_test, no_model, no_test, SaysModel, IsTestFault, told_fault}
 use Rattle.pipecheck_run.proofs.Headline.{one_held, never_both, untold}
 
 -- a test has one first fault
@@ -38,3 +46,24 @@ one_first_fault holds model test _ _ (no_test {mb = mb} {m = m} rm rt said is) (
 one_first_fault holds model test _ _ (no_test {tb = tb} {fault = f} rm rt said is) (no_test {tb = tb2} {fault = g} rm2 rt2 said2 is2) =
     let P : List ℕ → Type 0 = λ b. IsTestFault b g in
     one_test_fault tb f g is (subst P (one_held holds test tb2 tb rt2.held rt.held) is2)
+
+-- beside a model of the language, a test says a case or has a first fault
+pub case_or_first_fault : (holds : Contents) (model test mb tb : List ℕ) (m : WrittenModel)
+    → IsRead holds model mb → IsRead holds test tb → SaysModel mb m
+    → ((c : Case) × Says holds model test m c) ⊎ ((f : InputFault) × IsFirstFault holds model test f)
+case_or_first_fault holds model test mb tb m rm rt said = by (case_or_fault tb)
+  where
+    first : (f : CaseFault) → f ≢ no_room → IsRefusal tb f → (g : InputFault) × IsFirstFault holds model test g
+    first (a_lexical_fault at) some is =
+        (fault_at Test Lexical at, no_test rm rt said (record { found = a_lexical_fault at; first = is; told = refl }))
+    first (a_syntax_fault at) some is =
+        (fault_at Test Syntax at, no_test rm rt said (record { found = a_syntax_fault at; first = is; told = refl }))
+    first (a_fault_of_content kind at) some is =
+        (fault_at Test kind at, no_test rm rt said (record { found = a_fault_of_content kind at; first = is; told = refl }))
+    first no_room some is = absurd (some refl)
+
+    by : ((c : Case) × CaseOf tb c) ⊎ ((f : CaseFault) × (f ≢ no_room) × IsRefusal tb f)
+        → ((c : Case) × Says holds model test m c) ⊎ ((f : InputFault) × IsFirstFault holds model test f)
+    by (inl (c, is)) =
+        inl (c, record { model_bytes = mb; test_bytes = tb; model_read = rm; test_read = rt; says_model = said; says_test = is })
+    by (inr (f, some, is)) = inr (first f some is)
