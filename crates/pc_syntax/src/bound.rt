@@ -11,6 +11,11 @@ pub enum Bound {
 
 /// What fills the room of an environment that isn't in use.
 impl Default for Bound {
+    ghost use Rattle.std.specs.Prelude.{◌≡◌};
+    ghost use Rattle.pc_syntax.specs.declared.bound.Bound.TheVariants.{Core};
+
+    ghost is_default = { λ b. b ≡ Core 0 };
+
     fn default() -> Self {
         Bound::Core(0)
     }

@@ -48,7 +48,7 @@ pub(crate) struct Scope<'a> {
 }
 
 impl<'a> Model for Scope<'a> {
-    ghost use Rattle.std.specs.Prelude.{List, map, ◌≤◌, length};
+    ghost use Rattle.std.specs.Prelude.{List, map};
     ghost use Rattle.pc_syntax.specs.Scope.{Binding};
     ghost use Rattle.scope_check.specs.Bindings.{binding as binding_seen};
 
