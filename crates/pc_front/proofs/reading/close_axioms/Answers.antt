@@ -3,9 +3,9 @@ use Rattle.std.proofs.lemmas.List.{map-append}
 use Rattle.std.proofs.lemmas.Result.{err_from_is_err_and}
 use Rattle.pc_syntax.specs.Closed.{plain_closed}
 use Rattle.scope_check.proofs.Walks.{drop_item, closed_more, closed_fault, closed_all}
-use Rattle.pipecheck_run.specs.ModelFront.{plain_axioms}
-use Rattle.pipecheck_run.specs.ModelSteps.{axiom_fault, closing_of_axiom}
-use Rattle.pipecheck_run.proofs.reading.close_axioms.Goals as goal
+use Rattle.pc_front.specs.ModelFront.{plain_axioms}
+use Rattle.pc_front.specs.ModelSteps.{axiom_fault, closing_of_axiom}
+use Rattle.pc_front.proofs.reading.close_axioms.Goals as goal
 
 pub loop-axiom-init : goal.loop-axiom-init
 loop-axiom-init c = rw c.new-closed.ensures (refl, refl)

@@ -11,8 +11,8 @@ use Rattle.pc_syntax.specs.Fault.{Fault, first_fault}
 use Rattle.pc_syntax.specs.NameFaults.{name_fault}
 use Rattle.pc_syntax.specs.Closed.{PlainClosed}
 use Rattle.pc_syntax.specs.Closing.{closing_of}
-use Rattle.pipecheck_run.specs.declared.model_front.FrontEnd.{FrontEnd}
-use Rattle.pipecheck_run.specs.declared.model_front.FrontEnd.TheVariants.{Refused, Memory}
+use Rattle.pc_front.specs.declared.model_front.FrontEnd.{FrontEnd}
+use Rattle.pc_front.specs.declared.model_front.FrontEnd.TheVariants.{Refused, Memory}
 
 -- the end that a fault of a model is told by; without one, memory was refused
 abbrev pub end_of : Option Fault → FrontEnd

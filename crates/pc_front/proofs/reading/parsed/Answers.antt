@@ -1,8 +1,8 @@
 use Rattle.std.proofs.Common.{refl, sym, subst}
-use Rattle.pipecheck_run.specs.declared.model_front.FrontEnd.{FrontEnd}
-use Rattle.pipecheck_run.specs.ModelFront.{IsFrontEnd, syntax, depth}
-use Rattle.pipecheck_run.proofs.FrontLaws.{lexical_end}
-use Rattle.pipecheck_run.proofs.reading.parsed.Goals as goal
+use Rattle.pc_front.specs.declared.model_front.FrontEnd.{FrontEnd}
+use Rattle.pc_front.specs.ModelFront.{IsFrontEnd, syntax, depth}
+use Rattle.pc_front.proofs.FrontLaws.{lexical_end}
+use Rattle.pc_front.proofs.reading.parsed.Goals as goal
 
 pub returns-in-Err-clause-err : goal.returns-in-Err-clause-err
 returns-in-Err-clause-err c =

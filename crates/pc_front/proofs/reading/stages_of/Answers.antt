@@ -1,6 +1,6 @@
 use Rattle.std.proofs.Common.{◌<◌, length, ap, arith}
-use Rattle.pipecheck_run.proofs.FrontLaws.{number_below}
-use Rattle.pipecheck_run.proofs.reading.stages_of.Goals as goal
+use Rattle.pc_front.proofs.FrontLaws.{number_below}
+use Rattle.pc_front.proofs.reading.stages_of.Goals as goal
 
 pub overflow_cast-stage : goal.overflow_cast-stage
 overflow_cast-stage c =

@@ -6,10 +6,10 @@ use Rattle.pc_syntax.specs.StageFaults.{first_stage_fault}
 use Rattle.pc_syntax.specs.NameFaults.{first_name_fault}
 use Rattle.macro_expand.specs.Faults.{fault_told as macro_fault_told}
 use Rattle.scope_check.specs.FirstFault.{fault_told as name_fault_told}
-use Rattle.pipecheck_run.specs.declared.model_front.FrontEnd.{FrontEnd}
-use Rattle.pipecheck_run.specs.ModelFront.{IsFrontEnd}
-use Rattle.pipecheck_run.proofs.FrontLaws.{stage_first, expansion_first, names_first, only_names, names_of_expansions, closings_of_axioms, satisfied_alike, front_end}
-use Rattle.pipecheck_run.proofs.reading.read_model.Goals as goal
+use Rattle.pc_front.specs.declared.model_front.FrontEnd.{FrontEnd}
+use Rattle.pc_front.specs.ModelFront.{IsFrontEnd}
+use Rattle.pc_front.proofs.FrontLaws.{stage_first, expansion_first, names_first, only_names, names_of_expansions, closings_of_axioms, satisfied_alike, front_end}
+use Rattle.pc_front.proofs.reading.read_model.Goals as goal
 
 pub returns-in-Some-clause-err : goal.returns-in-Some-clause-err
 returns-in-Some-clause-err c =

@@ -15,7 +15,7 @@ use Rattle.uspec_parser.specs.Answers.{terminals}
 use Rattle.uspec_parser.proofs.Trees.{one_model}
 use Rattle.pc_syntax.specs.Written.{WrittenModel}
 use Rattle.pc_syntax.specs.ModelFault.{first_model_fault}
-use Rattle.pipecheck_run.specs.ModelFront.{ModelOf, token_place, IsModelFault, lexical, syntax, depth, said}
+use Rattle.pc_front.specs.ModelFront.{ModelOf, token_place, IsModelFault, lexical, syntax, depth, said}
 
 pub one_whole_model : (bytes : List ℕ) (m n : WrittenModel) → ModelOf bytes m → ModelOf bytes n → m ≡ n
 one_whole_model bytes m n x y =

@@ -1,8 +1,8 @@
 -- The axioms so far are closed, and none of them has a fault.
 use Rattle.scope_check.proofs.Walks.{IsClosedTo}
-use Rattle.pipecheck_run.specs.ModelFront.{plain_axioms}
-use Rattle.pipecheck_run.specs.ModelSteps.{axiom_fault, closing_of_axiom}
-use Rattle.pipecheck_run.proofs.reading.close_axioms.Given as goal
+use Rattle.pc_front.specs.ModelFront.{plain_axioms}
+use Rattle.pc_front.specs.ModelSteps.{axiom_fault, closing_of_axiom}
+use Rattle.pc_front.proofs.reading.close_axioms.Given as goal
 
 abbrev pub invariant-loop-axiom : goal.invariant-loop-axiom
 invariant-loop-axiom l =

@@ -27,8 +27,8 @@ use Rattle.uspec_lexer.specs.declared.fault.LexFault.{LexFault}
 use Rattle.uspec_lexer.specs.declared.fault.LexFault.TheVariants.{Lexical as a_lexical_fault, Memory as no_memory}
 use Rattle.macro_expand.specs.Faults.{AreExpansions}
 use Rattle.scope_check.specs.FirstFault.{IsNoneOr}
-use Rattle.pipecheck_run.specs.ModelFront.{ModelOf, lexical, said, closed_axiom, IsFrontEnd}
-use Rattle.pipecheck_run.specs.ModelSteps.{end_of, lexical_told, axiom_fault, closing_of_axiom}
+use Rattle.pc_front.specs.ModelFront.{ModelOf, lexical, said, closed_axiom, IsFrontEnd}
+use Rattle.pc_front.specs.ModelSteps.{end_of, lexical_told, axiom_fault, closing_of_axiom}
 
 -- a stage that is not refused has a number of one byte
 numbers_below : (earlier stages : List StageItem) (k : ℕ) (s : StageItem) → stages_fault earlier stages ≡ None → k < length stages

@@ -22,10 +22,10 @@ use Rattle.pc_syntax.specs.Expansion.{expansion_of}
 use Rattle.pc_syntax.specs.Closed.{PlainClosed, plain_closed, closed_true}
 use Rattle.pc_syntax.specs.Closing.{closing_of}
 use Rattle.pc_syntax.specs.ModelFault.{first_model_fault}
-use Rattle.pipecheck_run.specs.declared.model_front.Stage.{Stage}
-use Rattle.pipecheck_run.specs.declared.model_front.ModelFront.{ModelFront}
-use Rattle.pipecheck_run.specs.declared.model_front.FrontEnd.{FrontEnd}
-use Rattle.pipecheck_run.specs.declared.model_front.FrontEnd.TheVariants.{Refused, Memory}
+use Rattle.pc_front.specs.declared.model_front.Stage.{Stage}
+use Rattle.pc_front.specs.declared.model_front.ModelFront.{ModelFront}
+use Rattle.pc_front.specs.declared.model_front.FrontEnd.{FrontEnd}
+use Rattle.pc_front.specs.declared.model_front.FrontEnd.TheVariants.{Refused, Memory}
 
 -- the bytes spell a model of this tree, and no opener of it stands too deep
 pub record ModelOf (bytes : List ℕ) (m : WrittenModel) : Type 0 where

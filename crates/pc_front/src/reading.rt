@@ -4,8 +4,8 @@ ghost use Rattle.pc_syntax.specs.Fault.{first_fault};
 ghost use Rattle.pc_syntax.specs.StageFaults.{stages_fault, first_stage_fault};
 ghost use Rattle.macro_expand.specs.Faults.{fault_told as macro_fault_told};
 ghost use Rattle.scope_check.specs.FirstFault.{fault_told as name_fault_told, Answers};
-ghost use Rattle.pipecheck_run.specs.ModelFront.{ModelOf, IsFront, IsFrontEnd, token_place, stage_said, stage_kept, plain_axioms};
-ghost use Rattle.pipecheck_run.specs.ModelSteps.{end_of, lexical_told, axiom_fault, AreClosings};
+ghost use Rattle.pc_front.specs.ModelFront.{ModelOf, IsFront, IsFrontEnd, token_place, stage_said, stage_kept, plain_axioms};
+ghost use Rattle.pc_front.specs.ModelSteps.{end_of, lexical_told, axiom_fault, AreClosings};
 
 use super::model_front::{Axioms, FrontEnd, ModelFront, Stage, Stages};
 use macro_expand::{MacroFault, expand, stage_faults};
