@@ -11,3 +11,5 @@ pub mod Closing
 pub mod Telling
 pub mod EdgeLists
 pub mod Results
+pub mod MarkLists
+pub mod Orders

@@ -1,7 +1,7 @@
 -- Bit rows that stand for a list of literals, and for the list with one literal more.
-use Rattle.std.proofs.Common.{◌≡◌, ◌↔◌, ℕ, ◌+◌, ◌*◌, ◌<◌, ◌≤◌, ◌⊎◌, inl, inr, Bool, true, false, ◌&&◌, ◌||◌, ◌==◌, List, [], refl, sym, ◌∙◌, ap, subst, arith, eq-eqb, eqb-true}
+use Rattle.std.proofs.Common.{◌≡◌, ◌↔◌, ℕ, ◌+◌, ◌*◌, ◌<◌, ◌≤◌, ◌⊎◌, inl, inr, Bool, true, false, ◌&&◌, ◌||◌, ◌==◌, List, [], refl, sym, ◌∙◌, ap, subst, arith, eq-eqb, eqb-true, not}
 use Rattle.std.specs.Prelude.{Contains, All}
-use Rattle.std.proofs.lemmas.Bool.{or_cases, or_left, or_right, and_parts, and_from}
+use Rattle.std.proofs.lemmas.Bool.{both_ways, not-true, not_from_false, false_from_ne_true, or_cases, or_left, or_right, and_parts, and_from}
 use Rattle.std.proofs.lemmas.List.Elements.{All-push}
 use Rattle.pc_common.specs.Chain.{Chain}
 use Rattle.pc_ground.specs.declared.literal.Literal.{Literal}
@@ -136,3 +136,7 @@ stands_more n v w ls (Edge p r) s below wide same e c =
       below = All-push (IsBelow n) ls l s.below below;
       consistent = c;
     }
+
+-- a bit that is not set says not P
+pub denies : {P : Type 0} (b : Bool) → ((b ≡ true) ↔ P) → ((not b ≡ true) ↔ (P → ⊥))
+denies b f = ((λ n p. both_ways b (not-true b n) (f.1 p)), (λ n. not_from_false b (false_from_ne_true b (λ e. n (f.0 e)))))

@@ -5,4 +5,6 @@ pub mod State
 pub mod Levels
 pub mod Rows
 pub mod Marks
+pub mod Order
+pub mod Adding
 pub mod Law

@@ -11,6 +11,13 @@
 mod chain;
 mod clash;
 mod clashes;
+mod counts;
+mod graph;
+mod laws;
+mod mark;
 mod rows;
 
 pub use clash::{Added, Clash, Numbers};
+pub use graph::OrderGraph;
+pub use laws::{clashes_refute_consistency, consistent_literals_are_met};
+pub use mark::Mark;

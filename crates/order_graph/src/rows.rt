@@ -1,7 +1,10 @@
-ghost use Rattle.std.specs.Prelude.{◌≡◌, ◌<◌, ◌≤◌, ◌+◌, ◌*◌, ◌||◌, ◌==◌, ℕ, false, OnOk, OnErr, if◌then◌else◌};
+ghost use Rattle.std.specs.Prelude.{◌≡◌, ◌<◌, ◌≤◌, ◌+◌, ◌*◌, ◌||◌, ◌==◌, ◌↔◌, ℕ, List, true, false, OnOk, OnErr, if◌then◌else◌};
 ghost use Rattle.undo_trail.specs.Kept.{bit_now, Extends, HasSet};
+ghost use Rattle.pc_common.specs.Chain.{Chain};
+ghost use Rattle.pc_ground.specs.Literals.{Joins, IsPresent, Holds};
+ghost use Rattle.pc_ground.specs.declared.literal.Literal.{Literal as AnyLiteral};
 ghost use Rattle.order_graph.specs.Ways.{IsBelow};
-ghost use Rattle.order_graph.specs.Rows.{pair_row, present_row, missing_row, leads_to, with_edge, HasEntered, IsSized, ClosesNone};
+ghost use Rattle.order_graph.specs.Rows.{pair_row, present_row, missing_row, leads_to, with_edge, HasEntered, IsSized, ClosesNone, Stands};
 
 use pc_common::Memory;
 use pc_ground::Literal;
@@ -166,5 +169,20 @@ pub fn enter_whole<L: Ledger>(
             table.undo(before, steps);
             Err(memory)
         }
+    }
+}
+
+/// Whether the literal is true where just the nodes that the table has present are there, in the order of
+/// the chains that it has.
+pub fn is_true(table: &UndoTable, nodes: u32, literal: Literal<u32>) -> bool
+    requires sized { IsSized nodes table.now }
+    requires below { IsBelow nodes literal }
+    ensures { (ls : List (AnyLiteral ℕ)) → Stands nodes table.now.words ls table.now.now → (result ≡ true) ↔ Holds (IsPresent ls) (Chain (Joins ls)) literal }
+{
+    match literal {
+        Literal::Node(a) => is_present(table, nodes, a),
+        Literal::Edge(a, b) => reaches(table, a, b),
+        Literal::NoNode(a) => !is_present(table, nodes, a),
+        Literal::NoEdge(a, b) => !reaches(table, a, b),
     }
 }
