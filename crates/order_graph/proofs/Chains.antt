@@ -1,5 +1,5 @@
 -- Chains and ways, and what one edge more joins.
-use Rattle.std.proofs.Common.{◌≡◌, ℕ, ◌⊎◌, inl, inr, List, [], ◌∷◌, ◌++◌, refl, sym, ◌∙◌, ap, subst}
+use Rattle.std.proofs.Common.{◌≡◌, ℕ, ◌⊎◌, inl, inr, List, [], ◌∷◌, ◌++◌, refl, sym, ap, subst}
 use Rattle.pc_common.specs.Chain.{Leads, Chain}
 use Rattle.order_graph.specs.Ways.{Follows, Reach, IsWay}
 

@@ -1,13 +1,12 @@
 -- The clashes that one literal more has, and that a clash is an inconsistency.
-use Rattle.std.proofs.Common.{◌≡◌, ℕ, ◌⊎◌, inl, inr, List, [], ◌∷◌, ◌++◌, refl, sym, ◌∙◌, ap, subst}
+use Rattle.std.proofs.Common.{ℕ, List, [], ◌∷◌, ◌++◌, sym, ap, subst}
 use Rattle.std.specs.Prelude.{Contains}
-use Rattle.pc_common.specs.Chain.{Leads, Chain, Acyclic}
+use Rattle.pc_common.specs.Chain.{Leads, Chain}
 use Rattle.pc_ground.specs.declared.literal.Literal.{Literal}
 use Rattle.pc_ground.specs.declared.literal.Literal.TheVariants.{Node, Edge, NoNode, NoEdge}
-use Rattle.pc_ground.specs.Literals.{Joins, IsPresent, IsConsistent, AreMet, as_node, as_start, as_end}
-use Rattle.order_graph.specs.declared.clash.Clash.{Clash}
+use Rattle.pc_ground.specs.Literals.{Joins, IsPresent, IsConsistent, as_node, as_start, as_end}
 use Rattle.order_graph.specs.declared.clash.Clash.TheVariants.{Cycle, Path, Absent}
-use Rattle.order_graph.specs.Ways.{Follows, Reach, IsWay}
+use Rattle.order_graph.specs.Ways.{Follows, IsWay}
 use Rattle.order_graph.specs.Clashes.{IsCycle, IsDeniedPath, IsClash}
 use Rattle.order_graph.specs.Law.{ConsistentAreMet, ClashesRefute}
 use Rattle.order_graph.proofs.Chains.{follows_map, follows_leads, follows_join, step_chain}

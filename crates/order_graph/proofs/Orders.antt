@@ -1,7 +1,7 @@
 -- The parts of an order graph: at first, with one literal more, with a mark more, and cut.
-use Rattle.std.proofs.Common.{◌≡◌, ℕ, zero, suc, ◌+◌, ◌-◌, ◌*◌, ◌/◌, ◌<◌, ◌≤◌, ◌⊎◌, inl, inr, Bool, true, false, List, [], ◌∷◌, ◌++◌, length, take, get_or, set, replicate, refl, sym, ◌∙◌, ap, subst, arith, take-take, suc-mul}
-use Rattle.std.specs.Prelude.{Contains, All, MatchOption, Option, Some, None}
-use Rattle.std.proofs.lemmas.Bool.{cases_eq, cases_lt, both_ways}
+use Rattle.std.proofs.Common.{◌≡◌, ℕ, zero, suc, ◌+◌, ◌-◌, ◌*◌, ◌<◌, ◌≤◌, inl, inr, Bool, true, false, List, [], ◌∷◌, ◌++◌, length, take, get_or, set, replicate, refl, sym, ◌∙◌, ap, subst, arith, take-take, suc-mul}
+use Rattle.std.specs.Prelude.{Contains, MatchOption, Option, Some, None}
+use Rattle.std.proofs.lemmas.Bool.{cases_eq, both_ways}
 use Rattle.std.proofs.lemmas.List.{take_all, take_at, take-append-le, get_or_at, get_or_append_left, get_or-take, length_push, length-take-le, take_more_set}
 use Rattle.std.proofs.lemmas.List.Elements.{All-nil}
 use Rattle.pc_common.specs.Chain.{Leads, Chain}
@@ -9,7 +9,7 @@ use Rattle.pc_ground.specs.declared.literal.Literal.{Literal}
 use Rattle.pc_ground.specs.declared.literal.Literal.TheVariants.{Node, Edge, NoNode, NoEdge}
 use Rattle.pc_ground.specs.Literals.{Joins, IsPresent, IsConsistent, as_node, as_start, as_end}
 use Rattle.undo_trail.specs.Bits.{has}
-use Rattle.undo_trail.specs.Kept.{Kept, tables, bit_now, Extends}
+use Rattle.undo_trail.specs.Kept.{Kept, tables, Extends}
 use Rattle.undo_trail.proofs.ExtendsLaws.{table_last, table_kept}
 use Rattle.undo_trail.proofs.BitWords.{has-clear}
 use Rattle.order_graph.specs.Ways.{IsBelow}

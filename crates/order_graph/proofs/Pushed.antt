@@ -1,13 +1,13 @@
 -- What one literal more makes of a list.
-use Rattle.std.proofs.Common.{◌≡◌, ℕ, ◌<◌, ◌⊎◌, inl, inr, List, [], ◌∷◌, ◌++◌, refl, sym, ◌∙◌, ap, subst}
+use Rattle.std.proofs.Common.{◌≡◌, ℕ, ◌⊎◌, inl, inr, List, [], ◌∷◌, ◌++◌, subst}
 use Rattle.std.specs.Prelude.{Contains}
 use Rattle.std.proofs.lemmas.List.Elements.{Contains-append_left, Contains-push, Contains-push_cases}
-use Rattle.pc_common.specs.Chain.{Leads, Chain}
+use Rattle.pc_common.specs.Chain.{Chain}
 use Rattle.pc_ground.specs.declared.literal.Literal.{Literal}
 use Rattle.pc_ground.specs.declared.literal.Literal.TheVariants.{Node, Edge, NoNode, NoEdge}
 use Rattle.pc_ground.specs.Literals.{Joins, IsPresent, IsConsistent, as_node, as_start, as_end}
-use Rattle.order_graph.specs.Ways.{Follows, Reach}
-use Rattle.order_graph.proofs.Chains.{chain_map, over_or_without, over, reach_join, chain_reach}
+use Rattle.order_graph.specs.Ways.{Reach}
+use Rattle.order_graph.proofs.Chains.{chain_map, over_or_without, over, reach_join}
 
 -- the list with one literal more
 abbrev pub more : List (Literal ℕ) → Literal ℕ → List (Literal ℕ)

@@ -1,5 +1,5 @@
 -- What the bit rows tell of one literal more.
-use Rattle.std.proofs.Common.{◌≡◌, ◌↔◌, ℕ, ◌+◌, ◌*◌, ◌<◌, ◌≤◌, ◌⊎◌, inl, inr, Bool, true, false, ◌||◌, List, [], refl, sym, ◌∙◌, ap, subst, arith, MatchBool, MatchOption, Option, Some, None}
+use Rattle.std.proofs.Common.{◌≡◌, ◌↔◌, ℕ, ◌*◌, ◌<◌, ◌≤◌, Bool, true, false, List, [], refl, arith, MatchBool, MatchOption, Option, Some, None}
 use Rattle.std.specs.Prelude.{Contains, All}
 use Rattle.std.proofs.lemmas.Bool.{iff_false, false_from_ne_true, both_ways}
 use Rattle.std.proofs.lemmas.List.Elements.{All-contains}
@@ -14,7 +14,6 @@ use Rattle.order_graph.specs.Ways.{Reach, IsBelow}
 use Rattle.order_graph.specs.Rows.{pair_row, present_row, missing_row, Stands, leads_to, IsOver, ClosesNone}
 use Rattle.order_graph.specs.Clashes.{JoinsNone, IsClash}
 use Rattle.order_graph.proofs.Pushed.{more, older, edge_chain, consistent_node, consistent_no_node, consistent_no_edge, consistent_edge}
-use Rattle.order_graph.proofs.Clashing.{start_clash, end_clash, node_clash, no_node_clash, clashes_refute}
 use Rattle.order_graph.proofs.Standing.{leads_reach}
 
 -- a bit that says P tells P, or what follows where P is not

@@ -149,10 +149,12 @@ fn asserted_edge(literal: &Literal<u32>) -> Option<(u32, u32)>
 fn edges_of(alloc: Global, literals: &[Literal<u32>]) -> Result<Vec<(u32, u32)>, Memory>
     ensures { IfOk result (λ edges. edges.items ≡ filter_map edge_of literals.now) }
 {
-    Ok(literals
-        .iter()
-        .filter_map(|literal| asserted_edge(literal))
-        .collect(alloc)?)
+    Ok(
+        literals
+            .iter()
+            .filter_map(|literal| asserted_edge(literal))
+            .collect(alloc)?,
+    )
 }
 
 /// A shortest way over the edges from `from` to `to`, which there is: its nodes, `from` first and `to`

@@ -190,7 +190,11 @@ fn no_edge_clash(
 fn absence(clashes: bool, a: u32) -> Option<Clash>
     ensures { MatchBool clashes (result ≡ Some (Clash.Absent a)) (result ≡ None) }
 {
-    if clashes { Some(Clash::Absent(a)) } else { None }
+    if clashes {
+        Some(Clash::Absent(a))
+    } else {
+        None
+    }
 }
 
 /// The clash of the literal with `literals`, for which the table stands, or none where all are consistent.

@@ -64,6 +64,7 @@ fn keep<L: Ledger>(
     ensures counts { OnOk result (counts.new.items ≡ counts.old.items ++ 0 ∷ []) }
     ensures err { OnErr result ((table.new ≡ table.old) × (literals.new.items ≡ literals.old.items) × (moments.new.items ≡ moments.old.items) × (counts.new.items ≡ counts.old.items)) }
     ensures cost { OnOk result (steps.new ≤ steps.old + nodes) }
+    ensures most { steps.new ≤ steps.old + nodes + (nodes * (table.old.words + 1) + 2) }
 {
     literals.reserve(1)?;
     moments.reserve(1)?;
@@ -163,6 +164,7 @@ impl OrderGraph {
         ensures err { OnErr result (self.new ≡ self.old) }
         // each joined row is a step; where memory is refused, words that are put back are steps too
         ensures cost { OnOk result (steps.new ≤ steps.old + self.old.nodes) }
+        ensures most { steps.new ≤ steps.old + self.old.nodes + most_words self.old.nodes }
     {
         let alloc = *self.literals.allocator();
         let found = clash_of(alloc, &self.table, self.nodes, &self.literals, literal)?;

@@ -4,11 +4,9 @@ ghost use Rattle.order_graph.specs.Law.{ConsistentAreMet, ClashesRefute};
 /// chains of their edges.
 pub fn consistent_literals_are_met()
     ensures { ConsistentAreMet }
-{
-}
+{}
 
 /// Literals with a clash are not consistent.
 pub fn clashes_refute_consistency()
     ensures { ClashesRefute }
-{
-}
+{}

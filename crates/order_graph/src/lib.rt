@@ -21,3 +21,4 @@ pub use clash::{Added, Clash, Numbers};
 pub use graph::OrderGraph;
 pub use laws::{clashes_refute_consistency, consistent_literals_are_met};
 pub use mark::Mark;
+pub use undo_trail::Steps;

@@ -161,6 +161,7 @@ pub fn enter_whole<L: Ledger>(
     ensures trail { OnOk result (Extends table.old table.new (nodes * (table.old.words + 1) + 2)) }
     ensures err { OnErr result (table.new ≡ table.old) }
     ensures cost { OnOk result (steps.new ≤ steps.old + nodes) }
+    ensures most { steps.new ≤ steps.old + nodes + (nodes * (table.old.words + 1) + 2) }
 {
     let before = table.mark();
     match enter(table, nodes, literal, steps) {

@@ -1,9 +1,8 @@
 use Rattle.std.proofs.Common.{sym, ◌∙◌, arith}
-use Rattle.std.specs.Prelude.{Contains, MatchOption}
-use Rattle.std.proofs.lemmas.Bool.{MatchBool-at_true, MatchBool-at_false}
-use Rattle.pc_ground.specs.declared.literal.Literal.TheVariants.{NoNode, Edge}
-use Rattle.pc_ground.specs.Literals.{Joins, IsConsistent}
-use Rattle.order_graph.specs.Ways.{Reach}
+use Rattle.std.specs.Prelude.{MatchOption}
+use Rattle.std.proofs.lemmas.Bool.{MatchBool-at_false}
+use Rattle.pc_ground.specs.declared.literal.Literal.TheVariants.{Edge}
+use Rattle.pc_ground.specs.Literals.{IsConsistent}
 use Rattle.order_graph.specs.Clashes.{JoinsNone, IsClash}
 use Rattle.order_graph.proofs.Clashing.{start_clash, end_clash, cycle_clash}
 use Rattle.order_graph.proofs.Pushed.{more}

@@ -1,5 +1,4 @@
-use Rattle.std.proofs.Common.{◌≡◌, ◌∙◌, ◌<◌, ◌*◌, ◌++◌, ap, sym, arith}
-use Rattle.pc_ground.specs.declared.literal.Literal.TheVariants.{Edge}
+use Rattle.std.proofs.Common.{◌≡◌, ◌∙◌, ◌<◌, ◌*◌, ◌++◌, ap, arith}
 use Rattle.order_graph.proofs.Clashing.{path_clash}
 use Rattle.order_graph.proofs.Telling.{none_listed, over_told, pair_below}
 use Rattle.order_graph.proofs.clashes.path_clash.Goals as goal

@@ -5,7 +5,7 @@ use Rattle.pc_ground.specs.Literals.{Joins, IsPresent, IsConsistent}
 use Rattle.pc_ground.specs.declared.literal.Literal.TheVariants.{Node, NoNode, NoEdge}
 use Rattle.order_graph.specs.declared.clash.Clash.TheVariants.{Absent}
 use Rattle.order_graph.proofs.Clashing.{node_clash, no_node_clash, clashes_refute}
-use Rattle.order_graph.proofs.Pushed.{more, older, newest, chain_older}
+use Rattle.order_graph.proofs.Pushed.{more, newest, chain_older}
 use Rattle.order_graph.proofs.Telling.{node_told, no_node_told, no_edge_told, refuted}
 use Rattle.order_graph.proofs.clashes.would_clash.Goals as goal
 

@@ -1,5 +1,4 @@
-use Rattle.std.proofs.Common.{refl}
-use Rattle.order_graph.proofs.Standing.{says, denies}
+use Rattle.order_graph.proofs.Standing.{denies}
 use Rattle.order_graph.proofs.rows.is_true.Goals as goal
 
 pub returns-in-Node : goal.returns-in-Node

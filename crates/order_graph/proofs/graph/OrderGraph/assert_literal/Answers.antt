@@ -1,9 +1,5 @@
-use Rattle.std.proofs.Common.{◌≡◌, ◌∙◌, ◌+◌, ◌*◌, ◌≤◌, ◌++◌, [], ◌∷◌, length, refl, sym, ap, subst, arith, None, Some}
-use Rattle.std.specs.Prelude.{MatchOption}
+use Rattle.std.proofs.Common.{◌∙◌, length, refl, ap}
 use Rattle.std.proofs.lemmas.List.{length_push}
-use Rattle.pc_ground.specs.Literals.{IsConsistent}
-use Rattle.order_graph.specs.Ways.{IsBelow}
-use Rattle.order_graph.specs.Clashes.{IsClash}
 use Rattle.order_graph.proofs.Pushed.{more}
 use Rattle.order_graph.proofs.Clashing.{clashes_refute}
 use Rattle.order_graph.proofs.Telling.{closes_none}
@@ -44,7 +40,9 @@ pub returns-clause-added : goal.returns-clause-added
 returns-clause-added g c =
     let s = c.self.inside in
     let consistent = found_none c.deref.result.now s.literals.items c.args.literal c.in_ok-found.found c.deref.ensures.value c.in_ok-found.ensures c.in_default.is in
-    rw (← c.self.view_is)
-    (order_kept s.nodes s.table c.keep.new.table s.literals.items s.moments.items s.counts.items s.live c.args.literal c.self.invariant
-    c.in_ok-keep.ensures.trail c.keep.new.literals.items c.keep.new.moments.items c.keep.new.counts.items
-    c.in_ok-keep.ensures.literals c.in_ok-keep.ensures.moments c.in_ok-keep.ensures.counts, consistent)
+    rw (← c.self.view_is) (
+      order_kept s.nodes s.table c.keep.new.table s.literals.items s.moments.items s.counts.items s.live c.args.literal c.self.invariant
+          c.in_ok-keep.ensures.trail c.keep.new.literals.items c.keep.new.moments.items c.keep.new.counts.items
+          c.in_ok-keep.ensures.literals c.in_ok-keep.ensures.moments c.in_ok-keep.ensures.counts,
+      consistent,
+    )

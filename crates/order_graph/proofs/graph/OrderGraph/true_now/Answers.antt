@@ -1,5 +1,4 @@
-use Rattle.std.proofs.Common.{◌*◌, ◌<◌, ap, arith}
-use Rattle.order_graph.proofs.Orders.{order_now, order_sized}
+use Rattle.order_graph.proofs.Orders.{order_now}
 use Rattle.order_graph.proofs.graph.OrderGraph.true_now.Goals as goal
 
 pub returns : goal.returns

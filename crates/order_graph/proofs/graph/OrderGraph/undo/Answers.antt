@@ -1,4 +1,4 @@
-use Rattle.std.proofs.Common.{◌≡◌, ◌∙◌, ◌+◌, ◌-◌, ◌*◌, ◌<◌, ◌≤◌, List, ℕ, length, take, get_or, set, sum, ap, refl, sym, arith}
+use Rattle.std.proofs.Common.{◌≡◌, ◌∙◌, ◌+◌, ◌≤◌, List, ℕ, length, take, get_or, sum, ap, refl, sym, arith}
 use Rattle.std.proofs.lemmas.List.{get_or_read, length_push, take_more_set}
 use Rattle.undo_trail.specs.Kept.{tables}
 use Rattle.order_graph.specs.Marks.{marks_from}
