@@ -8,7 +8,7 @@ use Rattle.pc_ground.specs.Literals.{Joins, IsPresent, IsConsistent, as_node, as
 use Rattle.order_graph.specs.declared.clash.Clash.TheVariants.{Cycle, Path, Absent}
 use Rattle.order_graph.specs.Ways.{Follows, IsWay}
 use Rattle.order_graph.specs.Clashes.{IsCycle, IsDeniedPath, IsClash}
-use Rattle.order_graph.specs.Law.{ConsistentAreMet, ClashesRefute}
+use Rattle.order_graph.specs.Law.{ClashesRefute}
 use Rattle.order_graph.proofs.Chains.{follows_map, follows_leads, follows_join, step_chain}
 use Rattle.order_graph.proofs.Pushed.{more, older, newest, joins_older, present_older}
 
@@ -75,9 +75,3 @@ clashes_refute ls (Cycle []) k c = k
 clashes_refute ls (Cycle (a ∷ via)) k c = c.acyclic a (via, k)
 clashes_refute ls (Path nodes) k c = c.apart k.0 k.2 k.5 (k.1, k.4)
 clashes_refute ls (Absent a) k c = c.missing a k.0 k.1
-
-pub consistent_are_met : ConsistentAreMet
-consistent_are_met ls c (Node a) h = as_node h
-consistent_are_met ls c (Edge a b) h = ([], h)
-consistent_are_met ls c (NoNode a) h = c.missing a h
-consistent_are_met ls c (NoEdge a b) h = c.apart a b h

@@ -13,3 +13,4 @@ pub mod EdgeLists
 pub mod Results
 pub mod MarkLists
 pub mod Orders
+pub mod Generated

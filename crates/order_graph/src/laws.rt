@@ -1,9 +1,9 @@
-ghost use Rattle.order_graph.specs.Law.{ConsistentAreMet, ClashesRefute};
+ghost use Rattle.order_graph.specs.Law.{ConsistentGenerate, ClashesRefute};
 
-/// Consistent literals are all true where just the nodes that they assert are there, in the order of the
-/// chains of their edges.
-pub fn consistent_literals_are_met()
-    ensures { ConsistentAreMet }
+/// The nodes that consistent literals assert, in the order of the chains of their edges, are a world where
+/// each literal is true.
+pub fn consistent_literals_generate_a_world()
+    ensures { ConsistentGenerate }
 {}
 
 /// Literals with a clash are not consistent.

@@ -19,6 +19,6 @@ mod rows;
 
 pub use clash::{Added, Clash, Numbers};
 pub use graph::OrderGraph;
-pub use laws::{clashes_refute_consistency, consistent_literals_are_met};
+pub use laws::{clashes_refute_consistency, consistent_literals_generate_a_world};
 pub use mark::Mark;
 pub use undo_trail::Steps;
