@@ -1,0 +1,87 @@
+"""The 22 static predicates: what each takes, and when it holds in a case."""
+from typing import Callable
+
+from .cases import Case, Op, Page
+
+# what a place in the arguments asks for
+MICROOP = "microop"
+CORE = "core"
+PLAIN = "plain"
+
+
+def program_order(i: Op, j: Op) -> bool:
+    """i is before j in program order."""
+    return (i.core, i.thread) == (j.core, j.thread) and i.g < j.g
+
+
+def is_memory(*ops: Op) -> bool:
+    """None of them is a fence."""
+    return all(op.access != "Fence" for op in ops)
+
+
+def of_pair(test: Callable[[Op, Op], bool]):
+    """A predicate of two micro-ops."""
+    return (MICROOP, MICROOP), lambda case, i, j: test(case.ops[i], case.ops[j])
+
+
+def of_accesses(part: Callable[[Op], object]):
+    """Two reads or writes are alike in this part of them."""
+    return of_pair(lambda i, j: is_memory(i, j) and part(i) == part(j))
+
+
+def of_access(word: str):
+    """A micro-op is a read, a write or a fence."""
+    return (MICROOP,), lambda case, i: case.ops[i].access == word
+
+
+def first(page: Page | None) -> int:
+    """The tag of an address that is there."""
+    assert page is not None
+    return page[0]
+
+
+def second(page: Page | None) -> int:
+    """The index of an address that is there."""
+    assert page is not None
+    return page[1]
+
+
+def from_initial(case: Case, i: int) -> bool:
+    """The value is the initial one at its physical address, 0 where none is stated."""
+    op = case.ops[i]
+    return is_memory(op) and op.value == case.initial.get(op.pa, 0)  # type: ignore[arg-type]
+
+
+def from_final(case: Case, i: int) -> bool:
+    """A final value is stated at its physical address, and it is the value."""
+    op = case.ops[i]
+    return is_memory(op) and op.pa in case.final and op.value == case.final[op.pa]
+
+
+PREDICATES = {
+    "True": ((), lambda case: True),
+    "False": ((), lambda case: False),
+    "IsAnyRead": of_access("Read"),
+    "IsAnyWrite": of_access("Write"),
+    "IsAnyFence": of_access("Fence"),
+    "AccessType": ((PLAIN, MICROOP), lambda case, t, i: t in case.ops[i].types),
+    "OnCore": ((CORE, MICROOP), lambda case, c, i: case.ops[i].core == c),
+    "SameCore": of_pair(lambda i, j: i.core == j.core),
+    "SameThread": of_pair(lambda i, j: i.thread == j.thread),
+    "SameMicroop": ((MICROOP, MICROOP), lambda case, i, j: i == j),
+    "SameInstruction": of_pair(lambda i, j: i.g == j.g),
+    "SameIntra": of_pair(lambda i, j: i.n == j.n),
+    "ProgramOrder": of_pair(program_order),
+    "SameVirtualAddress": of_accesses(lambda op: op.va),
+    "SamePhysicalAddress": of_accesses(lambda op: op.pa),
+    "SameVirtualTag": of_accesses(lambda op: first(op.va)),
+    "SamePhysicalTag": of_accesses(lambda op: first(op.pa)),
+    "SameIndex": of_accesses(lambda op: second(op.va)),
+    "SameData": of_accesses(lambda op: op.value),
+    "DataFromInitialStateAtPA": ((MICROOP,), from_initial),
+    "DataFromFinalStateAtPA": ((MICROOP,), from_final),
+    "HasDependency": (
+        (PLAIN, MICROOP, MICROOP),
+        lambda case, k, i, j: (k, i, j) in case.dependencies,
+    ),
+}
