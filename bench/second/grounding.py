@@ -49,20 +49,21 @@ def ground(model: Model, case: Case) -> Tree:
 
 
 def joined(conjunction: bool, members: list[Tree]) -> Tree:
-    """The members as one tree: constants are folded, and a member of the same kind is taken apart."""
+    """The members as one tree: constants are folded, a member of the same kind is taken apart, and equal ones count
+    once."""
     kind = All if conjunction else Any
-    kept: list[Tree] = []
+    kept: dict[Tree, None] = {}
     for member in members:
         if isinstance(member, bool):
             if member is not conjunction:
                 return member
         elif isinstance(member, kind):
-            kept.extend(member.members)
+            kept.update(dict.fromkeys(member.members))
         else:
-            kept.append(member)
+            kept.setdefault(member)
     if not kept:
         return conjunction
-    return kept[0] if len(kept) == 1 else kind(tuple(kept))
+    return next(iter(kept)) if len(kept) == 1 else kind(tuple(kept))
 
 
 class Grounder:

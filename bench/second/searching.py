@@ -44,7 +44,15 @@ def explore(branch: "Branch") -> "Branch | None":
             done = explore(below)
             if done is not None:
                 return done
+        # a world that is still to be found does not make this member true
+        if isinstance(member, Literal) and not branch.assert_literal(denial(member)):
+            return None
     return None
+
+
+def denial(literal: Literal) -> Literal:
+    """The literal that is true where this one is not."""
+    return Literal(literal.start, literal.end, not literal.wanted)
 
 
 class Branch:
