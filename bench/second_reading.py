@@ -11,7 +11,7 @@ axioms were evaluated in it; an unobservable one has no refutation here, so that
 """
 import signal
 import sys
-from typing import TextIO
+from typing import Callable, TextIO, TypeVar
 
 from second.cases import Case, read_case
 from second.dimacs import write_dimacs
@@ -23,6 +23,7 @@ from second.searching import search
 from second.smtlib import write_smtlib
 from second.tokens import Fault
 
+Read = TypeVar("Read", Model, Case)
 LIMIT = 1_048_576
 SECOND_LINES = {
     (True, "permitted"): "test permitted: ok",
@@ -47,7 +48,7 @@ def file_bytes(kind: str, path: str) -> bytes:
     return data
 
 
-def judged(kind: str, read, data: bytes):
+def judged(kind: str, read: Callable[[bytes], Read], data: bytes) -> Read:
     """What a reader makes of the bytes; a fault is told by line and column."""
     try:
         return read(data)

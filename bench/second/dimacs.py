@@ -9,7 +9,7 @@ alone, so that one direction is enough).
 from itertools import permutations
 from typing import TextIO
 
-from .grounding import All, Any, Literal, Node, Tree, nodes_of
+from .grounding import Conjunction, Disjunction, Literal, Node, Tree, nodes_of
 
 
 class Clauses:
@@ -51,7 +51,7 @@ class Clauses:
             return self.literal_of_atom(tree)
         below = [self.literal_of(member) for member in tree.members]
         variable = self.new_variable()
-        if isinstance(tree, All):
+        if isinstance(tree, Conjunction):
             self.clauses.extend([-variable, member] for member in below)
         else:
             self.clauses.append([-variable, *below])

@@ -5,7 +5,7 @@ macros as bindings, and asks the world for nodes and order.
 """
 from .cases import Case
 from .models import Arg, Binary, Edges, Expand, Formula, Model, NodeTerm, Nodes, Not, Number, Quantified, Static
-from .predicates import PLAIN, PREDICATES
+from .predicates import PREDICATES, argument_of
 
 Node = tuple[int, int, int]
 
@@ -80,8 +80,8 @@ class Evaluator:
                 return all(self.is_before(term.start, term.end, env) for term in members)
             case Static(predicate, args):
                 takes, row = PREDICATES[predicate.name]
-                values = [arg.name if kind == PLAIN else self.value(arg, env) for kind, arg in zip(takes, args)]
-                return bool(row(self.case, *values))
+                given = [argument_of(kind, arg, lambda a: self.value(a, env)) for kind, arg in zip(takes, args)]
+                return row(self.case, *given)
         raise AssertionError(f"no form of formula: {formula}")
 
     def value(self, arg: Arg, env: list[tuple[str, int]]) -> int:

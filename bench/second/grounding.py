@@ -4,11 +4,11 @@ Quantifiers and macros are gone, predicates are answered, constants are folded, 
 alone. The tree's conjunctions and disjunctions have any number of members.
 """
 from dataclasses import dataclass
-from typing import Union
+from typing import Iterator, Union
 
 from .cases import Case
 from .models import Arg, Binary, Edges, Expand, Formula, Model, NodeTerm, Nodes, Not, Number, Quantified, Static
-from .predicates import PLAIN, PREDICATES
+from .predicates import PREDICATES, argument_of
 
 # a micro-op by its place in test order, a core, a stage number
 Node = tuple[int, int, int]
@@ -24,20 +24,20 @@ class Literal:
 
 
 @dataclass(frozen=True)
-class All:
+class Conjunction:
     """Each member holds; there are at least two."""
 
     members: tuple["Tree", ...]
 
 
 @dataclass(frozen=True)
-class Any:
+class Disjunction:
     """Some member holds; there are at least two."""
 
     members: tuple["Tree", ...]
 
 
-Tree = Union[bool, Literal, All, Any]
+Tree = Union[bool, Literal, Conjunction, Disjunction]
 # names to micro-ops and cores, both numbers: names were judged before, so no sort is mistaken
 Environment = dict[str, int]
 
@@ -51,19 +51,19 @@ def ground(model: Model, case: Case) -> Tree:
 def joined(conjunction: bool, members: list[Tree]) -> Tree:
     """The members as one tree: constants are folded, a member of the same kind is taken apart, and equal ones count
     once."""
-    kind = All if conjunction else Any
+    kind: type[Conjunction] | type[Disjunction] = Conjunction if conjunction else Disjunction
     kept: dict[Tree, None] = {}
     for member in members:
         if isinstance(member, bool):
             if member is not conjunction:
                 return member
-        elif isinstance(member, kind):
+        elif isinstance(member, (Conjunction, Disjunction)) and isinstance(member, kind):
             kept.update(dict.fromkeys(member.members))
         else:
             kept.setdefault(member)
     if not kept:
         return conjunction
-    return next(iter(kept)) if len(kept) == 1 else kind(tuple(kept))
+    return list(kept)[0] if len(kept) == 1 else kind(tuple(kept))
 
 
 class Grounder:
@@ -108,8 +108,8 @@ class Grounder:
     def static(self, formula: Static, env: Environment) -> bool:
         """A predicate of the table."""
         takes, holds = PREDICATES[formula.predicate.name]
-        args = [arg.name if kind == PLAIN else value(arg, env) for kind, arg in zip(takes, formula.args)]
-        return bool(holds(self.case, *args))
+        args = [argument_of(kind, arg, lambda a: value(a, env)) for kind, arg in zip(takes, formula.args)]
+        return holds(self.case, *args)
 
     def atoms(self, formula: Nodes | Edges, env: Environment) -> list[tuple[Node, Node | None]]:
         """The nodes and edges of a list."""
@@ -139,10 +139,10 @@ def nodes_of(tree: Tree) -> list[Node]:
     return list(found)
 
 
-def literals_of(tree: Tree):
+def literals_of(tree: Tree) -> Iterator[Literal]:
     """The literals of a tree from left to right."""
     if isinstance(tree, Literal):
         yield tree
-    elif isinstance(tree, (All, Any)):
+    elif isinstance(tree, (Conjunction, Disjunction)):
         for member in tree.members:
             yield from literals_of(member)

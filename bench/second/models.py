@@ -1,7 +1,7 @@
 """Tokens to a written model, by the grammar of docs/language.md."""
 import re
 from dataclasses import dataclass
-from typing import Union
+from typing import Callable, TypeVar, Union
 
 from .tokens import Fault, Reader, Token, tokens
 
@@ -156,6 +156,9 @@ class Model:
         return {item.name.name: item for item in self.items if isinstance(item, Macro)}
 
 
+Member = TypeVar("Member", NodeTerm, EdgeTerm)
+
+
 def written_model(data: bytes) -> Model:
     """The model that the bytes say, or their first fault of tokens or grammar."""
     return ModelReader(tokens(data)).model()
@@ -295,7 +298,7 @@ class ModelReader(Reader):
             return Nodes((self.node(),))
         return Nodes(tuple(self.members(self.node)))
 
-    def members(self, member):
+    def members(self, member: Callable[[], Member]) -> list[Member]:
         """A list in square brackets, where one semicolon may stand behind the last member."""
         self.expect("[")
         found = []

@@ -2,11 +2,15 @@
 from typing import Callable
 
 from .cases import Case, Op, Page
+from .models import Arg, Word
 
 # what a place in the arguments asks for
 MICROOP = "microop"
 CORE = "core"
 PLAIN = "plain"
+
+# what a predicate takes, and the test of a case and of the values of the arguments
+Row = tuple[tuple[str, ...], Callable[..., bool]]
 
 
 def program_order(i: Op, j: Op) -> bool:
@@ -19,46 +23,57 @@ def is_memory(*ops: Op) -> bool:
     return all(op.access != "Fence" for op in ops)
 
 
-def of_pair(test: Callable[[Op, Op], bool]):
+def of_pair(test: Callable[[Op, Op], bool]) -> Row:
     """A predicate of two micro-ops."""
-    return (MICROOP, MICROOP), lambda case, i, j: test(case.ops[i], case.ops[j])
+
+    def holds(case: Case, i: int, j: int) -> bool:
+        return test(case.ops[i], case.ops[j])
+
+    return (MICROOP, MICROOP), holds
 
 
-def of_accesses(part: Callable[[Op], object]):
+def of_accesses(part: Callable[[Op], object]) -> Row:
     """Two reads or writes are alike in this part of them."""
     return of_pair(lambda i, j: is_memory(i, j) and part(i) == part(j))
 
 
-def of_access(word: str):
+def of_access(word: str) -> Row:
     """A micro-op is a read, a write or a fence."""
-    return (MICROOP,), lambda case, i: case.ops[i].access == word
+
+    def holds(case: Case, i: int) -> bool:
+        return case.ops[i].access == word
+
+    return (MICROOP,), holds
 
 
-def first(page: Page | None) -> int:
-    """The tag of an address that is there."""
-    assert page is not None
-    return page[0]
+def tag(page: Page | None) -> int | None:
+    """The tag of an address, where there is one."""
+    return None if page is None else page[0]
 
 
-def second(page: Page | None) -> int:
-    """The index of an address that is there."""
-    assert page is not None
-    return page[1]
+def index(page: Page | None) -> int | None:
+    """The index of an address, where there is one."""
+    return None if page is None else page[1]
 
 
 def from_initial(case: Case, i: int) -> bool:
     """The value is the initial one at its physical address, 0 where none is stated."""
     op = case.ops[i]
-    return is_memory(op) and op.value == case.initial.get(op.pa, 0)  # type: ignore[arg-type]
+    return op.pa is not None and op.value == case.initial.get(op.pa, 0)
 
 
 def from_final(case: Case, i: int) -> bool:
     """A final value is stated at its physical address, and it is the value."""
     op = case.ops[i]
-    return is_memory(op) and op.pa in case.final and op.value == case.final[op.pa]
+    return op.pa is not None and op.pa in case.final and op.value == case.final[op.pa]
 
 
-PREDICATES = {
+def argument_of(kind: str, arg: Arg, value: Callable[[Arg], int]) -> int | str:
+    """A plain name as it is spelled, and the value of any other argument."""
+    return arg.name if kind == PLAIN and isinstance(arg, Word) else value(arg)
+
+
+PREDICATES: dict[str, Row] = {
     "True": ((), lambda case: True),
     "False": ((), lambda case: False),
     "IsAnyRead": of_access("Read"),
@@ -74,14 +89,11 @@ PREDICATES = {
     "ProgramOrder": of_pair(program_order),
     "SameVirtualAddress": of_accesses(lambda op: op.va),
     "SamePhysicalAddress": of_accesses(lambda op: op.pa),
-    "SameVirtualTag": of_accesses(lambda op: first(op.va)),
-    "SamePhysicalTag": of_accesses(lambda op: first(op.pa)),
-    "SameIndex": of_accesses(lambda op: second(op.va)),
+    "SameVirtualTag": of_accesses(lambda op: tag(op.va)),
+    "SamePhysicalTag": of_accesses(lambda op: tag(op.pa)),
+    "SameIndex": of_accesses(lambda op: index(op.va)),
     "SameData": of_accesses(lambda op: op.value),
     "DataFromInitialStateAtPA": ((MICROOP,), from_initial),
     "DataFromFinalStateAtPA": ((MICROOP,), from_final),
-    "HasDependency": (
-        (PLAIN, MICROOP, MICROOP),
-        lambda case, k, i, j: (k, i, j) in case.dependencies,
-    ),
+    "HasDependency": ((PLAIN, MICROOP, MICROOP), lambda case, k, i, j: (k, i, j) in case.dependencies),
 }

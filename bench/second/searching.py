@@ -7,8 +7,9 @@ not make it true. Members that clash by themselves are struck out. A last member
 branch is closed. Where nothing is open, the least world is the witness.
 """
 from dataclasses import dataclass
+from typing import Iterator
 
-from .grounding import All, Any, Literal, Node, Tree, nodes_of
+from .grounding import Conjunction, Disjunction, Literal, Node, Tree, nodes_of
 
 Edge = tuple[Node, Node]
 
@@ -68,7 +69,7 @@ class Branch:
         self.absent = 0
         self.denied: list[tuple[int, int]] = []
         self.edges: dict[Edge, None] = {}
-        self.disjunctions: list[Any] = []
+        self.disjunctions: list[Disjunction] = []
 
     def copy(self) -> "Branch":
         """A branch that begins with all of this one."""
@@ -90,7 +91,7 @@ class Branch:
             return tree
         if isinstance(tree, Literal):
             return self.assert_literal(tree)
-        if isinstance(tree, All):
+        if isinstance(tree, Conjunction):
             return all(self.assert_tree(member) for member in tree.members)
         self.disjunctions.append(tree)
         return True
@@ -149,9 +150,9 @@ class Branch:
         """Whether the least world makes the tree true."""
         if isinstance(tree, bool):
             return tree
-        if isinstance(tree, All):
+        if isinstance(tree, Conjunction):
             return all(self.is_true(member) for member in tree.members)
-        if isinstance(tree, Any):
+        if isinstance(tree, Disjunction):
             return any(self.is_true(member) for member in tree.members)
         start = self.number[tree.start]
         if tree.end is None:
@@ -162,17 +163,17 @@ class Branch:
         """False only where asserting the tree on this branch closes it by one literal alone."""
         if isinstance(tree, bool):
             return tree
-        if isinstance(tree, All):
+        if isinstance(tree, Conjunction):
             return all(self.may_hold(member) for member in tree.members)
-        if isinstance(tree, Any):
+        if isinstance(tree, Disjunction):
             return any(self.may_hold(member) for member in tree.members)
         return not self.clashes(tree)
 
-    def members_left(self, disjunction: Any) -> list[Tree]:
+    def members_left(self, disjunction: Disjunction) -> list[Tree]:
         """The members that are not struck out."""
         return [member for member in disjunction.members if self.may_hold(member)]
 
-    def open_disjunctions(self) -> list[Any]:
+    def open_disjunctions(self) -> list[Disjunction]:
         """The disjunctions that the least world does not make true."""
         return [disjunction for disjunction in self.disjunctions if not self.is_true(disjunction)]
 
@@ -193,12 +194,13 @@ class Branch:
                     forced = True
         return True
 
-    def choice(self) -> Any | None:
+    def choice(self) -> Disjunction | None:
         """The open disjunction with the fewest members left, the first of several; None where nothing is open."""
-        return min(self.open_disjunctions(), key=lambda d: len(self.members_left(d)), default=None)
+        disjunctions = self.open_disjunctions()
+        return min(disjunctions, key=lambda d: len(self.members_left(d))) if disjunctions else None
 
 
-def members(bits: int):
+def members(bits: int) -> Iterator[int]:
     """The numbers in a bit set, the lowest first."""
     while bits:
         lowest = bits & -bits

@@ -7,7 +7,7 @@ numbers one is at most the other.
 from itertools import permutations
 from typing import TextIO
 
-from .grounding import All, Literal, Node, Tree, nodes_of
+from .grounding import Conjunction, Literal, Node, Tree, nodes_of
 
 
 def name(node: Node) -> str:
@@ -31,7 +31,7 @@ def term(tree: Tree) -> str:
         return "true" if tree else "false"
     if isinstance(tree, Literal):
         return atom(tree)
-    word = "and" if isinstance(tree, All) else "or"
+    word = "and" if isinstance(tree, Conjunction) else "or"
     return f"({word} {' '.join(term(member) for member in tree.members)})"
 
 
