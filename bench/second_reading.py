@@ -1,23 +1,28 @@
 #!/usr/bin/env python3
-"""A second judge of models and tests, apart from the proved program and sharing no code with it; see second/.
+"""A second judge of models, tests and certificates, apart from the proved program and sharing no code with it.
 
-    second_reading.py check MODEL TEST    the verdict, in the lines of a certificate where it is observable
-    second_reading.py dimacs MODEL TEST   the question for a SAT solver, on standard output
-    second_reading.py smt MODEL TEST      the question for an SMT solver, on standard output
+    second_reading.py check MODEL TEST         the verdict with its certificate
+    second_reading.py verify MODEL TEST CERT   whether CERT is a certificate of this model and test
+    second_reading.py dimacs MODEL TEST        the question for a SAT solver
+    second_reading.py smt MODEL TEST           the question for an SMT solver
 
-The first two lines and the exit status of `check` are those of the program: 0 observable, 1 unobservable, 2 bad words,
-3 a file with a fault, 4 a file that cannot be read. An observable verdict is printed with its graph, after the written
-axioms were evaluated in it; an unobservable one has no refutation here, so that no line follows the second.
+The modules are in second/. All text goes to standard output, in the lines and with the exit statuses that the program
+has: 0 observable, 1 unobservable, 2 words that are no command, 3 a file with a fault, 4 a file that cannot be read, 6 a
+refused certificate. The verdict of `check` is found in two ways, by a search of this reading's own and by one that makes
+the program's choices and gives the text; they have to agree, and the certificate is judged before it is written.
 """
 import signal
 import sys
 from typing import Callable, TextIO, TypeVar
 
+from second.answering import Clash, Graph, Step, answer
 from second.cases import Case, read_case
 from second.dimacs import write_dimacs
-from second.evaluating import false_axioms
-from second.grounding import Node, ground
+from second.grounding import ground
+from second.judging import Refused as CertificateRefused
+from second.judging import judge
 from second.models import Model
+from second.positions import NodeNames, Positions
 from second.scopes import read_model
 from second.searching import search
 from second.smtlib import write_smtlib
@@ -25,14 +30,7 @@ from second.tokens import Fault
 
 Read = TypeVar("Read", Model, Case)
 LIMIT = 1_048_576
-SECOND_LINES = {
-    (True, "permitted"): "test permitted: ok",
-    (True, "forbidden"): "test forbidden: BUG",
-    (False, "permitted"): "test permitted: stricter",
-    (False, "forbidden"): "test forbidden: ok",
-    (True, "unstated"): "test unstated",
-    (False, "unstated"): "test unstated",
-}
+WORDS = {"check": 3, "verify": 4, "dimacs": 3, "smt": 3}
 
 
 class Refused(Exception):
@@ -64,56 +62,83 @@ def read_both(model_path: str, test_path: str) -> tuple[Model, Case]:
     return judged("model", read_model, model_data), judged("test", read_case, test_data)
 
 
-def check(model: Model, case: Case, out: TextIO) -> int:
-    """Writes the verdict and answers its exit status."""
-    witness = search(ground(model, case))
-    if witness is not None:
-        wrong = false_axioms(model, case, witness.nodes, witness.edges)
-        if wrong:
-            raise AssertionError(f"the witness is none: {wrong}")
-    out.write("observable\n" if witness else "unobservable\n")
-    out.write(SECOND_LINES[witness is not None, case.expectation] + "\n")
-    if witness is None:
-        return 1
+def second_line(is_observable: bool, case: Case) -> str:
+    """How a verdict compares with what the test states."""
+    if case.expectation == "unstated":
+        return "test unstated"
+    if case.expectation == "permitted":
+        return "test permitted: ok" if is_observable else "test permitted: stricter"
+    return "test forbidden: BUG" if is_observable else "test forbidden: ok"
+
+
+def second_lines(case: Case) -> dict[bool, str]:
+    """The second line of each verdict."""
+    return {is_observable: second_line(is_observable, case) for is_observable in (True, False)}
+
+
+def certificate(model: Model, case: Case) -> str:
+    """The text of the answer."""
+    positions = Positions(model, case)
+    found = answer(positions)
     names = NodeNames(model, case)
-    for node in witness.nodes:
-        out.write(f"node {names.of(node)}\n")
-    for start, end in witness.edges:
-        out.write(f"edge {names.of(start)} {names.of(end)}\n")
-    out.write("end\n")
-    return 0
+    words = [names.write(node) for node in positions.nodes]
+    if isinstance(found, Graph):
+        body = [f"node {words[k]}" for k in found.nodes]
+        body += [f"edge {words[start]} {words[end]}" for start, end in found.edges]
+    else:
+        body = [step_line(step, words) for step in found] or ["false"]
+    is_observable = isinstance(found, Graph)
+    first = "observable" if is_observable else "unobservable"
+    return "\n".join([first, second_line(is_observable, case), *body, "end", ""])
 
 
-class NodeNames:
-    """Nodes as certificates write them."""
+def step_line(step: Step, words: list[str]) -> str:
+    """The line of a split or of a clash."""
+    if isinstance(step, Clash):
+        return " ".join([step.word, *(words[k] for k in step.nodes)])
+    return f"split {step}"
 
-    def __init__(self, model: Model, case: Case) -> None:
-        self.case = case
-        self.stages = {stage.number.value: stage.name.name for stage in model.stages}
 
-    def of(self, node: Node) -> str:
-        """g.n@core:Stage"""
-        op, core, stage = node
-        return f"{self.case.ops[op].g}.{self.case.ops[op].n}@{core}:{self.stages[stage]}"
+def check(model: Model, case: Case) -> tuple[str, int]:
+    """The certificate and the exit status."""
+    is_observable = search(ground(model, case)) is not None
+    text = certificate(model, case)
+    if judge(model, case, second_lines(case), text.encode("ascii")) is not is_observable:
+        raise AssertionError("the two searches differ")
+    return text, 0 if is_observable else 1
+
+
+def verify(model: Model, case: Case, data: bytes) -> tuple[str, int]:
+    """What is to be said of a certificate, and the exit status."""
+    try:
+        is_observable = judge(model, case, second_lines(case), data)
+    except CertificateRefused as refused:
+        return f"{refused}\n", 6
+    return ("verified observable\n", 0) if is_observable else ("verified unobservable\n", 1)
 
 
 def run(words: list[str], out: TextIO) -> int:
     """Does what the words ask and answers the exit status."""
-    if len(words) != 3 or words[0] not in ("check", "dimacs", "smt"):
+    if not words or len(words) != WORDS.get(words[0]):
         out.write("pipecheck: bad command line\n")
         return 2
     try:
         model, case = read_both(words[1], words[2])
+        if words[0] == "check":
+            text, status = check(model, case)
+        elif words[0] == "verify":
+            with open(words[3], "rb") as file:
+                text, status = verify(model, case, file.read())
+        else:
+            write = write_dimacs if words[0] == "dimacs" else write_smtlib
+            write(ground(model, case), out)
+            return 0
     except Refused as refused:
-        out.write(f"{refused}\n")
-        return 3
+        text, status = f"{refused}\n", 3
     except OSError:
         return 4
-    if words[0] == "check":
-        return check(model, case, out)
-    write = write_dimacs if words[0] == "dimacs" else write_smtlib
-    write(ground(model, case), out)
-    return 0
+    out.write(text)
+    return status
 
 
 if __name__ == "__main__":

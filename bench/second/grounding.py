@@ -1,10 +1,11 @@
 """The axioms over one test as one tree of literals over nodes.
 
 Quantifiers and macros are gone, predicates are answered, constants are folded, and negations stand at literals
-alone. The tree's conjunctions and disjunctions have any number of members.
+alone. The tree comes in two shapes. `ground` gives conjunctions and disjunctions of many members, which is what the
+search here wants. `ground_nested` gives them two members each, as the positions of a refutation count them.
 """
 from dataclasses import dataclass
-from typing import Iterator, Union
+from typing import Callable, Iterator, Union
 
 from .cases import Case
 from .models import Arg, Binary, Edges, Expand, Formula, Model, NodeTerm, Nodes, Not, Number, Quantified, Static
@@ -42,10 +43,18 @@ Tree = Union[bool, Literal, Conjunction, Disjunction]
 Environment = dict[str, int]
 
 
+# makes one tree of members, a conjunction or not
+Join = Callable[[bool, list["Tree"]], "Tree"]
+
+
 def ground(model: Model, case: Case) -> Tree:
     """The tree of all axioms over this test."""
-    grounder = Grounder(model, case)
-    return joined(True, [grounder.tree(axiom.body, {}, True) for axiom in model.axioms])
+    return Grounder(model, case, joined).axioms()
+
+
+def ground_nested(model: Model, case: Case) -> Tree:
+    """The same with two members everywhere, nested to the right."""
+    return Grounder(model, case, nested).axioms()
 
 
 def joined(conjunction: bool, members: list[Tree]) -> Tree:
@@ -66,13 +75,32 @@ def joined(conjunction: bool, members: list[Tree]) -> Tree:
     return list(kept)[0] if len(kept) == 1 else kind(tuple(kept))
 
 
+def nested(conjunction: bool, members: list[Tree]) -> Tree:
+    """The members as a list that ends in the constant that changes nothing; then constants are folded."""
+    tree: Tree = conjunction
+    for member in reversed(members):
+        if member is conjunction or tree is (not conjunction):
+            continue
+        if tree is conjunction or member is (not conjunction):
+            tree = member
+        else:
+            tree = Conjunction((member, tree)) if conjunction else Disjunction((member, tree))
+    return tree
+
+
 class Grounder:
     """Grounds formulas of one model over one case."""
 
-    def __init__(self, model: Model, case: Case) -> None:
+    def __init__(self, model: Model, case: Case, join: Join) -> None:
+        self.join = join
+        self.model = model
         self.case = case
         self.macros = model.macros
         self.stages = {stage.name.name: stage.number.value for stage in model.stages}
+
+    def axioms(self) -> Tree:
+        """The tree of all axioms."""
+        return self.join(True, [self.tree(axiom.body, {}, True) for axiom in self.model.axioms])
 
     def tree(self, formula: Formula, env: Environment, wanted: bool) -> Tree:
         """The tree of a formula, or of its negation where it is not wanted."""
@@ -89,7 +117,7 @@ class Grounder:
             return self.tree(macro.body, {**env, **dict(zip(names, values))}, wanted)
         if isinstance(formula, Static):
             return self.static(formula, env) is wanted
-        return joined(wanted, [Literal(*ends, wanted) for ends in self.atoms(formula, env)])
+        return self.join(wanted, [Literal(*ends, wanted) for ends in self.atoms(formula, env)])
 
     def binary(self, formula: Binary, env: Environment, wanted: bool) -> Tree:
         """A connective; `p => q` is `~p \\/ q`."""
@@ -97,13 +125,13 @@ class Grounder:
         left = self.tree(formula.left, env, wanted is not is_implication)
         is_conjunction = (formula.connective == "/\\") is wanted
         decided = isinstance(left, bool) and left is not is_conjunction
-        return left if decided else joined(is_conjunction, [left, self.tree(formula.right, env, wanted)])
+        return left if decided else self.join(is_conjunction, [left, self.tree(formula.right, env, wanted)])
 
     def quantified(self, formula: Quantified, env: Environment, wanted: bool) -> Tree:
         """The body for each value of the variable."""
         values = range(len(self.case.ops)) if formula.over_microops else self.case.cores
         members = [self.tree(formula.body, {**env, formula.name: v}, wanted) for v in values]
-        return joined(formula.universal is wanted, members)
+        return self.join(formula.universal is wanted, members)
 
     def static(self, formula: Static, env: Environment) -> bool:
         """A predicate of the table."""

@@ -68,6 +68,26 @@ def from_final(case: Case, i: int) -> bool:
     return op.pa is not None and op.pa in case.final and op.value == case.final[op.pa]
 
 
+def same_microop(_: Case, i: int, j: int) -> bool:
+    """The two are one micro-op."""
+    return i == j
+
+
+def has_type(case: Case, word: str, i: int) -> bool:
+    """The word is among the type names."""
+    return word in case.ops[i].types
+
+
+def on_core(case: Case, core: int, i: int) -> bool:
+    """The core of the micro-op is this one."""
+    return case.ops[i].core == core
+
+
+def has_dependency(case: Case, kind: str, i: int, j: int) -> bool:
+    """A `Relationship` line of this kind goes from i to j."""
+    return (kind, i, j) in case.dependencies
+
+
 def argument_of(kind: str, arg: Arg, value: Callable[[Arg], int]) -> int | str:
     """A plain name as it is spelled, and the value of any other argument."""
     return arg.name if kind == PLAIN and isinstance(arg, Word) else value(arg)
@@ -79,11 +99,11 @@ PREDICATES: dict[str, Row] = {
     "IsAnyRead": of_access("Read"),
     "IsAnyWrite": of_access("Write"),
     "IsAnyFence": of_access("Fence"),
-    "AccessType": ((PLAIN, MICROOP), lambda case, t, i: t in case.ops[i].types),
-    "OnCore": ((CORE, MICROOP), lambda case, c, i: case.ops[i].core == c),
+    "AccessType": ((PLAIN, MICROOP), has_type),
+    "OnCore": ((CORE, MICROOP), on_core),
     "SameCore": of_pair(lambda i, j: i.core == j.core),
     "SameThread": of_pair(lambda i, j: i.thread == j.thread),
-    "SameMicroop": ((MICROOP, MICROOP), lambda case, i, j: i == j),
+    "SameMicroop": ((MICROOP, MICROOP), same_microop),
     "SameInstruction": of_pair(lambda i, j: i.g == j.g),
     "SameIntra": of_pair(lambda i, j: i.n == j.n),
     "ProgramOrder": of_pair(program_order),
@@ -95,5 +115,5 @@ PREDICATES: dict[str, Row] = {
     "SameData": of_accesses(lambda op: op.value),
     "DataFromInitialStateAtPA": ((MICROOP,), from_initial),
     "DataFromFinalStateAtPA": ((MICROOP,), from_final),
-    "HasDependency": ((PLAIN, MICROOP, MICROOP), lambda case, k, i, j: (k, i, j) in case.dependencies),
+    "HasDependency": ((PLAIN, MICROOP, MICROOP), has_dependency),
 }
