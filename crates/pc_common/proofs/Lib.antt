@@ -1,3 +1,7 @@
+pub mod Elements
+pub mod Nodes
+pub mod Chains
+pub mod GeneratedWorlds
 pub mod Pieces
 pub mod Rises
 mod HeldLemmas
