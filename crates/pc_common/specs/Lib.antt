@@ -10,6 +10,8 @@ pub mod Faults
 pub mod Held
 pub mod Shelf
 pub mod Pieces
+pub mod Writes
+pub mod Reads
 pub mod Status
 pub mod LineColumn
 pub mod Schedule

@@ -1,6 +1,4 @@
-ghost use Rattle.std.specs.Prelude.{◌≡◌, ◌≤◌, ◌++◌, IsTrue, OnOk, OnErr};
-ghost use Rattle.pc_common.specs.Faults.{Rose};
-ghost use Rattle.pc_common.specs.Pieces.{IsCutShort};
+ghost use Rattle.pc_common.specs.Writes.{Writes};
 
 use super::failed::Failed;
 use super::sink::Sink;
@@ -8,12 +6,7 @@ use super::sink::Sink;
 /// Writes the whole piece. Takes no memory. Where a call fails, the first bytes of the piece went
 /// out, but not all of them.
 pub fn write_all<K: Sink>(sink: &mut K, piece: &[u8]) -> Result<(), Failed>
-    ensures same_told { K.told sink.new ≡ K.told sink.old }
-    ensures count { K.faults sink.old ≤ K.faults sink.new }
-    ensures cause { OnErr result (Rose (K.faults sink.old) (K.faults sink.new)) }
-    ensures whole { OnOk result (IsTrue (K.told sink.old) → K.taken sink.new ≡ K.taken sink.old ++ piece.now) }
-    ensures short { OnErr result (IsTrue (K.told sink.old) →
-        IsCutShort (K.taken sink.old) piece.now (K.taken sink.new)) }
+    ensures { Writes K.told K.faults K.taken sink.old sink.new result piece.now }
 {
     let mut at = 0;
     while at < piece.len() {
