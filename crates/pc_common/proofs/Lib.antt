@@ -4,5 +4,7 @@ pub mod Chains
 pub mod GeneratedWorlds
 pub mod Pieces
 pub mod Rises
+pub mod Writes
+pub mod Rooms
 mod HeldLemmas
 mod Moves

@@ -14,3 +14,7 @@ pub record Writes {K : Type 0} (told : K → Bool) (faults : K → ℕ) (taken :
   pub count : faults old ≤ faults new
   pub cause : OnErr result (Rose (faults old) (faults new))
   pub went : IsTrue (told old) → Went result (taken old) text (taken new)
+
+-- the result of a call that went well, and says nothing
+abbrev pub done : Result (Unit {0}) ⊥
+done = Ok tt
