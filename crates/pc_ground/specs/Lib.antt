@@ -1,0 +1,9 @@
+pub mod Keys
+pub mod Literals
+pub mod Tree
+pub mod Rows
+pub mod PlainGround
+pub mod Unfolded
+pub mod GroundTree
+pub mod Numbers
+pub mod Refutes
