@@ -1,15 +1,11 @@
 -- Texts written by several calls, as one text.
-use Rattle.std.proofs.Common.{◌≡◌, ℕ, ◌+◌, ◌<◌, ◌≤◌, Bool, List, [], ◌∷◌, ◌++◌, Result, Ok, Err, length, get_or, take, drop, refl, sym, ◌∙◌, ap, subst, arith, append_assoc, add-one}
-use Rattle.std.specs.Prelude.{IsOk, IsErr, IsTrue, OnErr, slice_get, Some}
+use Rattle.std.proofs.Common.{◌≡◌, ℕ, Bool, List, [], ◌∷◌, ◌++◌, Result, Ok, Err, refl, sym, ◌∙◌, ap, subst, arith, append_assoc}
+use Rattle.std.specs.Prelude.{IsOk, IsErr, IsTrue, OnErr}
 use Rattle.std.specs.List.{flat_map}
-use Rattle.std.proofs.Math.Seq.{take-length, take-suc}
-use Rattle.std.proofs.lemmas.List.{take-append-drop, drop_more}
-use Rattle.std.proofs.lemmas.Option.{slice_get_within, get_or_from_slice_get}
 use Rattle.pc_common.specs.Faults.{Rose}
-use Rattle.pc_common.specs.Pieces.{IsCutShort}
 use Rattle.pc_common.specs.Writes.{Went, Writes}
 use Rattle.pc_common.proofs.Pieces.{cut_in_first, cut_in_next, both_whole}
-use Rattle.pc_common.proofs.Rises.{rose_before, rose_after}
+use Rattle.pc_common.proofs.Rises.{rose_after}
 
 -- all of the first text went out, and then the next call wrote
 went_then : {T E U F : Type 0} (r : Result T E) (s : Result U F) (before first middle next after : List ℕ)
