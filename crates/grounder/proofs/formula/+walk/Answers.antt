@@ -1,4 +1,5 @@
 use Rattle.std.proofs.Common.{◌≡◌, ◌<◌, ℕ, ◌+◌, List, [], ◌∷◌, ◌++◌, length, map, drop, ap, sym, ◌∙◌, arith}
+use Rattle.std.proofs.lemmas.List.{map-append}
 use Rattle.pc_common.specs.Case.{Case}
 use Rattle.pc_syntax.specs.declared.term.Sort.{Sort}
 use Rattle.pc_syntax.specs.declared.bound.Bound.{Bound}
@@ -6,11 +7,13 @@ use Rattle.pc_syntax.specs.Truth.{range_of}
 use Rattle.pc_syntax.specs.Closed.{PlainClosed, plain_closed, meaning_of}
 use Rattle.pc_ground.specs.PlainGround.{PlainGround, plain_ground}
 use Rattle.pc_ground.specs.Unfolded.{closed_unfolded}
+use Rattle.static_preds.specs.Values.{sort_bound}
 use Rattle.static_preds.proofs.SlotsBelow.{slots_below}
 use Rattle.grounder.specs.Slots.{bound_at}
 use Rattle.grounder.specs.Members.{joined_all}
 use Rattle.grounder.specs.Said.{meanings, said_at}
 use Rattle.grounder.proofs.Joining.{simplified-all}
+use Rattle.grounder.proofs.SlotLaws.{slot_more}
 use Rattle.grounder.proofs.Ranges.{next_value}
 use Rattle.grounder.proofs.formula.+walk.Goals as goal
 
@@ -55,3 +58,15 @@ ground_range-loop-k-preserved t c =
     c.in_ok-member.ensures in
     let goes_on = rw c.if-branch.false at (c.in_ok-keep.ensures rest) in
     c.loop-k.invariant ∙ ap (λ todo. joined_all c.args.connective (map plain_ground c.loop-k.kept.items ++ todo)) next ∙ goes_on
+
+pub ground_member-ground_formula-requires : goal.ground_member-ground_formula-requires
+ground_member-ground_formula-requires t c =
+    let slots = c.args.env.now.items in
+    let inside = c.with_value.ensures in
+    (
+      omega (arith, c.decreases),
+      (
+        rw (inside, map-append sort_bound slots (c.args.value ∷ [])) c.requires.closed,
+        rw inside (slot_more c.args.case.now slots c.args.value c.requires.range c.requires.value),
+      ),
+    )
