@@ -7,8 +7,10 @@
 
 mod joint;
 mod normal;
+mod numbers;
 mod part;
 mod rows;
 mod spine;
 
 pub use normal::normalise;
+pub use numbers::number;
