@@ -4,7 +4,7 @@ use Rattle.std.proofs.lemmas.List.{length-map}
 use Rattle.std.specs.List.{list_any, list_all}
 use Rattle.std.specs.Option.{option_or}
 use Rattle.pc_common.specs.Case.{MicroOp, Case, cores_of}
-use Rattle.pc_common.specs.World.{World}
+use Rattle.pc_common.specs.World.{Node, World}
 use Rattle.pc_common.specs.declared.place.Place.{Place}
 use Rattle.pc_common.specs.declared.fault.FaultKind.TheVariants.{PredicateUnknown, Unbound, StageUnknown}
 use Rattle.pc_syntax.specs.declared.term.Sort.{Sort}
@@ -110,7 +110,7 @@ module _ (slots : List Meaning) (env : Environment) (scope : Scope) (fits : Fits
       (arguments_law ts as_ (omega arith) (none_second (argument_fault scope t a) (arguments_fault scope ts as_) f) i)
 
   -- a predicate of the table
-  static_law : (c : Case) (w : World) (pred : Word) (args : List Arg) (o : Option Pred)
+  static_law : (c : Case) (w : World Node) (pred : Word) (args : List Arg) (o : Option Pred)
       → ◌≡◌ {A = Option Fault}
       (elim (option_map row_of o) [
         | None ↦ Some (PredicateUnknown, pred.at)
@@ -167,7 +167,7 @@ module _ (slots : List Meaning) (env : Environment) (scope : Scope) (fits : Fits
       (core_law c (op_of (Some (value_at slots (slot_of scope t.op)))) t.core core i)
       (stage_law (stage_of stages t.stage.name) t.stage stage i))
 
-  nodes_law : (stages : List StageItem) (c : Case) (w : World) (ts : List NodeTerm)
+  nodes_law : (stages : List StageItem) (c : Case) (w : World Node) (ts : List NodeTerm)
       → first_fault (node_fault stages scope) ts ≡ None
       → list_all (λ t. node_holds w (node_of stages c env t)) ts
       ≡ list_all (λ t. node_holds w (closed_node c slots t)) (map (closing_of_node stages scope) ts)
@@ -176,7 +176,7 @@ module _ (slots : List Meaning) (env : Environment) (scope : Scope) (fits : Fits
       λ i. node_holds w (node_law stages c t (none_first (node_fault stages scope t) (first_fault (node_fault stages scope) ts) f) i)
       && nodes_law stages c w ts (none_second (node_fault stages scope t) (first_fault (node_fault stages scope) ts) f) i
 
-  edge_law : (stages : List StageItem) (c : Case) (w : World) (t : EdgeTerm) → edge_fault stages scope t ≡ None
+  edge_law : (stages : List StageItem) (c : Case) (w : World Node) (t : EdgeTerm) → edge_fault stages scope t ≡ None
       → edge_holds w (node_of stages c env t.from) (node_of stages c env t.to)
       ≡ edge_holds w (closed_node c slots (closing_of_node stages scope t.from)) (closed_node c slots (closing_of_node stages scope t.to))
   edge_law stages c w t f =
@@ -184,7 +184,7 @@ module _ (slots : List Meaning) (env : Environment) (scope : Scope) (fits : Fits
       (node_law stages c t.from (none_first (node_fault stages scope t.from) (node_fault stages scope t.to) f) i)
       (node_law stages c t.to (none_second (node_fault stages scope t.from) (node_fault stages scope t.to) f) i)
 
-  edges_law : (stages : List StageItem) (c : Case) (w : World) (ts : List EdgeTerm)
+  edges_law : (stages : List StageItem) (c : Case) (w : World Node) (ts : List EdgeTerm)
       → first_fault (edge_fault stages scope) ts ≡ None
       → list_all (λ t. edge_holds w (node_of stages c env t.from) (node_of stages c env t.to)) ts
       ≡ list_all (λ t. edge_holds w (closed_node c slots t.from) (closed_node c slots t.to)) (map (closing_of_edge stages scope) ts)
@@ -287,7 +287,7 @@ one_more : (slots : List Meaning) (v : Meaning) (scope : Scope) (name : List ℕ
 one_more slots v scope name sort same = omega (arith, length-append slots (v ∷ []), same)
 
 static_true : (slots : List Meaning) (env : Environment) (scope : Scope) → Fits slots env scope
-    → (stages : List StageItem) (c : Case) (w : World) (pred : Word) (args : List Arg)
+    → (stages : List StageItem) (c : Case) (w : World Node) (pred : Word) (args : List Arg)
     → name_fault stages [] scope (static_ pred args) ≡ None
     → static_holds c env pred.name args ≡ closed_true c w slots (closing_of stages scope (static_ pred args))
 static_true slots env scope fits stages c w pred args f =

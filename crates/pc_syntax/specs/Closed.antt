@@ -83,7 +83,7 @@ closed_node c slots t =
     node_at op (core_at_op c slots op t.core) (Some t.stage)
 
 -- a variable takes the next slot, and the arguments of a binding take the next ones in their order
-abbrev pub closed_true : Case → World → List Meaning → PlainClosed → Bool
+abbrev pub closed_true : Case → World Node → List Meaning → PlainClosed → Bool
 closed_true c w slots (closed_not p) = not (closed_true c w slots p)
 closed_true c w slots (closed_and p q) = closed_true c w slots p && closed_true c w slots q
 closed_true c w slots (closed_or p q) = closed_true c w slots p || closed_true c w slots q

@@ -25,7 +25,7 @@ Environment = List (List ℕ × Meaning)
 pub record Setting : Type 0 where
   pub stages : List StageItem
   pub case : Case
-  pub world : World
+  pub world : World Node
 
 -- the value of a name is that of its first binding
 abbrev pub value_of : Environment → List ℕ → Option Meaning
@@ -78,11 +78,11 @@ node_of stages c env t =
     let op = op_of (value_of env t.op.name) in
     node_at op (core_there c env op t.core) (stage_of stages t.stage.name)
 
-abbrev pub node_holds : World → Option Node → Bool
+abbrev pub node_holds : World Node → Option Node → Bool
 node_holds w None = false
 node_holds w (Some a) = has_node w a
 
-abbrev pub edge_holds : World → Option Node → Option Node → Bool
+abbrev pub edge_holds : World Node → Option Node → Option Node → Bool
 edge_holds w (Some a) (Some b) = has_edge w a b
 edge_holds w _ _ = false
 
