@@ -6,4 +6,3 @@ pub mod Cuts
 pub mod StageWalks
 pub mod OpWalks
 pub mod NodeReading
-pub mod Went

@@ -11,4 +11,3 @@ pub mod Stages
 pub mod Decimals
 pub mod NodeForm
 pub mod NodeWords
-pub mod Writes

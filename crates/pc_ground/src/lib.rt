@@ -18,7 +18,6 @@ mod node_words;
 mod numbering;
 mod row;
 mod stage;
-mod writing;
 
 pub use decimal::decimal_value;
 pub use flat::Flat;
@@ -31,4 +30,3 @@ pub use node_text::NodeText;
 pub use numbering::Numbering;
 pub use row::{Row, RowKind};
 pub use stage::{Axioms, Stage, Stages};
-pub use writing::write_pieces;
