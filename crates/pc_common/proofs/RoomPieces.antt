@@ -2,7 +2,7 @@
 use Rattle.std.proofs.Common.{◌≡◌, ℕ, ◌+◌, ◌<◌, Bool, List, [], ◌∷◌, ◌++◌, Result, length, get_or, take, drop, refl, sym, ◌∙◌, ap, append_assoc, add-one}
 use Rattle.std.specs.Prelude.{IsOk, IsErr}
 use Rattle.std.specs.List.{flat_map}
-use Rattle.std.proofs.Math.Seq.{take-suc, take-length}
+use Rattle.std.proofs.Math.Seq.{take-suc}
 use Rattle.std.proofs.lemmas.List.{take-append-drop, drop_more, append-nil}
 use Rattle.pc_common.specs.Writes.{done}
 use Rattle.pc_common.specs.Room.{Puts}
@@ -48,4 +48,3 @@ pub puts_failed : {K X : Type 0} {told : K → Bool} {faults : K → ℕ} {taken
 puts_failed f xs k d inside err fails before puts =
     puts_text (flat_map f xs) (flat_split f xs k d inside)
     (puts_then refl before (puts_stop (flat_map f (drop (k + 1) xs)) err fails puts))
-

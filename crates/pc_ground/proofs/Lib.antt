@@ -6,3 +6,5 @@ pub mod Cuts
 pub mod StageWalks
 pub mod OpWalks
 pub mod NodeReading
+pub mod FlatRows
+pub mod Walks

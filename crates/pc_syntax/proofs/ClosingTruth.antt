@@ -17,16 +17,17 @@ use Rattle.pc_syntax.specs.declared.term.EdgeTerm.{EdgeTerm}
 use Rattle.pc_syntax.specs.declared.model.StageItem.{StageItem}
 use Rattle.pc_syntax.specs.declared.pred.Pred.{Pred}
 use Rattle.pc_syntax.specs.declared.pred.Pred.TheVariants.{True}
-use Rattle.pc_syntax.specs.Predicates.{Argument, op_at, core_at, Takes, takes_op, takes_core, takes_plain, Row, predicate_holds}
-use Rattle.pc_syntax.specs.Preds.{pred_named, row_of, takes_of, predicate_of}
+use Rattle.pc_syntax.specs.declared.pred.Takes.{Takes}
+use Rattle.pc_syntax.specs.declared.pred.Takes.TheVariants.{Op as takes_op, Core as takes_core, Plain as takes_plain}
+use Rattle.pc_syntax.specs.Arguments.{Argument, op_at, core_at}
+use Rattle.pc_syntax.specs.Predicates.{pred_named, takes_of, predicate_holds}
 use Rattle.pc_syntax.specs.Written.{Written, not_, and_, or_, implies_, forall_, exists_, static_, nodes_, edges_, expand_, bind_}
-use Rattle.pc_syntax.specs.Truth.{Meaning, an_op, a_core, Environment, Setting, value_of, value_of_arg, bound_to, stage_of, op_of, core_of, location_core, node_at, core_there, node_of, node_holds, edge_holds, argument_of, put_first, arguments_of, row_holds, static_holds, below, range_of, is_true}
+use Rattle.pc_syntax.specs.Truth.{Meaning, an_op, a_core, Environment, Setting, value_of, value_of_arg, bound_to, stage_of, op_of, core_of, location_core, node_at, core_there, node_of, node_holds, edge_holds, argument_of, put_first, arguments_of, pred_holds, static_holds, below, range_of, is_true}
 use Rattle.pc_syntax.specs.Closed.{value_at, closed_value, argument_at, closed_argument, closed_core, core_at_op, closed_node, closed_true}
 use Rattle.pc_syntax.specs.Scope.{Binding, Scope, binding_of, sort_of_arg, quantified_in, bindings_from, bound_in}
 use Rattle.pc_syntax.specs.Fault.{Fault, first_fault}
 use Rattle.pc_syntax.specs.NameFaults.{sort_fault, variable_fault, argument_fault, arguments_fault, arity_fault, location_fault, stage_name_fault, node_fault, edge_fault, value_fault, scope_fault, binding_fault, name_fault}
 use Rattle.pc_syntax.specs.Closing.{slot_of, closing_of_value, closing_of_bound, closing_of_arg, closing_of_args, closing_of_node, closing_of_edge, closing_of_static, closing_of}
-use Rattle.pc_syntax.proofs.PredLaws.{row_named-pred_named}
 use Rattle.pc_syntax.proofs.NoFault.{none_first, none_second, none_unless}
 use Rattle.pc_syntax.proofs.Slots.{sort_of_meaning, Fits, SameFound, found, slice_get-end, Fits-more, Fits-quantified}
 
@@ -112,18 +113,18 @@ module _ (slots : List Meaning) (env : Environment) (scope : Scope) (fits : Fits
   -- a predicate of the table
   static_law : (c : Case) (w : World Node) (pred : Word) (args : List Arg) (o : Option Pred)
       → ◌≡◌ {A = Option Fault}
-      (elim (option_map row_of o) [
+      (elim o [
         | None ↦ Some (PredicateUnknown, pred.at)
-        | Some r ↦ option_or (arity_fault pred args r.takes) (arguments_fault scope r.takes args)
+        | Some p ↦ option_or (arity_fault pred args (takes_of p)) (arguments_fault scope (takes_of p) args)
       ])
       None
-      → row_holds c env args (option_map row_of o) ≡ closed_true c w slots (closing_of_static scope (unwrap_or o True) args)
+      → pred_holds c env args o ≡ closed_true c w slots (closing_of_static scope (unwrap_or o True) args)
   static_law c w pred args None f = cc
   static_law c w pred args (Some p) f =
       let arity = none_first (arity_fault pred args (takes_of p)) (arguments_fault scope (takes_of p) args) f in
       let same = eqb-true (length args) (length (takes_of p)) (none_unless _ _ arity) in
       let rest = none_second (arity_fault pred args (takes_of p)) (arguments_fault scope (takes_of p) args) f in
-      ap (λ (as_ : Option (List Argument)). elim as_ [ None ↦ false | Some xs ↦ predicate_holds c (predicate_of p) xs ])
+      ap (λ (as_ : Option (List Argument)). elim as_ [ None ↦ false | Some xs ↦ predicate_holds c p xs ])
       (arguments_law (takes_of p) args same rest)
 
   -- the core of a location
@@ -291,18 +292,7 @@ static_true : (slots : List Meaning) (env : Environment) (scope : Scope) → Fit
     → name_fault stages [] scope (static_ pred args) ≡ None
     → static_holds c env pred.name args ≡ closed_true c w slots (closing_of stages scope (static_ pred args))
 static_true slots env scope fits stages c w pred args f =
-    let row = row_named-pred_named pred.name in
-    ap (λ o. row_holds c env args o) row
-    ∙ static_law slots env scope fits c w pred args (pred_named pred.name)
-    (subst
-    (λ (o : Option Row).
-    ◌≡◌ {A = Option Fault}
-    (elim o [
-      | None ↦ Some (PredicateUnknown, pred.at)
-      | Some r ↦ option_or (arity_fault pred args r.takes) (arguments_fault scope r.takes args)
-    ])
-    None)
-    row f)
+    static_law slots env scope fits c w pred args (pred_named pred.name) f
 
 -- closing keeps truth, in each environment that fits the scope and the slots
 pub closing_true : (s : Setting) (slots : List Meaning) (env : Environment) (scope : Scope)

@@ -11,7 +11,7 @@ use Rattle.pc_syntax.specs.declared.term.Arg.{Arg}
 use Rattle.pc_syntax.specs.declared.term.NodeTerm.{NodeTerm}
 use Rattle.pc_syntax.specs.declared.model.StageItem.{StageItem}
 use Rattle.pc_syntax.specs.Written.{Written, not_, and_, or_, implies_, forall_, exists_, static_, nodes_, edges_, expand_, bind_, MacroAt}
-use Rattle.pc_syntax.specs.Predicates.{same_name}
+use Rattle.pc_common.specs.Names.{same_name}
 use Rattle.pc_syntax.specs.Truth.{Environment, Meaning, an_op, Setting, value_of, stage_of, node_of, node_at, op_of, core_there, location_core, is_true, static_holds, edge_holds}
 use Rattle.edge_model.specs.EdgeModel.{IsEdgeNode, IsOneEdge, IsGuard, IsEdgeFormula}
 use Rattle.pipecheck_run.specs.Asserted.{edge_between, asserted}
