@@ -20,4 +20,5 @@ pub mod Headline
 pub mod OneFault
 pub mod FrontLaws
 pub mod OneModel
+pub mod ModelOrFault
 pub mod Told

@@ -12,3 +12,4 @@ pub mod Answered
 pub mod Headline
 pub mod ModelFront
 pub mod ModelSteps
+pub mod Laws

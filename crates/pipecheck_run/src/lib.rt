@@ -8,6 +8,7 @@ mod command;
 mod deciding;
 mod graph;
 mod language;
+mod laws;
 mod lines;
 mod model_front;
 mod parts;
@@ -22,6 +23,9 @@ mod verdict;
 mod words;
 mod writing;
 
+pub use laws::{
+    case_or_first_fault, model_or_fault, no_model_fault, one_first_fault, one_model, one_model_fault,
+};
 pub use model_front::{Axioms, FrontEnd, ModelFront, Stage, Stages};
 pub use reading::read_model;
 pub use top::run;
