@@ -24,7 +24,8 @@ mod words;
 mod writing;
 
 pub use laws::{
-    case_or_first_fault, model_or_fault, no_model_fault, one_first_fault, one_model, one_model_fault,
+    case_or_first_fault, model_or_fault, no_model_fault, one_first_fault, one_model,
+    one_model_fault,
 };
 pub use model_front::{Axioms, FrontEnd, ModelFront, Stage, Stages};
 pub use reading::read_model;
