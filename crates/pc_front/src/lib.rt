@@ -3,8 +3,10 @@
 //! `read_model` joins the readers of a whole model: tokens, tree, macros, names.
 #![tactic(auto)]
 
+mod laws;
 mod model_front;
 mod reading;
 
+pub use laws::{model_or_fault, no_model_fault, one_model, one_model_fault};
 pub use model_front::{Axioms, FrontEnd, ModelFront, Stage, Stages};
 pub use reading::read_model;

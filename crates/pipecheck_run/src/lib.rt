@@ -8,6 +8,7 @@ mod command;
 mod deciding;
 mod graph;
 mod language;
+mod laws;
 mod lines;
 mod parts;
 mod report;
@@ -20,5 +21,6 @@ mod verdict;
 mod words;
 mod writing;
 
+pub use laws::{case_or_first_fault, one_first_fault};
 pub use pc_front::{Axioms, FrontEnd, ModelFront, Stage, Stages, read_model};
 pub use top::run;

@@ -1,6 +1,7 @@
 use crate::fault::ParseFault;
 use crate::laws::{
-    formula_texts, model_texts, one_answer, one_formula_tree, one_model_tree, split_of_operands,
+    formula_texts, model_texts, one_answer, one_formula_tree, one_model_tree, some_answer,
+    split_of_operands,
 };
 use crate::parse::{parse_formula, parse_model};
 use pc_syntax::{Arg, EdgeTerm, Formula, Item, NodeTerm, Sort};
@@ -293,6 +294,7 @@ fn the_laws_can_be_called(rt: HostRuntime) -> Result<(), Fail> {
     one_formula_tree(&read);
     model_texts(&read);
     formula_texts(&read);
+    some_answer(&read);
     one_answer(&read);
     Ok(())
 }
