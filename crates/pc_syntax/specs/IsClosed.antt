@@ -60,7 +60,8 @@ HaveValues scope (a ∷ as_) = HasValue scope a × HaveValues scope as_
 -- the sort of an argument that has a value
 abbrev pub sort_of : List Sort → ClosedArg → Sort
 sort_of scope (Slot k) = unwrap_or (slice_get scope k) Core
-sort_of scope _ = Core
+sort_of scope (core_arg n) = Core
+sort_of scope (Plain name) = Core
 
 -- the scope with one variable more
 abbrev pub with_sort : List Sort → Sort → List Sort
