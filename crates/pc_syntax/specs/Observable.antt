@@ -1,5 +1,5 @@
 -- Which worlds satisfy a model, and when a test's outcome is observable.
-use Rattle.std.specs.Prelude.{ℕ, ◌+◌, ◌<◌, Bool, List, [], ◌∷◌, length, reverse, All, Contains, map, IsTrue}
+use Rattle.std.specs.Prelude.{ℕ, ◌+◌, ◌<◌, Bool, List, [], ◌∷◌, length, reverse, All, Contains, IsTrue}
 use Rattle.std.specs.List.{flat_map}
 use Rattle.pc_common.specs.Case.{MicroOp, Case}
 use Rattle.pc_common.specs.World.{Node, World, IsWorld}
