@@ -9,3 +9,7 @@ pub mod NodeReading
 pub mod Went
 pub mod FlatRows
 pub mod Walks
+pub mod NormalForms
+pub mod UnfoldedTruth
+pub mod Refuted
+pub mod CutTruth
