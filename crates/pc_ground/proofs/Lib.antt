@@ -13,3 +13,4 @@ pub mod NormalForms
 pub mod UnfoldedTruth
 pub mod Refuted
 pub mod CutTruth
+pub mod UnfoldedClosing
