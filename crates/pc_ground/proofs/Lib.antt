@@ -14,3 +14,4 @@ pub mod UnfoldedTruth
 pub mod Refuted
 pub mod CutTruth
 pub mod UnfoldedClosing
+mod Examples
