@@ -1,24 +1,22 @@
 -- A small model on a test of two writes of one core: its ground tree, its rows, its numbers and a refutation.
-use Rattle.std.proofs.Common.{◌≡◌, ℕ, List, [], ◌∷◌, ◌++◌, Option, Some, None, map, refl, lit<}
+use Rattle.std.proofs.Common.{◌≡◌, ℕ, List, [], ◌∷◌, Some, None, map, refl, lit<}
 use Rattle.std.specs.Prelude.{codes}
-use Rattle.pc_common.specs.Case.{PageAt, Address, page, number, Touch, write, MicroOp, Case, forbidden}
+use Rattle.pc_common.specs.Case.{PageAt, page, number, write, MicroOp, Case, forbidden}
 use Rattle.pc_common.specs.World.{Node}
 use Rattle.pc_common.specs.declared.place.Place.{Place}
 use Rattle.pc_syntax.specs.declared.term.Sort.TheVariants.{Microop}
 use Rattle.pc_syntax.specs.declared.term.Word.{Word}
 use Rattle.pc_syntax.specs.declared.term.Arg.TheVariants.{Word as word_arg}
 use Rattle.pc_syntax.specs.declared.term.NodeTerm.{NodeTerm}
-use Rattle.pc_syntax.specs.declared.term.EdgeTerm.{EdgeTerm}
 use Rattle.pc_syntax.specs.declared.model.StageItem.{StageItem}
 use Rattle.pc_syntax.specs.Predicates.{all_preds}
 use Rattle.pc_syntax.specs.Written.{Written, not_, and_, or_, implies_, forall_, static_, edges_, axiom_, WrittenModel}
-use Rattle.pc_ground.specs.declared.literal.Literal.{Literal}
 use Rattle.pc_ground.specs.declared.literal.Literal.TheVariants.{Edge, NoEdge}
 use Rattle.pc_ground.specs.Tree.{Tree, leaf, both, either}
 use Rattle.pc_ground.specs.Rows.{rows_of}
 use Rattle.pc_ground.specs.GroundTree.{ground_tree}
 use Rattle.pc_ground.specs.Numbers.{numbered}
-use Rattle.pc_ground.specs.Refutes.{Step, split, path, IsRefutation, a_path}
+use Rattle.pc_ground.specs.Refutes.{split, path, IsRefutation, a_path}
 
 -- names without places, of which a tree says nothing
 abbrev at : Place
@@ -57,9 +55,9 @@ m_either : WrittenModel
 m_either = record {
   stages = stage 0 (codes "S") ∷ stage 1 (codes "T") ∷ [];
   items =
-  axiom_ at (in_order (or_ (edge i_S j_S) (edge j_S i_S)))
-  ∷ axiom_ at (in_order (and_ (not_ (edge i_S j_S)) (and_ (edge i_S i_T) (not_ (edge j_S i_T)))))
-  ∷ [];
+      axiom_ at (in_order (or_ (edge i_S j_S) (edge j_S i_S)))
+      ∷ axiom_ at (in_order (and_ (not_ (edge i_S j_S)) (and_ (edge i_S i_T) (not_ (edge j_S i_T)))))
+      ∷ [];
 }
 
 abbrev first_page : PageAt
@@ -107,7 +105,12 @@ numbers = refl
 
 -- split 1; path 0.0@0:S 1.0@0:S; path 1.0@0:S 0.0@0:S 0.0@0:T
 refuted : IsRefutation the_tree (split 1 ∷ path (S0 ∷ S1 ∷ []) ∷ path (S1 ∷ S0 ∷ T0 ∷ []) ∷ [])
-refuted =
-    (leaf (Edge S0 S1), leaf (Edge S1 S0), ((1, lit< tt, refl), refl),
-    (a_path S0 [] S1 (3, lit< tt, refl) (0, lit< tt, refl),
-    (a_path S1 (S0 ∷ []) T0 ((3, lit< tt, refl), (1, lit< tt, refl)) (2, lit< tt, refl), refl)))
+refuted = (
+  leaf (Edge S0 S1),
+  leaf (Edge S1 S0),
+  ((1, lit< tt, refl), refl),
+  (
+    a_path S0 [] S1 (3, lit< tt, refl) (0, lit< tt, refl),
+    (a_path S1 (S0 ∷ []) T0 ((3, lit< tt, refl), (1, lit< tt, refl)) (2, lit< tt, refl), refl),
+  ),
+)

@@ -14,4 +14,5 @@ pub mod UnfoldedTruth
 pub mod Refuted
 pub mod CutTruth
 pub mod UnfoldedClosing
+pub mod TreeNodes
 mod Examples

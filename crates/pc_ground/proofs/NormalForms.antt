@@ -1,12 +1,11 @@
 -- Pushing negations down and folding constants: what they keep of the truth, and where constants are left.
-use Rattle.std.proofs.Common.{◌≡◌, Bool, true, false, not, ◌&&◌, ◌||◌, List, [], ◌∷◌, map, refl, sym, ◌∙◌, ap}
-use Rattle.std.specs.List.{list_any, list_all}
+use Rattle.std.proofs.Common.{◌≡◌, Bool, true, false, not, ◌&&◌, ◌||◌, refl, sym, ◌∙◌, ap}
 use Rattle.pc_common.specs.World.{Node, World, has_node, has_edge}
 use Rattle.pc_ground.specs.declared.literal.Literal.{Literal}
 use Rattle.pc_ground.specs.declared.literal.Literal.TheVariants.{Node as a_node, Edge, NoNode, NoEdge}
 use Rattle.pc_ground.specs.Tree.{Tree, always, never, leaf, both, either, literal_true, tree_true}
 use Rattle.pc_ground.specs.PlainGround.{PlainGround, ground_true, ground_false, ground_literal, ground_not, ground_and, ground_or, contrary, pushed, conjoined, disjoined, folded, normal, negated, ground_conjoined, ground_disjoined, simplified}
-use Rattle.pc_ground.specs.Folded.{HasNoConstant, IsFolded}
+use Rattle.pc_ground.specs.Folded.{IsFolded}
 
 -- the truth of a ground formula
 abbrev pub ground_holds : World Node → PlainGround → Bool
@@ -194,7 +193,6 @@ disjoined_always never = refl
 disjoined_always (leaf l) = refl
 disjoined_always (both a b) = refl
 disjoined_always (either a b) = refl
-
 
 -- which case of it applies
 pub data Conjunction : PlainGround → PlainGround → Type 0 where

@@ -1,17 +1,16 @@
 -- A refutation leaves no world in which its tree is true.
-use Rattle.std.proofs.Common.{◌≡◌, ℕ, ◌+◌, ◌⊎◌, inl, inr, Bool, true, false, not, ◌&&◌, ◌||◌, List, [], ◌∷◌, ◌++◌, Option, Some, None, refl, sym, ◌∙◌, ap, subst}
+use Rattle.std.proofs.Common.{◌≡◌, ℕ, ◌+◌, ◌⊎◌, inl, inr, Bool, true, false, not, List, [], ◌∷◌, Option, Some, None, refl, sym, ◌∙◌, ap, subst}
 use Rattle.std.specs.Prelude.{Contains, IsTrue}
-use Rattle.std.specs.List.{flat_map}
 use Rattle.pc_common.specs.World.{Node, World, has_node, has_edge, IsWorld}
 use Rattle.pc_common.specs.Chain.{Leads}
-use Rattle.pc_common.proofs.Elements.{In, in_from_contains, contains_from_in, in_either, from_flat}
+use Rattle.pc_common.proofs.Elements.{In, in_from_contains, in_either, from_flat}
 use Rattle.pc_common.proofs.Nodes.{has_node_is, has_edge_is}
 use Rattle.pc_ground.specs.declared.literal.Literal.{Literal}
 use Rattle.pc_ground.specs.declared.literal.Literal.TheVariants.{Node as a_node, Edge, NoNode, NoEdge}
 use Rattle.pc_ground.specs.Tree.{Tree, always, never, leaf, both, either, size_of, literal_true, tree_true}
 use Rattle.pc_ground.specs.Literals.{Joins, IsPresent, as_node, as_start, as_end}
-use Rattle.pc_ground.specs.Refutes.{Step, split, cycle, path, absent, false_step, subtree_at, asserted, Branch, literal_of, literals_of, Closes, a_cycle, a_path, an_absence, a_falsity, IsSplit, with_side, Runs, IsRefutation}
-use Rattle.pc_ground.proofs.Bools.{and_first, and_second, or_either, not_both}
+use Rattle.pc_ground.specs.Refutes.{Step, split, cycle, path, absent, false_step, subtree_at, asserted, Branch, literal_of, literals_of, Closes, a_cycle, a_path, an_absence, a_falsity, with_side, Runs, IsRefutation}
+use Rattle.pc_ground.proofs.Bools.{and_first, and_second, or_either}
 use Rattle.pc_ground.proofs.FlatRows.{children_both, children_either}
 
 module _ (w : World Node) (is_world : IsWorld w) where

@@ -2,7 +2,6 @@
 use Rattle.std.proofs.Common.{below_more, ◌≤◌, ◌≡◌, ◌≢◌, ℕ, zero, suc, inl, inr, ◌+◌, ◌<◌, ◌==◌, true, false, List, [], ◌∷◌, Some, length, drop, map, refl, sym, ◌∙◌, ap, arith, nat_eq, eq-eqb, eqb-true}
 use Rattle.std.specs.Prelude.{slice_get, Contains}
 use Rattle.pc_common.proofs.Elements.{In, in_from_contains, contains_from_in}
-use Rattle.std.specs.List.{list_any}
 use Rattle.std.specs.Option.{option_map, unwrap_or}
 use Rattle.std.specs.Cmp.Lexicographic.{pointwise}
 use Rattle.std.proofs.lemmas.List.{drop_more}
@@ -12,7 +11,7 @@ use Rattle.pc_common.specs.Lines.{StageName, stage_name}
 use Rattle.pc_ground.specs.declared.stage.Stage.{Stage}
 use Rattle.pc_ground.specs.Stages.{plain_stage, AreStages, numbers_of}
 use Rattle.pc_ground.specs.NodeWords.{IsStage}
-use Rattle.pc_ground.proofs.Bools.{and_first, and_second, and_both, or_either, or_first, or_second, true_or_false, not_both}
+use Rattle.pc_ground.proofs.Bools.{and_first, and_second, and_both, true_or_false, not_both}
 
 pub some_same : {X : Type 0} {x y : X} → Some x ≡ Some y → x ≡ y
 some_same {X} {x} {y} e = ap (λ o. unwrap_or o x) e

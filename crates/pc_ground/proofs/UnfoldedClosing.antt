@@ -1,5 +1,5 @@
 -- Expansion and closing keep what a formula says of a test, connective by connective.
-use Rattle.std.proofs.Common.{◌≡◌, ℕ, Bool, true, false, List, [], ◌∷◌, ◌++◌, Option, Some, None, length, map, cond, refl, sym, ◌∙◌, ap}
+use Rattle.std.proofs.Common.{◌≡◌, ℕ, Bool, true, false, List, [], ◌∷◌, ◌++◌, None, length, map, cond, refl, sym, ◌∙◌, ap}
 use Rattle.pc_common.specs.Case.{Case, cores_of}
 use Rattle.pc_common.specs.Names.{same_name}
 use Rattle.pc_common.specs.World.{Node, World}

@@ -1,5 +1,5 @@
 -- What a formula says of a test is true in a world exactly where the formula is.
-use Rattle.std.proofs.Common.{◌≡◌, Bool, true, false, not, ◌&&◌, ◌||◌, List, [], ◌∷◌, ◌++◌, Option, Some, None, map, cond, refl, sym, ◌∙◌, ap}
+use Rattle.std.proofs.Common.{◌≡◌, Bool, true, false, not, ◌&&◌, ◌||◌, List, [], ◌∷◌, ◌++◌, Option, Some, None, map, cond, refl, sym, ◌∙◌}
 use Rattle.std.specs.List.{list_any, list_all}
 use Rattle.pc_common.specs.Case.{Case}
 use Rattle.pc_common.specs.Names.{same_name}

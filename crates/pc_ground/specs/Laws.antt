@@ -1,10 +1,12 @@
 -- What joins the layers: laws of the definitions alone.
-use Rattle.std.specs.Prelude.{◌≡◌, List, [], None, map, IsTrue, Contains}
+use Rattle.std.specs.Prelude.{ℕ, ◌≡◌, List, [], None, map, IsTrue, Contains}
 use Rattle.std.specs.List.{list_all}
 use Rattle.pc_common.specs.Case.{Case}
 use Rattle.pc_common.specs.World.{Node, World, IsWorld, has_node, has_edge}
+use Rattle.pc_case.specs.Kept.{IsKept}
+use Rattle.pc_syntax.specs.declared.closed.Closed.{Closed}
 use Rattle.pc_syntax.specs.Written.{WrittenModel}
-use Rattle.pc_syntax.specs.Observable.{axioms_of, macros_of, satisfies}
+use Rattle.pc_syntax.specs.Observable.{axioms_of, macros_of, satisfies, IsNodeOf}
 use Rattle.pc_syntax.specs.Expansion.{expansion_of}
 use Rattle.pc_syntax.specs.Closing.{closing_of}
 use Rattle.pc_syntax.specs.NameFaults.{first_name_fault}
@@ -15,6 +17,7 @@ use Rattle.pc_ground.specs.Unfolded.{all_of, unfolded}
 use Rattle.pc_ground.specs.Folded.{IsFolded}
 use Rattle.pc_ground.specs.GroundTree.{ground_tree, closed_ground_tree}
 use Rattle.pc_ground.specs.Numbers.{nodes_of_tree}
+use Rattle.pc_ground.specs.Stages.{plain_axioms, AxiomsWithin}
 use Rattle.pc_ground.specs.CutWorlds.{cut_to}
 use Rattle.pc_ground.specs.Refutes.{Step, IsRefutation}
 
@@ -46,6 +49,12 @@ NormalIsFolded = (g : PlainGround) → IsFolded (normal g)
 -- folding constants first changes no normal form
 abbrev pub NormalOfSimplified : Type 0
 NormalOfSimplified = (g : PlainGround) → normal (simplified g) ≡ normal g
+
+-- each node of closed axioms' ground tree is of the test, and of the stages that the axioms name
+abbrev pub NodesAreNamed : Type 0
+NodesAreNamed =
+    (c : Case) (numbers : List ℕ) (axioms : List Closed) → IsKept c.ops → AxiomsWithin numbers (plain_axioms axioms)
+    → (a : Node) → Contains (nodes_of_tree (closed_ground_tree c (plain_axioms axioms))) a → IsNodeOf numbers c.ops a
 
 -- two worlds that agree on the nodes of a tree's literals give the tree one truth
 abbrev pub TruthIsOfLiterals : Type 0

@@ -15,6 +15,10 @@ use pc_case::Case;
 
 /// What both files say: a test, a model's stages and closed axioms in the text's order, the ground tree of
 /// these axioms in this test, and the numbers of its nodes.
+///
+/// The type keeps that stage numbers are below 64 and stage names are names, that no two stages have one
+/// number or one name, that the axioms name no other stages, that the tree is that of the axioms, and that
+/// the numbering is that of the tree.
 #[derive(Drop)]
 pub struct Front {
     pub case: Case,

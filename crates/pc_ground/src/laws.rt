@@ -1,5 +1,5 @@
 // Laws of the definitions. The functions do nothing: their contracts are the laws.
-ghost use Rattle.pc_ground.specs.Laws.{TreeSaysModel, TreeSaysClosed, ExpansionKeepsTree, ClosingKeepsTree, NormalIsFolded, NormalOfSimplified, TruthIsOfLiterals, CutKeepsTruth, CutIsWorld, RefutationIsSound};
+ghost use Rattle.pc_ground.specs.Laws.{TreeSaysModel, TreeSaysClosed, ExpansionKeepsTree, ClosingKeepsTree, NormalIsFolded, NormalOfSimplified, NodesAreNamed, TruthIsOfLiterals, CutKeepsTruth, CutIsWorld, RefutationIsSound};
 
 /// A world satisfies a model exactly where the model's ground tree is true in it.
 #[tactic(auto, using(crate::proofs::UnfoldedTruth::ground_tree_true))]
@@ -30,6 +30,12 @@ pub fn normal_is_folded()
 #[tactic(auto, using(crate::proofs::NormalForms::normal_simplified))]
 pub fn normal_of_simplified()
     ensures { NormalOfSimplified }
+{}
+
+/// Each node of closed axioms' ground tree is of the test, and of the stages that the axioms name.
+#[tactic(auto, using(crate::proofs::TreeNodes::nodes_are_of))]
+pub fn nodes_are_named()
+    ensures { NodesAreNamed }
 {}
 
 /// A tree's truth in a world depends only on the nodes of its literals.
