@@ -6,7 +6,6 @@ pub mod Cuts
 pub mod StageWalks
 pub mod OpWalks
 pub mod NodeReading
-pub mod Went
 pub mod FlatRows
 pub mod Walks
 pub mod NormalForms

@@ -22,7 +22,6 @@ mod node_words;
 mod numbering;
 mod row;
 mod stage;
-mod writing;
 
 pub use decimal::decimal_value;
 pub use flat::Flat;
