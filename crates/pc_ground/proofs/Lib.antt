@@ -1,0 +1,4 @@
+pub mod Bools
+pub mod Nodes
+pub mod KeyNumbers
+pub mod Decimals

@@ -7,3 +7,6 @@ pub mod Unfolded
 pub mod GroundTree
 pub mod Numbers
 pub mod Refutes
+pub mod Stages
+pub mod Decimals
+pub mod NodeForm
