@@ -8,5 +8,6 @@ pub mod GroundTree
 pub mod Numbers
 pub mod Refutes
 pub mod Stages
+pub mod NodesIn
 pub mod Decimals
 pub mod NodeForm
