@@ -1,0 +1,6 @@
+pub mod Joining
+pub mod Walked
+pub mod SlotLaws
+pub mod Ranges
+pub mod Terms
+pub mod Normal
