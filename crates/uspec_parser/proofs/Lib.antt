@@ -10,3 +10,4 @@ pub mod OneTree
 pub mod Complete
 pub mod Trees
 pub mod Split
+pub mod StageNames
