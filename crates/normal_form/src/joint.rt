@@ -30,6 +30,7 @@ impl Connective {
         }
     }
 
+    /// The kind of its row.
     pub(crate) fn kind(self) -> RowKind<NodeKey>
         ensures { result ≡ row_kind self }
     {
