@@ -48,18 +48,18 @@ pub decided : (con : Connective) (gs : List PlainGround) (g : PlainGround) (rest
     → g ≡ decider_of con → joined_all con (gs ++ g ∷ rest) ≡ decider_of con
 decided con gs g rest e =
     before-append con gs (g ∷ rest) (unit_of con) ∙
-        ap (λ d. joined_before con gs (joined con d (joined_all con rest))) e ∙
-        ap (joined_before con gs) (decider-joined con (joined_all con rest)) ∙
-        before-decider con gs
+    ap (λ d. joined_before con gs (joined con d (joined_all con rest))) e ∙
+    ap (joined_before con gs) (decider-joined con (joined_all con rest)) ∙
+    before-decider con gs
 
 -- a member without effect
 pub skipped : (con : Connective) (gs : List PlainGround) (g : PlainGround) (rest : List PlainGround)
     → g ≡ unit_of con → joined_all con (gs ++ g ∷ rest) ≡ joined_all con (gs ++ rest)
 skipped con gs g rest e =
     before-append con gs (g ∷ rest) (unit_of con) ∙
-        ap (λ d. joined_before con gs (joined con d (joined_all con rest))) e ∙
-        ap (joined_before con gs) (unit-joined con (joined_all con rest)) ∙
-        sym (before-append con gs rest (unit_of con))
+    ap (λ d. joined_before con gs (joined con d (joined_all con rest))) e ∙
+    ap (joined_before con gs) (unit-joined con (joined_all con rest)) ∙
+    sym (before-append con gs rest (unit_of con))
 
 -- a member that is kept
 pub put_last : (con : Connective) (kept after : List Ground) (g : Ground) (rest : List PlainGround)

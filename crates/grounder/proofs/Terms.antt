@@ -1,7 +1,6 @@
 -- The node of a term, from its micro-op and its core.
 use Rattle.std.proofs.Common.{◌≡◌, ℕ, List, Option, Some, slice_get, ap, ◌∙◌}
 use Rattle.pc_common.specs.Case.{Case, MicroOp}
-use Rattle.pc_common.specs.World.{Node}
 use Rattle.pc_syntax.specs.declared.closed_term.ClosedArg.{ClosedArg}
 use Rattle.pc_syntax.specs.declared.closed_term.ClosedNode.{ClosedNode}
 use Rattle.pc_syntax.specs.Truth.{Meaning, op_of, node_at}
@@ -16,4 +15,4 @@ pub node_named : (c : Case) (slots : List Meaning) (t : ClosedNode) (i k : ℕ) 
     → closed_node c slots t ≡ Some (record { op = i; core = k; stage = t.stage })
 node_named c slots t i k o op there core =
     ap (λ (p : Option ℕ). node_at p (core_at_op c slots p t.core) (Some t.stage)) op ∙
-        ap (λ (q : Option ℕ). node_at (Some i) q (Some t.stage)) (core_named c slots t.core i k o there core)
+    ap (λ (q : Option ℕ). node_at (Some i) q (Some t.stage)) (core_named c slots t.core i k o there core)

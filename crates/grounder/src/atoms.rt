@@ -28,8 +28,8 @@ fn core_or_own(env: &Env, core: &Option<ClosedArg>, own: u8) -> u8
     }
 }
 
-#[tactic(auto, using(crate::proofs::Terms::node_named))]
 /// The node that a term names: on the micro-op's own core where it names none.
+#[tactic(auto, using(crate::proofs::Terms::node_named))]
 fn node_key(case: &Case, env: &Env, node: &ClosedNode) -> NodeKey
     requires fits { FitsNode (scope_of env.now.items) node.now }
     requires range { AreInRange case.now env.now.items }
@@ -91,5 +91,8 @@ fn edge_literal(case: &Case, env: &Env, edge: &ClosedEdge) -> Literal<NodeKey>
     ensures { ground_literal (literal_node result)
         ≡ edge_said (closed_node case.now (meanings env.now.items) edge.now.from) (closed_node case.now (meanings env.now.items) edge.now.to) }
 {
-    Literal::Edge(node_key(case, env, &edge.from), node_key(case, env, &edge.to))
+    Literal::Edge(
+        node_key(case, env, &edge.from),
+        node_key(case, env, &edge.to),
+    )
 }

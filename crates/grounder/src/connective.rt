@@ -7,7 +7,7 @@ use pc_ground::Ground;
 use std::alloc::Global;
 
 /// What joins the members of a list or of a range.
-#[derive(Clone, Copy, Debug, PartialEq, Eq)]
+#[derive(Clone, Copy)]
 pub(crate) enum Connective {
     And,
     Or,
@@ -64,14 +64,14 @@ impl Connective {
         }
     }
 
-    #[tactic(auto, using(crate::proofs::Joining::decided, crate::proofs::Joining::skipped, crate::proofs::Joining::put_last))]
     /// Puts a member behind those that are kept, unless it is a constant. True where it decides the
     /// whole.
+    #[tactic(auto, using(crate::proofs::Joining::decided, crate::proofs::Joining::skipped, crate::proofs::Joining::put_last))]
     pub(crate) fn keep(self, kept: &mut Vec<Ground>, member: Ground) -> Result<bool, Memory>
         ensures { let before = map plain_ground kept.old.items in let after = map plain_ground kept.new.items in
             IfOk result (λ decided. (rest : List PlainGround) → MatchBool decided
-                (joined_all self (before ++ plain_ground member ∷ rest) ≡ decider_of self)
-                (joined_all self (before ++ plain_ground member ∷ rest) ≡ joined_all self (after ++ rest))) }
+            (joined_all self (before ++ plain_ground member ∷ rest) ≡ decider_of self)
+            (joined_all self (before ++ plain_ground member ∷ rest) ≡ joined_all self (after ++ rest))) }
     {
         if self.is_decided_by(&member) {
             return Ok(true);

@@ -11,7 +11,7 @@ ghost use Rattle.grounder.specs.Said.{said, said_at, said_over};
 
 use super::atoms::{ground_edges, ground_nodes};
 use super::connective::Connective;
-use super::slots::{with_value, with_values};
+use super::slots::{bind_next, copy_of, with_values};
 use pc_case::Case;
 use pc_common::Memory;
 use pc_ground::Ground;
@@ -54,7 +54,7 @@ pub(crate) fn ground_formula(
         ClosedFormula::Exists { sort, body } => {
             ground_range(alloc, case, env, Connective::Or, *sort, body)
         }
-        ClosedFormula::Static { pred, args } => Ok(decided_as(holds(case, *pred, args, env))),
+        ClosedFormula::Static { pred, args } => Ok(constant(holds(case, *pred, args, env))),
         ClosedFormula::Nodes(nodes) => ground_nodes(alloc, case, env, nodes),
         ClosedFormula::Edges(edges) => ground_edges(alloc, case, env, edges),
         ClosedFormula::Bind { args, body } => ground_binding(alloc, case, env, args, body),
@@ -62,7 +62,7 @@ pub(crate) fn ground_formula(
 }
 
 /// True or False.
-fn decided_as(truth: bool) -> Ground
+fn constant(truth: bool) -> Ground
     ensures { plain_ground result ≡ simplified (decided truth) }
 {
     if truth { Ground::True } else { Ground::False }
@@ -90,8 +90,8 @@ fn ground_rest(
     connective.join(alloc, left, right)
 }
 
-#[tactic(auto, using(crate::proofs::Ranges::op_count, crate::proofs::Ranges::core_count, crate::proofs::Ranges::few_cores))]
 /// How many values a quantifier ranges over: at most 64.
+#[tactic(auto, using(crate::proofs::Ranges::op_count, crate::proofs::Ranges::core_count, crate::proofs::Ranges::few_cores))]
 fn range_len(case: &Case, sort: Sort) -> u8
     ensures count { result ≡ length (range_of case.now sort) }
     ensures values { (k : ℕ) → k < result → IsInRange case.now (bound_at sort k) }
@@ -128,32 +128,16 @@ fn ground_range(
     requires range { AreInRange case.now env.now.items }
     ensures { IfOk result (λ g. plain_ground g ≡ said_over connective case.now env.now.items sort (plain_closed body.now)) }
 {
+    let mut inside = copy_of(env);
     let mut kept = Vec::new(alloc);
     for k in 0..range_len(case, sort) {
-        let member = ground_member(alloc, case, env, value_in_range(sort, k), body)?;
+        bind_next(env, &mut inside, value_in_range(sort, k));
+        let member = ground_formula(alloc, case, &inside, body)?;
         if connective.keep(&mut kept, member)? {
             return Ok(connective.decider());
         }
     }
     connective.join_all(alloc, kept)
-}
-
-/// The body of a quantifier whose variable has this value.
-#[cycle(walk)]
-fn ground_member(
-    alloc: Global,
-    case: &Case,
-    env: &Env,
-    value: Bound,
-    body: &ClosedFormula,
-) -> Result<Ground, Memory>
-    requires room { length env.now.items < 32 }
-    requires closed { IsClosed (with_sort (scope_of env.now.items) (sort_bound value)) (plain_closed body.now) }
-    requires range { AreInRange case.now env.now.items }
-    requires value { IsInRange case.now value }
-    ensures { IfOk result (λ g. plain_ground g ≡ said_at case.now env.now.items (plain_closed body.now) (meaning_of value)) }
-{
-    ground_formula(alloc, case, &with_value(env, value), body)
 }
 
 /// The body of a binding.

@@ -1,4 +1,4 @@
-ghost use Rattle.std.specs.Prelude.{◌≡◌, ◌<◌, ◌≤◌, ◌+◌, ◌++◌, ◌∷◌, [], length, map, Some};
+ghost use Rattle.std.specs.Prelude.{◌≡◌, ◌<◌, ◌≤◌, ◌+◌, ◌++◌, ◌∷◌, [], length, map, take, Some};
 ghost use Rattle.pc_common.specs.Case.{Case as PlainCase};
 ghost use Rattle.pc_syntax.specs.declared.term.Sort.TheVariants.{Microop};
 ghost use Rattle.pc_syntax.specs.Closed.{meaning_of, value_at, closed_value};
@@ -54,7 +54,7 @@ fn value_of(env: &Env, arg: &ClosedArg) -> Bound
 }
 
 /// The same slots, in room of their own.
-fn copy_of(env: &Env) -> Env
+pub(crate) fn copy_of(env: &Env) -> Env
     ensures { result.items ≡ env.now.items }
 {
     let mut inside = Env::new();
@@ -64,18 +64,19 @@ fn copy_of(env: &Env) -> Env
     inside
 }
 
-/// The slots inside a quantifier whose variable has this value.
-pub(crate) fn with_value(env: &Env, value: Bound) -> Env
-    requires { length env.now.items < 32 }
-    ensures { result.items ≡ env.now.items ++ value ∷ [] }
+/// Binds a quantifier's variable to its next value: `inside` begins with the slots outside.
+pub(crate) fn bind_next(env: &Env, inside: &mut Env, value: Bound)
+    requires room { length env.now.items < 32 }
+    requires begins { take (length env.now.items) inside.old.items ≡ env.now.items }
+    ensures items { inside.new.items ≡ env.now.items ++ value ∷ [] }
+    ensures begins { take (length env.now.items) inside.new.items ≡ env.now.items }
 {
-    let mut inside = copy_of(env);
+    inside.truncate(env.len());
     inside.push(value);
-    inside
 }
 
-#[tactic(auto, using(crate::proofs::Walked::value_there, crate::proofs::SlotLaws::slot_more))]
 /// The slots inside a binding: the values of the arguments take the next ones, in their order.
+#[tactic(auto, using(crate::proofs::Walked::value_there, crate::proofs::SlotLaws::slot_more))]
 pub(crate) fn with_values(env: &Env, args: &ClosedArgs) -> Env
     requires values { HaveValues (scope_of env.now.items) args.now }
     requires room { length env.now.items + length args.now ≤ 32 }

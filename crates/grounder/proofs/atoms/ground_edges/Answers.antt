@@ -1,4 +1,4 @@
-use Rattle.std.proofs.Common.{◌≡◌, ◌+◌, length, ap, sym, ◌∙◌, arith}
+use Rattle.std.proofs.Common.{ap, sym, ◌∙◌, arith}
 use Rattle.pc_ground.specs.Keys.{literal_node}
 use Rattle.pc_ground.specs.PlainGround.{ground_literal, ground_conjoined}
 use Rattle.static_preds.specs.Values.{scope_of}

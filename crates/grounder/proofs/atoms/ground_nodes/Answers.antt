@@ -1,4 +1,4 @@
-use Rattle.std.proofs.Common.{◌≡◌, ◌+◌, length, ap, ◌∙◌, arith}
+use Rattle.std.proofs.Common.{ap, ◌∙◌, arith}
 use Rattle.pc_ground.specs.declared.literal.Literal.TheVariants.{Node as a_node}
 use Rattle.pc_ground.specs.Keys.{key_node}
 use Rattle.pc_ground.specs.PlainGround.{ground_literal, ground_conjoined}

@@ -12,4 +12,4 @@ abbrev pub invariant-loop-axiom : goal.invariant-loop-axiom
 invariant-loop-axiom l =
     simplified (axioms_unfolded l.case (map (λ a. plain_closed a.body) l.axioms))
     ≡ joined_all And
-        (map plain_ground l.kept.items ++ map (λ a. said l.case [] (plain_closed a.body)) (drop l.axiom-index l.axioms))
+    (map plain_ground l.kept.items ++ map (λ a. said l.case [] (plain_closed a.body)) (drop l.axiom-index l.axioms))

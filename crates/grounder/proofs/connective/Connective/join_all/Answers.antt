@@ -1,4 +1,4 @@
-use Rattle.std.proofs.Common.{◌≡◌, ◌∙◌}
+use Rattle.std.proofs.Common.{◌∙◌}
 use Rattle.pc_ground.specs.PlainGround.{plain_ground}
 use Rattle.grounder.proofs.Joining.{taken_last}
 use Rattle.grounder.proofs.connective.Connective.join_all.Goals as goal
