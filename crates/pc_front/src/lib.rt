@@ -6,5 +6,5 @@
 mod model_front;
 mod reading;
 
-pub use model_front::{Axioms, FrontEnd, ModelFront, Stage, Stages};
+pub use model_front::{FrontEnd, ModelFront};
 pub use reading::read_model;

@@ -20,5 +20,6 @@ mod verdict;
 mod words;
 mod writing;
 
-pub use pc_front::{Axioms, FrontEnd, ModelFront, Stage, Stages, read_model};
+pub use pc_front::{FrontEnd, ModelFront, read_model};
+pub use pc_ground::{Axioms, Stage, Stages};
 pub use top::run;
