@@ -4,3 +4,4 @@ pub mod SlotLaws
 pub mod Ranges
 pub mod Terms
 pub mod Normal
+pub mod Constants

@@ -30,5 +30,6 @@ abbrev pub joined_before : Connective → List PlainGround → PlainGround → P
 joined_before con [] h = h
 joined_before con (g ∷ gs) h = joined con g (joined_before con gs h)
 
+-- all members and nothing else
 abbrev pub joined_all : Connective → List PlainGround → PlainGround
 joined_all con gs = joined_before con gs (unit_of con)

@@ -1,4 +1,4 @@
-ghost use Rattle.std.specs.Prelude.{◌≡◌, ◌<◌, Some, map, IfOk};
+ghost use Rattle.std.specs.Prelude.{◌≡◌, ◌<◌, Some, IfOk};
 ghost use Rattle.pc_common.specs.Case.{Case as PlainCase, MicroOp};
 ghost use Rattle.pc_syntax.specs.Closed.{closed_core, closed_node, closed_nodes, closed_edges};
 ghost use Rattle.pc_syntax.specs.IsClosed.{FitsCore, FitsNode, FitNodes, FitEdges};

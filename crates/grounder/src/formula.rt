@@ -1,13 +1,13 @@
-ghost use Rattle.std.specs.Prelude.{◌≡◌, ℕ, ◌<◌, ◌++◌, ◌∷◌, [], length, map, IfOk};
-ghost use Rattle.pc_syntax.specs.Closed.{plain_closed, meaning_of, closed_bind};
+ghost use Rattle.std.specs.Prelude.{◌≡◌, ℕ, ◌<◌, length, IfOk};
+ghost use Rattle.pc_syntax.specs.Closed.{plain_closed, closed_bind};
 ghost use Rattle.pc_syntax.specs.IsClosed.{IsClosed, with_sort};
 ghost use Rattle.pc_syntax.specs.Truth.{range_of};
 ghost use Rattle.pc_ground.specs.PlainGround.{plain_ground, simplified};
 ghost use Rattle.pc_ground.specs.Unfolded.{decided};
-ghost use Rattle.static_preds.specs.Values.{scope_of, sort_bound};
+ghost use Rattle.static_preds.specs.Values.{scope_of};
 ghost use Rattle.grounder.specs.Slots.{AreInRange, IsInRange, bound_at};
 ghost use Rattle.grounder.specs.Members.{joined};
-ghost use Rattle.grounder.specs.Said.{said, said_at, said_over};
+ghost use Rattle.grounder.specs.Said.{said, said_over};
 
 use super::atoms::{ground_edges, ground_nodes};
 use super::connective::Connective;

@@ -16,7 +16,8 @@ use std::alloc::Global;
 ///
 /// Axioms are walked in their order, and none behind one that is False. The walk nests a call for each
 /// connective, quantifier and binding above an atom, which in a model without faults are at most 512.
-/// Memory goes with what is left after folding. The one error is that memory was refused.
+/// The memory that it takes follows the largest part that is left after folding, and never the unfolded
+/// axioms. The one error is that memory was refused.
 pub fn ground(alloc: Global, case: &Case, axioms: &[Closed]) -> Result<Ground, Memory>
     ensures unfolded { IfOk result (λ g. plain_ground g ≡ simplified (axioms_unfolded case.now (map (λ a. plain_closed a.body) axioms.now))) }
     ensures tree { IfOk result (λ g. normal (plain_ground g) ≡ closed_ground_tree case.now (map (λ a. plain_closed a.body) axioms.now)) }

@@ -9,6 +9,8 @@ mod atoms;
 mod connective;
 mod formula;
 mod grounding;
+mod laws;
 mod slots;
 
 pub use grounding::ground;
+pub use laws::a_constant_is_the_whole;

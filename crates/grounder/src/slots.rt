@@ -2,7 +2,7 @@ ghost use Rattle.std.specs.Prelude.{◌≡◌, ◌<◌, ◌≤◌, ◌+◌, ◌+
 ghost use Rattle.pc_common.specs.Case.{Case as PlainCase};
 ghost use Rattle.pc_syntax.specs.declared.term.Sort.TheVariants.{Microop};
 ghost use Rattle.pc_syntax.specs.Closed.{meaning_of, value_at, closed_value};
-ghost use Rattle.pc_syntax.specs.Predicates.{takes_core};
+ghost use Rattle.pc_syntax.specs.declared.pred.Takes.TheVariants.{Core as takes_core};
 ghost use Rattle.pc_syntax.specs.Truth.{op_of, core_of};
 ghost use Rattle.pc_syntax.specs.IsClosed.{IsBound, FitsArg, HasValue, HaveValues, sort_of, with_sorts};
 ghost use Rattle.static_preds.specs.Values.{sort_bound, scope_of};

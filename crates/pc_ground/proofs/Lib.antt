@@ -3,3 +3,9 @@ pub mod Nodes
 pub mod KeyNumbers
 pub mod Decimals
 pub mod NodesIn
+pub mod Cuts
+pub mod StageWalks
+pub mod OpWalks
+pub mod NodeReading
+pub mod FlatRows
+pub mod Walks
