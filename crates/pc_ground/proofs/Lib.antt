@@ -9,3 +9,7 @@ pub mod OpWalks
 pub mod NodeReading
 pub mod FlatRows
 pub mod Walks
+pub mod NormalForms
+pub mod UnfoldedTruth
+pub mod Refuted
+pub mod CutTruth

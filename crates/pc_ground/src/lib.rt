@@ -10,6 +10,7 @@ mod decimal;
 mod flat;
 mod front;
 mod ground;
+mod laws;
 mod line_fault;
 mod literal;
 mod node_key;
@@ -23,6 +24,10 @@ pub use decimal::decimal_value;
 pub use flat::Flat;
 pub use front::Front;
 pub use ground::Ground;
+pub use laws::{
+    cut_is_world, normal_is_folded, normal_of_simplified, refutation_is_sound, tree_says_closed,
+    tree_says_model, truth_is_of_literals,
+};
 pub use line_fault::LineFault;
 pub use literal::Literal;
 pub use node_key::NodeKey;
