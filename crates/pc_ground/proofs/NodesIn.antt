@@ -4,7 +4,7 @@ use Rattle.std.specs.Prelude.{IsTrue, unwrap_or}
 use Rattle.std.specs.List.{list_all, range_with_len}
 use Rattle.pc_common.specs.Case.{MicroOp, Case, cores_of}
 use Rattle.pc_common.specs.World.{Node}
-use Rattle.pc_common.specs.Lines.{StageName}
+use Rattle.pc_common.specs.Lines.{StageName, Names}
 use Rattle.pc_case.specs.Kept.{IsKept}
 use Rattle.pc_syntax.specs.declared.term.Sort.{Sort}
 use Rattle.pc_syntax.specs.declared.term.Sort.TheVariants.{Microop, Core}
@@ -12,7 +12,7 @@ use Rattle.pc_syntax.specs.declared.closed_term.ClosedArg.{ClosedArg}
 use Rattle.pc_syntax.specs.declared.closed_term.ClosedArg.TheVariants.{Slot, Core as core_arg, Plain}
 use Rattle.pc_syntax.specs.declared.closed_term.ClosedNode.{ClosedNode}
 use Rattle.pc_syntax.specs.declared.closed_term.ClosedEdge.{ClosedEdge}
-use Rattle.pc_syntax.specs.Predicates.{takes_core}
+use Rattle.pc_syntax.specs.declared.pred.Takes.TheVariants.{Core as takes_core}
 use Rattle.pc_syntax.specs.Truth.{Meaning, an_op, a_core, range_of, op_of, core_of, node_at}
 use Rattle.pc_syntax.specs.Closed.{PlainClosed, closed_not, closed_and, closed_or, closed_implies, closed_forall, closed_exists, closed_static, closed_nodes, closed_edges, closed_bind, value_at, closed_value, closed_core, core_at_op, closed_node}
 use Rattle.pc_syntax.specs.IsClosed.{IsClosed, FitsArg, FitsCore, FitsNode, FitNodes, FitEdges, HasValue, HaveValues, sort_of, with_sort, with_sorts}
@@ -24,7 +24,10 @@ use Rattle.pc_ground.specs.Unfolded.{all_of, some_of, decided, node_said, edge_s
 use Rattle.pc_ground.specs.GroundTree.{axioms_unfolded, closed_ground_tree}
 use Rattle.pc_ground.specs.Numbers.{nodes_of_literal, nodes_of_tree}
 use Rattle.pc_ground.specs.Stages.{has_stage, is_within, axioms_within}
-use Rattle.pc_ground.specs.NodesIn.{IsNodeIn}
+use Rattle.pc_ground.specs.NodeForm.{IsNodeIn}
+
+abbrev pub names : List StageName → Case → Names
+names stages c = record { ops = c.ops; stages = stages }
 
 -- every one of a list
 abbrev pub Each : {X : Type 0} → (X → Type 0) → List X → Type 0
@@ -217,7 +220,7 @@ core_there c scope slots o (Some a) are fits own = core_named c scope slots a ar
 
 -- the node of a term
 named : (stages : List StageName) (c : Case) (scope : List Sort) (slots : List Meaning) (t : ClosedNode) → IsKept c.ops → AreOf c scope slots
-    → FitsNode scope t → IsTrue (has_stage stages t.stage) → (a : Node) × (closed_node c slots t ≡ Some a) × IsNodeIn stages c a
+    → FitsNode scope t → IsTrue (has_stage stages t.stage) → (a : Node) × (closed_node c slots t ≡ Some a) × IsNodeIn (names stages c) a
 named stages c scope slots t kept are fits within =
     let v = value_at slots t.op in
     let op = op_value c v (are_at c scope slots t.op Microop are fits.0) in
@@ -234,18 +237,18 @@ named stages c scope slots t kept are fits within =
     )
 
 node_has : (stages : List StageName) (c : Case) (scope : List Sort) (slots : List Meaning) (t : ClosedNode) → IsKept c.ops → AreOf c scope slots
-    → FitsNode scope t → IsTrue (has_stage stages t.stage) → GroundHas (IsNodeIn stages c) (node_said (closed_node c slots t))
+    → FitsNode scope t → IsTrue (has_stage stages t.stage) → GroundHas (IsNodeIn (names stages c)) (node_said (closed_node c slots t))
 node_has stages c scope slots t kept are fits within =
     let n = named stages c scope slots t kept are fits within in
-    subst (λ o. GroundHas (IsNodeIn stages c) (node_said o)) (sym n.1) n.2
+    subst (λ o. GroundHas (IsNodeIn (names stages c)) (node_said o)) (sym n.1) n.2
 
 edge_has : (stages : List StageName) (c : Case) (scope : List Sort) (slots : List Meaning) (t u : ClosedNode) → IsKept c.ops → AreOf c scope slots
     → FitsNode scope t → FitsNode scope u → IsTrue (has_stage stages t.stage) → IsTrue (has_stage stages u.stage)
-    → GroundHas (IsNodeIn stages c) (edge_said (closed_node c slots t) (closed_node c slots u))
+    → GroundHas (IsNodeIn (names stages c)) (edge_said (closed_node c slots t) (closed_node c slots u))
 edge_has stages c scope slots t u kept are ft fu wt wu =
     let n = named stages c scope slots t kept are ft wt in
     let m = named stages c scope slots u kept are fu wu in
-    let P = IsNodeIn stages c in
+    let P = IsNodeIn (names stages c) in
     subst (λ o. GroundHas P (edge_said o (closed_node c slots u))) (sym n.1)
     (subst (λ o. GroundHas P (edge_said (Some n.0) o)) (sym m.1) (n.2, m.2))
 
@@ -259,7 +262,7 @@ second false b h = cc
 
 nodes_each : (stages : List StageName) (c : Case) (scope : List Sort) (slots : List Meaning) (ts : List ClosedNode) → IsKept c.ops → AreOf c scope slots
     → FitNodes scope ts → IsTrue (list_all (λ t. has_stage stages t.stage) ts)
-    → Each (λ t. GroundHas (IsNodeIn stages c) (node_said (closed_node c slots t))) ts
+    → Each (λ t. GroundHas (IsNodeIn (names stages c)) (node_said (closed_node c slots t))) ts
 nodes_each stages c scope slots [] kept are fit within = tt
 nodes_each stages c scope slots (t ∷ ts) kept are fit within =
     let here = has_stage stages t.stage in
@@ -268,7 +271,7 @@ nodes_each stages c scope slots (t ∷ ts) kept are fit within =
 
 edges_each : (stages : List StageName) (c : Case) (scope : List Sort) (slots : List Meaning) (ts : List ClosedEdge) → IsKept c.ops → AreOf c scope slots
     → FitEdges scope ts → IsTrue (list_all (λ t. has_stage stages t.from.stage && has_stage stages t.to.stage) ts)
-    → Each (λ t. GroundHas (IsNodeIn stages c) (edge_said (closed_node c slots t.from) (closed_node c slots t.to))) ts
+    → Each (λ t. GroundHas (IsNodeIn (names stages c)) (edge_said (closed_node c slots t.from) (closed_node c slots t.to))) ts
 edges_each stages c scope slots [] kept are fit within = tt
 edges_each stages c scope slots (t ∷ ts) kept are fit within =
     let from = has_stage stages t.from.stage in
@@ -297,7 +300,7 @@ decided_has P true = tt
 decided_has P false = tt
 
 formula_has : (stages : List StageName) (c : Case) (scope : List Sort) (slots : List Meaning) (p : PlainClosed) → IsKept c.ops → AreOf c scope slots
-    → IsClosed scope p → IsTrue (is_within stages p) → GroundHas (IsNodeIn stages c) (closed_unfolded c slots p)
+    → IsClosed scope p → IsTrue (is_within stages p) → GroundHas (IsNodeIn (names stages c)) (closed_unfolded c slots p)
 formula_has stages c scope slots (closed_not p) kept are is within = formula_has stages c scope slots p kept are is within
 formula_has stages c scope slots (closed_and p q) kept are is within =
     let a = is_within stages p in
@@ -312,29 +315,29 @@ formula_has stages c scope slots (closed_implies p q) kept are is within =
     let b = is_within stages q in
     (formula_has stages c scope slots p kept are is.0 (first a b within), formula_has stages c scope slots q kept are is.1 (second a b within))
 formula_has stages c scope slots (closed_forall sort p) kept are is within =
-    let P = IsNodeIn stages c in
+    let P = IsNodeIn (names stages c) in
     all_has P (λ v. closed_unfolded c (slots ++ v ∷ []) p) (range_of c sort)
     (each_more (IsOf c sort) (λ v. GroundHas P (closed_unfolded c (slots ++ v ∷ []) p)) (range_of c sort)
     (λ v of. formula_has stages c (with_sort scope sort) (slots ++ v ∷ []) p kept (are_append c scope (sort ∷ []) slots (v ∷ []) are (of, tt)) is.1 within)
     (range_each c sort kept))
 formula_has stages c scope slots (closed_exists sort p) kept are is within =
-    let P = IsNodeIn stages c in
+    let P = IsNodeIn (names stages c) in
     some_has P (λ v. closed_unfolded c (slots ++ v ∷ []) p) (range_of c sort)
     (each_more (IsOf c sort) (λ v. GroundHas P (closed_unfolded c (slots ++ v ∷ []) p)) (range_of c sort)
     (λ v of. formula_has stages c (with_sort scope sort) (slots ++ v ∷ []) p kept (are_append c scope (sort ∷ []) slots (v ∷ []) are (of, tt)) is.1 within)
     (range_each c sort kept))
-formula_has stages c scope slots (closed_static pred args) kept are is within = decided_has (IsNodeIn stages c) _
+formula_has stages c scope slots (closed_static pred args) kept are is within = decided_has (IsNodeIn (names stages c)) _
 formula_has stages c scope slots (closed_nodes ts) kept are is within =
-    all_has (IsNodeIn stages c) (λ t. node_said (closed_node c slots t)) ts (nodes_each stages c scope slots ts kept are is within)
+    all_has (IsNodeIn (names stages c)) (λ t. node_said (closed_node c slots t)) ts (nodes_each stages c scope slots ts kept are is within)
 formula_has stages c scope slots (closed_edges ts) kept are is within =
-    all_has (IsNodeIn stages c) (λ t. edge_said (closed_node c slots t.from) (closed_node c slots t.to)) ts
+    all_has (IsNodeIn (names stages c)) (λ t. edge_said (closed_node c slots t.from) (closed_node c slots t.to)) ts
     (edges_each stages c scope slots ts kept are is within)
 formula_has stages c scope slots (closed_bind args p) kept are is within =
     formula_has stages c (with_sorts scope args) (slots ++ map (closed_value slots) args) p kept
     (are_append c scope (map (sort_of scope) args) slots (map (closed_value slots) args) are (bound_values c scope slots args are is.0)) is.2 within
 
 axioms_has : (stages : List StageName) (c : Case) (axioms : List PlainClosed) → IsKept c.ops → Each (IsClosed []) axioms
-    → IsTrue (axioms_within stages axioms) → Each (λ p. GroundHas (IsNodeIn stages c) (closed_unfolded c [] p)) axioms
+    → IsTrue (axioms_within stages axioms) → Each (λ p. GroundHas (IsNodeIn (names stages c)) (closed_unfolded c [] p)) axioms
 axioms_has stages c [] kept are within = tt
 axioms_has stages c (p ∷ ps) kept are within =
     let a = is_within stages p in
@@ -342,8 +345,8 @@ axioms_has stages c (p ∷ ps) kept are within =
     (formula_has stages c [] [] p kept tt are.0 (first a b within), axioms_has stages c ps kept are.1 (second a b within))
 
 pub nodes_in : (stages : List StageName) (c : Case) (axioms : List PlainClosed) → IsKept c.ops → Each (IsClosed []) axioms
-    → IsTrue (axioms_within stages axioms) → Each (IsNodeIn stages c) (nodes_of_tree (closed_ground_tree c axioms))
+    → IsTrue (axioms_within stages axioms) → Each (IsNodeIn (names stages c)) (nodes_of_tree (closed_ground_tree c axioms))
 nodes_in stages c axioms kept are within =
-    let P = IsNodeIn stages c in
+    let P = IsNodeIn (names stages c) in
     tree_nodes P (closed_ground_tree c axioms)
     (normal_has P (axioms_unfolded c axioms) (all_has P (closed_unfolded c []) axioms (axioms_has stages c axioms kept are within)))

@@ -12,7 +12,6 @@ pub mod Walks
 pub mod CutWorlds
 pub mod Laws
 pub mod Stages
-pub mod NodesIn
 pub mod Decimals
 pub mod NodeForm
 pub mod NodeWords
