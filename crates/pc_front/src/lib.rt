@@ -1,10 +1,13 @@
 //! From the bytes of a model and a test to the ground tree, or the exact first fault.
 //!
-//! `read_model` joins the readers of a whole model: tokens, tree, macros, names.
+//! `read_model` joins the readers of a whole model: tokens, tree, macros, names. `front` adds the test,
+//! and goes on to what search and checker work on: the ground tree, in flat rows, with its node numbers.
 #![tactic(auto)]
 
+mod joining;
 mod model_front;
 mod reading;
 
+pub use joining::front;
 pub use model_front::{FrontEnd, ModelFront};
 pub use reading::read_model;

@@ -2,7 +2,6 @@ pub mod Bools
 pub mod Nodes
 pub mod KeyNumbers
 pub mod Decimals
-pub mod NodesIn
 pub mod Cuts
 pub mod StageWalks
 pub mod OpWalks
