@@ -12,3 +12,5 @@ pub mod NormalForms
 pub mod UnfoldedTruth
 pub mod Refuted
 pub mod CutTruth
+pub mod UnfoldedClosing
+mod Examples

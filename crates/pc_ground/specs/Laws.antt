@@ -1,13 +1,17 @@
 -- What joins the layers: laws of the definitions alone.
-use Rattle.std.specs.Prelude.{◌≡◌, List, [], map, IsTrue, Contains}
+use Rattle.std.specs.Prelude.{◌≡◌, List, [], None, map, IsTrue, Contains}
 use Rattle.std.specs.List.{list_all}
 use Rattle.pc_common.specs.Case.{Case}
 use Rattle.pc_common.specs.World.{Node, World, IsWorld, has_node, has_edge}
 use Rattle.pc_syntax.specs.Written.{WrittenModel}
-use Rattle.pc_syntax.specs.Observable.{satisfies}
+use Rattle.pc_syntax.specs.Observable.{axioms_of, macros_of, satisfies}
+use Rattle.pc_syntax.specs.Expansion.{expansion_of}
+use Rattle.pc_syntax.specs.Closing.{closing_of}
+use Rattle.pc_syntax.specs.NameFaults.{first_name_fault}
 use Rattle.pc_syntax.specs.Closed.{PlainClosed, closed_true}
 use Rattle.pc_ground.specs.Tree.{Tree, tree_true}
 use Rattle.pc_ground.specs.PlainGround.{PlainGround, normal, simplified}
+use Rattle.pc_ground.specs.Unfolded.{all_of, unfolded}
 use Rattle.pc_ground.specs.Folded.{IsFolded}
 use Rattle.pc_ground.specs.GroundTree.{ground_tree, closed_ground_tree}
 use Rattle.pc_ground.specs.Numbers.{nodes_of_tree}
@@ -22,6 +26,18 @@ TreeSaysModel = (m : WrittenModel) (c : Case) (w : World Node) → satisfies m c
 abbrev pub TreeSaysClosed : Type 0
 TreeSaysClosed =
     (c : Case) (axioms : List PlainClosed) (w : World Node) → list_all (closed_true c w []) axioms ≡ tree_true w (closed_ground_tree c axioms)
+
+-- expansion keeps the ground tree of a model: expanded, its axioms have it, with no macro left to look up
+abbrev pub ExpansionKeepsTree : Type 0
+ExpansionKeepsTree =
+    (m : WrittenModel) (c : Case)
+    → normal (all_of (map (unfolded m.stages c [] []) (map (expansion_of (macros_of m)) (axioms_of m)))) ≡ ground_tree m c
+
+-- closing keeps the ground tree of a model without name faults: expanded and closed, its axioms have it
+abbrev pub ClosingKeepsTree : Type 0
+ClosingKeepsTree =
+    (m : WrittenModel) (c : Case) → first_name_fault m ≡ None
+    → closed_ground_tree c (map (λ a. closing_of m.stages [] (expansion_of (macros_of m) a)) (axioms_of m)) ≡ ground_tree m c
 
 -- a constant is left in a normal form only where it is the whole tree
 abbrev pub NormalIsFolded : Type 0

@@ -1,5 +1,5 @@
 // Laws of the definitions. The functions do nothing: their contracts are the laws.
-ghost use Rattle.pc_ground.specs.Laws.{TreeSaysModel, TreeSaysClosed, NormalIsFolded, NormalOfSimplified, TruthIsOfLiterals, CutKeepsTruth, CutIsWorld, RefutationIsSound};
+ghost use Rattle.pc_ground.specs.Laws.{TreeSaysModel, TreeSaysClosed, ExpansionKeepsTree, ClosingKeepsTree, NormalIsFolded, NormalOfSimplified, TruthIsOfLiterals, CutKeepsTruth, CutIsWorld, RefutationIsSound};
 
 /// A world satisfies a model exactly where the model's ground tree is true in it.
 #[tactic(auto, using(crate::proofs::UnfoldedTruth::ground_tree_true))]
@@ -11,6 +11,13 @@ pub fn tree_says_model()
 #[tactic(auto, using(crate::proofs::UnfoldedTruth::closed_ground_tree_true))]
 pub fn tree_says_closed()
     ensures { TreeSaysClosed }
+{}
+
+/// Expansion and closing keep the ground tree of a model without name faults.
+#[tactic(auto, using(crate::proofs::UnfoldedClosing::expanded_tree, crate::proofs::UnfoldedClosing::closed_tree))]
+pub fn tree_is_kept()
+    ensures expansion { ExpansionKeepsTree }
+    ensures closing { ClosingKeepsTree }
 {}
 
 /// A constant is left in a normal form only where it is the whole tree.
