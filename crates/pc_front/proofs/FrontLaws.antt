@@ -57,7 +57,7 @@ map_map f g [] = refl
 map_map f g (x ∷ xs) = ap (λ ys. f (g x) ∷ ys) (map_map f g xs)
 
 -- an axiom's first name fault is that of its expansion
-names_expanded : (m : WrittenModel) (ws : List Written)
+pub names_expanded : (m : WrittenModel) (ws : List Written)
     → first_fault (name_fault m.stages (macros_of m) []) ws
     ≡ first_fault (λ w. name_fault m.stages [] [] (expansion_of (macros_of m) w)) ws
 names_expanded m [] = refl

@@ -1,3 +1,4 @@
 pub mod FrontLaws
 pub mod OneModel
 pub mod StagesKept
+pub mod Joined

@@ -7,7 +7,7 @@ use Rattle.std.specs.Char.{is_ascii_alphabetic, is_ascii_digit, is_ascii_upperca
 use Rattle.std.proofs.lemmas.Bool.{eq-eqb}
 use Rattle.pc_common.specs.Lines.{StageName}
 use Rattle.pc_syntax.specs.declared.model.StageItem.{StageItem}
-use Rattle.pc_syntax.specs.Predicates.{same_name}
+use Rattle.pc_common.specs.Names.{same_name}
 use Rattle.pc_syntax.specs.StageFaults.{stage_numbered, stage_called, number_fault, number_again, name_again, stage_fault, stages_fault}
 use Rattle.pc_syntax.proofs.NoFault.{none_first, none_second, none_where}
 use Rattle.macro_expand.proofs.Names.{is_same}

@@ -14,11 +14,10 @@ use Rattle.uspec_parser.specs.Marks.{IsMarkedModel}
 use Rattle.uspec_parser.specs.Syntax.{DerivesModel}
 use Rattle.uspec_parser.specs.Answers.{terminals}
 use Rattle.pc_syntax.specs.declared.model.StageItem.{StageItem}
-use Rattle.pc_syntax.specs.declared.closed.Closed.{Closed}
 use Rattle.pc_syntax.specs.Written.{Written, WrittenModel}
 use Rattle.pc_syntax.specs.Observable.{axioms_of, macros_of, satisfies}
 use Rattle.pc_syntax.specs.Expansion.{expansion_of}
-use Rattle.pc_syntax.specs.Closed.{PlainClosed, plain_closed, closed_satisfies}
+use Rattle.pc_syntax.specs.Closed.{PlainClosed, closed_satisfies}
 use Rattle.pc_syntax.specs.Closing.{closing_of}
 use Rattle.pc_syntax.specs.ModelFault.{first_model_fault}
 use Rattle.pc_ground.specs.Stages.{plain_stage, plain_axioms}

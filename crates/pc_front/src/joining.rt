@@ -1,5 +1,5 @@
-ghost use Rattle.std.specs.Prelude.{◌≡◌, ◌^◌, ◌<◌, length, map, IfOk, IfErr, Some, IsTrue};
-ghost use Rattle.pc_ground.specs.Stages.{plain_stage, plain_axioms, AreStages, axioms_within};
+ghost use Rattle.std.specs.Prelude.{◌≡◌, ◌^◌, ◌<◌, length, map, IfOk, IfErr};
+ghost use Rattle.pc_ground.specs.Stages.{plain_stage, plain_axioms, numbers_of, AreStages, AxiomsWithin};
 ghost use Rattle.pc_ground.specs.Rows.{rows_of};
 ghost use Rattle.pc_ground.specs.GroundTree.{closed_ground_tree};
 ghost use Rattle.pc_front.specs.Front.{SayFront, IsEnd, test_end_of};
@@ -38,7 +38,7 @@ pub fn front(alloc: Global, model_bytes: &[u8], test_bytes: &[u8]) -> Result<Fro
 /// The model's part and the case, with the ground tree and its numbers.
 fn joined(alloc: Global, model: ModelFront, case: Case) -> Result<Front, Memory>
     requires named { AreStages (map plain_stage model.stages) }
-    requires within { IsTrue (axioms_within (map plain_stage model.stages) (plain_axioms model.axioms)) }
+    requires within { AxiomsWithin (numbers_of (map plain_stage model.stages)) (plain_axioms model.axioms) }
     ensures { IfOk result (λ f. (f.case ≡ case) × (f.stages ≡ model.stages) × (f.axioms ≡ model.axioms)) }
 {
     let tree = tree_of(alloc, &case, &model.axioms)?;

@@ -42,9 +42,10 @@ pub truth_of_literals : (t : Tree Node) (w v : World Node)
     → ((a b : Node) → Contains (nodes_of_tree t) a → Contains (nodes_of_tree t) b → has_edge w a b ≡ has_edge v a b)
     → tree_true w t ≡ tree_true v t
 truth_of_literals t w v nodes edges =
-    agrees t w v
-    ((λ a i. nodes a (contains_from_in a (nodes_of_tree t) i)),
-    (λ a b i j. edges a b (contains_from_in a (nodes_of_tree t) i) (contains_from_in b (nodes_of_tree t) j)))
+    agrees t w v (
+      (λ a i. nodes a (contains_from_in a (nodes_of_tree t) i)),
+      (λ a b i j. edges a b (contains_from_in a (nodes_of_tree t) i) (contains_from_in b (nodes_of_tree t) j)),
+    )
 
 -- a test that passes only where another does finds in the filtered list what it finds in the list
 any_filtered : {X : Type 0} (p q : X → Bool) → ((x : X) → p x ≡ true → q x ≡ true) → (xs : List X) → list_any p xs ≡ list_any p (filter q xs)
@@ -111,9 +112,10 @@ pub cut_world : (nodes : List Node) (w : World Node) → IsWorld w → IsWorld (
 cut_world nodes w h = record {
   ends = λ a b e.
       let r = kept nodes w a b e in
-      let ends = h.ends a b r.0 in
-      (contains_from_in a (filter (is_among nodes) w.nodes) (in_filter (is_among nodes) a w.nodes (in_from_contains a w.nodes ends.0) (and_first (is_among nodes a) (is_among nodes b) r.1)),
-      contains_from_in b (filter (is_among nodes) w.nodes) (in_filter (is_among nodes) b w.nodes (in_from_contains b w.nodes ends.1) (and_second (is_among nodes a) (is_among nodes b) r.1)));
+      let ends = h.ends a b r.0 in (
+        contains_from_in a (filter (is_among nodes) w.nodes) (in_filter (is_among nodes) a w.nodes (in_from_contains a w.nodes ends.0) (and_first (is_among nodes a) (is_among nodes b) r.1)),
+        contains_from_in b (filter (is_among nodes) w.nodes) (in_filter (is_among nodes) b w.nodes (in_from_contains b w.nodes ends.1) (and_second (is_among nodes a) (is_among nodes b) r.1)),
+      );
   irreflexive = λ a e. h.irreflexive a (kept nodes w a a e).0;
   transitive = λ a b c e f.
       let r = kept nodes w a b e in

@@ -57,9 +57,9 @@ m_either : WrittenModel
 m_either = record {
   stages = stage 0 (codes "S") ∷ stage 1 (codes "T") ∷ [];
   items =
-  axiom_ at (in_order (or_ (edge i_S j_S) (edge j_S i_S)))
-  ∷ axiom_ at (in_order (and_ (not_ (edge i_S j_S)) (and_ (edge i_S i_T) (not_ (edge j_S i_T)))))
-  ∷ [];
+      axiom_ at (in_order (or_ (edge i_S j_S) (edge j_S i_S)))
+      ∷ axiom_ at (in_order (and_ (not_ (edge i_S j_S)) (and_ (edge i_S i_T) (not_ (edge j_S i_T)))))
+      ∷ [];
 }
 
 abbrev first_page : PageAt
@@ -107,7 +107,12 @@ numbers = refl
 
 -- split 1; path 0.0@0:S 1.0@0:S; path 1.0@0:S 0.0@0:S 0.0@0:T
 refuted : IsRefutation the_tree (split 1 ∷ path (S0 ∷ S1 ∷ []) ∷ path (S1 ∷ S0 ∷ T0 ∷ []) ∷ [])
-refuted =
-    (leaf (Edge S0 S1), leaf (Edge S1 S0), ((1, lit< tt, refl), refl),
-    (a_path S0 [] S1 (3, lit< tt, refl) (0, lit< tt, refl),
-    (a_path S1 (S0 ∷ []) T0 ((3, lit< tt, refl), (1, lit< tt, refl)) (2, lit< tt, refl), refl)))
+refuted = (
+  leaf (Edge S0 S1),
+  leaf (Edge S1 S0),
+  ((1, lit< tt, refl), refl),
+  (
+    a_path S0 [] S1 (3, lit< tt, refl) (0, lit< tt, refl),
+    (a_path S1 (S0 ∷ []) T0 ((3, lit< tt, refl), (1, lit< tt, refl)) (2, lit< tt, refl), refl),
+  ),
+)

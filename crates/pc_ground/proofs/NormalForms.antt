@@ -195,7 +195,6 @@ disjoined_always (leaf l) = refl
 disjoined_always (both a b) = refl
 disjoined_always (either a b) = refl
 
-
 -- which case of it applies
 pub data Conjunction : PlainGround → PlainGround → Type 0 where
   left_neutral : (h : PlainGround) → Conjunction ground_true h

@@ -25,8 +25,8 @@ pub use flat::Flat;
 pub use front::Front;
 pub use ground::Ground;
 pub use laws::{
-    cut_is_world, normal_is_folded, normal_of_simplified, refutation_is_sound, tree_is_kept, tree_says_closed,
-    tree_says_model, truth_is_of_literals,
+    cut_is_world, normal_is_folded, normal_of_simplified, refutation_is_sound, tree_is_kept,
+    tree_says_closed, tree_says_model, truth_is_of_literals,
 };
 pub use line_fault::LineFault;
 pub use literal::Literal;

@@ -1,4 +1,4 @@
-use Rattle.std.proofs.Common.{◌≡◌, None, Some, [], sym, ◌∙◌, ap, subst}
+use Rattle.std.proofs.Common.{◌≡◌, None, Some, sym, ◌∙◌, ap, subst}
 use Rattle.pc_syntax.specs.Closed.{closed_satisfies}
 use Rattle.pc_syntax.specs.Written.{written_model}
 use Rattle.pc_syntax.specs.StageFaults.{first_stage_fault}
