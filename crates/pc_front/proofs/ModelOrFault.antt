@@ -20,7 +20,7 @@ use Rattle.pc_front.specs.Laws.{HasModelOrFault}
 
 -- of a model that they say
 of_model : (bytes : List ℕ) (m : WrittenModel) → ModelOf bytes m → (found : Option Fault) → first_model_fault m ≡ found → HasModelOrFault bytes
-of_model bytes m x None none = inl (m, (x, none))
+of_model bytes m x None none = inl (m, record { model = x; no_fault = none })
 of_model bytes m x (Some (kind, at)) is = inr (kind, at, said x is)
 
 -- of tokens that they spell

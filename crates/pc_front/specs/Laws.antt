@@ -1,18 +1,14 @@
 -- What holds of the bytes of every model.
-use Rattle.std.specs.Prelude.{◌≡◌, ◌⊎◌, ℕ, List, None}
+use Rattle.std.specs.Prelude.{◌≡◌, ◌⊎◌, ℕ, List}
 use Rattle.pc_common.specs.declared.place.Place.{Place}
 use Rattle.pc_common.specs.declared.fault.FaultKind.{FaultKind}
 use Rattle.pc_syntax.specs.Written.{WrittenModel}
-use Rattle.pc_syntax.specs.ModelFault.{first_model_fault}
 use Rattle.pc_front.specs.ModelFront.{ModelOf, IsModelFault}
-
--- a model that has no fault
-abbrev pub IsSound : List ℕ → WrittenModel → Type 0
-IsSound bytes m = ModelOf bytes m × (first_model_fault m ≡ None)
+use Rattle.pc_front.specs.Front.{SaysModel}
 
 -- the bytes say a model without a fault, or have a first fault
 abbrev pub HasModelOrFault : List ℕ → Type 0
-HasModelOrFault bytes = ((m : WrittenModel) × IsSound bytes m) ⊎ ((kind : FaultKind) × (at : Place) × IsModelFault bytes kind at)
+HasModelOrFault bytes = ((m : WrittenModel) × SaysModel bytes m) ⊎ ((kind : FaultKind) × (at : Place) × IsModelFault bytes kind at)
 
 abbrev pub HasOneModel : List ℕ → Type 0
 HasOneModel bytes = (m n : WrittenModel) → ModelOf bytes m → ModelOf bytes n → m ≡ n
@@ -22,4 +18,4 @@ HasOneModelFault bytes = (j k : FaultKind) (p q : Place) → IsModelFault bytes 
 
 -- not both
 abbrev pub HasNoFaultBeside : List ℕ → Type 0
-HasNoFaultBeside bytes = (m : WrittenModel) → IsSound bytes m → (kind : FaultKind) (at : Place) → IsModelFault bytes kind at → ⊥
+HasNoFaultBeside bytes = (m : WrittenModel) → SaysModel bytes m → (kind : FaultKind) (at : Place) → IsModelFault bytes kind at → ⊥

@@ -22,5 +22,6 @@ mod words;
 mod writing;
 
 pub use laws::{case_or_first_fault, one_first_fault};
-pub use pc_front::{Axioms, FrontEnd, ModelFront, Stage, Stages, read_model};
+pub use pc_front::{FrontEnd, ModelFront, read_model};
+pub use pc_ground::{Axioms, Stage, Stages};
 pub use top::run;

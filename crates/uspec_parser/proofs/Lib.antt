@@ -11,3 +11,4 @@ pub mod Complete
 pub mod Trees
 pub mod Split
 pub mod Existence
+pub mod StageNames
