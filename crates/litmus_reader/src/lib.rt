@@ -33,8 +33,6 @@ mod refusal;
 mod rows;
 mod syntax;
 mod terminal;
-#[cfg(test)]
-mod tests;
 mod values;
 
 pub use fault::CaseFault;

@@ -17,8 +17,6 @@ mod formula;
 mod model;
 mod pred;
 mod term;
-#[cfg(test)]
-mod tests;
 
 pub use bound::{Bound, Env};
 pub use closed::Closed;

@@ -13,8 +13,6 @@ mod parts;
 mod report;
 mod scope;
 mod solving;
-#[cfg(test)]
-mod tests;
 mod top;
 mod verdict;
 mod words;
