@@ -30,3 +30,5 @@ mod shown;
 mod shown_closed;
 #[cfg(test)]
 mod texts;
+#[cfg(test)]
+mod trees;
