@@ -34,8 +34,6 @@ mod refusal;
 mod rows;
 mod syntax;
 mod terminal;
-#[cfg(test)]
-mod tests;
 mod values;
 
 pub use fault::CaseFault;

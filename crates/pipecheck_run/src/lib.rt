@@ -14,8 +14,6 @@ mod parts;
 mod report;
 mod scope;
 mod solving;
-#[cfg(test)]
-mod tests;
 mod top;
 mod verdict;
 mod words;

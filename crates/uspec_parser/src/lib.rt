@@ -49,8 +49,6 @@ mod parse;
 mod phrase;
 mod terminal;
 mod terms;
-#[cfg(test)]
-mod tests;
 
 pub use fault::ParseFault;
 pub use laws::{

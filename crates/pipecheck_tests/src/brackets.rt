@@ -1,17 +1,20 @@
-// Lists in brackets, parted by semicolons, with at most two brackets open at once:
-//     items = [ item more ]     more = [ ";" item more ]     item = "x" | "[" items "]"
+//! The recogniser over a small grammar: lists in brackets, parted by semicolons, with at most two
+//! brackets open at once.
+//!
+//!     items = [ item more ]     more = [ ";" item more ]     item = "x" | "[" items "]"
 ghost use Rattle.std.specs.Prelude.{◌≡◌, ◌+◌, ℕ, Bool, true, false, nat_le, List, [], ◌∷◌, Option, Some, None, refl};
-ghost use Rattle.ll_grammar.specs.declared.tests.Bracket.{Bracket};
-ghost use Rattle.ll_grammar.specs.declared.tests.Bracket.TheVariants.{Open, Close, Semicolon, Word};
-ghost use Rattle.ll_grammar.specs.declared.tests.Phrase.{Phrase};
-ghost use Rattle.ll_grammar.specs.declared.tests.Phrase.TheVariants.{Items, More, Item};
+ghost use Rattle.pipecheck_tests.specs.declared.brackets.Bracket.{Bracket};
+ghost use Rattle.pipecheck_tests.specs.declared.brackets.Bracket.TheVariants.{Open, Close, Semicolon, Word};
+ghost use Rattle.pipecheck_tests.specs.declared.brackets.Phrase.{Phrase};
+ghost use Rattle.pipecheck_tests.specs.declared.brackets.Phrase.TheVariants.{Items, More, Item};
 ghost use Rattle.ll_grammar.specs.declared.grammar.Symbol.{Symbol};
 ghost use Rattle.ll_grammar.specs.declared.grammar.Symbol.TheVariants.{Class, Part};
 ghost use Rattle.ll_grammar.specs.Tables.{predictable_by, texts_by, is_predictable_part, is_ranked_part};
 
-use crate::fault::{Fault, first_fault};
-use crate::grammar::{Grammar, Step, Symbol, TokenClass, push_body};
-use crate::laws::{one_answer, some_answer, viable_prefixes};
+use ll_grammar::{
+    Fault, Grammar, Step, Symbol, TokenClass, first_fault, one_answer, push_body, some_answer,
+    viable_prefixes,
+};
 use std::alloc::AllocError;
 use std::test::Fail;
 
@@ -150,50 +153,38 @@ fn fault(rt: &HostRuntime, text: &[u8]) -> Result<Option<Fault>, AllocError> {
     first_fault(rt.alloc(), Phrase::Items(0), &classes)
 }
 
+/// A text, and its first fault.
+const ROWS: &[(&'static [u8], Option<Fault>)] = &[
+    (b"", None),
+    (b"x", None),
+    (b"x;[];[x;[x]]", None),
+    // the first token that no text goes on with
+    (b";", Some(Fault::Syntax(0))),
+    (b"xx", Some(Fault::Syntax(1))),
+    (b"x;]", Some(Fault::Syntax(2))),
+    (b"[x]]", Some(Fault::Syntax(3))),
+    // the end counts as a token
+    (b"x;", Some(Fault::Syntax(2))),
+    (b"[x;[]", Some(Fault::Syntax(5))),
+    // the third open bracket is too deep
+    (b"[[[", Some(Fault::Depth(2))),
+    (b"[[];[[x]]]", Some(Fault::Depth(5))),
+    // of two faults the earlier one
+    (b"[[x[", Some(Fault::Syntax(3))),
+    (b"[[[;;", Some(Fault::Depth(2))),
+];
+
 #[test]
-fn texts_have_no_fault(rt: HostRuntime) -> Result<(), Fail> {
-    assert_eq!(rt; fault(&rt, b"")?, None);
-    assert_eq!(rt; fault(&rt, b"x")?, None);
-    assert_eq!(rt; fault(&rt, b"x;[];[x;[x]]")?, None);
+fn a_text_has_its_first_fault_or_none(rt: HostRuntime) -> Result<(), Fail> {
+    for (text, want) in ROWS {
+        assert_eq!(rt; fault(&rt, text)?, *want, "{text:?}");
+    }
     Ok(())
 }
 
 #[test]
-fn a_syntax_fault_stands_at_the_first_token_that_no_text_goes_on_with(
-    rt: HostRuntime,
-) -> Result<(), Fail> {
-    assert_eq!(rt; fault(&rt, b";")?, Some(Fault::Syntax(0)));
-    assert_eq!(rt; fault(&rt, b"xx")?, Some(Fault::Syntax(1)));
-    assert_eq!(rt; fault(&rt, b"x;]")?, Some(Fault::Syntax(2)));
-    assert_eq!(rt; fault(&rt, b"[x]]")?, Some(Fault::Syntax(3)));
-    Ok(())
-}
-
-#[test]
-fn the_end_counts_as_a_token(rt: HostRuntime) -> Result<(), Fail> {
-    assert_eq!(rt; fault(&rt, b"x;")?, Some(Fault::Syntax(2)));
-    assert_eq!(rt; fault(&rt, b"[x;[]")?, Some(Fault::Syntax(5)));
-    Ok(())
-}
-
-#[test]
-fn the_third_open_bracket_is_too_deep(rt: HostRuntime) -> Result<(), Fail> {
-    assert_eq!(rt; fault(&rt, b"[[[")?, Some(Fault::Depth(2)));
-    assert_eq!(rt; fault(&rt, b"[[];[[x]]]")?, Some(Fault::Depth(5)));
-    Ok(())
-}
-
-#[test]
-fn the_earlier_fault_is_named(rt: HostRuntime) -> Result<(), Fail> {
-    assert_eq!(rt; fault(&rt, b"[[x[")?, Some(Fault::Syntax(3)));
-    assert_eq!(rt; fault(&rt, b"[[[;;")?, Some(Fault::Depth(2)));
-    Ok(())
-}
-
-#[test]
-fn the_laws_can_be_called(_rt: HostRuntime) -> Result<(), Fail> {
+fn the_laws_can_be_called(_rt: HostRuntime) {
     viable_prefixes(Phrase::Items(0), &[Bracket::Open]);
     some_answer(Phrase::Items(0), &[Bracket::Open]);
     one_answer(Phrase::Items(0), &[Bracket::Open]);
-    Ok(())
 }
