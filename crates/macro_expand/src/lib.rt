@@ -6,16 +6,16 @@ mod calls;
 mod expansion;
 mod fault;
 mod items;
+mod laws;
 mod macros;
 mod measure;
 mod parameters;
 mod parts;
 mod sizes;
 mod stages;
-#[cfg(test)]
-mod tests;
 mod top;
 
 pub use fault::MacroFault;
+pub use laws::{expansion_keeps_truth, expansions_satisfy};
 pub use stages::stage_faults;
 pub use top::expand;

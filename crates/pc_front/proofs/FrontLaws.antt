@@ -1,10 +1,9 @@
 -- What a whole model's stages, expansions and closings say of the model.
 use Rattle.std.proofs.Common.{◌≡◌, ℕ, ◌<◌, zero, suc, ◌&&◌, List, [], ◌∷◌, ◌++◌, Option, Some, None, map, length, get_or, nat_lt, ltb-false, refl, sym, ◌∙◌, ap, arith}
-use Rattle.std.specs.List.{list_all}
 use Rattle.std.specs.Option.{option_or}
 use Rattle.std.specs.Prelude.{MatchOption}
 use Rattle.pc_common.specs.Case.{Case}
-use Rattle.pc_common.specs.World.{World}
+use Rattle.pc_common.specs.World.{Node, World}
 use Rattle.pc_syntax.specs.declared.model.StageItem.{StageItem}
 use Rattle.pc_syntax.specs.declared.expanded.Expanded.{Expanded}
 use Rattle.pc_syntax.specs.Written.{Written, written, WrittenModel}
@@ -15,19 +14,19 @@ use Rattle.pc_syntax.specs.Sizes.{first_size_fault}
 use Rattle.pc_syntax.specs.NameFaults.{name_fault, first_name_fault}
 use Rattle.pc_syntax.specs.ModelFault.{first_model_fault}
 use Rattle.pc_syntax.specs.Observable.{axioms_of, macros_of, setting, satisfies}
-use Rattle.pc_syntax.specs.Truth.{is_true}
+use Rattle.pc_syntax.specs.Truth.{are_true}
 use Rattle.pc_syntax.specs.Expansion.{expansion_of}
-use Rattle.pc_syntax.specs.Closed.{closed_true}
+use Rattle.pc_syntax.specs.Closed.{closed_satisfies}
 use Rattle.pc_syntax.specs.Closing.{closing_of}
 use Rattle.pc_syntax.proofs.ExpansionLaws.{expansion_true, expansion_faults}
-use Rattle.pc_syntax.proofs.ClosingTruth.{closed_axiom_true}
+use Rattle.pc_syntax.proofs.ClosingTruth.{closing_true}
 use Rattle.pc_syntax.proofs.NoFault.{none_first, none_second, none_where}
 use Rattle.uspec_lexer.specs.Fault.{IsRefusal}
 use Rattle.uspec_lexer.specs.declared.fault.LexFault.{LexFault}
 use Rattle.uspec_lexer.specs.declared.fault.LexFault.TheVariants.{Lexical as a_lexical_fault, Memory as no_memory}
 use Rattle.macro_expand.specs.Faults.{AreExpansions}
 use Rattle.scope_check.specs.FirstFault.{IsNoneOr}
-use Rattle.pc_front.specs.ModelFront.{ModelOf, lexical, said, closed_axiom, IsFrontEnd}
+use Rattle.pc_front.specs.ModelFront.{ModelOf, lexical, said, closed_axiom, IsModelEnd}
 use Rattle.pc_front.specs.ModelSteps.{end_of, lexical_told, axiom_fault, closing_of_axiom}
 
 -- a stage that is not refused has a number of one byte
@@ -58,7 +57,7 @@ map_map f g [] = refl
 map_map f g (x ∷ xs) = ap (λ ys. f (g x) ∷ ys) (map_map f g xs)
 
 -- an axiom's first name fault is that of its expansion
-names_expanded : (m : WrittenModel) (ws : List Written)
+pub names_expanded : (m : WrittenModel) (ws : List Written)
     → first_fault (name_fault m.stages (macros_of m) []) ws
     ≡ first_fault (λ w. name_fault m.stages [] [] (expansion_of (macros_of m) w)) ws
 names_expanded m [] = refl
@@ -82,21 +81,21 @@ module _ (m : WrittenModel) (es : List Expanded) (expansions : AreExpansions m e
       ∙ ap (map (closing_of m.stages [])) expansions
       ∙ map_map (closing_of m.stages []) (expansion_of (macros_of m)) (axioms_of m)
 
-true_alike : (m : WrittenModel) (c : Case) (w : World) (ws : List Written)
+true_alike : (m : WrittenModel) (c : Case) (w : World Node) (ws : List Written)
     → first_fault (λ v. name_fault m.stages [] [] (expansion_of (macros_of m) v)) ws ≡ None
-    → list_all (is_true (setting m c w) (macros_of m) []) ws ≡ list_all (closed_true c w []) (map (closed_axiom m) ws)
+    → are_true (setting m c w) (macros_of m) ws ≡ closed_satisfies (map (closed_axiom m) ws) c w
 true_alike m c w [] f = refl
 true_alike m c w (v ∷ vs) f =
     let e = expansion_of (macros_of m) v in
     let rest = first_fault (λ u. name_fault m.stages [] [] (expansion_of (macros_of m) u)) vs in
     let here = expansion_true (setting m c w) (macros_of m) [] v
-    ∙ closed_axiom_true (setting m c w) e (none_first (name_fault m.stages [] [] e) rest f) in
+    ∙ closing_true (setting m c w) [] [] [] refl tt e (none_first (name_fault m.stages [] [] e) rest f) in
     let later = true_alike m c w vs (none_second (name_fault m.stages [] [] e) rest f) in
     λ i. here i && later i
 
 -- the axioms are true exactly where the closed ones are
-pub satisfied_alike : (m : WrittenModel) → first_name_fault m ≡ None → (c : Case) (w : World)
-    → satisfies m c w ≡ list_all (closed_true c w []) (map (closed_axiom m) (axioms_of m))
+pub satisfied_alike : (m : WrittenModel) → first_name_fault m ≡ None → (c : Case) (w : World Node)
+    → satisfies m c w ≡ closed_satisfies (map (closed_axiom m) (axioms_of m)) c w
 satisfied_alike m f c w = true_alike m c w (axioms_of m) (sym (names_expanded m (axioms_of m)) ∙ f)
 
 -- the first fault of a model, group by group
@@ -135,11 +134,11 @@ module _ (m : WrittenModel) where
 
 -- the first fault of a model, as it is told
 pub front_end : (bytes : List ℕ) (m : WrittenModel) → ModelOf bytes m → (o : Option Fault)
-    → IsNoneOr (first_model_fault m) o → IsFrontEnd bytes (end_of o)
+    → IsNoneOr (first_model_fault m) o → IsModelEnd bytes (end_of o)
 front_end bytes m of None is = tt
 front_end bytes m of (Some f) is = (refl, said of is)
 
 -- a fault of the bytes, as it is told
-pub lexical_end : (bytes : List ℕ) (fault : LexFault) → IsRefusal bytes fault → IsFrontEnd bytes (end_of (lexical_told fault))
+pub lexical_end : (bytes : List ℕ) (fault : LexFault) → IsRefusal bytes fault → IsModelEnd bytes (end_of (lexical_told fault))
 lexical_end bytes (a_lexical_fault place) is = (refl, lexical is)
 lexical_end bytes no_memory is = tt

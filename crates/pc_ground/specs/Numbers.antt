@@ -1,5 +1,5 @@
 -- In which order the nodes of a tree are numbered: as first seen in preorder, an edge's first node before its second.
-use Rattle.std.specs.Prelude.{List, [], ◌∷◌, ◌++◌, if◌then◌else◌}
+use Rattle.std.specs.Prelude.{ℕ, ◌≡◌, List, [], ◌∷◌, ◌++◌, Some, slice_get, if◌then◌else◌}
 use Rattle.std.specs.List.{list_any}
 use Rattle.pc_common.specs.World.{Node, same_node}
 use Rattle.pc_ground.specs.declared.literal.Literal.{Literal}
@@ -28,3 +28,14 @@ first_seen seen (x ∷ xs) = if list_any (same_node x) seen then first_seen seen
 -- each node of the tree once, in the order of first sight
 abbrev pub numbered : Tree Node → List Node
 numbered t = first_seen [] (nodes_of_tree t)
+
+-- the nodes with this one behind them, where it is not among them
+abbrev pub seen : List Node → Node → List Node
+seen nodes a = if list_any (same_node a) nodes then nodes else nodes ++ a ∷ []
+
+-- the node stands at k
+abbrev pub IsNumberOf : List Node → ℕ → Node → Type 0
+IsNumberOf nodes k a = slice_get nodes k ≡ Some a
+
+abbrev pub AreDistinct : List Node → Type 0
+AreDistinct nodes = (j k : ℕ) (a : Node) → IsNumberOf nodes j a → IsNumberOf nodes k a → j ≡ k

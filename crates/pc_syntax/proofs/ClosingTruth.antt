@@ -4,7 +4,7 @@ use Rattle.std.proofs.lemmas.List.{length-map}
 use Rattle.std.specs.List.{list_any, list_all}
 use Rattle.std.specs.Option.{option_or}
 use Rattle.pc_common.specs.Case.{MicroOp, Case, cores_of}
-use Rattle.pc_common.specs.World.{World}
+use Rattle.pc_common.specs.World.{Node, World}
 use Rattle.pc_common.specs.declared.place.Place.{Place}
 use Rattle.pc_common.specs.declared.fault.FaultKind.TheVariants.{PredicateUnknown, Unbound, StageUnknown}
 use Rattle.pc_syntax.specs.declared.term.Sort.{Sort}
@@ -17,18 +17,20 @@ use Rattle.pc_syntax.specs.declared.term.EdgeTerm.{EdgeTerm}
 use Rattle.pc_syntax.specs.declared.model.StageItem.{StageItem}
 use Rattle.pc_syntax.specs.declared.pred.Pred.{Pred}
 use Rattle.pc_syntax.specs.declared.pred.Pred.TheVariants.{True}
-use Rattle.pc_syntax.specs.Predicates.{Argument, op_at, core_at, Takes, takes_op, takes_core, takes_plain, Row, predicate_holds}
-use Rattle.pc_syntax.specs.Preds.{pred_named, row_of, takes_of, predicate_of}
+use Rattle.pc_syntax.specs.declared.pred.Takes.{Takes}
+use Rattle.pc_syntax.specs.declared.pred.Takes.TheVariants.{Op as takes_op, Core as takes_core, Plain as takes_plain}
+use Rattle.pc_syntax.specs.Arguments.{Argument, op_at, core_at}
+use Rattle.pc_syntax.specs.Predicates.{pred_named, takes_of, predicate_holds}
 use Rattle.pc_syntax.specs.Written.{Written, not_, and_, or_, implies_, forall_, exists_, static_, nodes_, edges_, expand_, bind_}
-use Rattle.pc_syntax.specs.Truth.{Meaning, an_op, a_core, Environment, Setting, value_of, value_of_arg, bound_to, stage_of, op_of, core_of, location_core, node_at, core_there, node_of, node_holds, edge_holds, argument_of, put_first, arguments_of, row_holds, static_holds, below, range_of, is_true}
+use Rattle.pc_syntax.specs.Truth.{Meaning, an_op, a_core, Environment, Setting, value_of, value_of_arg, bound_to, stage_of, op_of, core_of, location_core, node_at, core_there, node_of, node_holds, edge_holds, argument_of, put_first, arguments_of, pred_holds, static_holds, below, range_of, is_true}
 use Rattle.pc_syntax.specs.Closed.{value_at, closed_value, argument_at, closed_argument, closed_core, core_at_op, closed_node, closed_true}
 use Rattle.pc_syntax.specs.Scope.{Binding, Scope, binding_of, sort_of_arg, quantified_in, bindings_from, bound_in}
 use Rattle.pc_syntax.specs.Fault.{Fault, first_fault}
 use Rattle.pc_syntax.specs.NameFaults.{sort_fault, variable_fault, argument_fault, arguments_fault, arity_fault, location_fault, stage_name_fault, node_fault, edge_fault, value_fault, scope_fault, binding_fault, name_fault}
 use Rattle.pc_syntax.specs.Closing.{slot_of, closing_of_value, closing_of_bound, closing_of_arg, closing_of_args, closing_of_node, closing_of_edge, closing_of_static, closing_of}
-use Rattle.pc_syntax.proofs.PredLaws.{row_named-pred_named}
 use Rattle.pc_syntax.proofs.NoFault.{none_first, none_second, none_unless}
-use Rattle.pc_syntax.proofs.Slots.{sort_of_meaning, Fits, SameFound, found, slice_get-end, Fits-more, Fits-quantified}
+use Rattle.pc_syntax.specs.Fits.{sort_of_meaning, Fits}
+use Rattle.pc_syntax.proofs.Slots.{SameFound, found, slice_get-end, Fits-more, Fits-quantified}
 
 -- a name has a value, which is that of the slot, of the sort
 pub record Valued (slots : List Meaning) (o : Option Meaning) (k : ℕ) (sort : Sort) : Type 0 where
@@ -80,12 +82,12 @@ core_argument (an_op i) h = cc
 core_argument (a_core k) h = refl
 
 module _ (slots : List Meaning) (env : Environment) (scope : Scope) (fits : Fits slots env scope) where
-  variable_value : (wanted : Sort) (w : Word) → variable_fault scope wanted w ≡ None
+  pub variable_value : (wanted : Sort) (w : Word) → variable_fault scope wanted w ≡ None
       → Valued slots (value_of env w.name) (slot_of scope w) wanted
   variable_value wanted w f =
       variable_valued slots (value_of env w.name) (binding_of scope w.name) (found slots env scope fits w.name) wanted w f
 
-  argument_law : (t : Takes) (a : Arg) → argument_fault scope t a ≡ None
+  pub argument_law : (t : Takes) (a : Arg) → argument_fault scope t a ≡ None
       → argument_of env t a ≡ Some (closed_argument slots (closing_of_arg scope t a))
   unfolding as_op as_core
   argument_law takes_op (word_arg w) f =
@@ -99,7 +101,7 @@ module _ (slots : List Meaning) (env : Environment) (scope : Scope) (fits : Fits
   argument_law takes_plain (word_arg w) f = refl
   argument_law takes_plain (number_arg n at) f = cc
 
-  arguments_law : (ts : List Takes) (args : List Arg) → length args ≡ length ts → arguments_fault scope ts args ≡ None
+  pub arguments_law : (ts : List Takes) (args : List Arg) → length args ≡ length ts → arguments_fault scope ts args ≡ None
       → arguments_of env ts args ≡ Some (map (closed_argument slots) (closing_of_args scope ts args))
   arguments_law [] [] same f = refl
   arguments_law [] (a ∷ as_) same f = absurd (omega arith)
@@ -110,20 +112,20 @@ module _ (slots : List Meaning) (env : Environment) (scope : Scope) (fits : Fits
       (arguments_law ts as_ (omega arith) (none_second (argument_fault scope t a) (arguments_fault scope ts as_) f) i)
 
   -- a predicate of the table
-  static_law : (c : Case) (w : World) (pred : Word) (args : List Arg) (o : Option Pred)
+  static_law : (c : Case) (w : World Node) (pred : Word) (args : List Arg) (o : Option Pred)
       → ◌≡◌ {A = Option Fault}
-      (elim (option_map row_of o) [
+      (elim o [
         | None ↦ Some (PredicateUnknown, pred.at)
-        | Some r ↦ option_or (arity_fault pred args r.takes) (arguments_fault scope r.takes args)
+        | Some p ↦ option_or (arity_fault pred args (takes_of p)) (arguments_fault scope (takes_of p) args)
       ])
       None
-      → row_holds c env args (option_map row_of o) ≡ closed_true c w slots (closing_of_static scope (unwrap_or o True) args)
+      → pred_holds c env args o ≡ closed_true c w slots (closing_of_static scope (unwrap_or o True) args)
   static_law c w pred args None f = cc
   static_law c w pred args (Some p) f =
       let arity = none_first (arity_fault pred args (takes_of p)) (arguments_fault scope (takes_of p) args) f in
       let same = eqb-true (length args) (length (takes_of p)) (none_unless _ _ arity) in
       let rest = none_second (arity_fault pred args (takes_of p)) (arguments_fault scope (takes_of p) args) f in
-      ap (λ (as_ : Option (List Argument)). elim as_ [ None ↦ false | Some xs ↦ predicate_holds c (predicate_of p) xs ])
+      ap (λ (as_ : Option (List Argument)). elim as_ [ None ↦ false | Some xs ↦ predicate_holds c p xs ])
       (arguments_law (takes_of p) args same rest)
 
   -- the core of a location
@@ -152,7 +154,7 @@ module _ (slots : List Meaning) (env : Environment) (scope : Scope) (fits : Fits
   stage_law None w f = cc
   stage_law (Some n) w f = refl
 
-  node_law : (stages : List StageItem) (c : Case) (t : NodeTerm) → node_fault stages scope t ≡ None
+  pub node_law : (stages : List StageItem) (c : Case) (t : NodeTerm) → node_fault stages scope t ≡ None
       → node_of stages c env t ≡ closed_node c slots (closing_of_node stages scope t)
   node_law stages c t f =
       let rest = none_second (variable_fault scope Microop t.op) (option_or (location_fault scope t.core) (stage_name_fault stages t.stage)) f in
@@ -167,7 +169,7 @@ module _ (slots : List Meaning) (env : Environment) (scope : Scope) (fits : Fits
       (core_law c (op_of (Some (value_at slots (slot_of scope t.op)))) t.core core i)
       (stage_law (stage_of stages t.stage.name) t.stage stage i))
 
-  nodes_law : (stages : List StageItem) (c : Case) (w : World) (ts : List NodeTerm)
+  nodes_law : (stages : List StageItem) (c : Case) (w : World Node) (ts : List NodeTerm)
       → first_fault (node_fault stages scope) ts ≡ None
       → list_all (λ t. node_holds w (node_of stages c env t)) ts
       ≡ list_all (λ t. node_holds w (closed_node c slots t)) (map (closing_of_node stages scope) ts)
@@ -176,7 +178,7 @@ module _ (slots : List Meaning) (env : Environment) (scope : Scope) (fits : Fits
       λ i. node_holds w (node_law stages c t (none_first (node_fault stages scope t) (first_fault (node_fault stages scope) ts) f) i)
       && nodes_law stages c w ts (none_second (node_fault stages scope t) (first_fault (node_fault stages scope) ts) f) i
 
-  edge_law : (stages : List StageItem) (c : Case) (w : World) (t : EdgeTerm) → edge_fault stages scope t ≡ None
+  pub edge_law : (stages : List StageItem) (c : Case) (w : World Node) (t : EdgeTerm) → edge_fault stages scope t ≡ None
       → edge_holds w (node_of stages c env t.from) (node_of stages c env t.to)
       ≡ edge_holds w (closed_node c slots (closing_of_node stages scope t.from)) (closed_node c slots (closing_of_node stages scope t.to))
   edge_law stages c w t f =
@@ -184,7 +186,7 @@ module _ (slots : List Meaning) (env : Environment) (scope : Scope) (fits : Fits
       (node_law stages c t.from (none_first (node_fault stages scope t.from) (node_fault stages scope t.to) f) i)
       (node_law stages c t.to (none_second (node_fault stages scope t.from) (node_fault stages scope t.to) f) i)
 
-  edges_law : (stages : List StageItem) (c : Case) (w : World) (ts : List EdgeTerm)
+  edges_law : (stages : List StageItem) (c : Case) (w : World Node) (ts : List EdgeTerm)
       → first_fault (edge_fault stages scope) ts ≡ None
       → list_all (λ t. edge_holds w (node_of stages c env t.from) (node_of stages c env t.to)) ts
       ≡ list_all (λ t. edge_holds w (closed_node c slots t.from) (closed_node c slots t.to)) (map (closing_of_edge stages scope) ts)
@@ -194,7 +196,7 @@ module _ (slots : List Meaning) (env : Environment) (scope : Scope) (fits : Fits
       && edges_law stages c w ts (none_second (edge_fault stages scope t) (first_fault (edge_fault stages scope) ts) f) i
 
   -- an argument of an expansion
-  value_law : (a : Arg) → value_fault scope a ≡ None
+  pub value_law : (a : Arg) → value_fault scope a ≡ None
       → (value_of_arg env a ≡ Some (closed_value slots (closing_of_value scope a)))
       × (sort_of_meaning (closed_value slots (closing_of_value scope a)) ≡ sort_of_arg scope a)
   value_law (word_arg w) f =
@@ -203,7 +205,7 @@ module _ (slots : List Meaning) (env : Environment) (scope : Scope) (fits : Fits
   value_law (number_arg n at) f = (refl, refl)
 
   -- the names of a binding, with slots from this one on
-  bound_fits : (names : List (List ℕ)) (args : List Arg) (held : List Meaning) (k : ℕ)
+  pub bound_fits : (names : List (List ℕ)) (args : List Arg) (held : List Meaning) (k : ℕ)
       → length held ≡ k → first_fault (value_fault scope) args ≡ None → Fits held env scope
       → Fits (held ++ map (closed_value slots) (closing_of_bound scope names args))
       (bound_to env names args ++ env) (bindings_from scope k names args ++ scope)
@@ -237,7 +239,7 @@ bound_length scope [] args k = refl
 bound_length scope (n ∷ ns) [] k = refl
 bound_length scope (n ∷ ns) (a ∷ as_) k = ap (λ m. suc m) (bound_length scope ns as_ (k + 1))
 
-bound_slots : (slots : List Meaning) (scope : Scope) (names : List (List ℕ)) (args : List Arg) → length slots ≡ length scope
+pub bound_slots : (slots : List Meaning) (scope : Scope) (names : List (List ℕ)) (args : List Arg) → length slots ≡ length scope
     → length (slots ++ map (closed_value slots) (closing_of_bound scope names args)) ≡ length (bound_in scope names args)
 bound_slots slots scope names args same =
     let values = map (closed_value slots) (closing_of_bound scope names args) in
@@ -272,37 +274,26 @@ any_cores : (f g : Meaning → Bool) → ((v : Meaning) → sort_of_meaning v �
 any_cores f g h [] = refl
 any_cores f g h (x ∷ xs) = λ i. h (a_core x) refl i || any_cores f g h xs i
 
-all_in_range : (c : Case) (sort : Sort) (f g : Meaning → Bool) → ((v : Meaning) → sort_of_meaning v ≡ sort → f v ≡ g v)
+pub all_in_range : (c : Case) (sort : Sort) (f g : Meaning → Bool) → ((v : Meaning) → sort_of_meaning v ≡ sort → f v ≡ g v)
     → list_all f (range_of c sort) ≡ list_all g (range_of c sort)
 all_in_range c Microop f g h = all_ops f g h (below (length c.ops))
 all_in_range c Core f g h = all_cores f g h (below (cores_of c.ops))
 
-any_in_range : (c : Case) (sort : Sort) (f g : Meaning → Bool) → ((v : Meaning) → sort_of_meaning v ≡ sort → f v ≡ g v)
+pub any_in_range : (c : Case) (sort : Sort) (f g : Meaning → Bool) → ((v : Meaning) → sort_of_meaning v ≡ sort → f v ≡ g v)
     → list_any f (range_of c sort) ≡ list_any g (range_of c sort)
 any_in_range c Microop f g h = any_ops f g h (below (length c.ops))
 any_in_range c Core f g h = any_cores f g h (below (cores_of c.ops))
 
-one_more : (slots : List Meaning) (v : Meaning) (scope : Scope) (name : List ℕ) (sort : Sort) → length slots ≡ length scope
+pub one_more : (slots : List Meaning) (v : Meaning) (scope : Scope) (name : List ℕ) (sort : Sort) → length slots ≡ length scope
     → length (slots ++ v ∷ []) ≡ length (quantified_in scope name sort)
 one_more slots v scope name sort same = omega (arith, length-append slots (v ∷ []), same)
 
-static_true : (slots : List Meaning) (env : Environment) (scope : Scope) → Fits slots env scope
-    → (stages : List StageItem) (c : Case) (w : World) (pred : Word) (args : List Arg)
+pub static_true : (slots : List Meaning) (env : Environment) (scope : Scope) → Fits slots env scope
+    → (stages : List StageItem) (c : Case) (w : World Node) (pred : Word) (args : List Arg)
     → name_fault stages [] scope (static_ pred args) ≡ None
     → static_holds c env pred.name args ≡ closed_true c w slots (closing_of stages scope (static_ pred args))
 static_true slots env scope fits stages c w pred args f =
-    let row = row_named-pred_named pred.name in
-    ap (λ o. row_holds c env args o) row
-    ∙ static_law slots env scope fits c w pred args (pred_named pred.name)
-    (subst
-    (λ (o : Option Row).
-    ◌≡◌ {A = Option Fault}
-    (elim o [
-      | None ↦ Some (PredicateUnknown, pred.at)
-      | Some r ↦ option_or (arity_fault pred args r.takes) (arguments_fault scope r.takes args)
-    ])
-    None)
-    row f)
+    static_law slots env scope fits c w pred args (pred_named pred.name) f
 
 -- closing keeps truth, in each environment that fits the scope and the slots
 pub closing_true : (s : Setting) (slots : List Meaning) (env : Environment) (scope : Scope)
@@ -355,8 +346,3 @@ closing_true s slots env scope same fits (bind_ at names args p) f =
     (bound_fits slots env scope fits names args slots (length scope) same values fits)
     p
     (none_second (binding_fault scope at names args) (name_fault s.stages [] inside p) f)
-
--- closing keeps the truth of an axiom
-pub closed_axiom_true : (s : Setting) (e : Written) → name_fault s.stages [] [] e ≡ None
-    → is_true s [] [] e ≡ closed_true s.case s.world [] (closing_of s.stages [] e)
-closed_axiom_true s e f = closing_true s [] [] [] refl tt e f

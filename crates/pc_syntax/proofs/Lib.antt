@@ -1,8 +1,8 @@
-pub mod PredLaws
 pub mod ExpansionLaws
 pub mod NoFault
 pub mod Slots
 pub mod ClosingTruth
 pub mod ClosingShape
+pub mod ClosingStages
 pub mod ExpandedLaws
 mod Examples

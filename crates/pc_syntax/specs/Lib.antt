@@ -1,4 +1,5 @@
 pub mod Written
+pub mod Arguments
 pub mod Predicates
 pub mod Truth
 pub mod Observable
@@ -7,10 +8,11 @@ pub mod StageFaults
 pub mod MacroFaults
 pub mod Sizes
 pub mod Expansion
-pub mod Preds
 pub mod Closed
 pub mod IsClosed
+pub mod StagesWithin
 pub mod Scope
+pub mod Fits
 pub mod NameFaults
 pub mod Closing
 pub mod ModelFault

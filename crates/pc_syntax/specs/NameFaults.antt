@@ -2,8 +2,10 @@
 -- followed into their bodies. The macros that a formula may name are listed latest first.
 use Rattle.std.specs.Prelude.{ℕ, List, [], ◌∷◌, Option, Some, None, length, nat_lt, ◌==◌, if◌then◌else◌}
 use Rattle.std.specs.Option.{option_or}
+use Rattle.pc_common.specs.Names.{same_name}
 use Rattle.pc_common.specs.declared.place.Place.{Place}
 use Rattle.pc_common.specs.declared.fault.FaultKind.TheVariants.{PredicateUnknown, Arity, Unbound, WrongSort, CoreNumber, StageUnknown, TooManyVariables}
+use Rattle.pc_syntax.specs.declared.limits.TheConstants.{MAX_CORE, MAX_VARIABLES}
 use Rattle.pc_syntax.specs.declared.term.Sort.{Sort}
 use Rattle.pc_syntax.specs.declared.term.Sort.TheVariants.{Microop, Core}
 use Rattle.pc_syntax.specs.declared.term.Word.{Word}
@@ -12,7 +14,9 @@ use Rattle.pc_syntax.specs.declared.term.Arg.TheVariants.{Word as word_arg, Numb
 use Rattle.pc_syntax.specs.declared.term.NodeTerm.{NodeTerm}
 use Rattle.pc_syntax.specs.declared.term.EdgeTerm.{EdgeTerm}
 use Rattle.pc_syntax.specs.declared.model.StageItem.{StageItem}
-use Rattle.pc_syntax.specs.Predicates.{same_name, Takes, takes_op, takes_core, takes_plain, row_named}
+use Rattle.pc_syntax.specs.declared.pred.Takes.{Takes}
+use Rattle.pc_syntax.specs.declared.pred.Takes.TheVariants.{Op as takes_op, Core as takes_core, Plain as takes_plain}
+use Rattle.pc_syntax.specs.Predicates.{takes_of, pred_named}
 use Rattle.pc_syntax.specs.Written.{Written, not_, and_, or_, implies_, forall_, exists_, static_, nodes_, edges_, expand_, bind_, MacroAt, WrittenModel}
 use Rattle.pc_syntax.specs.Observable.{axioms_of, macros_of}
 use Rattle.pc_syntax.specs.Truth.{stage_of}
@@ -31,9 +35,9 @@ abbrev pub variable_fault : Scope → Sort → Word → Option Fault
 variable_fault scope wanted w =
     elim (binding_of scope w.name) [ None ↦ Some (Unbound, w.at) | Some b ↦ sort_fault w.at wanted b.sort ]
 
--- a core number is over 63
+-- a core number is over the greatest
 abbrev pub core_fault : ℕ → Place → Option Fault
-core_fault n at = if nat_lt 63 n then Some (CoreNumber n, at) else None
+core_fault n at = if nat_lt MAX_CORE n then Some (CoreNumber n, at) else None
 
 -- an argument that is not of the kind that is taken
 abbrev pub argument_fault : Scope → Takes → Arg → Option Fault
@@ -57,9 +61,9 @@ arity_fault pred args takes =
 -- a predicate's name, then the number of its arguments, then the arguments
 abbrev pub static_fault : Scope → Word → List Arg → Option Fault
 static_fault scope pred args =
-    elim (row_named pred.name) [
+    elim (pred_named pred.name) [
       | None ↦ Some (PredicateUnknown, pred.at)
-      | Some r ↦ option_or (arity_fault pred args r.takes) (arguments_fault scope r.takes args)
+      | Some p ↦ option_or (arity_fault pred args (takes_of p)) (arguments_fault scope (takes_of p) args)
     ]
 
 -- no stage has the name
@@ -85,9 +89,9 @@ abbrev pub value_fault : Scope → Arg → Option Fault
 value_fault scope (word_arg w) = elim (binding_of scope w.name) [ None ↦ Some (Unbound, w.at) | Some b ↦ None ]
 value_fault scope (number_arg n at) = core_fault n at
 
--- more than 32 variables are in the scope
+-- too many variables are in the scope
 abbrev pub scope_fault : Place → Scope → Option Fault
-scope_fault at scope = if nat_lt 32 (length scope) then Some (TooManyVariables 32, at) else None
+scope_fault at scope = if nat_lt MAX_VARIABLES (length scope) then Some (TooManyVariables MAX_VARIABLES, at) else None
 
 -- an expansion's arguments, then the number of variables inside it
 abbrev pub binding_fault : Scope → Place → List (List ℕ) → List Arg → Option Fault

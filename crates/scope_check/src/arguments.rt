@@ -1,7 +1,7 @@
 ghost use Rattle.std.specs.Prelude.{◌≡◌, IfOk, IfErr, None, length};
 ghost use Rattle.pc_syntax.specs.declared.closed_term.ClosedArg.TheVariants.{Core as core_arg};
-ghost use Rattle.pc_syntax.specs.Predicates.{takes_core};
-ghost use Rattle.pc_syntax.specs.Preds.{takes_of, takes_meant};
+ghost use Rattle.pc_syntax.specs.declared.pred.Takes.TheVariants.{Core as takes_core};
+ghost use Rattle.pc_syntax.specs.Predicates.{takes_of};
 ghost use Rattle.pc_syntax.specs.Fault.{first_fault};
 ghost use Rattle.pc_syntax.specs.NameFaults.{variable_fault, core_fault, argument_fault, arguments_fault, value_fault};
 ghost use Rattle.pc_syntax.specs.Closing.{slot_of, closing_of_value, closing_of_bound, closing_of_arg, closing_of_args};
@@ -10,11 +10,8 @@ ghost use Rattle.scope_check.specs.FirstFault.{Answers};
 use super::fault::NameFault;
 use super::scope::Scope;
 use pc_common::Place;
-use pc_syntax::{Arg, Args, ClosedArg, ClosedArgs, Names, Pred, Sort, Takes, TryCopy, Word};
+use pc_syntax::{Arg, Args, ClosedArg, ClosedArgs, MAX_CORE, Names, Pred, Sort, Takes, TryCopy, Word};
 use std::alloc::Global;
-
-/// The greatest core number.
-const LAST_CORE: u64 = 63;
 
 /// The slot of a variable of the sort that is asked for.
 pub(crate) fn variable_slot(scope: &Scope<'_>, wanted: Sort, word: &Word) -> Result<u8, NameFault>
@@ -35,7 +32,7 @@ fn core_numbered(number: u64, at: Place) -> Result<ClosedArg, NameFault>
     ensures ok { IfOk result (λ arg. (core_fault number at ≡ None) × (arg ≡ core_arg number)) }
     ensures err { IfErr result (Answers (core_fault number at)) }
 {
-    if number > LAST_CORE {
+    if number > MAX_CORE {
         return Err(NameFault::CoreNumber { at, number });
     }
     Ok(ClosedArg::Core(number as u8))
@@ -73,9 +70,8 @@ fn close_argument(
     takes: Takes,
     arg: &Arg,
 ) -> Result<ClosedArg, NameFault>
-    ensures ok { let taken = takes_meant takes in
-        IfOk result (λ closed. (argument_fault scope.now taken arg.now ≡ None) × (closed ≡ closing_of_arg scope.now taken arg.now)) }
-    ensures err { IfErr result (Answers (argument_fault scope.now (takes_meant takes) arg.now)) }
+    ensures ok { IfOk result (λ closed. (argument_fault scope.now takes arg.now ≡ None) × (closed ≡ closing_of_arg scope.now takes arg.now)) }
+    ensures err { IfErr result (Answers (argument_fault scope.now takes arg.now)) }
 {
     match (takes, arg) {
         (Takes::Op, Arg::Word(word)) => {

@@ -1,0 +1,16 @@
+//! The normal form of a ground formula: negations stand only at literals, constants are folded, and the
+//! tree is written as flat rows in preorder. Here too its nodes get their numbers.
+//!
+//! Both take time and memory in proportion to the formula. No call nests as deep as a formula to the
+//! right or a chain of negations; to the left one nests for each connective.
+#![tactic(auto)]
+
+mod joint;
+mod normal;
+mod numbers;
+mod part;
+mod rows;
+mod spine;
+
+pub use normal::normalise;
+pub use numbers::number;
