@@ -1,9 +1,11 @@
 //! The ground floor: places and faults of the input files, the generic list, the outside world as two
-//! traits (files that are read, a sink that is written), and reading and writing whole.
+//! traits (files that are read, a sink that is written), reading and writing whole, and a room of 4,096
+//! bytes in front of a sink.
 //!
 //! Its `specs/` hold what every layer above speaks of as plain data: a case (what a litmus test says),
-//! a node, a world (nodes with a strict order), chains of edges, the world that a graph generates, and
-//! the lines of a certificate.
+//! what an address holds, a node, a world (things with a strict order), chains of edges, the world that
+//! a graph generates, the lines of a certificate, and what a call keeps of a sink (`Writes`), of a room
+//! (`Puts`, `Flushes`) and of files (`Reads`).
 #![tactic(auto)]
 
 mod failed;
