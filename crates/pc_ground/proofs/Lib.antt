@@ -8,3 +8,10 @@ pub mod OpWalks
 pub mod NodeReading
 pub mod FlatRows
 pub mod Walks
+pub mod NormalForms
+pub mod UnfoldedTruth
+pub mod Refuted
+pub mod CutTruth
+pub mod UnfoldedClosing
+pub mod TreeNodes
+mod Examples

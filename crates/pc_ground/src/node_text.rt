@@ -19,6 +19,9 @@ use pc_case::{Case, OpId};
 use pc_common::{Failed, Room, Sink};
 use std::marker::Model;
 
+/// How many core numbers there are, from 0.
+const CORES: u64 = 64;
+
 /// What the nodes of a front are written and read by: its test's micro-ops and its model's stages.
 #[derive(Drop)]
 pub struct NodeText<'a> {
@@ -155,7 +158,7 @@ impl<'a> NodeText<'a> {
         };
         let op = front.case.find(id)?;
         let stage = stage_named(&front.stages, words.stage)?;
-        if words.core >= 64 {
+        if words.core >= CORES {
             return None;
         }
         Some(NodeKey {

@@ -18,8 +18,6 @@ mod limits;
 mod model;
 mod pred;
 mod term;
-#[cfg(test)]
-mod tests;
 
 pub use bound::{Bound, Env};
 pub use closed::Closed;
