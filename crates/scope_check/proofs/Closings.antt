@@ -1,12 +1,10 @@
 -- What is known of a closing: its truth and its stages.
-use Rattle.std.proofs.Common.{◌≡◌, List, [], length, ap, sym, subst, ◌∙◌}
+use Rattle.std.proofs.Common.{List, ap, sym, subst, ◌∙◌}
 use Rattle.pc_syntax.specs.declared.model.StageItem.{StageItem}
 use Rattle.pc_syntax.specs.Written.{Written, stage_numbers}
-use Rattle.pc_syntax.specs.Truth.{Meaning, Environment, Setting, is_true}
 use Rattle.pc_syntax.specs.Closed.{PlainClosed, closed_true}
 use Rattle.pc_syntax.specs.Closing.{IsClosingOf}
 use Rattle.pc_syntax.specs.Scope.{Scope}
-use Rattle.pc_syntax.specs.Fits.{Fits}
 use Rattle.pc_syntax.specs.StagesWithin.{StagesWithin}
 use Rattle.pc_syntax.proofs.ClosingTruth.{closing_true}
 use Rattle.pc_syntax.proofs.ClosingStages.{closing_within}
