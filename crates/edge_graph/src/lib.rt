@@ -9,6 +9,3 @@
 mod graph;
 
 pub use graph::find_cycle;
-
-#[cfg(test)]
-mod tests;

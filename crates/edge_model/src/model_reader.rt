@@ -14,8 +14,6 @@ mod names;
 mod stages;
 mod terminals;
 mod terms;
-#[cfg(test)]
-mod tests;
 
 use conditions::are_edge_items;
 use lines::read_lines;

@@ -10,3 +10,4 @@ pub mod Reading
 pub mod Rows
 pub mod Values
 pub mod Kept
+pub mod Laws

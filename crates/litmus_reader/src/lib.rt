@@ -19,13 +19,14 @@
 //! what they say of one another. So a fault of content is never named before one of syntax.
 //!
 //! `specs/Syntax.antt` has the productions, `specs/Items.antt` the case that the lines make,
-//! `specs/Content.antt` the faults of content and `specs/Answer.antt` the whole. No text has two cases, and
-//! none has a case and a fault (`proofs/Exclusive.antt`).
+//! `specs/Content.antt` the faults of content and `specs/Answer.antt` the whole. The laws in `laws.rt` say
+//! that a text has a case or a first fault, one at most of each, and not both.
 #![tactic(auto)]
 
 mod fault;
 mod item;
 mod kept;
+mod laws;
 mod phrase;
 mod read;
 mod reading;
@@ -33,9 +34,8 @@ mod refusal;
 mod rows;
 mod syntax;
 mod terminal;
-#[cfg(test)]
-mod tests;
 mod values;
 
 pub use fault::CaseFault;
+pub use laws::{case_or_fault, no_fault, one_case, one_fault};
 pub use read::read_case;

@@ -15,8 +15,6 @@
 mod fault;
 mod grammar;
 mod laws;
-#[cfg(test)]
-mod tests;
 
 pub use fault::{Fault, first_fault};
 pub use grammar::{Grammar, Step, Symbol, TokenClass, push_body};

@@ -1,6 +1,7 @@
 -- Sizes and heights that are exact up to the limits.
 use Rattle.std.specs.Prelude.{◌≡◌, ℕ, ◌+◌, ◌<◌, List, Option, Some, None, length, min, slice_get}
 use Rattle.std.specs.Option.{option_or}
+use Rattle.pc_syntax.specs.declared.limits.TheConstants.{MAX_HEIGHT, MAX_SIZE}
 use Rattle.pc_syntax.specs.Written.{Written, MacroAt, WrittenItem, axiom_, macro_}
 use Rattle.pc_syntax.specs.Fault.{Fault}
 use Rattle.pc_syntax.specs.Sizes.{size_of, height_of, depth_fault, total_fault}
@@ -8,7 +9,7 @@ use Rattle.macro_expand.specs.declared.measure.Measure.{Measure}
 use Rattle.macro_expand.specs.Tables.{before}
 
 abbrev pub capped : ℕ → ℕ → Measure
-capped size height = record { size = min size 1000001; height = min height 513 }
+capped size height = record { size = min size (MAX_SIZE + 1); height = min height (MAX_HEIGHT + 1) }
 
 -- the macros that the formula may name are listed latest first
 abbrev pub measure_of : List MacroAt → Written → Measure

@@ -13,8 +13,6 @@ mod parameters;
 mod parts;
 mod sizes;
 mod stages;
-#[cfg(test)]
-mod tests;
 mod top;
 
 pub use fault::MacroFault;

@@ -1,11 +1,7 @@
 ghost use Rattle.std.specs.Prelude.{◌≡◌, ◌+◌, max};
 ghost use Rattle.macro_expand.specs.Measures.{capped};
 
-/// The greatest size of all axioms of a model together, with their macros expanded.
-pub(crate) const MOST_SIZE: u64 = 1_000_000;
-
-/// The greatest height of an atom.
-pub(crate) const MOST_HEIGHT: u64 = 512;
+use pc_syntax::{MAX_HEIGHT, MAX_SIZE};
 
 /// The size and the height of a formula with its macros followed. What is past a limit counts as one past
 /// it, so that macros whose sizes double from each to the next are measured in no time.
@@ -20,8 +16,8 @@ impl Measure {
         ensures { result ≡ capped size height }
     {
         Measure {
-            size: size.min(MOST_SIZE + 1),
-            height: height.min(MOST_HEIGHT + 1),
+            size: size.min(MAX_SIZE + 1),
+            height: height.min(MAX_HEIGHT + 1),
         }
     }
 

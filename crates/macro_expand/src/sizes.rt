@@ -1,5 +1,6 @@
 ghost use Rattle.std.specs.Prelude.{◌≡◌, ◌+◌, ◌≤◌, List, map, length, IfOk};
 ghost use Rattle.pc_common.specs.declared.place.Place.{Place as SPlace};
+ghost use Rattle.pc_syntax.specs.declared.limits.TheConstants.{MAX_SIZE};
 ghost use Rattle.pc_syntax.specs.declared.term.Arg.{Arg};
 ghost use Rattle.pc_syntax.specs.Written.{written, written_item, expand_};
 ghost use Rattle.pc_syntax.specs.Sizes.{depth_fault, total_fault, sizes_fault};
@@ -10,9 +11,9 @@ ghost use Rattle.macro_expand.specs.Faults.{Judges};
 
 use super::fault::MacroFault;
 use super::macros::Macros;
-use super::measure::{MOST_HEIGHT, MOST_SIZE, Measure};
+use super::measure::Measure;
 use pc_common::{Memory, Place};
-use pc_syntax::{Formula, Item, Word};
+use pc_syntax::{Formula, Item, MAX_HEIGHT, MAX_SIZE, Word};
 use std::alloc::Global;
 
 /// The measure of an expansion, `measures` being those of the macros that it may name.
@@ -65,20 +66,20 @@ pub(crate) fn measure_macros(alloc: Global, macros: &Macros<'_>) -> Result<Vec<M
 /// Whether an axiom is within the limits, where those before it are of the size `total` together: the size
 /// with this one. Its height is judged first.
 fn check_size(at: Place, measured: Measure, total: u64) -> Result<u64, MacroFault>
-    requires { total ≤ 1000000 }
+    requires { total ≤ MAX_SIZE }
     ensures judged { Judges (option_or (depth_fault at measured.height) (total_fault at (total + measured.size))) result }
-    ensures total { IfOk result (λ now. (now ≡ total + measured.size) × (now ≤ 1000000)) }
+    ensures total { IfOk result (λ now. (now ≡ total + measured.size) × (now ≤ MAX_SIZE)) }
 {
-    if measured.height > MOST_HEIGHT {
+    if measured.height > MAX_HEIGHT {
         return Err(MacroFault::TooDeep {
             at,
-            limit: MOST_HEIGHT,
+            limit: MAX_HEIGHT,
         });
     }
-    if measured.size > MOST_SIZE - total {
+    if measured.size > MAX_SIZE - total {
         return Err(MacroFault::TooBig {
             at,
-            limit: MOST_SIZE,
+            limit: MAX_SIZE,
         });
     }
     Ok(total + measured.size)
@@ -92,9 +93,9 @@ fn check_item_size(
     total: u64,
 ) -> Result<u64, MacroFault>
     requires measures { AreMeasures (listed macros.now) measures.now }
-    requires total { total ≤ 1000000 }
+    requires total { total ≤ MAX_SIZE }
     ensures judged { Judges (item_size_fault (before (listed macros.now) (length measures.now)) total (written_item item.now)) result }
-    ensures total { IfOk result (λ now. (now ≡ total_after (before (listed macros.now) (length measures.now)) total (written_item item.now)) × (now ≤ 1000000)) }
+    ensures total { IfOk result (λ now. (now ≡ total_after (before (listed macros.now) (length measures.now)) total (written_item item.now)) × (now ≤ MAX_SIZE)) }
 {
     match item {
         Item::Axiom { at, body } => check_size(*at, measure(macros, measures, body), total),

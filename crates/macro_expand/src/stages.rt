@@ -3,10 +3,7 @@ ghost use Rattle.pc_syntax.specs.Written.{written_model};
 ghost use Rattle.pc_syntax.specs.StageFaults.{stage_numbered, stage_called, stage_fault, first_stage_fault};
 
 use pc_common::{FaultKind, Place};
-use pc_syntax::{ModelFile, StageItem};
-
-/// The greatest number of a stage.
-const GREATEST_NUMBER: u64 = 63;
+use pc_syntax::{MAX_STAGE, ModelFile, StageItem};
 
 /// The first fault of a model's stages and its place. In a stage the number is judged, then the name.
 ///
@@ -29,7 +26,7 @@ pub fn stage_faults(model: &ModelFile) -> Option<(FaultKind, Place)>
 fn fault_after(earlier: &[StageItem], stage: &StageItem) -> Option<(FaultKind, Place)>
     ensures { result ≡ stage_fault earlier.now stage.now }
 {
-    if stage.number > GREATEST_NUMBER {
+    if stage.number > MAX_STAGE {
         let number = stage.number;
         return Some((FaultKind::StageNumber { number }, stage.number_at));
     }

@@ -13,8 +13,6 @@ mod case;
 mod dependency;
 mod op;
 mod stated;
-#[cfg(test)]
-mod tests;
 
 pub use case::{Case, Expect, Ops};
 pub use dependency::{Dependencies, Dependency};

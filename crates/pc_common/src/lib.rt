@@ -24,8 +24,6 @@ mod sink;
 mod status;
 mod sure_files;
 mod sure_sink;
-#[cfg(test)]
-mod tests;
 mod waiting;
 mod writing;
 

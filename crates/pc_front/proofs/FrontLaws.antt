@@ -26,7 +26,7 @@ use Rattle.uspec_lexer.specs.declared.fault.LexFault.{LexFault}
 use Rattle.uspec_lexer.specs.declared.fault.LexFault.TheVariants.{Lexical as a_lexical_fault, Memory as no_memory}
 use Rattle.macro_expand.specs.Faults.{AreExpansions}
 use Rattle.scope_check.specs.FirstFault.{IsNoneOr}
-use Rattle.pc_front.specs.ModelFront.{ModelOf, lexical, said, closed_axiom, IsFrontEnd}
+use Rattle.pc_front.specs.ModelFront.{ModelOf, lexical, said, closed_axiom, IsModelEnd}
 use Rattle.pc_front.specs.ModelSteps.{end_of, lexical_told, axiom_fault, closing_of_axiom}
 
 -- a stage that is not refused has a number of one byte
@@ -57,7 +57,7 @@ map_map f g [] = refl
 map_map f g (x ∷ xs) = ap (λ ys. f (g x) ∷ ys) (map_map f g xs)
 
 -- an axiom's first name fault is that of its expansion
-names_expanded : (m : WrittenModel) (ws : List Written)
+pub names_expanded : (m : WrittenModel) (ws : List Written)
     → first_fault (name_fault m.stages (macros_of m) []) ws
     ≡ first_fault (λ w. name_fault m.stages [] [] (expansion_of (macros_of m) w)) ws
 names_expanded m [] = refl
@@ -134,11 +134,11 @@ module _ (m : WrittenModel) where
 
 -- the first fault of a model, as it is told
 pub front_end : (bytes : List ℕ) (m : WrittenModel) → ModelOf bytes m → (o : Option Fault)
-    → IsNoneOr (first_model_fault m) o → IsFrontEnd bytes (end_of o)
+    → IsNoneOr (first_model_fault m) o → IsModelEnd bytes (end_of o)
 front_end bytes m of None is = tt
 front_end bytes m of (Some f) is = (refl, said of is)
 
 -- a fault of the bytes, as it is told
-pub lexical_end : (bytes : List ℕ) (fault : LexFault) → IsRefusal bytes fault → IsFrontEnd bytes (end_of (lexical_told fault))
+pub lexical_end : (bytes : List ℕ) (fault : LexFault) → IsRefusal bytes fault → IsModelEnd bytes (end_of (lexical_told fault))
 lexical_end bytes (a_lexical_fault place) is = (refl, lexical is)
 lexical_end bytes no_memory is = tt

@@ -1,2 +1,4 @@
+pub mod Front
+pub mod Laws
 pub mod ModelFront
 pub mod ModelSteps

@@ -14,14 +14,13 @@ use Rattle.uspec_parser.specs.Marks.{IsMarkedModel}
 use Rattle.uspec_parser.specs.Syntax.{DerivesModel}
 use Rattle.uspec_parser.specs.Answers.{terminals}
 use Rattle.pc_syntax.specs.declared.model.StageItem.{StageItem}
-use Rattle.pc_syntax.specs.declared.closed.Closed.{Closed}
 use Rattle.pc_syntax.specs.Written.{Written, WrittenModel}
 use Rattle.pc_syntax.specs.Observable.{axioms_of, macros_of, satisfies}
 use Rattle.pc_syntax.specs.Expansion.{expansion_of}
-use Rattle.pc_syntax.specs.Closed.{PlainClosed, plain_closed, closed_satisfies}
+use Rattle.pc_syntax.specs.Closed.{PlainClosed, closed_satisfies}
 use Rattle.pc_syntax.specs.Closing.{closing_of}
 use Rattle.pc_syntax.specs.ModelFault.{first_model_fault}
-use Rattle.pc_front.specs.declared.model_front.Stage.{Stage}
+use Rattle.pc_ground.specs.Stages.{plain_stage, plain_axioms}
 use Rattle.pc_front.specs.declared.model_front.ModelFront.{ModelFront}
 use Rattle.pc_front.specs.declared.model_front.FrontEnd.{FrontEnd}
 use Rattle.pc_front.specs.declared.model_front.FrontEnd.TheVariants.{Refused, Memory}
@@ -51,27 +50,21 @@ pub data IsModelFault (bytes : List ℕ) : FaultKind → Place → Type 0 where
 abbrev pub stage_said : StageItem → ℕ × List ℕ
 stage_said s = (s.number, s.name.name)
 
-abbrev pub stage_kept : Stage → ℕ × List ℕ
-stage_kept s = (s.number, s.name)
-
 -- an axiom with its macros expanded and its names resolved
 abbrev pub closed_axiom : WrittenModel → Written → PlainClosed
 closed_axiom m w = closing_of m.stages [] (expansion_of (macros_of m) w)
 
-abbrev pub plain_axioms : List Closed → List PlainClosed
-plain_axioms axioms = map (λ a. plain_closed a.body) axioms
-
 -- the stages of the model, and its axioms, closed; in each case and world they are true exactly where the model's are
-pub record IsFrontOf (m : WrittenModel) (front : ModelFront) : Type 0 where
+pub record IsModelFrontOf (m : WrittenModel) (front : ModelFront) : Type 0 where
   pub no_fault : first_model_fault m ≡ None
-  pub stages : map stage_kept front.stages ≡ map stage_said m.stages
+  pub stages : map plain_stage front.stages ≡ map stage_said m.stages
   pub axioms : plain_axioms front.axioms ≡ map (closed_axiom m) (axioms_of m)
   pub true_alike : (c : Case) (w : World Node) → satisfies m c w ≡ closed_satisfies (plain_axioms front.axioms) c w
 
-abbrev pub IsFront : List ℕ → ModelFront → Type 0
-IsFront bytes front = (m : WrittenModel) × ModelOf bytes m × IsFrontOf m front
+abbrev pub IsModelFront : List ℕ → ModelFront → Type 0
+IsModelFront bytes front = (m : WrittenModel) × ModelOf bytes m × IsModelFrontOf m front
 
 -- a refusal is the model's first fault; want of memory is tied to nothing
-abbrev pub IsFrontEnd : List ℕ → FrontEnd → Type 0
-IsFrontEnd bytes (Refused fault) = (fault.file ≡ Model) × IsModelFault bytes fault.kind fault.place
-IsFrontEnd bytes Memory = ⊤
+abbrev pub IsModelEnd : List ℕ → FrontEnd → Type 0
+IsModelEnd bytes (Refused fault) = (fault.file ≡ Model) × IsModelFault bytes fault.kind fault.place
+IsModelEnd bytes Memory = ⊤

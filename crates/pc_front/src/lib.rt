@@ -1,10 +1,15 @@
 //! From the bytes of a model and a test to the ground tree, or the exact first fault.
 //!
-//! `read_model` joins the readers of a whole model: tokens, tree, macros, names.
+//! `read_model` joins the readers of a whole model: tokens, tree, macros, names. `front` adds the test,
+//! and goes on to what search and checker work on: the ground tree, in flat rows, with its node numbers.
 #![tactic(auto)]
 
+mod joining;
+mod laws;
 mod model_front;
 mod reading;
 
-pub use model_front::{Axioms, FrontEnd, ModelFront, Stage, Stages};
+pub use joining::front;
+pub use laws::{model_or_fault, no_model_fault, one_model, one_model_fault};
+pub use model_front::{FrontEnd, ModelFront};
 pub use reading::read_model;

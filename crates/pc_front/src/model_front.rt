@@ -1,17 +1,5 @@
-use pc_common::{InputFault, Listed};
-use pc_syntax::{Closed, Name};
-
-/// A stage of a model.
-#[derive(Drop)]
-pub struct Stage {
-    /// 0 to 63.
-    pub number: u8,
-    pub name: Name,
-}
-
-pub type Stages = Listed<Stage>;
-
-pub type Axioms = Listed<Closed>;
+use pc_common::InputFault;
+use pc_ground::{Axioms, Stages};
 
 /// A whole model without faults: its stages in the text's order, and its axioms, closed, in theirs.
 #[derive(Drop)]

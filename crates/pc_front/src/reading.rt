@@ -4,12 +4,14 @@ ghost use Rattle.pc_syntax.specs.Fault.{first_fault};
 ghost use Rattle.pc_syntax.specs.StageFaults.{stages_fault, first_stage_fault};
 ghost use Rattle.macro_expand.specs.Faults.{fault_told as macro_fault_told};
 ghost use Rattle.scope_check.specs.FirstFault.{fault_told as name_fault_told, Answers};
-ghost use Rattle.pc_front.specs.ModelFront.{ModelOf, IsFront, IsFrontEnd, token_place, stage_said, stage_kept, plain_axioms};
+ghost use Rattle.pc_ground.specs.Stages.{plain_stage, plain_axioms};
+ghost use Rattle.pc_front.specs.ModelFront.{ModelOf, IsModelFront, IsModelEnd, token_place, stage_said};
 ghost use Rattle.pc_front.specs.ModelSteps.{end_of, lexical_told, axiom_fault, AreClosings};
 
-use super::model_front::{Axioms, FrontEnd, ModelFront, Stage, Stages};
+use super::model_front::{FrontEnd, ModelFront};
 use macro_expand::{MacroFault, expand, stage_faults};
 use pc_common::{FaultKind, InputFault, Listed, Memory, Place, Which};
+use pc_ground::{Axioms, Stage, Stages};
 use pc_syntax::{Expanded, ModelFile, StageItems, TryCopy};
 use scope_check::{NameFault, close};
 use std::alloc::Global;
@@ -29,8 +31,8 @@ const MOST_OPENERS: u64 = 128;
 /// macro's are copied for each of its expansions.
 pub fn read_model(alloc: Global, bytes: &[u8]) -> Result<ModelFront, FrontEnd>
     requires { length bytes.now < 2 ^ 32 }
-    ensures ok { IfOk result (IsFront bytes.now) }
-    ensures err { IfErr result (IsFrontEnd bytes.now) }
+    ensures ok { IfOk result (IsModelFront bytes.now) }
+    ensures err { IfErr result (IsModelEnd bytes.now) }
 {
     let model = parsed(alloc, bytes)?;
     if let Some((kind, place)) = stage_faults(&model) {
@@ -54,7 +56,7 @@ pub fn read_model(alloc: Global, bytes: &[u8]) -> Result<ModelFront, FrontEnd>
 fn parsed(alloc: Global, bytes: &[u8]) -> Result<ModelFile, FrontEnd>
     requires { length bytes.now < 2 ^ 32 }
     ensures ok { IfOk result (λ m. ModelOf bytes.now (written_model m)) }
-    ensures err { IfErr result (IsFrontEnd bytes.now) }
+    ensures err { IfErr result (IsModelEnd bytes.now) }
 {
     let tokens = match tokens(alloc, bytes) {
         Ok(tokens) => tokens,
@@ -106,7 +108,7 @@ fn close_axioms(alloc: Global, model: &ModelFile, axioms: &[Expanded]) -> Result
 /// The stages of a model that has no stage fault.
 fn stages_of(alloc: Global, stages: &StageItems) -> Result<Stages, Memory>
     requires { stages_fault [] stages.now ≡ None }
-    ensures { IfOk result (λ kept. map stage_kept kept ≡ map stage_said stages.now) }
+    ensures { IfOk result (λ kept. map plain_stage kept ≡ map stage_said stages.now) }
 {
     let mut kept = Listed::new(alloc);
     for stage in stages.as_slice() {

@@ -1,5 +1,5 @@
 -- Closing a formula without name faults names stages of the model alone.
-use Rattle.std.proofs.Common.{◌≡◌, ℕ, Bool, true, false, ◌||◌, List, [], ◌∷◌, Option, Some, None, map, cond, refl, ap, ◌∙◌, unwrap_or, eq-eqb, eqb-true, nat_eq, subst}
+use Rattle.std.proofs.Common.{◌≡◌, ℕ, Bool, true, false, ◌||◌, List, [], ◌∷◌, Option, Some, None, map, cond, refl, unwrap_or, eq-eqb, eqb-true, nat_eq, subst}
 use Rattle.std.specs.Prelude.{Contains}
 use Rattle.std.specs.List.{list_any}
 use Rattle.std.specs.Option.{option_or}

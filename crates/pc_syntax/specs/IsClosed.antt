@@ -2,6 +2,7 @@
 use Rattle.std.specs.Prelude.{◌≡◌, ℕ, ◌<◌, ◌≤◌, ◌+◌, List, [], ◌∷◌, ◌++◌, Option, Some, None, length, map, slice_get, unwrap_or}
 use Rattle.std.specs.Coded.{Coded-set, coded_option, le_prop}
 use Rattle.pc_syntax.specs.contracts.term.Sort as sort_row
+use Rattle.pc_syntax.specs.declared.limits.TheConstants.{MAX_CORE, MAX_STAGE, MAX_VARIABLES}
 use Rattle.pc_syntax.specs.declared.term.Sort.{Sort}
 use Rattle.pc_syntax.specs.declared.term.Sort.TheVariants.{Microop, Core}
 use Rattle.pc_syntax.specs.declared.closed_term.ClosedArg.{ClosedArg}
@@ -21,7 +22,7 @@ IsBound scope k sort = slice_get scope k ≡ Some sort
 abbrev pub FitsArg : List Sort → Takes → ClosedArg → Type 0
 FitsArg scope takes_op (Slot k) = IsBound scope k Microop
 FitsArg scope takes_core (Slot k) = IsBound scope k Core
-FitsArg scope takes_core (core_arg n) = n < 64
+FitsArg scope takes_core (core_arg n) = n < MAX_CORE + 1
 FitsArg scope takes_plain (Plain name) = Unit {0}
 FitsArg scope _ _ = ⊥
 
@@ -36,7 +37,7 @@ FitsCore scope None = Unit {0}
 FitsCore scope (Some a) = FitsArg scope takes_core a
 
 abbrev pub FitsNode : List Sort → ClosedNode → Type 0
-FitsNode scope t = IsBound scope t.op Microop × FitsCore scope t.core × (t.stage < 64)
+FitsNode scope t = IsBound scope t.op Microop × FitsCore scope t.core × (t.stage < MAX_STAGE + 1)
 
 abbrev pub FitNodes : List Sort → List ClosedNode → Type 0
 FitNodes scope [] = Unit {0}
@@ -49,7 +50,7 @@ FitEdges scope (t ∷ ts) = FitsNode scope t.from × FitsNode scope t.to × FitE
 -- the argument has a value: it is a bound slot or a core number
 abbrev pub HasValue : List Sort → ClosedArg → Type 0
 HasValue scope (Slot k) = k < length scope
-HasValue scope (core_arg n) = n < 64
+HasValue scope (core_arg n) = n < MAX_CORE + 1
 HasValue scope (Plain name) = ⊥
 
 abbrev pub HaveValues : List Sort → List ClosedArg → Type 0
@@ -59,7 +60,8 @@ HaveValues scope (a ∷ as_) = HasValue scope a × HaveValues scope as_
 -- the sort of an argument that has a value
 abbrev pub sort_of : List Sort → ClosedArg → Sort
 sort_of scope (Slot k) = unwrap_or (slice_get scope k) Core
-sort_of scope _ = Core
+sort_of scope (core_arg n) = Core
+sort_of scope (Plain name) = Core
 
 -- the scope with one variable more
 abbrev pub with_sort : List Sort → Sort → List Sort
@@ -74,13 +76,13 @@ IsClosed scope (closed_not p) = IsClosed scope p
 IsClosed scope (closed_and p q) = IsClosed scope p × IsClosed scope q
 IsClosed scope (closed_or p q) = IsClosed scope p × IsClosed scope q
 IsClosed scope (closed_implies p q) = IsClosed scope p × IsClosed scope q
-IsClosed scope (closed_forall sort p) = (length scope < 32) × IsClosed (with_sort scope sort) p
-IsClosed scope (closed_exists sort p) = (length scope < 32) × IsClosed (with_sort scope sort) p
+IsClosed scope (closed_forall sort p) = (length scope < MAX_VARIABLES) × IsClosed (with_sort scope sort) p
+IsClosed scope (closed_exists sort p) = (length scope < MAX_VARIABLES) × IsClosed (with_sort scope sort) p
 IsClosed scope (closed_static pred args) = FitArgs scope (takes_of pred) args
 IsClosed scope (closed_nodes ts) = FitNodes scope ts
 IsClosed scope (closed_edges ts) = FitEdges scope ts
 IsClosed scope (closed_bind args p) =
-    HaveValues scope args × (length scope + length args ≤ 32) × IsClosed (with_sorts scope args) p
+    HaveValues scope args × (length scope + length args ≤ MAX_VARIABLES) × IsClosed (with_sorts scope args) p
 
 pub IsBound-prop : (scope : List Sort) (k : ℕ) (sort : Sort) → IsProp (IsBound scope k sort)
 IsBound-prop scope k sort = Coded-set (coded_option sort_row.the_row.coded) (slice_get scope k) (Some sort)

@@ -5,6 +5,7 @@ use Rattle.std.specs.Option.{option_or}
 use Rattle.pc_common.specs.Names.{same_name}
 use Rattle.pc_common.specs.declared.place.Place.{Place}
 use Rattle.pc_common.specs.declared.fault.FaultKind.TheVariants.{PredicateUnknown, Arity, Unbound, WrongSort, CoreNumber, StageUnknown, TooManyVariables}
+use Rattle.pc_syntax.specs.declared.limits.TheConstants.{MAX_CORE, MAX_VARIABLES}
 use Rattle.pc_syntax.specs.declared.term.Sort.{Sort}
 use Rattle.pc_syntax.specs.declared.term.Sort.TheVariants.{Microop, Core}
 use Rattle.pc_syntax.specs.declared.term.Word.{Word}
@@ -34,9 +35,9 @@ abbrev pub variable_fault : Scope → Sort → Word → Option Fault
 variable_fault scope wanted w =
     elim (binding_of scope w.name) [ None ↦ Some (Unbound, w.at) | Some b ↦ sort_fault w.at wanted b.sort ]
 
--- a core number is over 63
+-- a core number is over the greatest
 abbrev pub core_fault : ℕ → Place → Option Fault
-core_fault n at = if nat_lt 63 n then Some (CoreNumber n, at) else None
+core_fault n at = if nat_lt MAX_CORE n then Some (CoreNumber n, at) else None
 
 -- an argument that is not of the kind that is taken
 abbrev pub argument_fault : Scope → Takes → Arg → Option Fault
@@ -88,9 +89,9 @@ abbrev pub value_fault : Scope → Arg → Option Fault
 value_fault scope (word_arg w) = elim (binding_of scope w.name) [ None ↦ Some (Unbound, w.at) | Some b ↦ None ]
 value_fault scope (number_arg n at) = core_fault n at
 
--- more than 32 variables are in the scope
+-- too many variables are in the scope
 abbrev pub scope_fault : Place → Scope → Option Fault
-scope_fault at scope = if nat_lt 32 (length scope) then Some (TooManyVariables 32, at) else None
+scope_fault at scope = if nat_lt MAX_VARIABLES (length scope) then Some (TooManyVariables MAX_VARIABLES, at) else None
 
 -- an expansion's arguments, then the number of variables inside it
 abbrev pub binding_fault : Scope → Place → List (List ℕ) → List Arg → Option Fault

@@ -1,8 +1,9 @@
 -- Which worlds satisfy a model, and when a test's outcome is observable.
-use Rattle.std.specs.Prelude.{ℕ, ◌<◌, Bool, List, [], ◌∷◌, length, reverse, All, Contains, map, IsTrue}
+use Rattle.std.specs.Prelude.{ℕ, ◌+◌, ◌<◌, Bool, List, [], ◌∷◌, length, reverse, All, Contains, IsTrue}
 use Rattle.std.specs.List.{flat_map}
 use Rattle.pc_common.specs.Case.{MicroOp, Case}
 use Rattle.pc_common.specs.World.{Node, World, IsWorld}
+use Rattle.pc_syntax.specs.declared.limits.TheConstants.{MAX_CORE}
 use Rattle.pc_syntax.specs.Written.{Written, MacroAt, WrittenItem, axiom_, macro_, stage_numbers, WrittenModel}
 use Rattle.pc_syntax.specs.Truth.{Setting, are_true}
 
@@ -32,10 +33,10 @@ setting m c w = record { stages = m.stages; case = c; world = w }
 abbrev pub satisfies : WrittenModel → Case → World Node → Bool
 satisfies m c w = are_true (setting m c w) (macros_of m) (axioms_of m)
 
--- the node's micro-op is one of these, its core is 0 to 63 and its stage has one of these numbers
+-- the node's micro-op is one of these, its core is in range and its stage has one of these numbers
 pub record IsNodeOf (stages : List ℕ) (ops : List MicroOp) (a : Node) : Type 0 where
   pub op_of_test : a.op < length ops
-  pub core_in_range : a.core < 64
+  pub core_in_range : a.core < MAX_CORE + 1
   pub stage_of_model : Contains stages a.stage
 
 abbrev pub IsWorldOf : List ℕ → List MicroOp → World Node → Type 0

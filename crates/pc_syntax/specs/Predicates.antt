@@ -33,11 +33,20 @@ pub record Row : Type 0 where
 abbrev row : List ℕ → Rule → Row
 row name rule = record { name = name; rule = rule }
 
-abbrev pub same_kind : Kind → Kind → Bool
-same_kind read read = true
-same_kind write write = true
-same_kind fence fence = true
-same_kind _ _ = false
+abbrev pub is_read : Kind → Bool
+is_read read = true
+is_read write = false
+is_read fence = false
+
+abbrev pub is_write : Kind → Bool
+is_write read = false
+is_write write = true
+is_write fence = false
+
+abbrev pub is_fence : Kind → Bool
+is_fence read = false
+is_fence write = false
+is_fence fence = true
 
 -- same core and thread, and an earlier instruction
 abbrev pub is_before : MicroOp → MicroOp → Bool
@@ -54,9 +63,9 @@ is_stated (Some w) v = same_value w v
 abbrev pub row_of : Pred → Row
 row_of True = row (codes "True") (constant true)
 row_of False = row (codes "False") (constant false)
-row_of IsAnyRead = row (codes "IsAnyRead") (of_op (λ a. same_kind a.kind read))
-row_of IsAnyWrite = row (codes "IsAnyWrite") (of_op (λ a. same_kind a.kind write))
-row_of IsAnyFence = row (codes "IsAnyFence") (of_op (λ a. same_kind a.kind fence))
+row_of IsAnyRead = row (codes "IsAnyRead") (of_op (λ a. is_read a.kind))
+row_of IsAnyWrite = row (codes "IsAnyWrite") (of_op (λ a. is_write a.kind))
+row_of IsAnyFence = row (codes "IsAnyFence") (of_op (λ a. is_fence a.kind))
 row_of AccessType = row (codes "AccessType") (of_plain_op (λ t a. list_any (λ name. same_name name t) a.types))
 row_of OnCore = row (codes "OnCore") (of_core_op (λ c a. a.core == c))
 row_of SameCore = row (codes "SameCore") (of_ops (λ a b. a.core == b.core))
@@ -77,7 +86,7 @@ row_of DataFromFinalStateAtPA =
     row (codes "DataFromFinalStateAtPA") (of_touch (λ c t. is_stated (stated_at c.final t.pa) t.value))
 row_of HasDependency = row (codes "HasDependency") (of_plain_places (λ c kind i j. depends_by c.dependencies kind i j))
 
--- all of them
+-- all predicates, as the code lists them: `Pred::name` ensures that none is left out
 unfoldable pub all_preds : List Pred
 all_preds = ALL
 

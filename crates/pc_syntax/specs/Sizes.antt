@@ -5,6 +5,7 @@ use Rattle.std.specs.Option.{option_or}
 use Rattle.pc_common.specs.declared.place.Place.{Place}
 use Rattle.pc_common.specs.declared.fault.FaultKind.TheVariants.{TooDeep, TooBig}
 use Rattle.pc_common.specs.Names.{same_name}
+use Rattle.pc_syntax.specs.declared.limits.TheConstants.{MAX_HEIGHT, MAX_SIZE}
 use Rattle.pc_syntax.specs.Written.{Written, not_, and_, or_, implies_, forall_, exists_, static_, nodes_, edges_, expand_, bind_, MacroAt, WrittenItem, axiom_, macro_, WrittenModel}
 use Rattle.pc_syntax.specs.Observable.{macros_of}
 use Rattle.pc_syntax.specs.Fault.{Fault}
@@ -44,11 +45,11 @@ height_of (m ∷ ms) (expand_ at name args) =
 
 -- an atom of this height is too deep
 abbrev pub depth_fault : Place → ℕ → Option Fault
-depth_fault at height = if nat_lt 512 height then Some (TooDeep 512, at) else None
+depth_fault at height = if nat_lt MAX_HEIGHT height then Some (TooDeep MAX_HEIGHT, at) else None
 
 -- the axioms up to this one are too big together
 abbrev pub total_fault : Place → ℕ → Option Fault
-total_fault at total = if nat_lt 1000000 total then Some (TooBig 1000000, at) else None
+total_fault at total = if nat_lt MAX_SIZE total then Some (TooBig MAX_SIZE, at) else None
 
 -- the first fault of a list of items, the axioms before them being of the size `total` together
 abbrev pub sizes_fault : List MacroAt → ℕ → List WrittenItem → Option Fault

@@ -2,6 +2,7 @@
 use Rattle.std.specs.Prelude.{ℕ, List, [], ◌∷◌, ◌++◌, Option, Some, None, nat_lt, ◌==◌, if◌then◌else◌, option_map}
 use Rattle.std.specs.Option.{option_or}
 use Rattle.pc_common.specs.declared.fault.FaultKind.TheVariants.{StageNumber, StageAgain}
+use Rattle.pc_syntax.specs.declared.limits.TheConstants.{MAX_STAGE}
 use Rattle.pc_syntax.specs.declared.model.StageItem.{StageItem}
 use Rattle.pc_common.specs.Names.{same_name}
 use Rattle.pc_syntax.specs.Written.{WrittenModel}
@@ -17,9 +18,9 @@ abbrev pub stage_called : List StageItem → List ℕ → Option StageItem
 stage_called [] name = None
 stage_called (s ∷ ss) name = if same_name s.name.name name then Some s else stage_called ss name
 
--- the number is over 63
+-- the number is over the greatest
 abbrev pub number_fault : StageItem → Option Fault
-number_fault s = if nat_lt 63 s.number then Some (StageNumber s.number, s.number_at) else None
+number_fault s = if nat_lt MAX_STAGE s.number then Some (StageNumber s.number, s.number_at) else None
 
 -- an earlier stage has the number
 abbrev pub number_again : List StageItem → StageItem → Option Fault

@@ -1,3 +1,4 @@
+use super::limits::MAX_VARIABLES;
 use arrayvec::ArrayVec;
 
 /// What a slot stands for.
@@ -22,4 +23,4 @@ impl Default for Bound {
 }
 
 /// What the slots stand for, from the outermost binding.
-pub type Env = ArrayVec<Bound, 32>;
+pub type Env = ArrayVec<Bound, MAX_VARIABLES>;

@@ -14,11 +14,10 @@ mod closed_term;
 mod copying;
 mod expanded;
 mod formula;
+mod limits;
 mod model;
 mod pred;
 mod term;
-#[cfg(test)]
-mod tests;
 
 pub use bound::{Bound, Env};
 pub use closed::Closed;
@@ -27,6 +26,7 @@ pub use closed_term::{ClosedArg, ClosedArgs, ClosedEdge, ClosedEdges, ClosedNode
 pub use copying::{TryCopy, copy_list};
 pub use expanded::Expanded;
 pub use formula::Formula;
+pub use limits::{MAX_CORE, MAX_HEIGHT, MAX_SIZE, MAX_STAGE, MAX_VARIABLES};
 pub use model::{Item, Items, ModelFile, StageItem, StageItems};
 pub use pred::{Pred, Takes};
 pub use term::{

@@ -81,6 +81,7 @@ impl Pred {
         Pred::HasDependency,
     ];
 
+    /// The predicate's row. It is found by its name: so none is left out of `ALL`, and no two have one name.
     #[tactic(auto, unfolding(crate::specs::Predicates::all_preds))]
     fn row(self) -> Row
         ensures name { result.name.now ≡ pred_name self }

@@ -10,3 +10,4 @@ pub mod Verdicts
 pub mod Writing
 pub mod Answered
 pub mod Headline
+pub mod Laws

@@ -10,11 +10,8 @@ ghost use Rattle.scope_check.specs.FirstFault.{Answers};
 use super::fault::NameFault;
 use super::scope::Scope;
 use pc_common::Place;
-use pc_syntax::{Arg, Args, ClosedArg, ClosedArgs, Names, Pred, Sort, Takes, TryCopy, Word};
+use pc_syntax::{Arg, Args, ClosedArg, ClosedArgs, MAX_CORE, Names, Pred, Sort, Takes, TryCopy, Word};
 use std::alloc::Global;
-
-/// The greatest core number.
-const LAST_CORE: u64 = 63;
 
 /// The slot of a variable of the sort that is asked for.
 pub(crate) fn variable_slot(scope: &Scope<'_>, wanted: Sort, word: &Word) -> Result<u8, NameFault>
@@ -35,7 +32,7 @@ fn core_numbered(number: u64, at: Place) -> Result<ClosedArg, NameFault>
     ensures ok { IfOk result (λ arg. (core_fault number at ≡ None) × (arg ≡ core_arg number)) }
     ensures err { IfErr result (Answers (core_fault number at)) }
 {
-    if number > LAST_CORE {
+    if number > MAX_CORE {
         return Err(NameFault::CoreNumber { at, number });
     }
     Ok(ClosedArg::Core(number as u8))

@@ -13,8 +13,6 @@ mod laws;
 mod nodes;
 mod scope;
 mod statics;
-#[cfg(test)]
-mod tests;
 
 pub use closing::close;
 pub use fault::NameFault;

@@ -2,6 +2,7 @@ ghost use Rattle.std.specs.Prelude.{◌≡◌, ◌+◌, ◌<◌, ◌≤◌, ◌+
 ghost use Rattle.std.specs.List.{find};
 ghost use Rattle.pc_common.specs.declared.fault.FaultKind.TheVariants.{TooManyVariables};
 ghost use Rattle.pc_common.specs.Names.{same_name};
+ghost use Rattle.pc_syntax.specs.declared.limits.TheConstants.{MAX_VARIABLES};
 ghost use Rattle.pc_syntax.specs.Scope.{binding_of, sort_of_arg, quantified_in, bound_in};
 ghost use Rattle.pc_syntax.specs.NameFaults.{scope_fault};
 ghost use Rattle.scope_check.specs.Bindings.{binding};
@@ -10,11 +11,8 @@ ghost use Rattle.scope_check.specs.FirstFault.{Answers, fault_told};
 use super::fault::NameFault;
 use arrayvec::ArrayVec;
 use pc_common::Place;
-use pc_syntax::{Arg, Args, Name, Names, Sort};
+use pc_syntax::{Arg, Args, MAX_VARIABLES, Name, Names, Sort};
 use std::marker::Model;
-
-/// How many variables may be in scope at a place.
-const MOST_VARIABLES: usize = 32;
 
 /// A bound name, lent from the axiom.
 #[derive(Clone, Copy)]
@@ -44,7 +42,7 @@ impl<'a> Default for Variable<'a> {
 /// The variables at a place of a formula, innermost first.
 #[derive(Drop)]
 pub(crate) struct Scope<'a> {
-    variables: ArrayVec<Variable<'a>, 32>,
+    variables: ArrayVec<Variable<'a>, MAX_VARIABLES>,
 }
 
 impl<'a> Model for Scope<'a> {
@@ -90,21 +88,21 @@ impl<'a> Scope<'a> {
     /// How many variables are in scope: 0 to 32.
     fn len(&self) -> usize
         ensures value { result ≡ length self.now }
-        ensures fits { length self.now ≤ 32 }
+        ensures fits { length self.now ≤ MAX_VARIABLES }
     {
         self.variables.len()
     }
 
     /// Whether so many variables more may be in scope.
     fn has_room(&self, count: usize) -> bool
-        ensures { MatchBool result (length self.now + count ≤ 32) (32 < length self.now + count) }
+        ensures { MatchBool result (length self.now + count ≤ MAX_VARIABLES) (MAX_VARIABLES < length self.now + count) }
     {
-        count <= MOST_VARIABLES - self.len()
+        count <= MAX_VARIABLES - self.len()
     }
 
     /// Puts a variable outside all others.
     fn push(&mut self, name: &'a [u8], sort: Sort, slot: u8)
-        requires { length self.old < 32 }
+        requires { length self.old < MAX_VARIABLES }
         ensures { self.new ≡ self.old ++ record { name = name.now; sort = sort; slot = slot } ∷ [] }
     {
         self.variables.push(Variable { name, sort, slot });
@@ -112,7 +110,7 @@ impl<'a> Scope<'a> {
 
     /// Puts the variables of another scope outside all others, in their order.
     fn extend(&mut self, outer: &Scope<'a>)
-        requires { length self.old + length outer.now ≤ 32 }
+        requires { length self.old + length outer.now ≤ MAX_VARIABLES }
         ensures { self.new ≡ self.old ++ outer.now }
     {
         let outer = outer.variables.as_slice();
@@ -179,10 +177,10 @@ fn first_named<'a>(variables: &[Variable<'a>], name: &[u8]) -> Option<Variable<'
 }
 
 fn too_many_variables(at: Place) -> NameFault
-    ensures { fault_told result ≡ Some (TooManyVariables 32, at) }
+    ensures { fault_told result ≡ Some (TooManyVariables MAX_VARIABLES, at) }
 {
     NameFault::TooManyVariables {
         at,
-        limit: MOST_VARIABLES as u64,
+        limit: MAX_VARIABLES as u64,
     }
 }

@@ -7,7 +7,5 @@
 
 mod given;
 mod table;
-#[cfg(test)]
-mod tests;
 
 pub use table::holds;

@@ -10,3 +10,5 @@ pub mod OneTree
 pub mod Complete
 pub mod Trees
 pub mod Split
+pub mod Existence
+pub mod StageNames

@@ -100,10 +100,10 @@ follow Arguments Dot = true
 follow Arguments _ = false
 follow _ _ = true
 
-abbrev terminals : List Terminal
+abbrev pub terminals : List Terminal
 terminals = StageName ∷ Axiom ∷ DefineMacro ∷ ExpandMacro ∷ Forall ∷ Exists ∷ Microop ∷ Core ∷ OneEdge ∷ EdgeList ∷ OneNode ∷ NodeList ∷ Name ∷ Number ∷ Quoted ∷ Text ∷ Open ∷ Close ∷ OpenBracket ∷ CloseBracket ∷ Comma ∷ Semicolon ∷ Colon ∷ Dot ∷ Not ∷ And ∷ Or ∷ Implies ∷ Arrow ∷ []
 
-abbrev place : Terminal → ℕ
+abbrev pub place : Terminal → ℕ
 place StageName = 0
 place Axiom = 1
 place DefineMacro = 2
@@ -134,7 +134,7 @@ place Or = 26
 place Implies = 27
 place Arrow = 28
 
-listed : (t : Terminal) → slice_get terminals (place t) ≡ Some t
+pub listed : (t : Terminal) → slice_get terminals (place t) ≡ Some t
 listed StageName = refl
 listed Axiom = refl
 listed DefineMacro = refl

@@ -1,8 +1,7 @@
 // Laws of the definitions in specs/. Each function does nothing: its contract is the law.
-ghost use Rattle.std.specs.Prelude.{◌≡◌, ◌↔◌, Option};
+ghost use Rattle.std.specs.Prelude.{◌≡◌, ◌↔◌};
 ghost use Rattle.ll_grammar.specs.Texts.{IsText};
-ghost use Rattle.ll_grammar.specs.FirstFault.{IsAnswer};
-ghost use Rattle.ll_grammar.specs.declared.fault.Fault.{Fault};
+ghost use Rattle.ll_grammar.specs.FirstFault.{HasAnswer, HasOneAnswer};
 ghost use Rattle.pc_syntax.specs.Written.{Written, WrittenModel};
 ghost use Rattle.uspec_parser.specs.Operands.{Operands, IsSplit, grouped};
 ghost use Rattle.uspec_parser.specs.Syntax.{DerivesModel, DerivesFormula};
@@ -36,8 +35,14 @@ pub fn formula_texts(tokens: &Tokens<'_>)
     ensures { ((w : Written) × DerivesFormula tokens.now w) ↔ IsText IsMarkedFormula (terminals tokens.now) }
 {}
 
-/// Tokens have one answer as a model and one as a formula: they are accepted, or have one first fault.
+/// Tokens have an answer as a model and one as a formula: they are accepted, or have a first fault.
+pub fn some_answer(tokens: &Tokens<'_>)
+    ensures model { HasAnswer IsMarkedModel (terminals tokens.now) }
+    ensures formula { HasAnswer IsMarkedFormula (terminals tokens.now) }
+{}
+
+/// Tokens have no two answers as a model, and no two as a formula.
 pub fn one_answer(tokens: &Tokens<'_>)
-    ensures model { (a b : Option Fault) → IsAnswer IsMarkedModel (terminals tokens.now) a → IsAnswer IsMarkedModel (terminals tokens.now) b → a ≡ b }
-    ensures formula { (a b : Option Fault) → IsAnswer IsMarkedFormula (terminals tokens.now) a → IsAnswer IsMarkedFormula (terminals tokens.now) b → a ≡ b }
+    ensures model { HasOneAnswer IsMarkedModel (terminals tokens.now) }
+    ensures formula { HasOneAnswer IsMarkedFormula (terminals tokens.now) }
 {}

@@ -35,7 +35,7 @@
 //!
 //! `specs/Syntax.antt` states the grammar as data, with what each production spells and means, `specs/Marks.antt`
 //! which tokens stand too deep; the clauses of the two calls are over these. The laws in `laws.rt` say that
-//! no tokens have two trees.
+//! no tokens have two trees, and that all have an answer.
 #![tactic(auto)]
 
 mod cursor;
@@ -49,11 +49,10 @@ mod parse;
 mod phrase;
 mod terminal;
 mod terms;
-#[cfg(test)]
-mod tests;
 
 pub use fault::ParseFault;
 pub use laws::{
-    formula_texts, model_texts, one_answer, one_formula_tree, one_model_tree, split_of_operands,
+    formula_texts, model_texts, one_answer, one_formula_tree, one_model_tree, some_answer,
+    split_of_operands,
 };
 pub use parse::{parse_formula, parse_model};

@@ -3,7 +3,7 @@ use Rattle.std.proofs.lemmas.List.{map-append}
 use Rattle.std.proofs.lemmas.Result.{err_from_is_err_and}
 use Rattle.pc_syntax.specs.Closed.{plain_closed}
 use Rattle.scope_check.proofs.Walks.{drop_item, closed_more, closed_fault, closed_all}
-use Rattle.pc_front.specs.ModelFront.{plain_axioms}
+use Rattle.pc_ground.specs.Stages.{plain_axioms}
 use Rattle.pc_front.specs.ModelSteps.{axiom_fault, closing_of_axiom}
 use Rattle.pc_front.proofs.reading.close_axioms.Goals as goal
 

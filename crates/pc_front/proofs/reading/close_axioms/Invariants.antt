@@ -1,6 +1,6 @@
 -- The axioms so far are closed, and none of them has a fault.
 use Rattle.scope_check.proofs.Walks.{IsClosedTo}
-use Rattle.pc_front.specs.ModelFront.{plain_axioms}
+use Rattle.pc_ground.specs.Stages.{plain_axioms}
 use Rattle.pc_front.specs.ModelSteps.{axiom_fault, closing_of_axiom}
 use Rattle.pc_front.proofs.reading.close_axioms.Given as goal
 

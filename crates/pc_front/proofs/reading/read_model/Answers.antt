@@ -1,4 +1,4 @@
-use Rattle.std.proofs.Common.{◌≡◌, None, Some, [], sym, ◌∙◌, ap, subst}
+use Rattle.std.proofs.Common.{◌≡◌, None, Some, sym, ◌∙◌, ap, subst}
 use Rattle.pc_syntax.specs.Closed.{closed_satisfies}
 use Rattle.pc_syntax.specs.Written.{written_model}
 use Rattle.pc_syntax.specs.StageFaults.{first_stage_fault}
@@ -6,13 +6,13 @@ use Rattle.pc_syntax.specs.NameFaults.{first_name_fault}
 use Rattle.macro_expand.specs.Faults.{fault_told as macro_fault_told}
 use Rattle.scope_check.specs.FirstFault.{fault_told as name_fault_told}
 use Rattle.pc_front.specs.declared.model_front.FrontEnd.{FrontEnd}
-use Rattle.pc_front.specs.ModelFront.{IsFrontEnd}
+use Rattle.pc_front.specs.ModelFront.{IsModelEnd}
 use Rattle.pc_front.proofs.FrontLaws.{stage_first, expansion_first, names_first, only_names, names_of_expansions, closings_of_axioms, satisfied_alike, front_end}
 use Rattle.pc_front.proofs.reading.read_model.Goals as goal
 
 pub returns-in-Some-clause-err : goal.returns-in-Some-clause-err
 returns-in-Some-clause-err c =
-    let P : FrontEnd → Type 0 = λ e. IsFrontEnd c.args.bytes.now e in
+    let P : FrontEnd → Type 0 = λ e. IsModelEnd c.args.bytes.now e in
     let m = written_model c.in_ok-model.model in
     subst P (sym c.refused.ensures)
     (front_end c.args.bytes.now m c.in_ok-model.ensures.ok (Some (c.in-Some.kind, c.in-Some.place))
@@ -20,7 +20,7 @@ returns-in-Some-clause-err c =
 
 pub returns-in-Err-clause-err : goal.returns-in-Err-clause-err
 returns-in-Err-clause-err c =
-    let P : FrontEnd → Type 0 = λ e. IsFrontEnd c.args.bytes.now e in
+    let P : FrontEnd → Type 0 = λ e. IsModelEnd c.args.bytes.now e in
     let m = written_model c.in_ok-model.model in
     let stages : first_stage_fault m ≡ None = sym c.stage_faults.ensures ∙ c.in_default.is in
     subst P (sym c.macro_refused.ensures)
@@ -29,7 +29,7 @@ returns-in-Err-clause-err c =
 
 pub returns-in-Err-close_axioms-clause-err : goal.returns-in-Err-close_axioms-clause-err
 returns-in-Err-close_axioms-clause-err c =
-    let P : FrontEnd → Type 0 = λ e. IsFrontEnd c.args.bytes.now e in
+    let P : FrontEnd → Type 0 = λ e. IsModelEnd c.args.bytes.now e in
     let m = written_model c.in_ok-model.model in
     let stages : first_stage_fault m ≡ None = sym c.stage_faults.ensures ∙ c.in_default.is in
     let expanded = c.in-Ok.ensures.ok in

@@ -9,9 +9,9 @@ has_room : {X : Type 0} (f : X → List ℕ) (xs : List X) (k : ℕ) (d : X) (be
 has_room f xs k d before line within is room =
     let first : length line ≡ length before + length (flat_map f (take k xs)) = ap length is ∙ length-append before (flat_map f (take k xs)) in
     let next : length (flat_map f (take k xs)) + length (f (get_or xs k d)) ≡ length (flat_map f (take (k + 1) xs)) =
-        sym (length-append (flat_map f (take k xs)) (f (get_or xs k d))) ∙ ap length (flat_more f xs k d within) in
+    sym (length-append (flat_map f (take k xs)) (f (get_or xs k d))) ∙ ap length (flat_more f xs k d within) in
     let all : length (flat_map f (take (k + 1) xs)) + length (flat_map f (drop (k + 1) xs)) ≡ length (flat_map f xs) =
-        sym (length-append (flat_map f (take (k + 1) xs)) (flat_map f (drop (k + 1) xs))) ∙ ap length (flat_rest f xs (k + 1)) in
+    sym (length-append (flat_map f (take (k + 1) xs)) (flat_map f (drop (k + 1) xs))) ∙ ap length (flat_rest f xs (k + 1)) in
     omega arith
 
 pub extend-requires : goal.extend-requires

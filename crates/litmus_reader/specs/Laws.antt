@@ -1,0 +1,23 @@
+-- What holds of the bytes of every test. Want of memory counts as no fault.
+use Rattle.std.specs.Prelude.{◌≡◌, ◌≢◌, ◌⊎◌, ℕ, List}
+use Rattle.pc_common.specs.Case.{Case}
+use Rattle.litmus_reader.specs.Answer.{CaseOf, IsRefusal}
+use Rattle.litmus_reader.specs.declared.fault.CaseFault.{CaseFault}
+use Rattle.litmus_reader.specs.declared.fault.CaseFault.TheVariants.{Memory}
+
+-- a fault of the bytes
+abbrev pub IsFault : List ℕ → CaseFault → Type 0
+IsFault bytes fault = (fault ≢ Memory) × IsRefusal bytes fault
+
+abbrev pub HasCaseOrFault : List ℕ → Type 0
+HasCaseOrFault bytes = ((c : Case) × CaseOf bytes c) ⊎ ((f : CaseFault) × IsFault bytes f)
+
+abbrev pub HasOneCase : List ℕ → Type 0
+HasOneCase bytes = (c d : Case) → CaseOf bytes c → CaseOf bytes d → c ≡ d
+
+abbrev pub HasOneFault : List ℕ → Type 0
+HasOneFault bytes = (e f : CaseFault) → IsFault bytes e → IsFault bytes f → e ≡ f
+
+-- not both
+abbrev pub HasNoFaultBeside : List ℕ → Type 0
+HasNoFaultBeside bytes = (c : Case) (f : CaseFault) → CaseOf bytes c → IsFault bytes f → ⊥

@@ -1,0 +1,103 @@
+-- What a whole model and a case give a front.
+use Rattle.std.proofs.Common.{◌≡◌, ℕ, List, [], ◌∷◌, None, map, refl, sym, ◌∙◌, ap, subst}
+use Rattle.std.specs.Option.{option_or}
+use Rattle.pc_syntax.specs.declared.model.StageItem.{StageItem}
+use Rattle.pc_syntax.specs.Written.{Written, WrittenModel, stage_numbers}
+use Rattle.pc_syntax.specs.Observable.{axioms_of, macros_of}
+use Rattle.pc_syntax.specs.Expansion.{expansion_of}
+use Rattle.pc_syntax.specs.Fault.{first_fault}
+use Rattle.pc_syntax.specs.StageFaults.{first_stage_fault}
+use Rattle.pc_syntax.specs.MacroFaults.{first_macro_fault}
+use Rattle.pc_syntax.specs.Sizes.{first_size_fault}
+use Rattle.pc_syntax.specs.NameFaults.{name_fault, first_name_fault}
+use Rattle.pc_syntax.specs.ModelFault.{first_model_fault}
+use Rattle.pc_syntax.proofs.NoFault.{none_first, none_second}
+use Rattle.pc_syntax.proofs.ClosingStages.{closing_within}
+use Rattle.uspec_parser.proofs.StageNames.{stage_is_named}
+use Rattle.std.specs.List.{list_all}
+use Rattle.pc_common.specs.Case.{Case}
+use Rattle.pc_common.specs.declared.fault.Which.{Which}
+use Rattle.pc_syntax.specs.Closed.{closed_true}
+use Rattle.litmus_reader.specs.Answer.{IsRefusal}
+use Rattle.litmus_reader.specs.declared.fault.CaseFault.{CaseFault}
+use Rattle.litmus_reader.specs.declared.fault.CaseFault.TheVariants.{Lexical as a_lexical_fault, Syntax as a_syntax_fault, Content as a_fault_of_content, Memory as no_room}
+use Rattle.pc_ground.proofs.UnfoldedClosing.{closed_tree}
+use Rattle.pc_ground.specs.declared.front.Front.{Front}
+use Rattle.pc_front.specs.declared.model_front.FrontEnd.{FrontEnd}
+use Rattle.pc_front.specs.declared.model_front.FrontEnd.TheVariants.{Refused, Memory}
+use Rattle.pc_front.specs.Front.{SaysModel, IsFirstFault, in_model, in_test, IsFrontOf, IsEnd, test_end_of}
+use Rattle.pc_ground.specs.Rows.{rows_of}
+use Rattle.pc_ground.specs.GroundTree.{closed_ground_tree}
+use Rattle.pc_ground.specs.Stages.{plain_stage, plain_axioms, numbers_of, AreStages, AxiomsWithin}
+use Rattle.pc_front.specs.declared.model_front.ModelFront.{ModelFront}
+use Rattle.pc_front.specs.ModelFront.{ModelOf, stage_said, closed_axiom, IsModelFrontOf, IsModelEnd}
+use Rattle.pc_front.proofs.FrontLaws.{names_expanded}
+use Rattle.pc_front.proofs.StagesKept.{named, stages_kept}
+
+numbers_same : (ss : List StageItem) → numbers_of (map stage_said ss) ≡ stage_numbers ss
+numbers_same [] = refl
+numbers_same (s ∷ ss) = ap (λ ns. s.number ∷ ns) (numbers_same ss)
+
+all_within : (m : WrittenModel) (ws : List Written) → first_fault (λ w. name_fault m.stages [] [] (expansion_of (macros_of m) w)) ws ≡ None
+    → AxiomsWithin (stage_numbers m.stages) (map (closed_axiom m) ws)
+all_within m [] f = tt
+all_within m (w ∷ ws) f =
+    let e = expansion_of (macros_of m) w in
+    let here = name_fault m.stages [] [] e in
+    let rest = first_fault (λ v. name_fault m.stages [] [] (expansion_of (macros_of m) v)) ws in
+    (closing_within m.stages [] e (none_first here rest f), all_within m ws (none_second here rest f))
+
+module _ (m : WrittenModel) (no_fault : first_model_fault m ≡ None) where
+  no_stage_fault : first_stage_fault m ≡ None
+  no_stage_fault =
+      none_first (first_stage_fault m) (option_or (first_macro_fault m) (option_or (first_size_fault m) (first_name_fault m))) no_fault
+
+  pub no_name_fault : first_name_fault m ≡ None
+  no_name_fault =
+      let sizes = option_or (first_size_fault m) (first_name_fault m) in
+      let later = none_second (first_stage_fault m) (option_or (first_macro_fault m) sizes) no_fault in
+      none_second (first_size_fault m) (first_name_fault m) (none_second (first_macro_fault m) sizes later)
+
+  module _ (front : ModelFront) (is : IsModelFrontOf m front) where
+    pub axioms_within : AxiomsWithin (numbers_of (map plain_stage front.stages)) (plain_axioms front.axioms)
+    axioms_within =
+        let numbers = ap numbers_of is.stages ∙ numbers_same m.stages in
+        let within = all_within m (axioms_of m) (sym (names_expanded m (axioms_of m)) ∙ no_name_fault) in
+        subst (λ ns. AxiomsWithin ns (plain_axioms front.axioms)) (sym numbers)
+        (subst (AxiomsWithin (stage_numbers m.stages)) (sym is.axioms) within)
+
+    pub are_stages : {bytes : List ℕ} → ModelOf bytes m → AreStages (map plain_stage front.stages)
+    are_stages of =
+        subst AreStages (sym is.stages)
+        (stages_kept m.stages no_stage_fault (λ k s at. named s.name.name (stage_is_named of.tokens m of.tree k s at)))
+
+-- the first fault of a model is that of the two files
+pub model_end : (model test : List ℕ) (e : FrontEnd) → IsModelEnd model e → IsEnd model test e
+model_end model test (Refused fault) is =
+    subst (λ (file : Which). IsFirstFault model test (record { file = file; place = fault.place; kind = fault.kind })) (sym is.0) (in_model is.1)
+model_end model test Memory is = tt
+
+-- beside a model without fault, the first fault of a test is that of the two files
+pub test_end : (model test : List ℕ) (m : WrittenModel) (fault : CaseFault) → SaysModel model m → IsRefusal test fault → IsEnd model test (test_end_of fault)
+test_end model test m (a_lexical_fault at) says is = in_test says (record { found = a_lexical_fault at; first = is; told = refl })
+test_end model test m (a_syntax_fault at) says is = in_test says (record { found = a_syntax_fault at; first = is; told = refl })
+test_end model test m (a_fault_of_content kind at) says is =
+    in_test says (record { found = a_fault_of_content kind at; first = is; told = refl })
+test_end model test m no_room says is = tt
+
+-- the front of the model's part and the case
+pub front_is : (m : WrittenModel) (c : Case) (part : ModelFront) (front : Front) → IsModelFrontOf m part
+    → front.case ≡ c → front.stages ≡ part.stages → front.axioms ≡ part.axioms → IsFrontOf m c front
+front_is m c part front is case stages axioms =
+    let plain = ap plain_axioms axioms in
+    let closed = plain ∙ is.axioms in record {
+      case = case;
+      stages = ap (map plain_stage) stages ∙ is.stages;
+      axioms = closed;
+      true_alike = λ d w. is.true_alike d w ∙ ap (λ as_. list_all (closed_true d w []) as_) (sym plain);
+      tree = front.grounded ∙ ap rows_of (
+          ap (λ d. closed_ground_tree d (plain_axioms front.axioms)) case
+          ∙ ap (closed_ground_tree c) closed
+          ∙ closed_tree m c (no_name_fault m is.no_fault)
+          );
+    }

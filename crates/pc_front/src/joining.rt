@@ -1,0 +1,79 @@
+ghost use Rattle.std.specs.Prelude.{◌≡◌, ◌^◌, ◌<◌, length, map, IfOk, IfErr};
+ghost use Rattle.pc_ground.specs.Stages.{plain_stage, plain_axioms, numbers_of, AreStages, AxiomsWithin};
+ghost use Rattle.pc_ground.specs.Rows.{rows_of};
+ghost use Rattle.pc_ground.specs.GroundTree.{closed_ground_tree};
+ghost use Rattle.pc_front.specs.Front.{SayFront, IsEnd, test_end_of};
+
+use super::model_front::{FrontEnd, ModelFront};
+use super::reading::read_model;
+use grounder::ground;
+use litmus_reader::{CaseFault, read_case};
+use normal_form::{normalise, number};
+use pc_case::Case;
+use pc_common::{FaultKind, InputFault, Memory, Which};
+use pc_ground::{Axioms, Flat, Front};
+use std::alloc::Global;
+
+/// What the bytes of a model and of a test say together: the test's case, the model's stages, its axioms
+/// closed, their ground tree in the case, and the numbers of the tree's nodes.
+///
+/// `Refused` comes with the first fault of the two files: the model's, and where it has none, the test's.
+/// The sizes of the files aren't judged.
+pub fn front(alloc: Global, model_bytes: &[u8], test_bytes: &[u8]) -> Result<Front, FrontEnd>
+    requires model_short { length model_bytes.now < 2 ^ 32 }
+    requires test_short { length test_bytes.now < 2 ^ 32 }
+    ensures ok { IfOk result (SayFront model_bytes.now test_bytes.now) }
+    ensures err { IfErr result (IsEnd model_bytes.now test_bytes.now) }
+{
+    let model = read_model(alloc, model_bytes)?;
+    match read_case(alloc, test_bytes) {
+        Ok(case) => match joined(alloc, model, case) {
+            Ok(front) => Ok(front),
+            Err(Memory) => Err(FrontEnd::Memory),
+        },
+        Err(fault) => Err(test_end(fault)),
+    }
+}
+
+/// The model's part and the case, with the ground tree and its numbers.
+fn joined(alloc: Global, model: ModelFront, case: Case) -> Result<Front, Memory>
+    requires named { AreStages (map plain_stage model.stages) }
+    requires within { AxiomsWithin (numbers_of (map plain_stage model.stages)) (plain_axioms model.axioms) }
+    ensures { IfOk result (λ f. (f.case ≡ case) × (f.stages ≡ model.stages) × (f.axioms ≡ model.axioms)) }
+{
+    let tree = tree_of(alloc, &case, &model.axioms)?;
+    let numbering = number(alloc, &tree)?;
+    let ModelFront { stages, axioms } = model;
+    Ok(Front {
+        case,
+        stages,
+        axioms,
+        tree,
+        numbering,
+    })
+}
+
+/// The ground tree of closed axioms in a case.
+fn tree_of(alloc: Global, case: &Case, axioms: &Axioms) -> Result<Flat, Memory>
+    ensures { IfOk result (λ t. t ≡ rows_of (closed_ground_tree case.now (plain_axioms axioms.now))) }
+{
+    let ground = ground(alloc, case, axioms.as_slice())?;
+    normalise(alloc, &ground)
+}
+
+/// The end that a fault of a test is told by.
+fn test_end(fault: CaseFault) -> FrontEnd
+    ensures { result ≡ test_end_of fault }
+{
+    let (kind, place) = match fault {
+        CaseFault::Lexical(place) => (FaultKind::Lexical, place),
+        CaseFault::Syntax(place) => (FaultKind::Syntax, place),
+        CaseFault::Content(kind, place) => (kind, place),
+        CaseFault::Memory => return FrontEnd::Memory,
+    };
+    FrontEnd::Refused(InputFault {
+        file: Which::Test,
+        place,
+        kind,
+    })
+}

@@ -1,0 +1,13 @@
+// Laws of the definitions in specs/. Each function does nothing: its contract is the law.
+ghost use Rattle.pipecheck_run.specs.Language.{Contents};
+ghost use Rattle.pipecheck_run.specs.Laws.{HasOneFirstFault, HasCaseOrFault};
+
+/// Two files have one first fault at most.
+pub fn one_first_fault()
+    ensures { (holds : Contents) → HasOneFirstFault holds }
+{}
+
+/// Beside a model of the language, a test says a case or the two files have a first fault.
+pub fn case_or_first_fault()
+    ensures { (holds : Contents) → HasCaseOrFault holds }
+{}

@@ -1,2 +1,0 @@
-mod checking;
-mod models;

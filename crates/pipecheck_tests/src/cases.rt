@@ -1,0 +1,214 @@
+//! Test files to cases, and what a case answers.
+use litmus_reader::{CaseFault, read_case};
+use pc_case::{Access, Case, Expect, OpId, Ops, Page};
+use pc_common::{FaultKind, Place};
+use std::test::Fail;
+
+/// A refused text, and its first fault.
+type Refused = (&'static [u8], CaseFault);
+
+const FAULTS: &[Refused] = &[
+    (b"Microop \"open", CaseFault::Lexical(Place { offset: 8 })),
+    (b"", CaseFault::Syntax(Place { offset: 0 })),
+    (b"Litmus", CaseFault::Syntax(Place { offset: 6 })),
+    (
+        b"Litmus \"d\".\nMicroop 0 0 0 0 (Fence (VA 0 0)).",
+        CaseFault::Syntax(Place { offset: 35 }),
+    ),
+    (
+        b"Litmus \"d\".\nMicroop 0 0 0 0 (Read).",
+        CaseFault::Syntax(Place { offset: 33 }),
+    ),
+    (
+        b"Litmus \"d\".\nPermitted.\nForbidden.\nPermitted",
+        CaseFault::Syntax(Place { offset: 43 }),
+    ),
+    (
+        b"Litmus \"d\".\nMicroop 0 64 0 0 (Fence).",
+        CaseFault::Content(FaultKind::CoreNumber { number: 64 }, Place { offset: 22 }),
+    ),
+    (
+        b"Litmus \"d\".\nMicroop 0 0 0 0 (Fence).\nMicroop 0 1 5 1 (Fence).",
+        CaseFault::Content(
+            FaultKind::SplitInstruction { first: 0, again: 1 },
+            Place { offset: 47 },
+        ),
+    ),
+    (
+        b"Litmus \"d\".\nMicroop 0 0 0 0 (Fence).\nMicroop 0 0 5 0 (Fence).",
+        CaseFault::Content(
+            FaultKind::SplitInstruction { first: 0, again: 5 },
+            Place { offset: 49 },
+        ),
+    ),
+    (
+        b"Litmus \"d\".\nMicroop 0 0 0 0 (Fence).\nMicroop 0 0 0 0 (Fence).",
+        CaseFault::Content(
+            FaultKind::DuplicateOp {
+                first: Place { offset: 20 },
+                again: Place { offset: 45 },
+            },
+            Place { offset: 45 },
+        ),
+    ),
+    (
+        b"Litmus \"d\".\nRelationship addr 0 0 -> 1 0.",
+        CaseFault::Content(FaultKind::OpUnknown { g: 0, n: 0 }, Place { offset: 30 }),
+    ),
+    (
+        b"Litmus \"d\".\nMicroop 0 0 0 0 (Fence).\nRelationship addr 0 0 -> 1 0.\nMicroop 1 0 0 0 (Fence).",
+        CaseFault::Content(FaultKind::OpUnknown { g: 1, n: 0 }, Place { offset: 62 }),
+    ),
+    (
+        b"Litmus \"d\".\nInit (PA 0 0) 1.\nInit (PA 0 0) 2.",
+        CaseFault::Content(
+            FaultKind::AgainInitial { first: 1, again: 2 },
+            Place { offset: 29 },
+        ),
+    ),
+    (
+        b"Litmus \"d\".\nFinal (PA 0 0) 1.\nFinal (PA 0 0) 1.",
+        CaseFault::Content(
+            FaultKind::AgainFinal { first: 1, again: 1 },
+            Place { offset: 30 },
+        ),
+    ),
+    (
+        b"Litmus \"d\".\nPermitted.\nForbidden.",
+        CaseFault::Content(
+            FaultKind::AgainExpectation {
+                first: Place { offset: 12 },
+                again: Place { offset: 23 },
+            },
+            Place { offset: 23 },
+        ),
+    ),
+    // the parts of a line are judged from the left
+    (
+        b"Litmus \"d\".\nMicroop 0 0 0 0 (Fence).\nMicroop 0 64 0 0 (Fence).",
+        CaseFault::Content(FaultKind::CoreNumber { number: 64 }, Place { offset: 47 }),
+    ),
+    // a fault of syntax is named before one of content
+    (
+        b"Litmus \"d\".\nPermitted.\nForbidden.\nLitmus",
+        CaseFault::Syntax(Place { offset: 34 }),
+    ),
+];
+
+#[test]
+fn the_first_fault_is_named_with_its_place_and_values(rt: HostRuntime) {
+    for (text, fault) in FAULTS {
+        assert!(rt; text.len() < 200);
+        assert_eq!(rt; read_case(rt.alloc(), text).err(), Some(*fault), "{text:?}");
+    }
+}
+
+#[test]
+fn the_65th_micro_op_is_one_too_many(rt: HostRuntime) -> Result<(), Fail> {
+    let mut text = String::new(rt.alloc());
+    text.push_str("Litmus \"m\".\n")?;
+    for g in 0..65u64 {
+        text.push_str(&format!(in rt.alloc(); "Microop {g} 0 0 0 (Fence).\n")?)?;
+    }
+    assert!(rt; text.len() < 4000);
+    let limit = FaultKind::TooManyOps { limit: 64 };
+    let fault = CaseFault::Content(limit, Place { offset: 1666 });
+    assert_eq!(rt; read_case(rt.alloc(), text.as_bytes()).err(), Some(fault));
+    Ok(())
+}
+
+const MIXED: &[u8] = b"Litmus \"h\".
+Forbidden. Init (PA 7 7) 3.
+Microop 0 0 0 0 (Write Locked (VA 1 2) (PA 1 2) (Data 5)).
+Microop 0 0 0 1 (Read (VA 1 3) (PA 1 2) (Data 0)).
+Init (PA 2 1) 7. Final (PA 2 1) 9.
+Microop 1 2 9 0 (Fence Full).
+Relationship addr 0 0 -> 1 0.
+Relationship data 0 1 -> 0 1.
+Final (PA 1 2) 5.";
+
+/// An address, its initial value, and its final value where one is stated.
+const VALUES: &[(Page, u64, Option<u64>)] = &[
+    (Page { tag: 7, index: 7 }, 3, None),
+    (Page { tag: 1, index: 2 }, 0, Some(5)),
+    (Page { tag: 2, index: 1 }, 7, Some(9)),
+    (Page { tag: 2, index: 7 }, 0, None),
+];
+
+/// A kind and two places, and whether a dependency of that kind goes from the first to the second.
+const ENDS: &[(&'static [u8], usize, usize, bool)] = &[
+    (b"addr", 0, 2, true),
+    (b"addr", 2, 0, false),
+    (b"addr", 0, 1, false),
+    (b"data", 0, 2, false),
+    (b"data", 1, 1, true),
+    (b"data", 257, 257, false),
+];
+
+/// A name, and the place of the micro-op of that name.
+const NAMED: &[(u64, u64, Option<usize>)] = &[
+    (0, 0, Some(0)),
+    (0, 1, Some(1)),
+    (1, 0, Some(2)),
+    (1, 1, None),
+];
+
+fn are_values(case: &Case) -> bool {
+    VALUES.iter().all(|(page, start, end)| case.initial(*page) == *start
+        && case.final_of(*page) == *end)
+}
+
+fn are_ends(case: &Case) -> bool {
+    ENDS.iter().all(|(kind, from, to, goes)| case.depends(kind, *from, *to) == *goes)
+}
+
+fn are_named(case: &Case) -> bool {
+    NAMED
+        .iter()
+        .all(|(g, n, place)| case.find(OpId { g: *g, n: *n }) == *place)
+}
+
+/// Whether the micro-ops are the locked write, the read and the fence.
+fn are_ops(case: &Case) -> bool {
+    if case.ops() != 3 {
+        return false;
+    }
+    let (write, read, fence) = (case.op(0), case.op(1), case.op(2));
+    let has_types = write.types.len() == 1 && read.types.len() == 0 && fence.types.len() == 1;
+    let is_access = write.access == Access::Write && read.access == Access::Read;
+    let is_fence = fence.access == Access::Fence && fence.memop.is_none();
+    let is_place = fence.core == 2 && fence.thread == 9 && read.core == 0;
+    has_types && is_access && is_fence && is_place
+}
+
+#[test]
+fn lines_in_any_order_make_one_case(rt: HostRuntime) -> Result<(), Fail> {
+    assert!(rt; MIXED.len() < 400);
+    let case = read_case(rt.alloc(), MIXED)?;
+    let is_whole = case.cores() == 3 && case.expect() == Expect::Forbidden;
+    assert!(rt;
+        is_whole && are_ops(&case) && are_values(&case) && are_ends(&case) && are_named(&case)
+    );
+    Ok(())
+}
+
+const WORDS: &[u8] =
+    b"Litmus \"\". Microop 0 0 0 0 (Read Microop VA (VA 1 2) (PA 3 4) (Data 5)). Relationship Fence 0 0 -> 0 0.";
+
+fn has_names(case: &Case) -> bool {
+    case.ops() == 1 && case.op(0).types.len() == 2 && case.depends(b"Fence", 0, 0)
+}
+
+#[test]
+fn no_word_is_reserved(rt: HostRuntime) -> Result<(), Fail> {
+    assert!(rt; WORDS.len() < 400);
+    let case = read_case(rt.alloc(), WORDS)?;
+    assert!(rt; has_names(&case) && case.expect() == Expect::Unstated);
+    Ok(())
+}
+
+#[test]
+fn a_case_without_micro_ops_uses_no_core(rt: HostRuntime) {
+    let case = Case::new(Ops::new(rt.alloc()), Expect::Permitted);
+    assert!(rt; case.ops() == 0 && case.cores() == 0 && case.expect() == Expect::Permitted);
+}

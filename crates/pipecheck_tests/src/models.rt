@@ -1,0 +1,288 @@
+//! Whole models: the first fault by line and column, the limits, and names that are not captured.
+use super::shown_closed::show_closed;
+use super::texts::{Pieces, joined, put, put_number};
+use pc_common::{FaultKind, InputFault, Memory, Place, Which, line_col};
+use pc_front::{FrontEnd, read_model};
+use std::alloc::Global;
+use std::test::Fail;
+
+/// A model, the line and the column of its first fault, and the kind of that fault.
+const FAULTS: &[(&'static str, (u32, u32), FaultKind)] = &[
+    ("Axiom \"a: True.", (1, 7), FaultKind::Lexical),
+    // a lexical fault is named before one of syntax
+    (
+        "Axiom \"a\": forall microops \"i\", IsAnyRead i /\\ .\nAxiom \"b",
+        (2, 7),
+        FaultKind::Lexical,
+    ),
+    ("Axiom \"a\": True", (1, 16), FaultKind::Syntax),
+    (
+        "Axiom \"a\": forall microops \"i\", IsAnyRead i /\\ .",
+        (1, 48),
+        FaultKind::Syntax,
+    ),
+    (
+        "StageName 64 \"S\".",
+        (1, 11),
+        FaultKind::StageNumber { number: 64 },
+    ),
+    (
+        "StageName 1 \"S\".\nStageName 1 \"T\".",
+        (2, 11),
+        FaultKind::StageAgain {
+            first: Place { offset: 10 },
+            again: Place { offset: 27 },
+        },
+    ),
+    // faults of stages are named before those of macros, and these before those of names
+    (
+        "DefineMacro \"m\": ExpandMacro m.\nStageName 64 \"S\".",
+        (2, 11),
+        FaultKind::StageNumber { number: 64 },
+    ),
+    (
+        "DefineMacro \"m\": ExpandMacro m.",
+        (1, 30),
+        FaultKind::MacroUnknown,
+    ),
+    (
+        "DefineMacro \"m\" \"a\" \"a\": True.",
+        (1, 21),
+        FaultKind::ParameterAgain {
+            first: Place { offset: 16 },
+            again: Place { offset: 20 },
+        },
+    ),
+    (
+        "DefineMacro \"m\" \"a\": IsAnyRead a.\nAxiom \"x\": ExpandMacro m.",
+        (2, 24),
+        FaultKind::MacroArguments {
+            found: 0,
+            wanted: 1,
+        },
+    ),
+    (
+        "Axiom \"x\": ExpandMacro m.\nDefineMacro \"m\": True.\nDefineMacro \"m\" \"a\": True.",
+        (3, 13),
+        FaultKind::MacroAgain {
+            first: Place { offset: 38 },
+            again: Place { offset: 61 },
+        },
+    ),
+    (
+        "Axiom \"x\": Shared i.\nAxiom \"y\": ExpandMacro m.",
+        (2, 24),
+        FaultKind::MacroUnknown,
+    ),
+    (
+        "Axiom \"x\": forall cores \"c\", IsAnyRead c.",
+        (1, 40),
+        FaultKind::WrongSort,
+    ),
+    (
+        "Axiom \"x\": OnCore 64 i.",
+        (1, 19),
+        FaultKind::CoreNumber { number: 64 },
+    ),
+    (
+        "Axiom \"x\": Shared i.",
+        (1, 12),
+        FaultKind::PredicateUnknown,
+    ),
+    (
+        "Axiom \"x\": IsAnyRead.",
+        (1, 12),
+        FaultKind::Arity {
+            found: 0,
+            wanted: 1,
+        },
+    ),
+    (
+        "Axiom \"n\": NodeExists (i, S).",
+        (1, 24),
+        FaultKind::Unbound,
+    ),
+    (
+        "Axiom \"n\": forall microops \"i\", NodeExists (i, S).",
+        (1, 48),
+        FaultKind::StageUnknown,
+    ),
+];
+
+/// The first fault of a model with its line and column, or None where it has none.
+fn fault(alloc: Global, text: &[u8]) -> Result<Option<(u32, u32, FaultKind)>, Memory> {
+    if text.len() > 1_048_576 {
+        return Err(Memory);
+    }
+    match read_model(alloc, text) {
+        Ok(_) => Ok(None),
+        Err(FrontEnd::Memory) => Err(Memory),
+        Err(FrontEnd::Refused(fault)) => Ok(placed(text, fault)),
+    }
+}
+
+/// None where the fault does not stand in the model.
+fn placed(text: &[u8], fault: InputFault) -> Option<(u32, u32, FaultKind)> {
+    if fault.file != Which::Model || fault.place.offset as usize > text.len() {
+        return None;
+    }
+    if text.len() > 1_048_576 {
+        return None;
+    }
+    let (line, column) = line_col(text, fault.place);
+    Some((line, column, fault.kind))
+}
+
+#[test]
+fn a_model_is_refused_at_its_first_fault(rt: HostRuntime) -> Result<(), Fail> {
+    for (text, (line, column), kind) in FAULTS {
+        let found = fault(rt.alloc(), text.as_bytes())?;
+        assert!(rt; found == Some((*line, *column, *kind)), "{text}");
+    }
+    Ok(())
+}
+
+const DEEP: FaultKind = FaultKind::Depth { limit: 128 };
+
+const VARIABLES: FaultKind = FaultKind::TooManyVariables { limit: 32 };
+
+const TOO_DEEP: FaultKind = FaultKind::TooDeep { limit: 512 };
+
+const TOO_BIG: FaultKind = FaultKind::TooBig { limit: 1_000_000 };
+
+/// What stands in front of the 997 nodes of the macro `k`, which is of the size 999.
+const NODES: &str = "StageName 0 \"S\".\nDefineMacro \"k\": forall microops \"i\", NodesExist [";
+
+/// A model, and its fault where it passes a limit.
+const LIMITS: &[(Pieces, Option<(u32, u32, FaultKind)>)] = &[
+    (&[("Axiom \"d\": ", 1), ("~", 128), ("True.", 1)], None),
+    (
+        &[("Axiom \"d\": ", 1), ("~", 129), ("True.", 1)],
+        Some((1, 140, DEEP)),
+    ),
+    (
+        &[
+            ("Axiom \"x\": ", 1),
+            ("forall microops \"i\", ", 32),
+            ("True.", 1),
+        ],
+        None,
+    ),
+    (
+        &[
+            ("Axiom \"x\": ", 1),
+            ("forall microops \"i\", ", 33),
+            ("True.", 1),
+        ],
+        Some((1, 684, VARIABLES)),
+    ),
+    (
+        &[
+            (NODES, 1),
+            ("(i, S);", 997),
+            ("].\n", 1),
+            ("Axiom \"a\": ExpandMacro k.\n", 1000),
+        ],
+        None,
+    ),
+    (
+        &[
+            (NODES, 1),
+            ("(i, S);", 997),
+            ("].\n", 1),
+            ("Axiom \"a\": ExpandMacro k.\n", 1000),
+            ("Axiom \"b\": True.\n", 1),
+        ],
+        Some((1003, 1, TOO_BIG)),
+    ),
+];
+
+#[test]
+fn each_limit_is_met_exactly(rt: HostRuntime) -> Result<(), Fail> {
+    for (pieces, want) in LIMITS {
+        let text = joined(rt.alloc(), pieces)?;
+        assert!(rt; fault(rt.alloc(), &text)? == *want, "{pieces:?}");
+    }
+    Ok(())
+}
+
+const ONCE: &[&'static str] = &["~ExpandMacro m"];
+
+const TWICE: &[&'static str] = &["ExpandMacro m", " /\\ ExpandMacro m"];
+
+/// How many macros there are behind `m0`, what the body of each is, the number of the macro before it
+/// behind each piece, and the fault where the axiom that expands the last passes a limit.
+const CHAINS: &[(u64, &'static [&'static str], Option<(u32, u32, FaultKind)>)] = &[
+    // heights 511 and 513
+    (255, ONCE, None),
+    (256, ONCE, Some((258, 1, TOO_DEEP))),
+    // sizes 524,286 and 1,048,574
+    (17, TWICE, None),
+    (18, TWICE, Some((20, 1, TOO_BIG))),
+];
+
+fn put_macro(text: &mut Vec<u8>, number: u64, body: &[&'static str]) -> Result<(), Memory> {
+    put(text, b"DefineMacro \"m")?;
+    put_number(text, number)?;
+    put(text, b"\": ")?;
+    for piece in body {
+        put(text, piece.as_bytes())?;
+        put_number(text, number.saturating_sub(1))?;
+    }
+    put(text, b".\n")
+}
+
+fn chain(alloc: Global, links: u64, body: &[&'static str]) -> Result<Vec<u8>, Memory> {
+    let mut text = Vec::new(alloc);
+    put(&mut text, b"DefineMacro \"m0\": True.\n")?;
+    for before in 0..links {
+        put_macro(&mut text, before + 1, body)?;
+    }
+    put(&mut text, b"Axiom \"x\": ExpandMacro m")?;
+    put_number(&mut text, links)?;
+    put(&mut text, b".\n")?;
+    Ok(text)
+}
+
+#[test]
+fn an_expansion_is_judged_before_it_is_made(rt: HostRuntime) -> Result<(), Fail> {
+    for (links, body, want) in CHAINS {
+        let text = chain(rt.alloc(), *links, body)?;
+        assert!(rt; fault(rt.alloc(), &text)? == *want, "{links} macros");
+    }
+    Ok(())
+}
+
+/// An argument of macro `other` is named as a quantifier inside the macro is.
+const SAME_NAME: &[u8] = b"DefineMacro \"other\" \"a\": exists microop \"w\", ~SameMicroop w a.
+Axiom \"x\": forall microops \"w\", ExpandMacro other w.
+StageName 3 \"S\".
+";
+
+/// Each stage, and each axiom as `show_closed` writes it.
+fn show_model(out: &mut Vec<u8>, alloc: Global, text: &[u8]) -> Result<(), Memory> {
+    if text.len() > 1_048_576 {
+        return Err(Memory);
+    }
+    let Ok(model) = read_model(alloc, text) else {
+        return Err(Memory);
+    };
+    for stage in model.stages.as_slice() {
+        put_number(out, stage.number as u64)?;
+        put(out, stage.name.as_slice())?;
+        put(out, b" ")?;
+    }
+    for axiom in model.axioms.as_slice() {
+        show_closed(out, &axiom.body)?;
+    }
+    Ok(())
+}
+
+#[test]
+fn an_argument_is_not_captured(rt: HostRuntime) -> Result<(), Fail> {
+    let mut out = Vec::new(rt.alloc());
+    show_model(&mut out, rt.alloc(), SAME_NAME)?;
+    let want = "3S Forall(microop, Bind( #0: Exists(microop, Not(SameMicroop #2 #1))))";
+    assert!(rt; out.as_slice() == want.as_bytes());
+    Ok(())
+}

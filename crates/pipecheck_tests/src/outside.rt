@@ -1,0 +1,171 @@
+//! Files, sinks, places and statuses.
+use super::texts::{calls, held};
+use pc_common::{
+    MemFiles, MemSink, Memory, Place, ReadEnd, Status, SureFiles, SureSink, line_col, read_all,
+    write_all,
+};
+use std::alloc::Global;
+use std::test::Fail;
+
+/// Two files `a`, of which the first counts, and the empty file `b`.
+const FILES: &[(&'static str, &'static str)] = &[("a", "abcde"), ("b", ""), ("a", "second")];
+
+/// The name and the limit, how many bytes a call moves (0: as many as fit), the calls that fail, what
+/// the file is read as, and how many calls failed.
+const READS: &[(
+    &'static str,
+    usize,
+    usize,
+    &'static [u64],
+    Result<&'static str, ReadEnd>,
+    u64,
+)] = &[
+    ("a", 5, 0, &[], Ok("abcde"), 0),
+    ("a", 6, 0, &[], Ok("abcde"), 0),
+    ("a", 4, 0, &[], Err(ReadEnd::TooLarge), 0),
+    ("a", 0, 0, &[], Err(ReadEnd::TooLarge), 0),
+    ("b", 0, 0, &[], Ok(""), 0),
+    // a missing name
+    ("c", 5, 0, &[], Err(ReadEnd::ReadFault), 1),
+    ("a", 5, 0, &[1], Err(ReadEnd::ReadFault), 1),
+    ("a", 5, 0, &[2], Err(ReadEnd::ReadFault), 1),
+    // the read that would see the end
+    ("a", 5, 0, &[3], Err(ReadEnd::ReadFault), 1),
+    ("a", 5, 0, &[4, 9], Ok("abcde"), 0),
+    // byte by byte: the start, five bytes, the end
+    ("a", 5, 1, &[], Ok("abcde"), 0),
+    ("a", 5, 1, &[7], Err(ReadEnd::ReadFault), 1),
+    ("a", 5, 1, &[8], Ok("abcde"), 0),
+    ("a", 4, 1, &[], Err(ReadEnd::TooLarge), 0),
+];
+
+fn files(alloc: Global, step: usize, fails: &[u64]) -> Result<MemFiles, Memory> {
+    let fails = calls(alloc, fails)?;
+    let files = MemFiles::new(alloc, held(alloc, FILES)?, fails)?;
+    Ok(if step > 0 {
+        files.with_step(step)
+    } else {
+        files
+    })
+}
+
+fn is_read_as(
+    alloc: Global,
+    files: &mut MemFiles,
+    (name, limit): (&str, usize),
+    end: Result<&str, ReadEnd>,
+) -> bool {
+    if limit >= 1000 {
+        return false;
+    }
+    match (read_all(alloc, files, name, limit), end) {
+        (Ok(found), Ok(text)) => found.as_slice() == text.as_bytes(),
+        (Err(found), Err(end)) => found == end,
+        _ => false,
+    }
+}
+
+#[test]
+fn a_file_is_read_whole_or_not_at_all(rt: HostRuntime) -> Result<(), Fail> {
+    for (name, limit, step, fails, end, faults) in READS {
+        let mut files = files(rt.alloc(), *step, fails)?;
+        let is_end = is_read_as(rt.alloc(), &mut files, (name, *limit), *end);
+        assert!(rt;
+            is_end && files.faults() == *faults,
+            "{name} up to {limit} by {step}"
+        );
+    }
+    Ok(())
+}
+
+fn are_sure(alloc: Global, files: &mut SureFiles) -> bool {
+    let held = read_all(alloc, files, "a", 5).is_ok_and(|bytes| bytes.as_slice()
+        == b"abcde".as_slice());
+    // a name that was not given holds no bytes
+    held && read_all(alloc, files, "c", 0).is_ok_and(|bytes| bytes.is_empty())
+}
+
+#[test]
+fn what_is_sure_never_fails(rt: HostRuntime) -> Result<(), Fail> {
+    let mut files = SureFiles::new(held(rt.alloc(), FILES)?);
+    let is_written = write_all(&mut SureSink::new(), b"abc").is_ok();
+    assert!(rt; is_written && are_sure(rt.alloc(), &mut files));
+    Ok(())
+}
+
+/// The room, how many bytes a call takes, the calls that fail, what is taken of `abc` and then of `de`,
+/// and how many calls failed.
+const WRITES: &[(usize, usize, &'static [u64], &'static str, u64)] = &[
+    (5, 9, &[], "abcde", 0),
+    (9, 9, &[], "abcde", 0),
+    (5, 1, &[], "abcde", 0),
+    (4, 9, &[], "abcd", 1),
+    (0, 9, &[], "", 1),
+    (5, 9, &[1], "", 1),
+    (5, 9, &[2], "abc", 1),
+    (5, 1, &[5], "abcd", 1),
+];
+
+/// Whether both pieces are written, or the sink fails, as it takes no more than the text.
+fn is_taken_as(sink: &mut MemSink, text: &str, faults: u64) -> bool {
+    let is_written = write_all(sink, b"abc").is_ok() && write_all(sink, b"de").is_ok();
+    is_written == (faults == 0) && sink.taken() == text.as_bytes() && sink.faults() == faults
+}
+
+#[test]
+fn a_sink_takes_what_its_room_and_its_calls_let_through(rt: HostRuntime) -> Result<(), Fail> {
+    for (room, step, fails, text, faults) in WRITES {
+        let fails = calls(rt.alloc(), fails)?;
+        let mut sink = MemSink::new(rt.alloc(), *room, fails)?;
+        if *step > 0 {
+            sink = sink.with_step(*step);
+        }
+        assert!(rt;
+            is_taken_as(&mut sink, text, *faults),
+            "{text} in {room} by {step}"
+        );
+    }
+    Ok(())
+}
+
+#[test]
+fn lines_and_columns_count_from_one(rt: HostRuntime) {
+    let table = [
+        ("", 0, (1, 1)),
+        ("ab\ncd\n", 0, (1, 1)),
+        ("ab\ncd\n", 1, (1, 2)),
+        // LF itself belongs to the line that it ends
+        ("ab\ncd\n", 2, (1, 3)),
+        ("ab\ncd\n", 3, (2, 1)),
+        ("ab\ncd\n", 5, (2, 3)),
+        ("ab\ncd\n", 6, (3, 1)),
+        ("\n\n", 2, (3, 1)),
+        ("Axiom \"a\": True", 15, (1, 16)),
+    ];
+    for (text, offset, want) in table {
+        let place = Place { offset };
+        assert!(rt; offset as usize <= text.len() && text.len() < 100);
+        assert!(rt;
+            line_col(text.as_bytes(), place) == want,
+            "{text} at {offset}"
+        );
+    }
+}
+
+#[test]
+fn each_status_has_its_number(rt: HostRuntime) {
+    let table = [
+        (Status::Observable, 0),
+        (Status::Unobservable, 1),
+        (Status::Done, 0),
+        (Status::Usage, 2),
+        (Status::Refused, 3),
+        (Status::ReadFault, 4),
+        (Status::WriteFault, 5),
+        (Status::CertRefused, 6),
+        (Status::Memory, 7),
+    ];
+    for (status, number) in table {
+        assert!(rt; status.number() == number);
+    }
+}

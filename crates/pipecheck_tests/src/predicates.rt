@@ -1,0 +1,214 @@
+//! What a case makes of each predicate.
+ghost use Rattle.std.specs.Prelude.{◌≡◌, ◌<◌, [], ◌∷◌, length, replicate};
+ghost use Rattle.pc_syntax.specs.declared.bound.Bound.TheVariants.{Op as bound_op};
+ghost use Rattle.pc_syntax.specs.Preds.{takes_of};
+ghost use Rattle.pc_syntax.specs.Predicates.{takes_op};
+
+use litmus_reader::read_case;
+use pc_case::Case;
+use pc_common::{Listed, Memory};
+use pc_syntax::{Bound, ClosedArg, Env, Pred};
+use static_preds::holds;
+use std::alloc::Global;
+use std::test::Fail;
+
+/// A locked write of 5, a read of 0 in the same instruction, and a full fence after them, which depends
+/// on the write. The one stated value is 5 at the end, at the page that the write and the read touch.
+const CASE: &[u8] = b"Litmus \"h\".
+Microop 0 0 0 0 (Write Locked (VA 1 2) (PA 1 2) (Data 5)).
+Microop 0 0 0 1 (Read (VA 1 3) (PA 1 2) (Data 0)).
+Microop 1 0 0 0 (Fence Full).
+Relationship addr 0 0 -> 1 0.
+Final (PA 1 2) 5.
+";
+
+/// A micro-op of the case: the write, the read or the fence.
+#[derive(Clone, Copy)]
+enum Letter {
+    A,
+    B,
+    C,
+}
+
+use Letter::{A, B, C};
+
+impl Letter {
+    fn place(self) -> u8
+        ensures { result < 3 }
+    {
+        match self {
+            A => 0,
+            B => 1,
+            C => 2,
+        }
+    }
+}
+
+/// Slots for micro-ops: the first for `i`, the others for `j`.
+fn slots(i: u8, j: u8) -> Env
+    ensures { result.items ≡ bound_op i ∷ replicate 31 (bound_op j) }
+{
+    let mut bounds = [Bound::Op(j); 32];
+    bounds[0] = Bound::Op(i);
+    Env::from_array_in((), bounds)
+}
+
+fn of_one(alloc: Global, case: &Case, pred: Pred, i: Letter) -> Result<bool, Memory>
+    requires three { length case.now.ops ≡ 3 }
+    requires takes { takes_of pred ≡ takes_op ∷ [] }
+{
+    let args = Listed::from_vec(vec![in alloc; ClosedArg::Slot(0)]?);
+    let place = i.place();
+    Ok(holds(case, pred, &args, &slots(place, place)))
+}
+
+fn of_two(alloc: Global, case: &Case, pred: Pred, i: Letter, j: Letter) -> Result<bool, Memory>
+    requires three { length case.now.ops ≡ 3 }
+    requires takes { takes_of pred ≡ takes_op ∷ takes_op ∷ [] }
+{
+    let args = Listed::from_vec(vec![in alloc; ClosedArg::Slot(0), ClosedArg::Slot(1)]?);
+    Ok(holds(case, pred, &args, &slots(i.place(), j.place())))
+}
+
+fn of_none(alloc: Global, case: &Case, pred: Pred) -> bool
+    requires { takes_of pred ≡ [] }
+{
+    holds(case, pred, &Listed::new(alloc), &slots(0, 0))
+}
+
+fn on_core(alloc: Global, case: &Case, core: u8, i: Letter) -> Result<bool, Memory>
+    requires three { length case.now.ops ≡ 3 }
+    requires core { core < 64 }
+{
+    let args = Listed::from_vec(vec![in alloc; ClosedArg::Core(core), ClosedArg::Slot(0)]?);
+    let place = i.place();
+    Ok(holds(case, Pred::OnCore, &args, &slots(place, place)))
+}
+
+fn of_type(alloc: Global, case: &Case, name: &[u8], i: Letter) -> Result<bool, Memory>
+    requires { length case.now.ops ≡ 3 }
+{
+    let name = ClosedArg::Plain(Listed::from_vec(name.to_vec(alloc)?));
+    let args = Listed::from_vec(vec![in alloc; name, ClosedArg::Slot(0)]?);
+    let place = i.place();
+    Ok(holds(case, Pred::AccessType, &args, &slots(place, place)))
+}
+
+fn of_kind(alloc: Global, case: &Case, kind: &[u8], i: Letter, j: Letter) -> Result<bool, Memory>
+    requires { length case.now.ops ≡ 3 }
+{
+    let kind = ClosedArg::Plain(Listed::from_vec(kind.to_vec(alloc)?));
+    let args = Listed::from_vec(vec![in alloc; kind, ClosedArg::Slot(0), ClosedArg::Slot(1)]?);
+    Ok(holds(
+        case,
+        Pred::HasDependency,
+        &args,
+        &slots(i.place(), j.place()),
+    ))
+}
+
+/// What `holds` answers, with the plain name where the predicate takes one, and the core 0 or 1 where it
+/// takes a core. None where it takes another number of micro-ops.
+fn ask(
+    alloc: Global,
+    case: &Case,
+    pred: Pred,
+    name: &[u8],
+    ops: &[Letter],
+) -> Result<Option<bool>, Memory>
+    requires { length case.now.ops ≡ 3 }
+{
+    Ok(match (pred, ops) {
+        (Pred::True | Pred::False, []) => Some(of_none(alloc, case, pred)),
+        (Pred::AccessType, [i]) => Some(of_type(alloc, case, name, *i)?),
+        (Pred::OnCore, [i]) => Some(on_core(alloc, case, (name == b"1".as_slice()) as u8, *i)?),
+        (Pred::HasDependency, [i, j]) => Some(of_kind(alloc, case, name, *i, *j)?),
+        (
+            Pred::IsAnyRead
+            | Pred::IsAnyWrite
+            | Pred::IsAnyFence
+            | Pred::DataFromInitialStateAtPA
+            | Pred::DataFromFinalStateAtPA,
+            [i],
+        ) => Some(of_one(alloc, case, pred, *i)?),
+        (
+            Pred::SameCore
+            | Pred::SameThread
+            | Pred::SameMicroop
+            | Pred::SameInstruction
+            | Pred::SameIntra
+            | Pred::ProgramOrder
+            | Pred::SameVirtualAddress
+            | Pred::SamePhysicalAddress
+            | Pred::SameVirtualTag
+            | Pred::SamePhysicalTag
+            | Pred::SameIndex
+            | Pred::SameData,
+            [i, j],
+        ) => Some(of_two(alloc, case, pred, *i, *j)?),
+        _ => None,
+    })
+}
+
+/// A predicate, a plain name or a core, the micro-ops, and whether it is true of them. What is asked of
+/// addresses and values is false of the fence.
+const ROWS: &[(Pred, &'static [u8], &'static [Letter], bool)] = &[
+    (Pred::True, b"", &[], true),
+    (Pred::False, b"", &[], false),
+    (Pred::IsAnyRead, b"", &[B], true),
+    (Pred::IsAnyRead, b"", &[A], false),
+    (Pred::IsAnyWrite, b"", &[A], true),
+    (Pred::IsAnyWrite, b"", &[C], false),
+    (Pred::IsAnyFence, b"", &[C], true),
+    (Pred::IsAnyFence, b"", &[B], false),
+    (Pred::AccessType, b"Locked", &[A], true),
+    (Pred::AccessType, b"Locked", &[C], false),
+    (Pred::AccessType, b"Locked", &[B], false),
+    (Pred::OnCore, b"0", &[A], true),
+    (Pred::OnCore, b"1", &[A], false),
+    (Pred::SameCore, b"", &[A, C], true),
+    (Pred::SameThread, b"", &[A, C], true),
+    (Pred::SameMicroop, b"", &[B, B], true),
+    (Pred::SameMicroop, b"", &[A, B], false),
+    (Pred::SameInstruction, b"", &[A, B], true),
+    (Pred::SameInstruction, b"", &[A, C], false),
+    (Pred::SameIntra, b"", &[A, C], true),
+    (Pred::SameIntra, b"", &[A, B], false),
+    (Pred::ProgramOrder, b"", &[A, C], true),
+    (Pred::ProgramOrder, b"", &[A, B], false),
+    (Pred::ProgramOrder, b"", &[C, A], false),
+    (Pred::SameVirtualAddress, b"", &[A, A], true),
+    (Pred::SameVirtualAddress, b"", &[A, B], false),
+    (Pred::SamePhysicalAddress, b"", &[A, B], true),
+    (Pred::SamePhysicalAddress, b"", &[A, C], false),
+    (Pred::SameVirtualTag, b"", &[A, B], true),
+    (Pred::SameVirtualTag, b"", &[C, C], false),
+    (Pred::SamePhysicalTag, b"", &[A, B], true),
+    (Pred::SamePhysicalTag, b"", &[C, C], false),
+    (Pred::SameIndex, b"", &[B, B], true),
+    (Pred::SameIndex, b"", &[A, B], false),
+    (Pred::SameData, b"", &[B, B], true),
+    (Pred::SameData, b"", &[A, B], false),
+    (Pred::SameData, b"", &[C, C], false),
+    (Pred::DataFromInitialStateAtPA, b"", &[B], true),
+    (Pred::DataFromInitialStateAtPA, b"", &[A], false),
+    (Pred::DataFromInitialStateAtPA, b"", &[C], false),
+    (Pred::DataFromFinalStateAtPA, b"", &[A], true),
+    (Pred::DataFromFinalStateAtPA, b"", &[B], false),
+    (Pred::DataFromFinalStateAtPA, b"", &[C], false),
+    (Pred::HasDependency, b"addr", &[A, C], true),
+    (Pred::HasDependency, b"addr", &[C, A], false),
+    (Pred::HasDependency, b"data", &[A, C], false),
+];
+
+#[test]
+fn each_predicate_says_what_the_case_says(rt: HostRuntime) -> Result<(), Fail> {
+    assert!(rt; CASE.len() < 1000);
+    let case = read_case(rt.alloc(), CASE)?;
+    assert!(rt; case.ops() == 3);
+    for (pred, name, ops, want) in ROWS {
+        let answer = ask(rt.alloc(), &case, *pred, name, ops)?;
+        assert_eq!(rt; answer, Some(*want), "{pred:?}");
+    }
+    Ok(())
+}

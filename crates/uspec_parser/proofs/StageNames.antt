@@ -1,0 +1,146 @@
+-- Each stage of a model that tokens derive has a name: a letter, and then letters, digits, `_` and `'`.
+use Rattle.std.proofs.Common.{◌≡◌, ℕ, zero, suc, Bool, true, false, ◌&&◌, ◌||◌, cond, List, [], ◌∷◌, ◌++◌, Some, map, slice_get, refl, sym, ◌∙◌, ap, subst}
+use Rattle.std.specs.Prelude.{IsTrue, unwrap_or, codes}
+use Rattle.std.specs.Str.{bytes_eq}
+use Rattle.pc_syntax.specs.declared.model.StageItem.{StageItem}
+use Rattle.pc_syntax.specs.Written.{WrittenModel}
+use Rattle.uspec_lexer.specs.Token.{Token, Kind, name, number, text, symbol}
+use Rattle.uspec_parser.specs.Terminals.{Lexeme, plain, placed, name_, quoted, number_, word_terminal, symbol_terminal, text_terminal, terminal_of_kind, terminal_of, content, is_name, is_spelled_as_name, kept, lexeme}
+use Rattle.uspec_parser.specs.declared.terminal.Terminal.{Terminal}
+use Rattle.uspec_parser.specs.declared.terminal.Terminal.TheVariants.{StageName, Axiom, DefineMacro, ExpandMacro, Forall, Exists, Microop, Core, OneEdge, EdgeList, OneNode, NodeList, Name, Number, Quoted, Text, Open, Close, OpenBracket, CloseBracket, Comma, Semicolon, Colon, Dot, Not, And, Or, Implies, Arrow}
+use Rattle.uspec_parser.specs.Syntax.{Item, stage, axiom_item, macro, spelled_item, spelled_model, stages_of, DerivesModel}
+
+abbrev Each : {X : Type 0} → (X → Type 0) → List X → Type 0
+Each P [] = Unit {0}
+Each P (x ∷ xs) = P x × Each P xs
+
+each_at : {X : Type 0} (P : X → Type 0) (xs : List X) (k : ℕ) (x : X) → Each P xs → slice_get xs k ≡ Some x → P x
+each_at P [] k x h e = cc
+each_at P (y ∷ xs) zero x h e = subst P (ap (λ o. unwrap_or o y) e) h.0
+each_at P (y ∷ xs) (suc k) x h e = each_at P xs k x h.1 e
+
+each_behind : {X : Type 0} (P : X → Type 0) (xs ys : List X) → Each P (xs ++ ys) → Each P ys
+each_behind P [] ys h = h
+each_behind P (x ∷ xs) ys h = each_behind P xs ys h.1
+
+-- a quoted name is one
+abbrev IsFine : Lexeme → Type 0
+IsFine (plain t) = Unit {0}
+IsFine (placed t at) = Unit {0}
+IsFine (name_ w) = Unit {0}
+IsFine (quoted w) = IsTrue (is_spelled_as_name w.name)
+IsFine (number_ n at) = Unit {0}
+
+abbrev is_quoted : Terminal → Bool
+is_quoted Quoted = true
+is_quoted _ = false
+
+record IsOther (t : Terminal) : Type 0 where
+  pub is : is_quoted t ≡ false
+
+other : (t : Terminal) → is_quoted t ≡ false → IsOther t
+other t h = record { is = h }
+
+pick : (b : Bool) (t u : Terminal) → IsOther t → IsOther u → IsOther (cond b t u)
+pick true t u h k = h
+pick false t u h k = k
+
+word_never : (w : List ℕ) → IsOther (word_terminal w)
+unfolding word_terminal
+word_never w =
+    pick (bytes_eq w (codes "StageName")) StageName _ (other StageName refl) (
+    pick (bytes_eq w (codes "Axiom")) Axiom _ (other Axiom refl) (
+    pick (bytes_eq w (codes "DefineMacro")) DefineMacro _ (other DefineMacro refl) (
+    pick (bytes_eq w (codes "ExpandMacro")) ExpandMacro _ (other ExpandMacro refl) (
+    pick (bytes_eq w (codes "forall")) Forall _ (other Forall refl) (
+    pick (bytes_eq w (codes "exists")) Exists _ (other Exists refl) (
+    pick (bytes_eq w (codes "microop") || bytes_eq w (codes "microops")) Microop _ (other Microop refl) (
+    pick (bytes_eq w (codes "core") || bytes_eq w (codes "cores")) Core _ (other Core refl) (
+    pick (bytes_eq w (codes "AddEdge") || bytes_eq w (codes "EdgeExists")) OneEdge _ (other OneEdge refl) (
+    pick (bytes_eq w (codes "AddEdges") || bytes_eq w (codes "EdgesExist")) EdgeList _ (other EdgeList refl) (
+    pick (bytes_eq w (codes "NodeExists")) OneNode _ (other OneNode refl) (
+    pick (bytes_eq w (codes "NodesExist")) NodeList _ (other NodeList refl) (
+    other Name refl))))))))))))
+
+symbol_never : (p : List ℕ) → IsOther (symbol_terminal p)
+unfolding symbol_terminal
+symbol_never p =
+    pick (bytes_eq p (codes "(")) Open _ (other Open refl) (
+    pick (bytes_eq p (codes ")")) Close _ (other Close refl) (
+    pick (bytes_eq p (codes "[")) OpenBracket _ (other OpenBracket refl) (
+    pick (bytes_eq p (codes "]")) CloseBracket _ (other CloseBracket refl) (
+    pick (bytes_eq p (codes ",")) Comma _ (other Comma refl) (
+    pick (bytes_eq p (codes ";")) Semicolon _ (other Semicolon refl) (
+    pick (bytes_eq p (codes ":")) Colon _ (other Colon refl) (
+    pick (bytes_eq p (codes ".")) Dot _ (other Dot refl) (
+    pick (bytes_eq p (codes "~")) Not _ (other Not refl) (
+    pick (bytes_eq p (codes "/\\")) And _ (other And refl) (
+    pick (bytes_eq p (codes "\\/")) Or _ (other Or refl) (
+    pick (bytes_eq p (codes "=>")) Implies _ (other Implies refl) (
+    other Arrow refl))))))))))))
+
+first : (a b : Bool) → (a && b) ≡ true → a ≡ true
+first true b h = refl
+first false b h = cc
+
+chosen : (a b : Bool) → is_quoted (cond (a && b) Quoted Text) ≡ true → a ≡ true
+chosen true b h = refl
+chosen false b h = cc
+
+text_only : (p : List ℕ) → is_quoted (text_terminal p) ≡ true → IsTrue (is_spelled_as_name (content p))
+unfolding text_terminal
+text_only p h = chosen (is_spelled_as_name (content p)) (is_name (word_terminal (content p))) h
+
+quoted_only : (k : Kind) (p : List ℕ) → is_quoted (terminal_of_kind k p) ≡ true → IsTrue (is_spelled_as_name (content p))
+quoted_only name p h = let n = (word_never p).is in cc
+quoted_only (number n) p h = cc
+quoted_only text p h = text_only p h
+quoted_only symbol p h = let n = (symbol_never p).is in cc
+
+fine_kept : (t : Terminal) (x : Token) → (is_quoted t ≡ true → IsTrue (is_spelled_as_name (content x.piece))) → IsFine (kept t x)
+fine_kept Quoted x h = h refl
+fine_kept Name x h = tt
+fine_kept Number x h = tt
+fine_kept Forall x h = tt
+fine_kept Exists x h = tt
+fine_kept ExpandMacro x h = tt
+fine_kept Axiom x h = tt
+fine_kept StageName x h = tt
+fine_kept DefineMacro x h = tt
+fine_kept Microop x h = tt
+fine_kept Core x h = tt
+fine_kept OneEdge x h = tt
+fine_kept EdgeList x h = tt
+fine_kept OneNode x h = tt
+fine_kept NodeList x h = tt
+fine_kept Text x h = tt
+fine_kept Open x h = tt
+fine_kept Close x h = tt
+fine_kept OpenBracket x h = tt
+fine_kept CloseBracket x h = tt
+fine_kept Comma x h = tt
+fine_kept Semicolon x h = tt
+fine_kept Colon x h = tt
+fine_kept Dot x h = tt
+fine_kept Not x h = tt
+fine_kept And x h = tt
+fine_kept Or x h = tt
+fine_kept Implies x h = tt
+fine_kept Arrow x h = tt
+
+fine_tokens : (ts : List Token) → Each IsFine (map lexeme ts)
+fine_tokens [] = tt
+fine_tokens (t ∷ ts) = (fine_kept (terminal_of t) t (quoted_only t.kind t.piece), fine_tokens ts)
+
+fine_stages : (is : List Item) → Each IsFine (spelled_model is) → Each (λ s. IsTrue (is_spelled_as_name s.name.name)) (stages_of is)
+fine_stages [] h = tt
+fine_stages (stage s ∷ is) h = (h.1.1.0, fine_stages is h.1.1.1.1)
+fine_stages (axiom_item at label f ∷ is) h = fine_stages is (each_behind IsFine (spelled_item (axiom_item at label f)) (spelled_model is) h)
+fine_stages (macro n ps f ∷ is) h = fine_stages is (each_behind IsFine (spelled_item (macro n ps f)) (spelled_model is) h)
+
+pub stage_is_named : (tokens : List Token) (m : WrittenModel) → DerivesModel tokens m
+    → (k : ℕ) (s : StageItem) → slice_get m.stages k ≡ Some s → IsTrue (is_spelled_as_name s.name.name)
+stage_is_named tokens m d k s at =
+    let fine = fine_stages d.0 (subst (Each IsFine) d.1 (fine_tokens tokens)) in
+    each_at (λ (x : StageItem). IsTrue (is_spelled_as_name x.name.name)) (stages_of d.0) k s fine
+    (ap (λ (n : WrittenModel). slice_get n.stages k) (sym d.2) ∙ at)
