@@ -14,4 +14,5 @@ pub mod Refuted
 pub mod CutTruth
 pub mod UnfoldedClosing
 pub mod TreeNodes
+pub mod FirstSeen
 mod Examples

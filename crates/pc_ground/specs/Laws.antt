@@ -1,5 +1,5 @@
 -- What joins the layers: laws of the definitions alone.
-use Rattle.std.specs.Prelude.{ℕ, ◌≡◌, List, [], None, map, IsTrue, Contains}
+use Rattle.std.specs.Prelude.{ℕ, ◌≡◌, List, [], None, map, IsTrue, Contains, ◌↔◌, ◌+◌, Some}
 use Rattle.std.specs.List.{list_all}
 use Rattle.pc_common.specs.Case.{Case}
 use Rattle.pc_common.specs.World.{Node, World, IsWorld, has_node, has_edge}
@@ -11,15 +11,17 @@ use Rattle.pc_syntax.specs.Expansion.{expansion_of}
 use Rattle.pc_syntax.specs.Closing.{closing_of}
 use Rattle.pc_syntax.specs.NameFaults.{first_name_fault}
 use Rattle.pc_syntax.specs.Closed.{PlainClosed, closed_true}
-use Rattle.pc_ground.specs.Tree.{Tree, tree_true}
+use Rattle.pc_ground.specs.Tree.{Tree, size_of, tree_true}
+use Rattle.pc_ground.specs.Rows.{rows_of}
+use Rattle.pc_ground.specs.Walks.{Walk}
 use Rattle.pc_ground.specs.PlainGround.{PlainGround, normal, simplified}
 use Rattle.pc_ground.specs.Unfolded.{all_of, unfolded}
 use Rattle.pc_ground.specs.Folded.{IsFolded}
 use Rattle.pc_ground.specs.GroundTree.{ground_tree, closed_ground_tree}
-use Rattle.pc_ground.specs.Numbers.{nodes_of_tree}
+use Rattle.pc_ground.specs.Numbers.{nodes_of_tree, numbered, AreDistinct}
 use Rattle.pc_ground.specs.Stages.{plain_axioms, AxiomsWithin}
 use Rattle.pc_ground.specs.CutWorlds.{cut_to}
-use Rattle.pc_ground.specs.Refutes.{Step, IsRefutation}
+use Rattle.pc_ground.specs.Refutes.{Step, subtree_at, asserted, IsRefutation}
 
 -- a world satisfies a model exactly where the model's ground tree is true in it
 abbrev pub TreeSaysModel : Type 0
@@ -75,3 +77,15 @@ CutIsWorld = (nodes : List Node) (w : World Node) → IsWorld w → IsWorld (cut
 -- a tree with a refutation is true in no world
 abbrev pub RefutationIsSound : Type 0
 RefutationIsSound = (t : Tree Node) (steps : List (Step Node)) → IsRefutation t steps → (w : World Node) → IsWorld w → IsTrue (tree_true w t) → ⊥
+
+-- the numbered nodes of a tree are the nodes of its literals, each once
+abbrev pub NumberedListsNodes : Type 0
+NumberedListsNodes = (t : Tree Node) → AreDistinct (numbered t) × ((a : Node) → Contains (nodes_of_tree t) a ↔ Contains (numbered t) a)
+
+-- no rows spell two trees
+abbrev pub RowsSpellOneTree : Type 0
+RowsSpellOneTree = (s t : Tree Node) → rows_of s ≡ rows_of t → s ≡ t
+
+-- the walk over the rows of a side comes to the positions that the side asserts
+abbrev pub WalkIsAsserted : Type 0
+WalkIsAsserted = (t : Tree Node) (p : ℕ) (s : Tree Node) → subtree_at t p ≡ Some s → Walk (rows_of t) (p + size_of s) p (asserted s p)

@@ -1,5 +1,5 @@
 // Laws of the definitions. The functions do nothing: their contracts are the laws.
-ghost use Rattle.pc_ground.specs.Laws.{TreeSaysModel, TreeSaysClosed, ExpansionKeepsTree, ClosingKeepsTree, NormalIsFolded, NormalOfSimplified, NodesAreNamed, TruthIsOfLiterals, CutKeepsTruth, CutIsWorld, RefutationIsSound};
+ghost use Rattle.pc_ground.specs.Laws.{TreeSaysModel, TreeSaysClosed, ExpansionKeepsTree, ClosingKeepsTree, NormalIsFolded, NormalOfSimplified, NodesAreNamed, TruthIsOfLiterals, CutKeepsTruth, CutIsWorld, RefutationIsSound, NumberedListsNodes, RowsSpellOneTree, WalkIsAsserted};
 
 /// A world satisfies a model exactly where the model's ground tree is true in it.
 #[tactic(auto, using(crate::proofs::UnfoldedTruth::ground_tree_true))]
@@ -55,4 +55,22 @@ pub fn cut_is_world()
 #[tactic(auto, using(crate::proofs::Refuted::refutation_sound))]
 pub fn refutation_is_sound()
     ensures { RefutationIsSound }
+{}
+
+/// The numbered nodes of a tree are the nodes of its literals, each once.
+#[tactic(auto, using(crate::proofs::FirstSeen::numbered_lists))]
+pub fn numbered_lists_nodes()
+    ensures { NumberedListsNodes }
+{}
+
+/// No rows spell two trees.
+#[tactic(auto, using(crate::proofs::FlatRows::rows_injective))]
+pub fn rows_spell_one_tree()
+    ensures { RowsSpellOneTree }
+{}
+
+/// The walk over the rows of a side comes to the positions that the side asserts, and to no others.
+#[tactic(auto, using(crate::proofs::Walks::walk_side))]
+pub fn walk_is_asserted()
+    ensures { WalkIsAsserted }
 {}

@@ -28,8 +28,9 @@ pub use flat::Flat;
 pub use front::Front;
 pub use ground::Ground;
 pub use laws::{
-    cut_is_world, nodes_are_named, normal_is_folded, normal_of_simplified, refutation_is_sound,
-    tree_is_kept, tree_says_closed, tree_says_model, truth_is_of_literals,
+    cut_is_world, nodes_are_named, normal_is_folded, normal_of_simplified, numbered_lists_nodes,
+    refutation_is_sound, rows_spell_one_tree, tree_is_kept, tree_says_closed, tree_says_model,
+    truth_is_of_literals, walk_is_asserted,
 };
 pub use line_fault::LineFault;
 pub use literal::Literal;
