@@ -5,5 +5,7 @@
 #![tactic(auto)]
 
 mod graph;
+mod writing;
 
 pub use graph::{Edges, Graph, Nodes};
+pub use writing::write_graph;

@@ -14,4 +14,5 @@ pub mod Laws
 pub mod Stages
 pub mod Decimals
 pub mod NodeForm
+pub mod Parts
 pub mod NodeWords

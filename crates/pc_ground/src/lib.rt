@@ -20,6 +20,7 @@ mod node_key;
 mod node_text;
 mod node_words;
 mod numbering;
+mod parts;
 mod row;
 mod stage;
 
@@ -37,5 +38,6 @@ pub use literal::Literal;
 pub use node_key::NodeKey;
 pub use node_text::NodeText;
 pub use numbering::Numbering;
+pub use parts::{Part, put_parts};
 pub use row::{Row, RowKind};
 pub use stage::{Axioms, Stage, Stages};

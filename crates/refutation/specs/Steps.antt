@@ -1,7 +1,8 @@
 -- The code's steps over plain nodes, their lines, and how many branches a list of steps leaves open.
-use Rattle.std.specs.Prelude.{ℕ, ◌+◌, ◌-◌, List, [], ◌∷◌, map, fold}
+use Rattle.std.specs.Prelude.{ℕ, ◌+◌, ◌-◌, List, [], ◌∷◌, map, fold, All}
 use Rattle.pc_common.specs.World.{Node}
-use Rattle.pc_common.specs.Lines.{Line, split as split_line, cycle as cycle_line, path as path_line, absent as absent_line, false_step as false_line}
+use Rattle.pc_ground.specs.NodeForm.{IsNodeIn}
+use Rattle.pc_common.specs.Lines.{Names, line_text, Line, split as split_line, cycle as cycle_line, path as path_line, absent as absent_line, false_step as false_line}
 use Rattle.pc_ground.specs.Keys.{key_node}
 use Rattle.pc_ground.specs.Refutes.{Step as PlainStep, split, cycle, path, absent, false_step}
 use Rattle.refutation.specs.declared.step.Step.{Step}
@@ -42,3 +43,14 @@ step_line (cycle nodes) = cycle_line nodes
 step_line (path nodes) = path_line nodes
 step_line (absent a) = absent_line a
 step_line false_step = false_line
+
+abbrev pub step_text : Names → PlainStep Node → List ℕ
+step_text names s = line_text names (step_line s)
+
+-- the step's nodes are these names'
+abbrev pub IsStepIn : Names → PlainStep Node → Type 0
+IsStepIn names (split p) = Unit {0}
+IsStepIn names (cycle nodes) = All (IsNodeIn names) nodes
+IsStepIn names (path nodes) = All (IsNodeIn names) nodes
+IsStepIn names (absent a) = IsNodeIn names a
+IsStepIn names false_step = Unit {0}

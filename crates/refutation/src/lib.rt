@@ -7,6 +7,8 @@
 
 mod list;
 mod step;
+mod writing;
 
 pub use list::Refutation;
 pub use step::{Nodes, Step};
+pub use writing::write_refutation;

@@ -1,0 +1,14 @@
+use Rattle.std.proofs.Common.{refl}
+use Rattle.pc_common.proofs.RoomPieces.{puts_next, puts_failed}
+use Rattle.graph_text.specs.Graphs.{edge_line_text}
+use Rattle.graph_text.proofs.writing.put_edges.Goals as goal
+
+pub returns-in_err-put_edge_line : goal.returns-in_err-put_edge_line
+returns-in_err-put_edge_line g c =
+    puts_failed (edge_line_text c.args.names.now) c.args.edges.now c.loop-ends.ends-index _ c.loop-ends-test.true refl c.from_residual.ensures.0
+    c.loop-ends.invariant (rw c.ends-item.is at c.in_err-put_edge_line.ensures)
+
+pub loop-ends-preserved : goal.loop-ends-preserved
+loop-ends-preserved g c =
+    puts_next (edge_line_text c.args.names.now) c.args.edges.now c.loop-ends.ends-index _ c.loop-ends-test.true refl c.loop-ends.invariant
+    (rw c.ends-item.is at c.in_ok-put_edge_line.ensures)
