@@ -1,8 +1,8 @@
 //! What a case makes of each predicate.
 ghost use Rattle.std.specs.Prelude.{◌≡◌, ◌<◌, [], ◌∷◌, length, replicate};
 ghost use Rattle.pc_syntax.specs.declared.bound.Bound.TheVariants.{Op as bound_op};
-ghost use Rattle.pc_syntax.specs.Predicates.{takes_of};
 ghost use Rattle.pc_syntax.specs.declared.pred.Takes.TheVariants.{Op as takes_op};
+ghost use Rattle.pc_syntax.specs.Predicates.{takes_of};
 
 use litmus_reader::read_case;
 use pc_case::Case;
