@@ -18,6 +18,7 @@ from typing import Callable, TextIO, TypeVar
 from second.answering import Clash, Graph, Step, answer
 from second.cases import Case, read_case
 from second.dimacs import write_dimacs
+from second.evaluating import false_axioms
 from second.grounding import ground
 from second.judging import Refused as CertificateRefused
 from second.judging import judge
@@ -101,7 +102,10 @@ def step_line(step: Step, words: list[str]) -> str:
 
 def check(model: Model, case: Case) -> tuple[str, int]:
     """The certificate and the exit status."""
-    is_observable = search(ground(model, case)) is not None
+    witness = search(ground(model, case))
+    if witness is not None and false_axioms(model, case, witness.nodes, witness.edges):
+        raise AssertionError("the witness makes an axiom false")
+    is_observable = witness is not None
     text = certificate(model, case)
     if judge(model, case, second_lines(case), text.encode("ascii")) is not is_observable:
         raise AssertionError("the two searches differ")
