@@ -14,7 +14,7 @@ pub enum CaseFault {
     #[error("no token, blank or comment at byte {}", .0.offset)]
     Lexical(Place),
     /// No test goes on with the token at this place. For the end of the tokens it is the file's length.
-    #[error("no test goes on at byte {}", .0.offset)]
+    #[error("no item of the grammar goes on at byte {}", .0.offset)]
     Syntax(Place),
     /// The first line with a fault has it at this place.
     #[error("a fault of content at byte {}", .1.offset)]
