@@ -64,7 +64,7 @@ pub decided_answers : (words : List (List ℕ)) (holds : Contents) (model test m
 decided_answers words holds model test mb tb (a_refusal r) check rm rt d =
     refusal_answers words holds model test (bytes_of r.fault.file mb tb) r.fault r check (in_bytes rm rt d.0)
     (held_in holds model test mb tb r.fault.file rm rt) refl d.1.0 d.1.1
-decided_answers words holds model test mb tb (a_verdict v) check rm rt (m, (c, (says_model, (says_test, is)))) =
+decided_answers words holds model test mb tb (a_verdict v) check rm rt (m, c, says_model, says_test, is) =
     let says : Says holds model test m c = record {
       model_bytes = mb;
       test_bytes = tb;

@@ -13,7 +13,10 @@ use Rattle.pc_ground.specs.declared.node_key.NodeKey.{NodeKey}
 use Rattle.pc_ground.specs.Keys.{key_node}
 use Rattle.pc_ground.specs.Tree.{Tree}
 use Rattle.pc_ground.specs.Numbers.{nodes_of_tree, numbered}
-use Rattle.pc_ground.specs.GroundTree.{ground_tree, closed_ground_tree}
+use Rattle.pc_ground.specs.GroundTree.{ground_tree, axioms_unfolded, closed_ground_tree}
+use Rattle.pc_ground.specs.Rows.{rows_of}
+use Rattle.pc_ground.specs.Folded.{IsFolded}
+use Rattle.pc_ground.proofs.NormalForms.{normal_folded}
 use Rattle.pc_ground.specs.Stages.{plain_stage, plain_axioms, numbers_of}
 use Rattle.pc_ground.specs.NodeForm.{names_of, IsNodeIn}
 use Rattle.pc_ground.proofs.TreeNodes.{nodes_are_of}
@@ -38,6 +41,16 @@ placed [] k d h = absurd (omega arith)
 placed (x ∷ xs) zero d h = inl refl
 placed (x ∷ xs) (suc k) d h = inr (placed xs k d (omega arith))
 
+-- a front's numbering is of its tree, in which a constant is the whole tree
+pub front_numbered : (front : Front) (t : Tree Node) → front.tree ≡ rows_of t → front.numbering ≡ numbered t
+front_numbered front t is =
+    front.counted ∙ ap numbered (rows_injective (closed_ground_tree front.case (plain_axioms front.axioms)) t (sym front.grounded ∙ is))
+
+pub front_folded : (front : Front) (t : Tree Node) → front.tree ≡ rows_of t → IsFolded t
+front_folded front t is =
+    subst IsFolded (rows_injective (closed_ground_tree front.case (plain_axioms front.axioms)) t (sym front.grounded ∙ is))
+    (normal_folded (axioms_unfolded front.case (plain_axioms front.axioms)))
+
 -- what holds of the images holds of the list
 all_images : {X Y : Type 0} (P : Y → Type 0) (f : X → Y) (xs : List X) → ((y : Y) → Contains (map f xs) y → P y) → All (λ x. P (f x)) xs
 all_images P f xs each k d inside = each (f (get_or xs k d)) (contains_from_in _ (map f xs) (in_map f (get_or xs k d) xs (placed xs k d inside)))
@@ -61,7 +74,7 @@ module _ (m : WrittenModel) (c : Case) (front : Front) (is : IsFrontOf m c front
 
   numbered_node : (a : Node) → Contains front.numbering a → IsNodeIn (names_of front) a
   numbered_node a in_numbering =
-      tree_node a ((numbered_lists (ground_tree m c)).1 a .1
+      tree_node a (((numbered_lists (ground_tree m c)).1 a).1
       (subst (λ (ns : List Node). Contains ns a) (front.counted ∙ ap numbered same_tree) in_numbering))
 
   numbers_are : numbers_of (map plain_stage front.stages) ≡ stage_numbers m.stages

@@ -1,3 +1,4 @@
+pub mod Three
 pub mod Placed
 pub mod StepNodes
 pub mod Fronts

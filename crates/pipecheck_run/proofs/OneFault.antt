@@ -70,7 +70,7 @@ case_or_first_fault holds model test mb tb rm rt = of_model (model_or_fault mb)
     of_test : (m : WrittenModel) → SaysModel mb m → ((c : Case) × CaseOf tb c) ⊎ ((f : CaseFault) × (f ≢ no_room) × IsRefusal tb f)
         → ((n : WrittenModel) × (c : Case) × Says holds model test n c) ⊎ ((f : InputFault) × IsFirstFault holds model test f)
     of_test m says (inl (c, is)) =
-        inl (m, (c, record { model_bytes = mb; test_bytes = tb; model_read = rm; test_read = rt; says_model = says; says_test = is }))
+        inl (m, c, record { model_bytes = mb; test_bytes = tb; model_read = rm; test_read = rt; says_model = says; says_test = is })
     of_test m says (inr (f, some, is)) = inr (told m says f some is)
 
     of_model : ((m : WrittenModel) × SaysModel mb m) ⊎ ((kind : FaultKind) × (at : Place) × IsModelFault mb kind at)
