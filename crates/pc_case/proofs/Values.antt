@@ -13,7 +13,8 @@ use Rattle.pc_common.specs.Case.{PageAt, Address, page, Value, number}
 use Rattle.pc_case.specs.declared.op.Page.{Page}
 use Rattle.pc_case.specs.declared.stated.Stated.{Stated}
 use Rattle.pc_case.specs.Plain.{page_at, address_at, stated_value}
-use Rattle.pc_case.specs.Stated.{same_page, same_address, stated_at, IsStatedOnce}
+use Rattle.pc_common.specs.Addresses.{same_page, same_address, stated_at}
+use Rattle.pc_case.specs.Stated.{IsStatedOnce}
 use Rattle.pc_case.specs.Tables.{pairs_of}
 
 one_of : (b c : Bool) (x : ℕ) (r : Option ℕ) (s : Option Value) → b ≡ c → option_map number r ≡ s

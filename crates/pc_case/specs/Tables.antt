@@ -1,16 +1,16 @@
 -- What the tables of a case hold, as plain data.
-use Rattle.std.specs.Prelude.{ℕ, ◌≡◌, Bool, false, List, map, Some, None, nat_eq, ◌==◌, ◌&&◌}
+use Rattle.std.specs.Prelude.{ℕ, ◌≡◌, Bool, false, List, map, Some, None, ◌==◌, ◌&&◌}
 use Rattle.std.specs.List.{list_any}
 use Rattle.std.specs.Map.{lookup}
-use Rattle.std.specs.Cmp.Lexicographic.{pointwise}
 use Rattle.std.specs.Prelude.{Vec}
 use Rattle.std.specs.declared.alloc.Global.{Global}
 use Rattle.indexmap.specs.IndexSet.{IndexSet}
 use Rattle.pc_common.specs.Case.{Address, Value, number, Dependency}
+use Rattle.pc_common.specs.Names.{same_name}
+use Rattle.pc_common.specs.Dependencies.{depends_by}
 use Rattle.pc_case.specs.declared.op.Page.{Page}
 use Rattle.pc_case.specs.declared.dependency.Ends.{Ends}
 use Rattle.pc_case.specs.Plain.{address_at}
-use Rattle.pc_case.specs.Stated.{depends_by}
 
 -- each address with its value
 abbrev pub pairs_of : List (Page × ℕ) → List (Address × Value)
@@ -23,11 +23,11 @@ are_ends i j e = (i == e.source) && (j == e.target)
 -- whether these places are ends of a dependency of this kind
 abbrev pub ties : {S : Type 0} → List (Vec ℕ Global × IndexSet Ends S) → List ℕ → ℕ → ℕ → Bool
 ties es kind i j =
-    elim (lookup (λ k. pointwise nat_eq kind k.items) es) [ None ↦ false | Some ends ↦ list_any (are_ends i j) ends.keys ]
+    elim (lookup (λ k. same_name kind k.items) es) [ None ↦ false | Some ends ↦ list_any (are_ends i j) ends.keys ]
 
 -- a dependency of the first kind between these ends is one of this kind from i to j
 abbrev pub joins : List ℕ → Ends → List ℕ → ℕ → ℕ → Bool
-joins name e kind i j = pointwise nat_eq name kind && are_ends i j e
+joins name e kind i j = same_name name kind && are_ends i j e
 
 -- the table answers by the list
 abbrev pub Ties : {S : Type 0} → List (Vec ℕ Global × IndexSet Ends S) → List Dependency → Type 0

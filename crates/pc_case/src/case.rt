@@ -3,7 +3,9 @@ ghost use Rattle.std.specs.Option.{option_map};
 ghost use Rattle.pc_common.specs.Case.{Case as PlainCase, number, cores_of};
 ghost use Rattle.pc_case.specs.Plain.{micro_op, dependency, stated_value, address_at, expectation};
 ghost use Rattle.pc_case.specs.Kept.{IsKept, IsNamed};
-ghost use Rattle.pc_case.specs.Stated.{stated_at, initial_at, depends_by, IsStatedOnce, AreWithin};
+ghost use Rattle.pc_common.specs.Addresses.{stated_at, initial_at};
+ghost use Rattle.pc_common.specs.Dependencies.{depends_by};
+ghost use Rattle.pc_case.specs.Stated.{IsStatedOnce, AreWithin};
 
 use super::dependency::{Dependencies, DependencyTable};
 use super::op::{Op, OpId, Page};

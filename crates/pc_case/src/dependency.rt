@@ -1,6 +1,6 @@
 ghost use Rattle.std.specs.Prelude.{◌≡◌, ◌||◌, false, List, [], IfOk, OnOk, ℕ, map, take};
 ghost use Rattle.pc_case.specs.Plain.{dependency};
-ghost use Rattle.pc_case.specs.Stated.{depends_by};
+ghost use Rattle.pc_common.specs.Dependencies.{depends_by};
 ghost use Rattle.pc_case.specs.Tables.{ties, joins};
 
 use indexmap::{IndexMap, IndexSet};

@@ -2,7 +2,8 @@ ghost use Rattle.std.specs.Prelude.{◌≡◌, ◌<◌, List, IfOk, OnOk, length
 ghost use Rattle.std.specs.Option.{option_map};
 ghost use Rattle.pc_common.specs.Case.{number};
 ghost use Rattle.pc_case.specs.Plain.{address_at, stated_value};
-ghost use Rattle.pc_case.specs.Stated.{stated_at, IsStatedOnce};
+ghost use Rattle.pc_common.specs.Addresses.{stated_at};
+ghost use Rattle.pc_case.specs.Stated.{IsStatedOnce};
 ghost use Rattle.pc_case.specs.Tables.{pairs_of};
 
 use super::op::Page;

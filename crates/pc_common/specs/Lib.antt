@@ -1,4 +1,7 @@
+pub mod Names
 pub mod Case
+pub mod Addresses
+pub mod Dependencies
 pub mod World
 pub mod Chain
 pub mod Generated

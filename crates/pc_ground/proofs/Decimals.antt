@@ -1,5 +1,5 @@
 -- Digits read from the first on, and what a number is written as.
-use Rattle.std.proofs.Common.{◌≡◌, ℕ, ◌+◌, ◌-◌, ◌*◌, ◌<◌, ◌≤◌, ◌^◌, ◌≢◌, Bool, true, false, ◌&&◌, zero, suc, Option, Some, None, eqb, List, [], ◌∷◌, length, get_or, drop, lit<, lit≤, refl, sym, ◌∙◌, ap, arith, rules}
+use Rattle.std.proofs.Common.{◌≡◌, ℕ, ◌+◌, ◌-◌, ◌*◌, ◌<◌, ◌≤◌, ◌≢◌, true, false, zero, suc, Option, Some, None, eqb, List, [], ◌∷◌, length, get_or, drop, lit<, lit≤, sym, ◌∙◌, ap, arith, rules}
 use Rattle.std.specs.Prelude.{MatchOption}
 use Rattle.std.specs.Fmt.{decimal}
 use Rattle.std.proofs.lemmas.Bool.{eqb-false}

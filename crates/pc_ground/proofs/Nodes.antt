@@ -1,5 +1,5 @@
 -- Nodes are equal exactly where their test says so; and so are node keys, read as nodes.
-use Rattle.std.proofs.Common.{◌≡◌, ℕ, Bool, true, false, ◌&&◌, List, [], ◌∷◌, map, refl, sym, ◌∙◌, ap, nat_eq, eq-eqb, eqb-true}
+use Rattle.std.proofs.Common.{◌≡◌, ℕ, Bool, true, ◌&&◌, List, [], ◌∷◌, map, refl, ◌∙◌, ap, nat_eq, eq-eqb, eqb-true}
 use Rattle.std.specs.List.{list_any}
 use Rattle.pc_common.specs.World.{Node, same_node}
 use Rattle.pc_ground.specs.declared.node_key.NodeKey.{NodeKey}

@@ -10,3 +10,5 @@ pub mod Refutes
 pub mod Stages
 pub mod Decimals
 pub mod NodeForm
+pub mod NodeWords
+pub mod Writes

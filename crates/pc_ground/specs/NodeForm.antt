@@ -37,3 +37,13 @@ abbrev pub Reads : Names → List ℕ → Result NodeKey LineFault → Type 0
 Reads names word (Ok key) = IsNodeIn names (key_node key) × (word ≡ node_text names (key_node key))
 Reads names word (Err Malformed) = IsNodeForm word → ⊥
 Reads names word (Err Foreign) = IsNodeForm word × ((a : Node) → IsNodeIn names a → word ≡ node_text names a → ⊥)
+
+-- each node's text has the form, and no two nodes have one text
+pub record AreReadable (names : Names) : Type 0 where
+  pub form : (a : Node) → IsNodeIn names a → IsNodeForm (node_text names a)
+  pub apart : (a b : Node) → IsNodeIn names a → IsNodeIn names b → node_text names a ≡ node_text names b → a ≡ b
+
+-- it answers this node
+abbrev pub Answers : Result NodeKey LineFault → Node → Type 0
+Answers (Ok key) a = key_node key ≡ a
+Answers (Err fault) a = ⊥

@@ -1,5 +1,5 @@
 -- In which order the nodes of a tree are numbered: as first seen in preorder, an edge's first node before its second.
-use Rattle.std.specs.Prelude.{ℕ, ◌≡◌, Bool, List, [], ◌∷◌, ◌++◌, Some, slice_get, if◌then◌else◌}
+use Rattle.std.specs.Prelude.{ℕ, ◌≡◌, List, [], ◌∷◌, ◌++◌, Some, slice_get, if◌then◌else◌}
 use Rattle.std.specs.List.{list_any}
 use Rattle.pc_common.specs.World.{Node, same_node}
 use Rattle.pc_ground.specs.declared.literal.Literal.{Literal}

@@ -1,7 +1,7 @@
 -- The stages of a model: their numbers and names, and which stages closed axioms speak of.
-use Rattle.std.specs.Prelude.{ℕ, ◌≡◌, ◌<◌, Bool, true, false, List, [], ◌∷◌, Some, map, slice_get, nat_lt, nat_le, ◌==◌, ◌&&◌, ◌||◌, IsTrue}
+use Rattle.std.specs.Prelude.{ℕ, ◌≡◌, ◌<◌, Bool, true, false, List, [], ◌∷◌, Some, map, slice_get, nat_le, ◌==◌, ◌&&◌, ◌||◌, IsTrue}
 use Rattle.std.specs.List.{list_any, list_all}
-use Rattle.std.specs.Coded.{Coded-set, le_prop}
+use Rattle.std.specs.Coded.{le_prop}
 use Rattle.std.proofs.Math.Nat.{ℕ_set}
 use Rattle.std.proofs.Math.Bool.{Bool-set}
 use Rattle.pc_common.specs.Lines.{StageName}

@@ -21,6 +21,4 @@ pub mod VerdictTexts
 pub mod Decided
 pub mod Headline
 pub mod OneFault
-pub mod FrontLaws
-pub mod OneModel
 pub mod Told

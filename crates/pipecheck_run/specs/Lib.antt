@@ -10,5 +10,3 @@ pub mod Verdicts
 pub mod Writing
 pub mod Answered
 pub mod Headline
-pub mod ModelFront
-pub mod ModelSteps

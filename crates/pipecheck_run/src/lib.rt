@@ -9,9 +9,7 @@ mod deciding;
 mod graph;
 mod language;
 mod lines;
-mod model_front;
 mod parts;
-mod reading;
 mod report;
 mod scope;
 mod solving;
@@ -22,6 +20,5 @@ mod verdict;
 mod words;
 mod writing;
 
-pub use model_front::{Axioms, FrontEnd, ModelFront, Stage, Stages};
-pub use reading::read_model;
+pub use pc_front::{Axioms, FrontEnd, ModelFront, Stage, Stages, read_model};
 pub use top::run;

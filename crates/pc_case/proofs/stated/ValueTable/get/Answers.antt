@@ -2,7 +2,7 @@ use Rattle.std.proofs.Common.{ap, ◌∙◌}
 use Rattle.std.specs.Option.{option_map}
 use Rattle.pc_common.specs.Case.{number}
 use Rattle.pc_case.specs.Plain.{address_at}
-use Rattle.pc_case.specs.Stated.{stated_at}
+use Rattle.pc_common.specs.Addresses.{stated_at}
 use Rattle.pc_case.specs.contracts.op.PagePartialEq.TheImpl.{eq-value as page_eq}
 use Rattle.pc_case.proofs.Values.{lookup_stated, page_eq_flips}
 use Rattle.pc_case.proofs.stated.ValueTable.get.Goals as goal

@@ -1,0 +1,7 @@
+-- When two names are one.
+use Rattle.std.specs.Prelude.{ℕ, Bool, List, nat_eq}
+use Rattle.std.specs.Cmp.Lexicographic.{pointwise}
+
+-- byte for byte
+abbrev pub same_name : List ℕ → List ℕ → Bool
+same_name = pointwise nat_eq

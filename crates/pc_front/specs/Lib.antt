@@ -1,0 +1,2 @@
+pub mod ModelFront
+pub mod ModelSteps

@@ -1,0 +1,78 @@
+-- What the bytes of a whole model say: its stages and its closed axioms, or its first fault.
+use Rattle.std.specs.Prelude.{◌≡◌, ℕ, ⊤, List, [], Option, Some, None, length, map, slice_get}
+use Rattle.std.specs.List.{list_all}
+use Rattle.pc_common.specs.Case.{Case}
+use Rattle.pc_common.specs.World.{World}
+use Rattle.pc_common.specs.declared.place.Place.{Place}
+use Rattle.pc_common.specs.declared.fault.FaultKind.{FaultKind}
+use Rattle.pc_common.specs.declared.fault.FaultKind.TheVariants.{Lexical, Syntax, Depth}
+use Rattle.pc_common.specs.declared.fault.Which.TheVariants.{Model}
+use Rattle.ll_grammar.specs.FirstFault.{IsAccepted, IsFirstFault}
+use Rattle.ll_grammar.specs.declared.fault.Fault.TheVariants.{Syntax as a_syntax_fault, Depth as a_depth_fault}
+use Rattle.uspec_lexer.specs.Token.{Token}
+use Rattle.uspec_lexer.specs.Spells.{Spells, IsLexicalFault}
+use Rattle.uspec_parser.specs.Marks.{IsMarkedModel}
+use Rattle.uspec_parser.specs.Syntax.{DerivesModel}
+use Rattle.uspec_parser.specs.Answers.{terminals}
+use Rattle.pc_syntax.specs.declared.model.StageItem.{StageItem}
+use Rattle.pc_syntax.specs.declared.closed.Closed.{Closed}
+use Rattle.pc_syntax.specs.Written.{Written, WrittenModel}
+use Rattle.pc_syntax.specs.Observable.{axioms_of, macros_of, satisfies}
+use Rattle.pc_syntax.specs.Expansion.{expansion_of}
+use Rattle.pc_syntax.specs.Closed.{PlainClosed, plain_closed, closed_true}
+use Rattle.pc_syntax.specs.Closing.{closing_of}
+use Rattle.pc_syntax.specs.ModelFault.{first_model_fault}
+use Rattle.pc_front.specs.declared.model_front.Stage.{Stage}
+use Rattle.pc_front.specs.declared.model_front.ModelFront.{ModelFront}
+use Rattle.pc_front.specs.declared.model_front.FrontEnd.{FrontEnd}
+use Rattle.pc_front.specs.declared.model_front.FrontEnd.TheVariants.{Refused, Memory}
+
+-- the bytes spell a model of this tree, and no opener of it stands too deep
+pub record ModelOf (bytes : List ℕ) (m : WrittenModel) : Type 0 where
+  pub tokens : List Token
+  pub spelled : Spells bytes tokens
+  pub tree : DerivesModel tokens m
+  pub accepted : IsAccepted IsMarkedModel (terminals tokens)
+
+-- the place of token k, or the length of the text at the end
+abbrev pub token_place : ℕ → Option Token → ℕ
+token_place end None = end
+token_place end (Some t) = t.at
+
+-- the first fault of a model's bytes: of its bytes, of its tokens, or of what its tree says
+pub data IsModelFault (bytes : List ℕ) : FaultKind → Place → Type 0 where
+  lexical : {at : Place} → IsLexicalFault bytes at.offset → IsModelFault bytes Lexical at
+  syntax : {ts : List Token} {k : ℕ} {at : Place} → Spells bytes ts → IsFirstFault IsMarkedModel (terminals ts) (a_syntax_fault k)
+      → at.offset ≡ token_place (length bytes) (slice_get ts k) → IsModelFault bytes Syntax at
+  depth : {ts : List Token} {k : ℕ} {at : Place} → Spells bytes ts → IsFirstFault IsMarkedModel (terminals ts) (a_depth_fault k)
+      → at.offset ≡ token_place (length bytes) (slice_get ts k) → IsModelFault bytes (Depth 128) at
+  said : {m : WrittenModel} {kind : FaultKind} {at : Place} → ModelOf bytes m → first_model_fault m ≡ Some (kind, at)
+      → IsModelFault bytes kind at
+
+abbrev pub stage_said : StageItem → ℕ × List ℕ
+stage_said s = (s.number, s.name.name)
+
+abbrev pub stage_kept : Stage → ℕ × List ℕ
+stage_kept s = (s.number, s.name)
+
+-- an axiom with its macros expanded and its names resolved
+abbrev pub closed_axiom : WrittenModel → Written → PlainClosed
+closed_axiom m w = closing_of m.stages [] (expansion_of (macros_of m) w)
+
+abbrev pub plain_axioms : List Closed → List PlainClosed
+plain_axioms axioms = map (λ a. plain_closed a.body) axioms
+
+-- the stages of the model, and its axioms, closed; in each case and world they are true exactly where the model's are
+pub record IsFrontOf (m : WrittenModel) (front : ModelFront) : Type 0 where
+  pub no_fault : first_model_fault m ≡ None
+  pub stages : map stage_kept front.stages ≡ map stage_said m.stages
+  pub axioms : plain_axioms front.axioms ≡ map (closed_axiom m) (axioms_of m)
+  pub true_alike : (c : Case) (w : World) → satisfies m c w ≡ list_all (closed_true c w []) (plain_axioms front.axioms)
+
+abbrev pub IsFront : List ℕ → ModelFront → Type 0
+IsFront bytes front = (m : WrittenModel) × ModelOf bytes m × IsFrontOf m front
+
+-- a refusal is the model's first fault; want of memory is tied to nothing
+abbrev pub IsFrontEnd : List ℕ → FrontEnd → Type 0
+IsFrontEnd bytes (Refused fault) = (fault.file ≡ Model) × IsModelFault bytes fault.kind fault.place
+IsFrontEnd bytes Memory = ⊤

@@ -1,0 +1,41 @@
+use Rattle.std.proofs.Common.{sym, ◌∙◌}
+use Rattle.pc_ground.specs.Keys.{key_node}
+use Rattle.pc_ground.proofs.Cuts.{words_form}
+use Rattle.pc_ground.proofs.NodeReading.{readable, named_text, named_in, named_by, formed}
+use Rattle.pc_ground.proofs.node_text.NodeText.read.Goals as goal
+
+pub returns-in_default-clause-readable : goal.returns-in_default-clause-readable
+returns-in_default-clause-readable c = readable c.args.self.now c.show_kept.ensures
+
+pub returns-in_default-clause-again : goal.returns-in_default-clause-again
+returns-in_default-clause-again c = λ a inside is. c.in_default.ensures (formed c.args.self.now c.args.word.now a c.show_kept.ensures inside is)
+
+pub returns-in-Some-named-clause-read : goal.returns-in-Some-named-clause-read
+returns-in-Some-named-clause-read c = (
+  named_in c.args.self.now c.in-Some.words (key_node c.in-Some-named.key) c.in-Some-named.key.in_range.1 c.in-Some-named.ensures,
+  named_text c.args.self.now c.args.word.now c.in-Some.words (key_node c.in-Some-named.key) c.show_kept.ensures.stages c.in-Some.ensures c.in-Some-named.ensures,
+)
+
+pub returns-in-Some-named-clause-readable : goal.returns-in-Some-named-clause-readable
+returns-in-Some-named-clause-readable c = readable c.args.self.now c.show_kept.ensures
+
+pub returns-in-Some-named-clause-again : goal.returns-in-Some-named-clause-again
+returns-in-Some-named-clause-again c = λ a inside is.
+    (readable c.args.self.now c.show_kept.ensures).apart (key_node c.in-Some-named.key) a
+    (named_in c.args.self.now c.in-Some.words (key_node c.in-Some-named.key) c.in-Some-named.key.in_range.1 c.in-Some-named.ensures) inside
+    (sym (named_text c.args.self.now c.args.word.now c.in-Some.words (key_node c.in-Some-named.key) c.show_kept.ensures.stages c.in-Some.ensures c.in-Some-named.ensures) ∙ is)
+
+pub returns-in-None-clause-read : goal.returns-in-None-clause-read
+returns-in-None-clause-read c = (
+  words_form c.in-Some.ensures,
+  λ a inside is. c.in-None.ensures a inside.core
+      (named_by c.args.self.now c.args.word.now c.in-Some.words a c.show_kept.ensures.small c.show_kept.ensures.stages c.in-Some.ensures inside is),
+)
+
+pub returns-in-None-clause-readable : goal.returns-in-None-clause-readable
+returns-in-None-clause-readable c = readable c.args.self.now c.show_kept.ensures
+
+pub returns-in-None-clause-again : goal.returns-in-None-clause-again
+returns-in-None-clause-again c = λ a inside is.
+    c.in-None.ensures a inside.core
+    (named_by c.args.self.now c.args.word.now c.in-Some.words a c.show_kept.ensures.small c.show_kept.ensures.stages c.in-Some.ensures inside is)

@@ -1,0 +1,45 @@
+-- The parts that a node's text is cut into.
+use Rattle.std.specs.Prelude.{ℕ, ◌≡◌, ◌≤◌, ◌++◌, ◌==◌, false, List, ◌∷◌, Some, codes, slice_get, IsTrue}
+use Rattle.std.specs.List.{list_any}
+use Rattle.std.specs.Fmt.{decimal}
+use Rattle.pc_common.specs.Case.{MicroOp}
+use Rattle.pc_common.specs.World.{Node}
+use Rattle.pc_common.specs.Lines.{StageName, Names}
+use Rattle.pc_case.specs.Kept.{IsKept, IsNamed}
+use Rattle.pc_ground.specs.Stages.{is_name, AreStages}
+use Rattle.pc_ground.specs.declared.node_words.NodeWords.{NodeWords}
+
+abbrev pub Lacks : ℕ → List ℕ → Type 0
+Lacks mark bytes = list_any (λ c. c == mark) bytes ≡ false
+
+-- before the first byte `mark` stands `front`, and behind it `back`
+abbrev pub IsCut : ℕ → List ℕ → List ℕ → List ℕ → Type 0
+IsCut mark word front back = Lacks mark front × (word ≡ front ++ mark ∷ back)
+
+-- the word is these three numbers and this name
+pub record AreWords (word : List ℕ) (w : NodeWords) : Type 0 where
+  pub g : w.g ≤ 18446744073709551615
+  pub n : w.n ≤ 18446744073709551615
+  pub core : w.core ≤ 18446744073709551615
+  pub stage : IsTrue (is_name w.stage.now)
+  pub is : word ≡ decimal w.g ++ codes "." ++ decimal w.n ++ codes "@" ++ decimal w.core ++ codes ":" ++ w.stage.now
+
+-- a stage of this number and name is listed
+abbrev pub IsStage : List StageName → ℕ → List ℕ → Type 0
+IsStage stages n name = (k : ℕ) × (slice_get stages k ≡ Some (n, name))
+
+-- the numbers of each micro-op have at most 64 bits
+abbrev pub AreSmall : List MicroOp → Type 0
+AreSmall ops = (k : ℕ) (o : MicroOp) → slice_get ops k ≡ Some o → (o.g ≤ 18446744073709551615) × (o.n ≤ 18446744073709551615)
+
+-- the words name the micro-op, the core and the stage of this node
+pub record NamesNode (names : Names) (w : NodeWords) (a : Node) : Type 0 where
+  pub op : IsNamed names.ops w.g w.n a.op
+  pub core : a.core ≡ w.core
+  pub stage : IsStage names.stages a.stage w.stage.now
+
+-- what the type of a node text keeps of its names
+pub record AreKept (names : Names) : Type 0 where
+  pub small : AreSmall names.ops
+  pub kept : IsKept names.ops
+  pub stages : AreStages names.stages

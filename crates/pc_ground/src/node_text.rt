@@ -1,0 +1,160 @@
+ghost use Rattle.std.specs.Prelude.{◌≡◌, ◌≤◌, ◌<◌, ◌++◌, ℕ, List, MatchOption, Some, length, map, slice_get};
+ghost use Rattle.pc_common.specs.World.{Node};
+ghost use Rattle.pc_common.specs.Lines.{node_text, stage_name as name_of_stage};
+ghost use Rattle.pc_case.specs.Kept.{IsKept, IsNamed};
+ghost use Rattle.pc_ground.specs.Keys.{key_node};
+ghost use Rattle.pc_ground.specs.Writes.{Writes};
+ghost use Rattle.pc_ground.specs.Stages.{plain_stage};
+ghost use Rattle.pc_ground.specs.NodeForm.{names_of, IsNodeIn, Reads, Answers, AreReadable};
+ghost use Rattle.pc_ground.specs.NodeWords.{IsStage, AreSmall, AreKept, NamesNode};
+
+use super::front::Front;
+use super::line_fault::LineFault;
+use super::node_key::NodeKey;
+use super::node_words::{NodeWords, node_words};
+use super::stage::Stages;
+use super::writing::write_pieces;
+use itoa::Buffer;
+use pc_case::{Case, OpId};
+use pc_common::{Failed, Sink};
+use std::marker::Model;
+
+/// What the nodes of a front are written and read by: its test's micro-ops and its model's stages.
+#[derive(Drop)]
+pub struct NodeText<'a> {
+    front: &'a Front,
+}
+
+impl<'a> Model for NodeText<'a> {
+    ghost use Rattle.pc_common.specs.Lines.{Names};
+    ghost use Rattle.pc_case.specs.Kept.{IsKept};
+    ghost use Rattle.pc_ground.specs.NodeForm.{names_of};
+    ghost use Rattle.pc_ground.specs.NodeWords.{AreSmall};
+
+    ghost Value = { Names };
+
+    ghost view = { λ t. names_of t.front.now };
+
+    ghost invariant = { λ t. AreSmall t.front.now.case.ops × IsKept t.front.now.case.ops };
+}
+
+/// The name of the first stage with this number, or nothing where there is none. A walk over at most 64 stages.
+fn stage_name(stages: &Stages, number: u8) -> &[u8]
+    ensures { result.now ≡ name_of_stage (map plain_stage stages.now) number }
+{
+    for k in 0..stages.len() {
+        let stage = stages.get(k);
+        if stage.number == number {
+            return stage.name.as_slice();
+        }
+    }
+    b""
+}
+
+/// The number of the stage of this name, None where there is none. A walk over at most 64 stages.
+fn stage_named(stages: &Stages, name: &[u8]) -> Option<u8>
+    ensures { MatchOption result ((n : ℕ) → IsStage (map plain_stage stages.now) n name.now → ⊥) (λ n. IsStage (map plain_stage stages.now) n name.now) }
+{
+    for k in 0..stages.len() {
+        let stage = stages.get(k);
+        if stage.name.as_slice() == name {
+            return Some(stage.number);
+        }
+    }
+    None
+}
+
+/// Does nothing. It shows that both numbers of a name are of 64 bits.
+fn show_name(id: OpId)
+    ensures { (id.g ≤ 18446744073709551615) × (id.n ≤ 18446744073709551615) }
+{}
+
+/// Does nothing. It shows that the numbers of each micro-op are of 64 bits, which a case's contract does not say.
+fn show_numbers(case: &Case)
+    ensures small { AreSmall case.now.ops }
+    ensures kept { IsKept case.now.ops }
+{
+    for k in 0..case.ops() {
+        show_name(case.op(k).id);
+    }
+}
+
+impl<'a> NodeText<'a> {
+    /// The view of this front. Takes no memory.
+    pub fn of(front: &'a Front) -> NodeText<'a>
+        ensures view { result ≡ names_of front.now }
+        ensures readable { AreReadable result }
+    {
+        show_numbers(&front.case);
+        NodeText { front }
+    }
+
+    /// Writes the node's text, g.n@core:Stage. Takes no memory.
+    pub fn write<K: Sink>(&self, sink: &mut K, key: NodeKey) -> Result<(), Failed>
+        requires { IsNodeIn self.now (key_node key) }
+        ensures { Writes K.told K.faults K.taken sink.old sink.new result (node_text self.now (key_node key)) }
+    {
+        let front = self.front;
+        let id = front.case.op(key.op as usize).id;
+        let mut g = Buffer::new();
+        let mut n = Buffer::new();
+        let mut core = Buffer::new();
+        write_pieces(
+            sink,
+            &[
+                g.format(id.g).as_bytes(),
+                b".",
+                n.format(id.n).as_bytes(),
+                b"@",
+                core.format(key.core).as_bytes(),
+                b":",
+                stage_name(&front.stages, key.stage),
+            ],
+        )
+    }
+
+    /// The node that the word is the text of: `Malformed` where it has no form g.n@core:Stage, `Foreign` where it
+    /// has and names no micro-op of the test, no core 0 to 63 or no stage of the model. Takes no memory.
+    pub fn read(&self, word: &[u8]) -> Result<NodeKey, LineFault>
+        ensures read { Reads self.now word.now result }
+        ensures readable { AreReadable self.now }
+        ensures again { (a : Node) → IsNodeIn self.now a → word.now ≡ node_text self.now a → Answers result a }
+    {
+        self.show_kept();
+        let Some(words) = node_words(word) else {
+            return Err(LineFault::Malformed);
+        };
+        match self.named(&words) {
+            Some(key) => Ok(key),
+            None => Err(LineFault::Foreign),
+        }
+    }
+
+    /// Does nothing. It shows what the view keeps of its names.
+    fn show_kept(&self)
+        ensures { AreKept self.now }
+    {
+        let _front = self.front;
+    }
+
+    /// The node that these words name, None where they name none.
+    fn named(&self, words: &NodeWords<'_>) -> Option<NodeKey>
+        ensures { MatchOption result ((a : Node) → a.core < 64 → NamesNode self.now words.now a → ⊥) (λ key. NamesNode self.now words.now (key_node key)) }
+    {
+        let front = self.front;
+        let id = OpId {
+            g: words.g,
+            n: words.n,
+        };
+        let op = front.case.find(id)?;
+        let stage = stage_named(&front.stages, words.stage)?;
+        if words.core >= 64 {
+            return None;
+        }
+        Some(NodeKey {
+            op: op as u8,
+            core: words.core as u8,
+            stage,
+        })
+    }
+}

@@ -1,0 +1,12 @@
+//! Refutations as step lines: what shows that no world satisfies a ground tree.
+//!
+//! A refutation is a list of steps in prefix order: a split puts the two sides of an asserted Or in the
+//! place of the first open branch, and every other step closes that branch. The lines are those of
+//! docs/certificates.md.
+#![tactic(auto)]
+
+mod list;
+mod step;
+
+pub use list::Refutation;
+pub use step::{Nodes, Step};

@@ -1,0 +1,66 @@
+ghost use Rattle.std.specs.Prelude.{◌≡◌, ◌<◌, ◌+◌, ◌^◌, ◌++◌, [], ◌∷◌, List, length, map, slice_get, Some, is_ok, if◌then◌else◌};
+ghost use Rattle.pc_common.specs.World.{Node as PlainNode};
+ghost use Rattle.pc_ground.specs.Refutes.{Step as PlainStep, split};
+ghost use Rattle.refutation.specs.Steps.{plain_step, IsLeaf, open_branches};
+
+use super::step::Step;
+use pc_common::{Listed, Memory};
+use std::alloc::Global;
+use std::marker::Model;
+
+/// The steps of a refutation so far, in prefix order. At the start one branch is open.
+#[derive(Drop)]
+pub struct Refutation {
+    steps: Listed<Step>,
+}
+
+impl Model for Refutation {
+    ghost Value = { List (PlainStep PlainNode) };
+
+    ghost view = { λ s. map plain_step s.steps };
+}
+
+impl Refutation {
+    /// No step, and one open branch. Takes no memory.
+    pub fn new(alloc: Global) -> Refutation
+        ensures { result ≡ [] }
+    {
+        Refutation {
+            steps: Listed::new(alloc),
+        }
+    }
+
+    /// Splits the first open branch at the asserted Or at `position`: one branch more is open. Where memory is refused, nothing
+    /// changes.
+    pub fn push_split(&mut self, position: u64) -> Result<(), Memory>
+        requires { 0 < open_branches self.old }
+        ensures { self.new ≡ (if is_ok result then self.old ++ split position ∷ [] else self.old) }
+    {
+        self.steps.push(Step::Split(position))
+    }
+
+    /// Closes the first open branch by a leaf. Where memory is refused, nothing changes.
+    pub fn close_leaf(&mut self, leaf: Step) -> Result<(), Memory>
+        requires open { 0 < open_branches self.old }
+        requires leaf { IsLeaf (plain_step leaf) }
+        ensures { self.new ≡ (if is_ok result then self.old ++ plain_step leaf ∷ [] else self.old) }
+    {
+        self.steps.push(leaf)
+    }
+
+    /// How many steps there are. Takes no memory.
+    pub fn len(&self) -> usize
+        ensures count { result ≡ length self.now }
+        ensures bound { length self.now < 2 ^ 63 }
+    {
+        self.steps.len()
+    }
+
+    /// The step at `k`, from 0. Takes no memory.
+    pub fn step(&self, k: usize) -> &Step
+        requires { k < length self.now }
+        ensures { slice_get self.now k ≡ Some (plain_step result.now) }
+    {
+        self.steps.get(k)
+    }
+}

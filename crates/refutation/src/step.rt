@@ -1,0 +1,19 @@
+use pc_common::Listed;
+use pc_ground::NodeKey;
+
+pub type Nodes = Listed<NodeKey>;
+
+/// One step of a refutation.
+#[derive(Drop)]
+pub enum Step {
+    /// Splits the asserted Or at this position, a preorder place in the ground tree from 0.
+    Split(u64),
+    /// Asserted edges lead from each node to the next and from the last to the first. At least one node.
+    Cycle(Nodes),
+    /// Asserted edges lead from each node to the next, and the edge from the first to the last is denied. At least two nodes.
+    Path(Nodes),
+    /// The node is denied, and asserted by itself or as an end of an edge.
+    Absent(NodeKey),
+    /// The whole tree is False.
+    False,
+}
