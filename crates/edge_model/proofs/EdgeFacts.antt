@@ -9,7 +9,7 @@ use Rattle.pc_syntax.specs.declared.term.Word.{Word}
 use Rattle.pc_syntax.specs.declared.term.Arg.TheVariants.{Word as variable}
 use Rattle.pc_syntax.specs.declared.term.EdgeTerm.{EdgeTerm}
 use Rattle.pc_syntax.specs.declared.model.StageItem.{StageItem}
-use Rattle.pc_syntax.specs.Predicates.{same_name}
+use Rattle.pc_common.specs.Names.{same_name}
 use Rattle.pc_syntax.specs.Truth.{stage_of}
 use Rattle.pc_syntax.specs.Written.{Written, forall_, implies_, static_, edges_, WrittenModel}
 use Rattle.edge_model.specs.EdgeModel.{Differ, IsEdgeNode, IsOneEdge, IsGuard, IsGuardedEdge, IsEdgeFormula, stage_names, IsEdgeModel}

@@ -5,7 +5,7 @@ use Rattle.std.proofs.lemmas.List.{take_all, get_or-map, length-map}
 use Rattle.std.proofs.lemmas.Option.{slice_get-map}
 use Rattle.std.proofs.lemmas.List.Elements.{All-nil, All-cons}
 use Rattle.pc_common.specs.Case.{Case}
-use Rattle.pc_common.specs.World.{World}
+use Rattle.pc_common.specs.World.{Node, World}
 use Rattle.pc_syntax.specs.declared.model.ModelFile.{ModelFile}
 use Rattle.pc_syntax.specs.declared.model.Item.{Item}
 use Rattle.pc_syntax.specs.declared.expanded.Expanded.{Expanded}
@@ -107,7 +107,7 @@ module _ (m : WrittenModel) (es : List Expanded) (are : AreExpansions m es) wher
   all_mapped s (x ∷ xs) = ap (λ b. is_true s [] [] (written x.body) && b) (all_mapped s xs)
 
   -- a world satisfies the model where the expanded axioms are true in it
-  pub satisfied_alike : (c : Case) (w : World)
+  pub satisfied_alike : (c : Case) (w : World Node)
       → satisfies m c w ≡ list_all (λ e. is_true (setting m c w) [] [] (written e.body)) es
   satisfied_alike c w =
       all_expanded (setting m c w) (macros_of m) (axioms_of m)

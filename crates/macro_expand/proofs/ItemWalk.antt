@@ -6,7 +6,7 @@ use Rattle.std.proofs.lemmas.List.{reverse-append, map-append, take-append-drop,
 use Rattle.std.proofs.lemmas.Grind.{flat_map-append, fold-append}
 use Rattle.pc_common.specs.declared.fault.FaultKind.TheVariants.{MacroAgain, MacroUnknown}
 use Rattle.pc_syntax.specs.declared.model.Item.{Item}
-use Rattle.pc_syntax.specs.Predicates.{same_name}
+use Rattle.pc_common.specs.Names.{same_name}
 use Rattle.pc_syntax.specs.Written.{Written, not_, and_, or_, implies_, forall_, exists_, static_, nodes_, edges_, expand_, bind_, MacroAt, WrittenItem, axiom_, macro_, written_item}
 use Rattle.pc_syntax.specs.Observable.{macro_of}
 use Rattle.pc_syntax.specs.Fault.{Fault}

@@ -4,7 +4,7 @@ use Rattle.std.specs.List.{fold}
 use Rattle.std.specs.Borrow.{Bor}
 use Rattle.pc_common.specs.declared.place.Place.{Place}
 use Rattle.pc_syntax.specs.declared.term.Word.{Word}
-use Rattle.pc_syntax.specs.Predicates.{same_name}
+use Rattle.pc_common.specs.Names.{same_name}
 use Rattle.pc_syntax.specs.Written.{Written, written, MacroAt, WrittenItem, axiom_, macro_}
 use Rattle.pc_syntax.specs.Fault.{Fault}
 use Rattle.pc_syntax.specs.MacroFaults.{macro_called, body_fault, macro_fault}

@@ -1,4 +1,10 @@
+pub mod Elements
+pub mod Nodes
+pub mod Chains
+pub mod GeneratedWorlds
 pub mod Pieces
 pub mod Rises
+pub mod Writes
+pub mod Rooms
 mod HeldLemmas
 mod Moves

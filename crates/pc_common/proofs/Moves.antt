@@ -1,6 +1,6 @@
 -- Bytes that are moved: from what is left of a list to the front of another, and out of a piece by parts.
 use Rattle.std.proofs.Common.{◌≡◌, ◌≤◌, ◌+◌, ◌-◌, ◌++◌, ◌∙◌, sym, ap, ℕ, List, length, take, drop, arith, append_assoc}
-use Rattle.std.proofs.lemmas.List.{take-append-le, take-append-drop, take-take, length-take-le, drop-drop, take_all, length-drop}
+use Rattle.std.proofs.lemmas.List.{take-append-le, take-append-drop, take-take, length-take-le, drop-drop, drop-append-le, take_all, length-drop}
 use Rattle.std.proofs.Math.Seq.{take-add}
 
 pub moved : (bytes buf written left : List ℕ) (at n : ℕ) →
@@ -23,3 +23,10 @@ went_on before between after piece at n so_far next =
     next ∙ ap (λ xs. between ++ take n xs) rest ∙ ap (λ xs. xs ++ take n (drop at piece)) so_far
     ∙ append_assoc before (take at piece) (take n (drop at piece))
     ∙ ap (λ xs. before ++ xs) (sym (take-add at n piece))
+
+-- what goes behind the used bytes goes behind those of them that wait
+pub went_behind : (from used n : ℕ) (old new piece : List ℕ) →
+    from ≤ used → used ≤ length old → take (used + n) new ≡ take used old ++ piece →
+    drop from (take (used + n) new) ≡ drop from (take used old) ++ piece
+went_behind from used n old new piece order within whole =
+    ap (drop from) whole ∙ drop-append-le from (take used old) piece (omega (arith, length-take-le used old within))

@@ -1,13 +1,16 @@
 -- The world that a graph generates: its nodes, with all pairs that a chain of its edges joins.
-use Rattle.std.specs.Prelude.{◌≡◌, ◌↔◌, List, IsTrue}
-use Rattle.std.specs.List.{list_any}
-use Rattle.pc_common.specs.World.{Node, Edge, World, same_edge, has_edge, IsWorld}
+use Rattle.std.specs.Prelude.{◌≡◌, ◌↔◌, List, Contains}
+use Rattle.pc_common.specs.World.{World}
 use Rattle.pc_common.specs.Chain.{Chain}
 
 -- the edge from a to b is listed
-abbrev pub IsListed : List Edge → Node → Node → Type 0
-IsListed edges a b = IsTrue (list_any (λ e. same_edge e (a, b)) edges)
+abbrev pub IsListed : {N : Type 0} → List (N × N) → N → N → Type 0
+IsListed edges a b = Contains edges (a, b)
 
-pub record IsGenerated (nodes : List Node) (edges : List Edge) (w : World) : Type 0 where
+-- each edge joins two of the nodes
+abbrev pub HasEnds : {N : Type 0} → List N → List (N × N) → Type 0
+HasEnds {N} nodes edges = (a b : N) → IsListed edges a b → Contains nodes a × Contains nodes b
+
+pub record IsGenerated {N : Type 0} (nodes : List N) (edges : List (N × N)) (w : World N) : Type 0 where
   pub nodes_are : w.nodes ≡ nodes
-  pub order_is : (a b : Node) → IsTrue (has_edge w a b) ↔ Chain (IsListed edges) a b
+  pub order_is : (a b : N) → Contains w.order (a, b) ↔ Chain (IsListed edges) a b

@@ -10,6 +10,10 @@ pub mod Faults
 pub mod Held
 pub mod Shelf
 pub mod Pieces
+pub mod Writes
+pub mod Reads
+pub mod Waiting
+pub mod Room
 pub mod Status
 pub mod LineColumn
 pub mod Schedule

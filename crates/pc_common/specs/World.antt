@@ -1,5 +1,5 @@
 -- A node is a micro-op at a stage of a core; a world is finitely many nodes with a strict order.
-use Rattle.std.specs.Prelude.{ℕ, Bool, List, [], ◌∷◌, ◌&&◌, ◌==◌, IsTrue}
+use Rattle.std.specs.Prelude.{ℕ, Bool, List, ◌&&◌, ◌==◌, Contains}
 use Rattle.std.specs.List.{list_any}
 
 -- micro-op (its place in test order, from 0), core (0 to 63), stage (its number)
@@ -17,19 +17,19 @@ same_node a b = (a.op == b.op) && (a.core == b.core) && (a.stage == b.stage)
 abbrev pub same_edge : Edge → Edge → Bool
 same_edge e f = same_node e.0 f.0 && same_node e.1 f.1
 
-pub record World : Type 0 where
-  pub nodes : List Node
-  pub order : List Edge
+-- finitely many things, with pairs of them: the first happens before the second
+pub record World (N : Type 0) : Type 0 where
+  pub nodes : List N
+  pub order : List (N × N)
 
-abbrev pub has_node : World → Node → Bool
+abbrev pub has_node : World Node → Node → Bool
 has_node w a = list_any (λ b. same_node b a) w.nodes
 
--- the first happens before the second
-abbrev pub has_edge : World → Node → Node → Bool
+abbrev pub has_edge : World Node → Node → Node → Bool
 has_edge w a b = list_any (λ e. same_edge e (a, b)) w.order
 
 -- the order is strict, and on the world's nodes
-pub record IsWorld (w : World) : Type 0 where
-  pub ends : (a b : Node) → IsTrue (has_edge w a b) → IsTrue (has_node w a) × IsTrue (has_node w b)
-  pub irreflexive : (a : Node) → IsTrue (has_edge w a a) → ⊥
-  pub transitive : (a b c : Node) → IsTrue (has_edge w a b) → IsTrue (has_edge w b c) → IsTrue (has_edge w a c)
+pub record IsWorld {N : Type 0} (w : World N) : Type 0 where
+  pub ends : (a b : N) → Contains w.order (a, b) → Contains w.nodes a × Contains w.nodes b
+  pub irreflexive : (a : N) → Contains w.order (a, a) → ⊥
+  pub transitive : (a b c : N) → Contains w.order (a, b) → Contains w.order (b, c) → Contains w.order (a, c)

@@ -17,6 +17,7 @@ mod mem_sink;
 mod memory;
 mod place;
 mod reading;
+mod room;
 mod schedule;
 mod shelf;
 mod sink;
@@ -25,6 +26,7 @@ mod sure_files;
 mod sure_sink;
 #[cfg(test)]
 mod tests;
+mod waiting;
 mod writing;
 
 pub use failed::Failed;
@@ -38,6 +40,7 @@ pub use mem_sink::MemSink;
 pub use memory::Memory;
 pub use place::Place;
 pub use reading::{ReadEnd, read_all};
+pub use room::Room;
 pub use schedule::Calls;
 pub use sink::Sink;
 pub use status::Status;

@@ -1,6 +1,7 @@
 ghost use Rattle.std.specs.Prelude.{◌≡◌, ◌≢◌, ◌≤◌, ◌<◌, ◌+◌, ◌++◌, ◌↔◌, List, ℕ, Err, None, Some, length, vec_len, IsTrue, IfOk, OnOk};
 ghost use Rattle.pc_common.specs.declared.reading.ReadEnd.TheVariants.{ReadFault, TooLarge};
 ghost use Rattle.pc_common.specs.Faults.{Rose};
+ghost use Rattle.pc_common.specs.Reads.{Reads};
 
 use super::failed::Failed;
 use super::files::Files;
@@ -53,10 +54,7 @@ pub fn read_all<F: Files>(
     limit: usize,
 ) -> Result<Vec<u8>, ReadEnd>
     requires { limit < 4294967296 }
-    ensures same_told { F.told files.new ≡ F.told files.old }
-    ensures same_held { F.holds files.new ≡ F.holds files.old }
-    ensures same_calm { F.calm files.new ≡ F.calm files.old }
-    ensures count { F.faults files.old ≤ F.faults files.new }
+    ensures keeps { Reads F.told F.holds F.calm F.faults files.old files.new }
     ensures within { IfOk result (λ bytes. vec_len bytes ≤ limit) }
     ensures whole { IfOk result (λ bytes. IsTrue (F.told files.old) →
         F.holds files.old name.now ≡ Some bytes.items) }
@@ -85,10 +83,7 @@ fn read_rest<F: Files>(
     requires limit { limit < 4294967296 }
     requires room { 0 < length buf.old }
     requires started { IsTrue (F.started files.old) }
-    ensures same_told { F.told files.new ≡ F.told files.old }
-    ensures same_held { F.holds files.new ≡ F.holds files.old }
-    ensures same_calm { F.calm files.new ≡ F.calm files.old }
-    ensures count { F.faults files.old ≤ F.faults files.new }
+    ensures keeps { Reads F.told F.holds F.calm F.faults files.old files.new }
     ensures within { IfOk result (λ bytes. vec_len bytes ≤ limit) }
     ensures whole { IfOk result (λ bytes. IsTrue (F.told files.old) → F.left files.old ≡ bytes.items) }
     ensures too_large { result ≡ Err TooLarge → IsTrue (F.told files.old) → limit < length (F.left files.old) }

@@ -4,7 +4,7 @@ use Rattle.std.specs.List.{list_all}
 use Rattle.std.specs.Option.{option_or}
 use Rattle.std.specs.Prelude.{MatchOption}
 use Rattle.pc_common.specs.Case.{Case}
-use Rattle.pc_common.specs.World.{World}
+use Rattle.pc_common.specs.World.{Node, World}
 use Rattle.pc_syntax.specs.declared.model.StageItem.{StageItem}
 use Rattle.pc_syntax.specs.declared.expanded.Expanded.{Expanded}
 use Rattle.pc_syntax.specs.Written.{Written, written, WrittenModel}
@@ -82,7 +82,7 @@ module _ (m : WrittenModel) (es : List Expanded) (expansions : AreExpansions m e
       ∙ ap (map (closing_of m.stages [])) expansions
       ∙ map_map (closing_of m.stages []) (expansion_of (macros_of m)) (axioms_of m)
 
-true_alike : (m : WrittenModel) (c : Case) (w : World) (ws : List Written)
+true_alike : (m : WrittenModel) (c : Case) (w : World Node) (ws : List Written)
     → first_fault (λ v. name_fault m.stages [] [] (expansion_of (macros_of m) v)) ws ≡ None
     → list_all (is_true (setting m c w) (macros_of m) []) ws ≡ list_all (closed_true c w []) (map (closed_axiom m) ws)
 true_alike m c w [] f = refl
@@ -95,7 +95,7 @@ true_alike m c w (v ∷ vs) f =
     λ i. here i && later i
 
 -- the axioms are true exactly where the closed ones are
-pub satisfied_alike : (m : WrittenModel) → first_name_fault m ≡ None → (c : Case) (w : World)
+pub satisfied_alike : (m : WrittenModel) → first_name_fault m ≡ None → (c : Case) (w : World Node)
     → satisfies m c w ≡ list_all (closed_true c w []) (map (closed_axiom m) (axioms_of m))
 satisfied_alike m f c w = true_alike m c w (axioms_of m) (sym (names_expanded m (axioms_of m)) ∙ f)
 

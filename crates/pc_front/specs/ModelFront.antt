@@ -2,7 +2,7 @@
 use Rattle.std.specs.Prelude.{◌≡◌, ℕ, ⊤, List, [], Option, Some, None, length, map, slice_get}
 use Rattle.std.specs.List.{list_all}
 use Rattle.pc_common.specs.Case.{Case}
-use Rattle.pc_common.specs.World.{World}
+use Rattle.pc_common.specs.World.{Node, World}
 use Rattle.pc_common.specs.declared.place.Place.{Place}
 use Rattle.pc_common.specs.declared.fault.FaultKind.{FaultKind}
 use Rattle.pc_common.specs.declared.fault.FaultKind.TheVariants.{Lexical, Syntax, Depth}
@@ -67,7 +67,7 @@ pub record IsFrontOf (m : WrittenModel) (front : ModelFront) : Type 0 where
   pub no_fault : first_model_fault m ≡ None
   pub stages : map stage_kept front.stages ≡ map stage_said m.stages
   pub axioms : plain_axioms front.axioms ≡ map (closed_axiom m) (axioms_of m)
-  pub true_alike : (c : Case) (w : World) → satisfies m c w ≡ list_all (closed_true c w []) (plain_axioms front.axioms)
+  pub true_alike : (c : Case) (w : World Node) → satisfies m c w ≡ list_all (closed_true c w []) (plain_axioms front.axioms)
 
 abbrev pub IsFront : List ℕ → ModelFront → Type 0
 IsFront bytes front = (m : WrittenModel) × ModelOf bytes m × IsFrontOf m front

@@ -7,3 +7,5 @@ pub mod StageWalks
 pub mod OpWalks
 pub mod NodeReading
 pub mod Went
+pub mod FlatRows
+pub mod Walks

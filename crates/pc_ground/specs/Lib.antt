@@ -7,6 +7,7 @@ pub mod Unfolded
 pub mod GroundTree
 pub mod Numbers
 pub mod Refutes
+pub mod Walks
 pub mod Stages
 pub mod Decimals
 pub mod NodeForm

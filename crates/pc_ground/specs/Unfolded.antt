@@ -2,10 +2,10 @@
 use Rattle.std.specs.Prelude.{Bool, true, false, List, [], ◌∷◌, ◌++◌, Option, Some, None, map, if◌then◌else◌}
 use Rattle.pc_common.specs.Case.{Case}
 use Rattle.pc_common.specs.World.{Node}
+use Rattle.pc_common.specs.Names.{same_name}
 use Rattle.pc_ground.specs.declared.literal.Literal.TheVariants.{Node as a_node, Edge}
 use Rattle.pc_syntax.specs.declared.model.StageItem.{StageItem}
-use Rattle.pc_syntax.specs.Predicates.{same_name, predicate_holds}
-use Rattle.pc_syntax.specs.Preds.{predicate_of}
+use Rattle.pc_syntax.specs.Predicates.{predicate_holds}
 use Rattle.pc_syntax.specs.Written.{Written, not_, and_, or_, implies_, forall_, exists_, static_, nodes_, edges_, expand_, bind_, MacroAt}
 use Rattle.pc_syntax.specs.Truth.{Environment, Meaning, bound_to, node_of, static_holds, range_of}
 use Rattle.pc_syntax.specs.Closed.{PlainClosed, closed_not, closed_and, closed_or, closed_implies, closed_forall, closed_exists, closed_static, closed_nodes, closed_edges, closed_bind, closed_value, closed_argument, closed_node}
@@ -61,7 +61,7 @@ closed_unfolded c slots (closed_or p q) = ground_or (closed_unfolded c slots p) 
 closed_unfolded c slots (closed_implies p q) = ground_or (ground_not (closed_unfolded c slots p)) (closed_unfolded c slots q)
 closed_unfolded c slots (closed_forall sort p) = all_of (map (λ v. closed_unfolded c (slots ++ v ∷ []) p) (range_of c sort))
 closed_unfolded c slots (closed_exists sort p) = some_of (map (λ v. closed_unfolded c (slots ++ v ∷ []) p) (range_of c sort))
-closed_unfolded c slots (closed_static pred args) = decided (predicate_holds c (predicate_of pred) (map (closed_argument slots) args))
+closed_unfolded c slots (closed_static pred args) = decided (predicate_holds c pred (map (closed_argument slots) args))
 closed_unfolded c slots (closed_nodes ts) = all_of (map (λ t. node_said (closed_node c slots t)) ts)
 closed_unfolded c slots (closed_edges ts) =
     all_of (map (λ t. edge_said (closed_node c slots t.from) (closed_node c slots t.to)) ts)

@@ -1,3 +1,6 @@
+ghost use Rattle.std.specs.Prelude.{◌≡◌};
+ghost use Rattle.pc_ground.specs.Walks.{stride as stride_by};
+
 use super::literal::Literal;
 
 /// What stands at a position of a tree.
@@ -17,4 +20,17 @@ pub struct Row<N> {
     /// How many positions the tree below has, this one among them: 1 for a leaf. The left child of
     /// position p is p + 1, the right child p + 1 + the skip of p + 1.
     pub skip: usize,
+}
+
+impl<N> Row<N> {
+    /// How far it is to the next position that a side asserts, on a walk from the side's root to its
+    /// end: past the whole of an Or, whose children are not asserted, and one elsewhere. Takes no memory.
+    pub fn stride(&self) -> usize
+        ensures { result ≡ stride_by self.now }
+    {
+        match self.kind {
+            RowKind::Or => self.skip,
+            _ => 1,
+        }
+    }
 }

@@ -15,8 +15,10 @@ use Rattle.pc_syntax.specs.declared.term.EdgeTerm.{EdgeTerm}
 use Rattle.pc_syntax.specs.declared.model.StageItem.{StageItem}
 use Rattle.pc_syntax.specs.declared.pred.Pred.{Pred}
 use Rattle.pc_syntax.specs.declared.pred.Pred.TheVariants.{True}
-use Rattle.pc_syntax.specs.Predicates.{same_name, Takes, takes_op, takes_core, takes_plain, Row}
-use Rattle.pc_syntax.specs.Preds.{pred_named, row_of, takes_of}
+use Rattle.pc_common.specs.Names.{same_name}
+use Rattle.pc_syntax.specs.declared.pred.Takes.{Takes}
+use Rattle.pc_syntax.specs.declared.pred.Takes.TheVariants.{Op as takes_op, Core as takes_core, Plain as takes_plain}
+use Rattle.pc_syntax.specs.Predicates.{pred_named, takes_of}
 use Rattle.pc_syntax.specs.Written.{Written, not_, and_, or_, implies_, forall_, exists_, static_, nodes_, edges_, expand_, bind_}
 use Rattle.pc_syntax.specs.Truth.{stage_of}
 use Rattle.pc_syntax.specs.IsClosed.{IsBound, FitsArg, FitArgs, FitsCore, FitsNode, FitNodes, FitEdges, HasValue, HaveValues, sort_of, IsClosed}
@@ -25,7 +27,6 @@ use Rattle.pc_syntax.specs.Fault.{Fault, first_fault}
 use Rattle.pc_syntax.specs.StageFaults.{number_fault, number_again, name_again, stage_fault, stages_fault}
 use Rattle.pc_syntax.specs.NameFaults.{sort_fault, variable_fault, core_fault, argument_fault, arguments_fault, arity_fault, location_fault, stage_name_fault, node_fault, edge_fault, value_fault, scope_fault, binding_fault, name_fault}
 use Rattle.pc_syntax.specs.Closing.{slot_of, closing_of_value, closing_of_bound, closing_of_arg, closing_of_args, closing_of_node, closing_of_edge, closing_of_static, closing_of}
-use Rattle.pc_syntax.proofs.PredLaws.{row_named-pred_named}
 use Rattle.pc_syntax.proofs.NoFault.{none_first, none_second, none_where, none_unless}
 use Rattle.pc_syntax.proofs.Slots.{slice_get-more, slice_get-end}
 use Rattle.pc_syntax.proofs.ClosingTruth.{sorts_equal, bound_length}
@@ -120,9 +121,9 @@ module _ (sorts : List Sort) (scope : Scope) (fits : SortsFit sorts scope) where
 
   static_closed : (pred : Word) (args : List Arg) (o : Option Pred)
       → ◌≡◌ {A = Option Fault}
-      (elim (option_map row_of o) [
+      (elim o [
         | None ↦ Some (PredicateUnknown, pred.at)
-        | Some r ↦ option_or (arity_fault pred args r.takes) (arguments_fault scope r.takes args)
+        | Some p ↦ option_or (arity_fault pred args (takes_of p)) (arguments_fault scope (takes_of p) args)
       ])
       None
       → IsClosed sorts (closing_of_static scope (unwrap_or o True) args)
@@ -244,16 +245,7 @@ bound_limit sorts scope names args same limit =
 static_shape : (sorts : List Sort) (scope : Scope) → SortsFit sorts scope → (stages : List StageItem) (pred : Word) (args : List Arg)
     → name_fault stages [] scope (static_ pred args) ≡ None → IsClosed sorts (closing_of stages scope (static_ pred args))
 static_shape sorts scope fits stages pred args f =
-    static_closed sorts scope fits pred args (pred_named pred.name)
-    (subst
-    (λ (o : Option Row).
-    ◌≡◌ {A = Option Fault}
-    (elim o [
-      | None ↦ Some (PredicateUnknown, pred.at)
-      | Some r ↦ option_or (arity_fault pred args r.takes) (arguments_fault scope r.takes args)
-    ])
-    None)
-    (row_named-pred_named pred.name) f)
+    static_closed sorts scope fits pred args (pred_named pred.name) f
 
 -- closing a formula without name faults gives a closed formula
 pub closing_closed : (stages : List StageItem) → StagesBelow stages → (sorts : List Sort) (scope : Scope)

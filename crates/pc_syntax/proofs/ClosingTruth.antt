@@ -4,7 +4,7 @@ use Rattle.std.proofs.lemmas.List.{length-map}
 use Rattle.std.specs.List.{list_any, list_all}
 use Rattle.std.specs.Option.{option_or}
 use Rattle.pc_common.specs.Case.{MicroOp, Case, cores_of}
-use Rattle.pc_common.specs.World.{World}
+use Rattle.pc_common.specs.World.{Node, World}
 use Rattle.pc_common.specs.declared.place.Place.{Place}
 use Rattle.pc_common.specs.declared.fault.FaultKind.TheVariants.{PredicateUnknown, Unbound, StageUnknown}
 use Rattle.pc_syntax.specs.declared.term.Sort.{Sort}
@@ -17,16 +17,17 @@ use Rattle.pc_syntax.specs.declared.term.EdgeTerm.{EdgeTerm}
 use Rattle.pc_syntax.specs.declared.model.StageItem.{StageItem}
 use Rattle.pc_syntax.specs.declared.pred.Pred.{Pred}
 use Rattle.pc_syntax.specs.declared.pred.Pred.TheVariants.{True}
-use Rattle.pc_syntax.specs.Predicates.{Argument, op_at, core_at, Takes, takes_op, takes_core, takes_plain, Row, predicate_holds}
-use Rattle.pc_syntax.specs.Preds.{pred_named, row_of, takes_of, predicate_of}
+use Rattle.pc_syntax.specs.declared.pred.Takes.{Takes}
+use Rattle.pc_syntax.specs.declared.pred.Takes.TheVariants.{Op as takes_op, Core as takes_core, Plain as takes_plain}
+use Rattle.pc_syntax.specs.Arguments.{Argument, op_at, core_at}
+use Rattle.pc_syntax.specs.Predicates.{pred_named, takes_of, predicate_holds}
 use Rattle.pc_syntax.specs.Written.{Written, not_, and_, or_, implies_, forall_, exists_, static_, nodes_, edges_, expand_, bind_}
-use Rattle.pc_syntax.specs.Truth.{Meaning, an_op, a_core, Environment, Setting, value_of, value_of_arg, bound_to, stage_of, op_of, core_of, location_core, node_at, core_there, node_of, node_holds, edge_holds, argument_of, put_first, arguments_of, row_holds, static_holds, below, range_of, is_true}
+use Rattle.pc_syntax.specs.Truth.{Meaning, an_op, a_core, Environment, Setting, value_of, value_of_arg, bound_to, stage_of, op_of, core_of, location_core, node_at, core_there, node_of, node_holds, edge_holds, argument_of, put_first, arguments_of, pred_holds, static_holds, below, range_of, is_true}
 use Rattle.pc_syntax.specs.Closed.{value_at, closed_value, argument_at, closed_argument, closed_core, core_at_op, closed_node, closed_true}
 use Rattle.pc_syntax.specs.Scope.{Binding, Scope, binding_of, sort_of_arg, quantified_in, bindings_from, bound_in}
 use Rattle.pc_syntax.specs.Fault.{Fault, first_fault}
 use Rattle.pc_syntax.specs.NameFaults.{sort_fault, variable_fault, argument_fault, arguments_fault, arity_fault, location_fault, stage_name_fault, node_fault, edge_fault, value_fault, scope_fault, binding_fault, name_fault}
 use Rattle.pc_syntax.specs.Closing.{slot_of, closing_of_value, closing_of_bound, closing_of_arg, closing_of_args, closing_of_node, closing_of_edge, closing_of_static, closing_of}
-use Rattle.pc_syntax.proofs.PredLaws.{row_named-pred_named}
 use Rattle.pc_syntax.proofs.NoFault.{none_first, none_second, none_unless}
 use Rattle.pc_syntax.proofs.Slots.{sort_of_meaning, Fits, SameFound, found, slice_get-end, Fits-more, Fits-quantified}
 
@@ -110,20 +111,20 @@ module _ (slots : List Meaning) (env : Environment) (scope : Scope) (fits : Fits
       (arguments_law ts as_ (omega arith) (none_second (argument_fault scope t a) (arguments_fault scope ts as_) f) i)
 
   -- a predicate of the table
-  static_law : (c : Case) (w : World) (pred : Word) (args : List Arg) (o : Option Pred)
+  static_law : (c : Case) (w : World Node) (pred : Word) (args : List Arg) (o : Option Pred)
       → ◌≡◌ {A = Option Fault}
-      (elim (option_map row_of o) [
+      (elim o [
         | None ↦ Some (PredicateUnknown, pred.at)
-        | Some r ↦ option_or (arity_fault pred args r.takes) (arguments_fault scope r.takes args)
+        | Some p ↦ option_or (arity_fault pred args (takes_of p)) (arguments_fault scope (takes_of p) args)
       ])
       None
-      → row_holds c env args (option_map row_of o) ≡ closed_true c w slots (closing_of_static scope (unwrap_or o True) args)
+      → pred_holds c env args o ≡ closed_true c w slots (closing_of_static scope (unwrap_or o True) args)
   static_law c w pred args None f = cc
   static_law c w pred args (Some p) f =
       let arity = none_first (arity_fault pred args (takes_of p)) (arguments_fault scope (takes_of p) args) f in
       let same = eqb-true (length args) (length (takes_of p)) (none_unless _ _ arity) in
       let rest = none_second (arity_fault pred args (takes_of p)) (arguments_fault scope (takes_of p) args) f in
-      ap (λ (as_ : Option (List Argument)). elim as_ [ None ↦ false | Some xs ↦ predicate_holds c (predicate_of p) xs ])
+      ap (λ (as_ : Option (List Argument)). elim as_ [ None ↦ false | Some xs ↦ predicate_holds c p xs ])
       (arguments_law (takes_of p) args same rest)
 
   -- the core of a location
@@ -167,7 +168,7 @@ module _ (slots : List Meaning) (env : Environment) (scope : Scope) (fits : Fits
       (core_law c (op_of (Some (value_at slots (slot_of scope t.op)))) t.core core i)
       (stage_law (stage_of stages t.stage.name) t.stage stage i))
 
-  nodes_law : (stages : List StageItem) (c : Case) (w : World) (ts : List NodeTerm)
+  nodes_law : (stages : List StageItem) (c : Case) (w : World Node) (ts : List NodeTerm)
       → first_fault (node_fault stages scope) ts ≡ None
       → list_all (λ t. node_holds w (node_of stages c env t)) ts
       ≡ list_all (λ t. node_holds w (closed_node c slots t)) (map (closing_of_node stages scope) ts)
@@ -176,7 +177,7 @@ module _ (slots : List Meaning) (env : Environment) (scope : Scope) (fits : Fits
       λ i. node_holds w (node_law stages c t (none_first (node_fault stages scope t) (first_fault (node_fault stages scope) ts) f) i)
       && nodes_law stages c w ts (none_second (node_fault stages scope t) (first_fault (node_fault stages scope) ts) f) i
 
-  edge_law : (stages : List StageItem) (c : Case) (w : World) (t : EdgeTerm) → edge_fault stages scope t ≡ None
+  edge_law : (stages : List StageItem) (c : Case) (w : World Node) (t : EdgeTerm) → edge_fault stages scope t ≡ None
       → edge_holds w (node_of stages c env t.from) (node_of stages c env t.to)
       ≡ edge_holds w (closed_node c slots (closing_of_node stages scope t.from)) (closed_node c slots (closing_of_node stages scope t.to))
   edge_law stages c w t f =
@@ -184,7 +185,7 @@ module _ (slots : List Meaning) (env : Environment) (scope : Scope) (fits : Fits
       (node_law stages c t.from (none_first (node_fault stages scope t.from) (node_fault stages scope t.to) f) i)
       (node_law stages c t.to (none_second (node_fault stages scope t.from) (node_fault stages scope t.to) f) i)
 
-  edges_law : (stages : List StageItem) (c : Case) (w : World) (ts : List EdgeTerm)
+  edges_law : (stages : List StageItem) (c : Case) (w : World Node) (ts : List EdgeTerm)
       → first_fault (edge_fault stages scope) ts ≡ None
       → list_all (λ t. edge_holds w (node_of stages c env t.from) (node_of stages c env t.to)) ts
       ≡ list_all (λ t. edge_holds w (closed_node c slots t.from) (closed_node c slots t.to)) (map (closing_of_edge stages scope) ts)
@@ -287,22 +288,11 @@ one_more : (slots : List Meaning) (v : Meaning) (scope : Scope) (name : List ℕ
 one_more slots v scope name sort same = omega (arith, length-append slots (v ∷ []), same)
 
 static_true : (slots : List Meaning) (env : Environment) (scope : Scope) → Fits slots env scope
-    → (stages : List StageItem) (c : Case) (w : World) (pred : Word) (args : List Arg)
+    → (stages : List StageItem) (c : Case) (w : World Node) (pred : Word) (args : List Arg)
     → name_fault stages [] scope (static_ pred args) ≡ None
     → static_holds c env pred.name args ≡ closed_true c w slots (closing_of stages scope (static_ pred args))
 static_true slots env scope fits stages c w pred args f =
-    let row = row_named-pred_named pred.name in
-    ap (λ o. row_holds c env args o) row
-    ∙ static_law slots env scope fits c w pred args (pred_named pred.name)
-    (subst
-    (λ (o : Option Row).
-    ◌≡◌ {A = Option Fault}
-    (elim o [
-      | None ↦ Some (PredicateUnknown, pred.at)
-      | Some r ↦ option_or (arity_fault pred args r.takes) (arguments_fault scope r.takes args)
-    ])
-    None)
-    row f)
+    static_law slots env scope fits c w pred args (pred_named pred.name) f
 
 -- closing keeps truth, in each environment that fits the scope and the slots
 pub closing_true : (s : Setting) (slots : List Meaning) (env : Environment) (scope : Scope)

@@ -8,7 +8,7 @@ use Rattle.pc_syntax.specs.declared.term.Word.{Word}
 use Rattle.pc_syntax.specs.declared.term.Arg.{Arg}
 use Rattle.pc_syntax.specs.declared.term.Arg.TheVariants.{Word as word_arg, Number as number_arg}
 use Rattle.pc_syntax.specs.declared.model.StageItem.{StageItem}
-use Rattle.pc_syntax.specs.Predicates.{predicate_rows}
+use Rattle.pc_syntax.specs.Predicates.{all_preds}
 use Rattle.pc_syntax.specs.Written.{Written, not_, and_, forall_, static_, nodes_, expand_, MacroAt, WrittenItem, axiom_, macro_, WrittenModel}
 use Rattle.pc_syntax.specs.Sizes.{size_of, height_of}
 use Rattle.pc_syntax.specs.StageFaults.{first_stage_fault}
@@ -98,21 +98,21 @@ macro_again = refl
 wrong_sort :
     first_name_fault (axiom_alone (forall_ (at 11) Core (codes "c") (static_ (word (codes "IsAnyRead") 29) (variable (codes "c") 39 ∷ []))))
     ≡ Some (WrongSort, at 39)
-unfolding predicate_rows
+unfolding all_preds
 wrong_sort = refl
 
 core_number :
     first_name_fault (axiom_alone (static_ (word (codes "OnCore") 11) (number_arg 64 (at 18) ∷ variable (codes "i") 21 ∷ [])))
     ≡ Some (CoreNumber 64, at 18)
-unfolding predicate_rows
+unfolding all_preds
 core_number = refl
 
 predicate_unknown : first_name_fault (axiom_alone (static_ (word (codes "Shared") 11) (variable (codes "i") 18 ∷ []))) ≡ Some (PredicateUnknown, at 11)
-unfolding predicate_rows
+unfolding all_preds
 predicate_unknown = refl
 
 arity : first_name_fault (axiom_alone (static_ (word (codes "IsAnyRead") 11) [])) ≡ Some (Arity 0 1, at 11)
-unfolding predicate_rows
+unfolding all_preds
 arity = refl
 
 unbound :
@@ -132,11 +132,11 @@ nested place zero = truth
 nested place (suc n) = forall_ (at place) Microop (codes "i") (nested (place + 21) n)
 
 variables_32 : first_name_fault (axiom_alone (nested 11 32)) ≡ None
-unfolding truth predicate_rows
+unfolding truth all_preds
 variables_32 = refl
 
 variables_33 : first_name_fault (axiom_alone (nested 11 33)) ≡ Some (TooManyVariables 32, at 683)
-unfolding truth predicate_rows
+unfolding truth all_preds
 variables_33 = refl
 
 -- a macro of each number up to this one, whose body is `~ExpandMacro` of the one before, latest first

@@ -8,7 +8,7 @@ use Rattle.std.proofs.lemmas.Slice.Eq.{bytes_eq-Decides}
 use Rattle.pc_common.specs.declared.fault.FaultKind.TheVariants.{MacroAgain, MacroUnknown}
 use Rattle.pc_syntax.specs.declared.term.Word.{Word}
 use Rattle.pc_syntax.specs.declared.term.Arg.{Arg}
-use Rattle.pc_syntax.specs.Predicates.{same_name}
+use Rattle.pc_common.specs.Names.{same_name}
 use Rattle.pc_syntax.specs.Written.{Written, not_, and_, or_, implies_, forall_, exists_, static_, nodes_, edges_, expand_, bind_, MacroAt, WrittenItem, axiom_, macro_, WrittenModel}
 use Rattle.pc_syntax.specs.Observable.{axiom_of, macro_of, axioms_of, macros_in_order, macros_of}
 use Rattle.pc_syntax.specs.Expansion.{parameter_names, expansion_of, IsExpanded}

@@ -3,7 +3,7 @@ use Rattle.std.proofs.Common.{◌≡◌, ◌+◌, max, Bool, true, false, not, �
 use Rattle.std.specs.List.{list_any, list_all}
 use Rattle.std.specs.Option.{option_or}
 use Rattle.pc_syntax.specs.declared.model.StageItem.{StageItem}
-use Rattle.pc_syntax.specs.Predicates.{same_name}
+use Rattle.pc_common.specs.Names.{same_name}
 use Rattle.pc_syntax.specs.Written.{Written, not_, and_, or_, implies_, forall_, exists_, static_, nodes_, edges_, expand_, bind_, MacroAt}
 use Rattle.pc_syntax.specs.Truth.{Environment, Setting, bound_to, range_of, is_true}
 use Rattle.pc_syntax.specs.Expansion.{parameter_names, expansion_of, IsExpanded}

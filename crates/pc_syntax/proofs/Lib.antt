@@ -1,4 +1,3 @@
-pub mod PredLaws
 pub mod ExpansionLaws
 pub mod NoFault
 pub mod Slots

@@ -14,8 +14,8 @@ use Rattle.pc_syntax.specs.declared.closed_term.ClosedNode.{ClosedNode}
 use Rattle.pc_syntax.specs.declared.closed_term.ClosedEdge.{ClosedEdge}
 use Rattle.pc_syntax.specs.declared.closed_formula.ClosedFormula.{ClosedFormula}
 use Rattle.pc_syntax.specs.declared.closed_formula.ClosedFormula.TheVariants.{Not', And', Or', Implies', Forall', Exists', Static, Nodes, Edges, Bind'}
-use Rattle.pc_syntax.specs.Predicates.{Argument, op_at, core_at, plain_name, predicate_holds}
-use Rattle.pc_syntax.specs.Preds.{predicate_of}
+use Rattle.pc_syntax.specs.Arguments.{Argument, op_at, core_at, plain_name}
+use Rattle.pc_syntax.specs.Predicates.{predicate_holds}
 use Rattle.pc_syntax.specs.Truth.{Meaning, an_op, a_core, op_of, core_of, node_at, node_holds, edge_holds, range_of}
 
 pub data PlainClosed : Type 0 where
@@ -83,14 +83,14 @@ closed_node c slots t =
     node_at op (core_at_op c slots op t.core) (Some t.stage)
 
 -- a variable takes the next slot, and the arguments of a binding take the next ones in their order
-abbrev pub closed_true : Case → World → List Meaning → PlainClosed → Bool
+abbrev pub closed_true : Case → World Node → List Meaning → PlainClosed → Bool
 closed_true c w slots (closed_not p) = not (closed_true c w slots p)
 closed_true c w slots (closed_and p q) = closed_true c w slots p && closed_true c w slots q
 closed_true c w slots (closed_or p q) = closed_true c w slots p || closed_true c w slots q
 closed_true c w slots (closed_implies p q) = not (closed_true c w slots p) || closed_true c w slots q
 closed_true c w slots (closed_forall sort p) = list_all (λ v. closed_true c w (slots ++ v ∷ []) p) (range_of c sort)
 closed_true c w slots (closed_exists sort p) = list_any (λ v. closed_true c w (slots ++ v ∷ []) p) (range_of c sort)
-closed_true c w slots (closed_static pred args) = predicate_holds c (predicate_of pred) (map (closed_argument slots) args)
+closed_true c w slots (closed_static pred args) = predicate_holds c pred (map (closed_argument slots) args)
 closed_true c w slots (closed_nodes ts) = list_all (λ t. node_holds w (closed_node c slots t)) ts
 closed_true c w slots (closed_edges ts) =
     list_all (λ t. edge_holds w (closed_node c slots t.from) (closed_node c slots t.to)) ts

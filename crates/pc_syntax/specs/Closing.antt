@@ -9,12 +9,13 @@ use Rattle.pc_syntax.specs.declared.term.EdgeTerm.{EdgeTerm}
 use Rattle.pc_syntax.specs.declared.model.StageItem.{StageItem}
 use Rattle.pc_syntax.specs.declared.pred.Pred.{Pred}
 use Rattle.pc_syntax.specs.declared.pred.Pred.TheVariants.{True, False}
+use Rattle.pc_syntax.specs.declared.pred.Takes.{Takes}
+use Rattle.pc_syntax.specs.declared.pred.Takes.TheVariants.{Op as takes_op, Core as takes_core, Plain as takes_plain}
 use Rattle.pc_syntax.specs.declared.closed_term.ClosedArg.{ClosedArg}
 use Rattle.pc_syntax.specs.declared.closed_term.ClosedArg.TheVariants.{Slot, Core, Plain}
 use Rattle.pc_syntax.specs.declared.closed_term.ClosedNode.{ClosedNode}
 use Rattle.pc_syntax.specs.declared.closed_term.ClosedEdge.{ClosedEdge}
-use Rattle.pc_syntax.specs.Predicates.{Takes, takes_plain}
-use Rattle.pc_syntax.specs.Preds.{pred_named, takes_of}
+use Rattle.pc_syntax.specs.Predicates.{pred_named, takes_of}
 use Rattle.pc_syntax.specs.Written.{Written, not_, and_, or_, implies_, forall_, exists_, static_, nodes_, edges_, expand_, bind_}
 use Rattle.pc_syntax.specs.Truth.{stage_of}
 use Rattle.pc_syntax.specs.Closed.{PlainClosed, closed_not, closed_and, closed_or, closed_implies, closed_forall, closed_exists, closed_static, closed_nodes, closed_edges, closed_bind}
@@ -41,7 +42,9 @@ closing_of_bound scope _ _ = []
 -- an argument where this is taken
 abbrev pub closing_of_arg : Scope → Takes → Arg → ClosedArg
 closing_of_arg scope takes_plain (word_arg w) = Plain w.name
-closing_of_arg scope _ a = closing_of_value scope a
+closing_of_arg scope takes_plain (number_arg n at) = Core n
+closing_of_arg scope takes_op a = closing_of_value scope a
+closing_of_arg scope takes_core a = closing_of_value scope a
 
 abbrev pub closing_of_args : Scope → List Takes → List Arg → List ClosedArg
 closing_of_args scope (t ∷ ts) (a ∷ as_) = closing_of_arg scope t a ∷ closing_of_args scope ts as_

@@ -8,8 +8,9 @@ use Rattle.pc_syntax.specs.declared.closed_term.ClosedArg.{ClosedArg}
 use Rattle.pc_syntax.specs.declared.closed_term.ClosedArg.TheVariants.{Slot, Core as core_arg, Plain}
 use Rattle.pc_syntax.specs.declared.closed_term.ClosedNode.{ClosedNode}
 use Rattle.pc_syntax.specs.declared.closed_term.ClosedEdge.{ClosedEdge}
-use Rattle.pc_syntax.specs.Predicates.{Takes, takes_op, takes_core, takes_plain}
-use Rattle.pc_syntax.specs.Preds.{takes_of}
+use Rattle.pc_syntax.specs.declared.pred.Takes.{Takes}
+use Rattle.pc_syntax.specs.declared.pred.Takes.TheVariants.{Op as takes_op, Core as takes_core, Plain as takes_plain}
+use Rattle.pc_syntax.specs.Predicates.{takes_of}
 use Rattle.pc_syntax.specs.Closed.{PlainClosed, closed_not, closed_and, closed_or, closed_implies, closed_forall, closed_exists, closed_static, closed_nodes, closed_edges, closed_bind}
 
 -- the slot is bound with this sort

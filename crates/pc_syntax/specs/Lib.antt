@@ -1,4 +1,5 @@
 pub mod Written
+pub mod Arguments
 pub mod Predicates
 pub mod Truth
 pub mod Observable
@@ -7,7 +8,6 @@ pub mod StageFaults
 pub mod MacroFaults
 pub mod Sizes
 pub mod Expansion
-pub mod Preds
 pub mod Closed
 pub mod IsClosed
 pub mod Scope

@@ -5,7 +5,7 @@ use Rattle.std.specs.Option.{option_or}
 use Rattle.pc_common.specs.declared.fault.FaultKind.TheVariants.{MacroAgain, ParameterAgain, MacroUnknown, MacroArguments}
 use Rattle.pc_syntax.specs.declared.term.Word.{Word}
 use Rattle.pc_syntax.specs.declared.term.Arg.{Arg}
-use Rattle.pc_syntax.specs.Predicates.{same_name}
+use Rattle.pc_common.specs.Names.{same_name}
 use Rattle.pc_syntax.specs.Written.{Written, not_, and_, or_, implies_, forall_, exists_, static_, nodes_, edges_, expand_, bind_, MacroAt, WrittenItem, axiom_, macro_, WrittenModel}
 use Rattle.pc_syntax.specs.Observable.{macros_in_order}
 use Rattle.pc_syntax.specs.Fault.{Fault}

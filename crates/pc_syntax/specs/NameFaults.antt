@@ -2,6 +2,7 @@
 -- followed into their bodies. The macros that a formula may name are listed latest first.
 use Rattle.std.specs.Prelude.{ℕ, List, [], ◌∷◌, Option, Some, None, length, nat_lt, ◌==◌, if◌then◌else◌}
 use Rattle.std.specs.Option.{option_or}
+use Rattle.pc_common.specs.Names.{same_name}
 use Rattle.pc_common.specs.declared.place.Place.{Place}
 use Rattle.pc_common.specs.declared.fault.FaultKind.TheVariants.{PredicateUnknown, Arity, Unbound, WrongSort, CoreNumber, StageUnknown, TooManyVariables}
 use Rattle.pc_syntax.specs.declared.term.Sort.{Sort}
@@ -12,7 +13,9 @@ use Rattle.pc_syntax.specs.declared.term.Arg.TheVariants.{Word as word_arg, Numb
 use Rattle.pc_syntax.specs.declared.term.NodeTerm.{NodeTerm}
 use Rattle.pc_syntax.specs.declared.term.EdgeTerm.{EdgeTerm}
 use Rattle.pc_syntax.specs.declared.model.StageItem.{StageItem}
-use Rattle.pc_syntax.specs.Predicates.{same_name, Takes, takes_op, takes_core, takes_plain, row_named}
+use Rattle.pc_syntax.specs.declared.pred.Takes.{Takes}
+use Rattle.pc_syntax.specs.declared.pred.Takes.TheVariants.{Op as takes_op, Core as takes_core, Plain as takes_plain}
+use Rattle.pc_syntax.specs.Predicates.{takes_of, pred_named}
 use Rattle.pc_syntax.specs.Written.{Written, not_, and_, or_, implies_, forall_, exists_, static_, nodes_, edges_, expand_, bind_, MacroAt, WrittenModel}
 use Rattle.pc_syntax.specs.Observable.{axioms_of, macros_of}
 use Rattle.pc_syntax.specs.Truth.{stage_of}
@@ -57,9 +60,9 @@ arity_fault pred args takes =
 -- a predicate's name, then the number of its arguments, then the arguments
 abbrev pub static_fault : Scope → Word → List Arg → Option Fault
 static_fault scope pred args =
-    elim (row_named pred.name) [
+    elim (pred_named pred.name) [
       | None ↦ Some (PredicateUnknown, pred.at)
-      | Some r ↦ option_or (arity_fault pred args r.takes) (arguments_fault scope r.takes args)
+      | Some p ↦ option_or (arity_fault pred args (takes_of p)) (arguments_fault scope (takes_of p) args)
     ]
 
 -- no stage has the name

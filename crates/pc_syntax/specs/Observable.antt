@@ -25,11 +25,11 @@ macros_in_order m = flat_map macro_of m.items
 abbrev pub macros_of : WrittenModel → List MacroAt
 macros_of m = reverse (macros_in_order m)
 
-abbrev pub setting : WrittenModel → Case → World → Setting
+abbrev pub setting : WrittenModel → Case → World Node → Setting
 setting m c w = record { stages = m.stages; case = c; world = w }
 
 -- every axiom is true in the empty environment
-abbrev pub satisfies : WrittenModel → Case → World → Bool
+abbrev pub satisfies : WrittenModel → Case → World Node → Bool
 satisfies m c w = list_all (is_true (setting m c w) (macros_of m) []) (axioms_of m)
 
 -- the node's micro-op is the test's, its core is 0 to 63 and its stage is the model's
@@ -38,8 +38,8 @@ pub record IsNodeOf (m : WrittenModel) (c : Case) (a : Node) : Type 0 where
   pub core_in_range : a.core < 64
   pub stage_of_model : Contains (map (λ s. s.number) m.stages) a.stage
 
-abbrev pub IsWorldOf : WrittenModel → Case → World → Type 0
+abbrev pub IsWorldOf : WrittenModel → Case → World Node → Type 0
 IsWorldOf m c w = IsWorld w × All (IsNodeOf m c) w.nodes
 
 abbrev pub Observable : WrittenModel → Case → Type 0
-Observable m c = (w : World) × IsWorldOf m c w × IsTrue (satisfies m c w)
+Observable m c = (w : World Node) × IsWorldOf m c w × IsTrue (satisfies m c w)

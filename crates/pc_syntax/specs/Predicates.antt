@@ -1,131 +1,37 @@
--- The static predicates: 22 rows, each over the case alone.
-use Rattle.std.specs.Prelude.{ℕ, Bool, true, false, List, [], ◌∷◌, Option, Some, None, codes, slice_get, ◌==◌, ◌&&◌, nat_lt, nat_eq, if◌then◌else◌}
-use Rattle.std.specs.List.{list_any}
-use Rattle.std.specs.Cmp.Lexicographic.{pointwise}
-use Rattle.pc_common.specs.Case.{PageAt, Address, page, Value, number, Touch, Kind, read, write, fence, MicroOp, Case}
+-- The static predicates: one row each, with its name and what it asks of the case alone.
+use Rattle.std.specs.Prelude.{ℕ, Bool, true, false, List, [], ◌∷◌, Option, Some, None, codes, ◌==◌, ◌&&◌, nat_lt}
+use Rattle.std.specs.List.{list_any, find}
+use Rattle.pc_common.specs.Case.{PageAt, Address, page, Value, Touch, Kind, read, write, fence, MicroOp, Case}
+use Rattle.pc_common.specs.Names.{same_name}
+use Rattle.pc_common.specs.Addresses.{same_page, same_address, same_value, stated_at, initial_at}
+use Rattle.pc_common.specs.Dependencies.{depends_by}
+use Rattle.pc_syntax.specs.declared.pred.Pred.{Pred}
+use Rattle.pc_syntax.specs.declared.pred.Pred.TheVariants.{True, False, IsAnyRead, IsAnyWrite, IsAnyFence, AccessType, OnCore, SameCore, SameThread, SameMicroop, SameInstruction, SameIntra, ProgramOrder, SameVirtualAddress, SamePhysicalAddress, SameVirtualTag, SamePhysicalTag, SameIndex, SameData, DataFromInitialStateAtPA, DataFromFinalStateAtPA, HasDependency}
+use Rattle.pc_syntax.specs.declared.pred.TheConstants.Pred.{ALL}
+use Rattle.pc_syntax.specs.declared.pred.Takes.{Takes}
+use Rattle.pc_syntax.specs.declared.pred.Takes.TheVariants.{Op, Core, Plain}
+use Rattle.pc_syntax.specs.Arguments.{Argument, place_in, core_in, plain_in, op_in, touch_in, holds_of, holds_of_both}
 
-abbrev pub same_name : List ℕ → List ℕ → Bool
-same_name = pointwise nat_eq
+-- what a predicate asks, by the kind of its arguments. What it asks of touches is false of a fence,
+-- which touches nothing
+pub data Rule : Type 0 where
+  constant : Bool → Rule
+  of_op : (MicroOp → Bool) → Rule
+  of_touch : (Case → Touch → Bool) → Rule
+  of_ops : (MicroOp → MicroOp → Bool) → Rule
+  of_touches : (Touch → Touch → Bool) → Rule
+  of_places : (ℕ → ℕ → Bool) → Rule
+  of_core_op : (ℕ → MicroOp → Bool) → Rule
+  of_plain_op : (List ℕ → MicroOp → Bool) → Rule
+  of_plain_places : (Case → List ℕ → ℕ → ℕ → Bool) → Rule
 
-pub data Predicate : Type 0 where
-  always : Predicate
-  never : Predicate
-  is_any_read : Predicate
-  is_any_write : Predicate
-  is_any_fence : Predicate
-  access_type : Predicate
-  on_core : Predicate
-  same_core : Predicate
-  same_thread : Predicate
-  same_microop : Predicate
-  same_instruction : Predicate
-  same_intra : Predicate
-  program_order : Predicate
-  same_virtual_address : Predicate
-  same_physical_address : Predicate
-  same_virtual_tag : Predicate
-  same_physical_tag : Predicate
-  same_index : Predicate
-  same_data : Predicate
-  data_from_initial : Predicate
-  data_from_final : Predicate
-  has_dependency : Predicate
-
--- what a predicate takes at a place: a micro-op, a core, or a name that isn't looked up
-pub data Takes : Type 0 where
-  takes_op : Takes
-  takes_core : Takes
-  takes_plain : Takes
-
--- a predicate's argument: a micro-op by its place in test order, a core, or a plain name
-pub data Argument : Type 0 where
-  op_at : ℕ → Argument
-  core_at : ℕ → Argument
-  plain_name : List ℕ → Argument
-
--- each predicate with its name and what it takes
+-- a predicate's name, as models spell it, and what it asks
 pub record Row : Type 0 where
   pub name : List ℕ
-  pub predicate : Predicate
-  pub takes : List Takes
+  pub rule : Rule
 
-abbrev row : List ℕ → Predicate → List Takes → Row
-row name predicate takes = record { name = name; predicate = predicate; takes = takes }
-
-abbrev of_op : List Takes
-of_op = takes_op ∷ []
-
-abbrev of_ops : List Takes
-of_ops = takes_op ∷ takes_op ∷ []
-
-unfoldable pub predicate_rows : List Row
-predicate_rows =
-    row (codes "True") always []
-    ∷ row (codes "False") never []
-    ∷ row (codes "IsAnyRead") is_any_read of_op
-    ∷ row (codes "IsAnyWrite") is_any_write of_op
-    ∷ row (codes "IsAnyFence") is_any_fence of_op
-    ∷ row (codes "AccessType") access_type (takes_plain ∷ takes_op ∷ [])
-    ∷ row (codes "OnCore") on_core (takes_core ∷ takes_op ∷ [])
-    ∷ row (codes "SameCore") same_core of_ops
-    ∷ row (codes "SameThread") same_thread of_ops
-    ∷ row (codes "SameMicroop") same_microop of_ops
-    ∷ row (codes "SameInstruction") same_instruction of_ops
-    ∷ row (codes "SameIntra") same_intra of_ops
-    ∷ row (codes "ProgramOrder") program_order of_ops
-    ∷ row (codes "SameVirtualAddress") same_virtual_address of_ops
-    ∷ row (codes "SamePhysicalAddress") same_physical_address of_ops
-    ∷ row (codes "SameVirtualTag") same_virtual_tag of_ops
-    ∷ row (codes "SamePhysicalTag") same_physical_tag of_ops
-    ∷ row (codes "SameIndex") same_index of_ops
-    ∷ row (codes "SameData") same_data of_ops
-    ∷ row (codes "DataFromInitialStateAtPA") data_from_initial of_op
-    ∷ row (codes "DataFromFinalStateAtPA") data_from_final of_op
-    ∷ row (codes "HasDependency") has_dependency (takes_plain ∷ takes_op ∷ takes_op ∷ [])
-    ∷ []
-
-abbrev pub find_row : List Row → List ℕ → Option Row
-find_row [] name = None
-find_row (r ∷ rs) name = if same_name r.name name then Some r else find_row rs name
-
--- the row of this name, if there is one
-abbrev pub row_named : List ℕ → Option Row
-row_named name = find_row predicate_rows name
-
-abbrev pub same_page : PageAt → PageAt → Bool
-same_page p q = (p.tag == q.tag) && (p.index == q.index)
-
-abbrev pub same_address : Address → Address → Bool
-same_address (page p) (page q) = same_page p q
-
-abbrev pub same_value : Value → Value → Bool
-same_value (number m) (number n) = m == n
-
--- the value that the first line for this address states
-abbrev pub stated_at : List (Address × Value) → Address → Option Value
-stated_at [] a = None
-stated_at (s ∷ ss) a = if same_address s.0 a then Some s.1 else stated_at ss a
-
--- the initial value at an address: the number 0 unless a line says otherwise
-abbrev pub initial_at : Case → Address → Value
-initial_at c a = elim (stated_at c.initial a) [ None ↦ number 0 | Some v ↦ v ]
-
--- a test of a micro-op, false where there is none
-abbrev at : Case → ℕ → (MicroOp → Bool) → Bool
-at c i test = elim (slice_get c.ops i) [ None ↦ false | Some o ↦ test o ]
-
-abbrev both : Case → ℕ → ℕ → (MicroOp → MicroOp → Bool) → Bool
-both c i j test = at c i (λ a. at c j (λ b. test a b))
-
--- a test of what a micro-op touches, false of a fence
-abbrev touched : MicroOp → (Touch → Bool) → Bool
-touched o test = elim (o.touch) [ None ↦ false | Some t ↦ test t ]
-
-abbrev touch_at : Case → ℕ → (Touch → Bool) → Bool
-touch_at c i test = at c i (λ o. touched o test)
-
-abbrev both_touch : Case → ℕ → ℕ → (Touch → Touch → Bool) → Bool
-both_touch c i j test = both c i j (λ a b. touched a (λ s. touched b (λ t. test s t)))
+abbrev row : List ℕ → Rule → Row
+row name rule = record { name = name; rule = rule }
 
 abbrev pub same_kind : Kind → Kind → Bool
 same_kind read read = true
@@ -133,39 +39,82 @@ same_kind write write = true
 same_kind fence fence = true
 same_kind _ _ = false
 
-abbrev pub is_stated : Option Value → Value → Bool
-is_stated None v = false
-is_stated (Some w) v = same_value v w
-
-abbrev pub page_of : Address → PageAt
-page_of (page p) = p
-
 -- same core and thread, and an earlier instruction
 abbrev pub is_before : MicroOp → MicroOp → Bool
 is_before a b = (a.core == b.core) && (a.thread == b.thread) && nat_lt a.g b.g
 
--- the table; false at arguments that a predicate doesn't take
-abbrev pub predicate_holds : Case → Predicate → List Argument → Bool
-predicate_holds c always [] = true
-predicate_holds c is_any_read (op_at i ∷ []) = at c i (λ o. same_kind o.kind read)
-predicate_holds c is_any_write (op_at i ∷ []) = at c i (λ o. same_kind o.kind write)
-predicate_holds c is_any_fence (op_at i ∷ []) = at c i (λ o. same_kind o.kind fence)
-predicate_holds c access_type (plain_name t ∷ op_at i ∷ []) = at c i (λ o. list_any (λ name. same_name name t) o.types)
-predicate_holds c on_core (core_at k ∷ op_at i ∷ []) = at c i (λ o. o.core == k)
-predicate_holds c same_core (op_at i ∷ op_at j ∷ []) = both c i j (λ a b. a.core == b.core)
-predicate_holds c same_thread (op_at i ∷ op_at j ∷ []) = both c i j (λ a b. a.thread == b.thread)
-predicate_holds c same_microop (op_at i ∷ op_at j ∷ []) = i == j
-predicate_holds c same_instruction (op_at i ∷ op_at j ∷ []) = both c i j (λ a b. a.g == b.g)
-predicate_holds c same_intra (op_at i ∷ op_at j ∷ []) = both c i j (λ a b. a.n == b.n)
-predicate_holds c program_order (op_at i ∷ op_at j ∷ []) = both c i j is_before
-predicate_holds c same_virtual_address (op_at i ∷ op_at j ∷ []) = both_touch c i j (λ s t. same_page s.va t.va)
-predicate_holds c same_physical_address (op_at i ∷ op_at j ∷ []) = both_touch c i j (λ s t. same_address s.pa t.pa)
-predicate_holds c same_virtual_tag (op_at i ∷ op_at j ∷ []) = both_touch c i j (λ s t. s.va.tag == t.va.tag)
-predicate_holds c same_physical_tag (op_at i ∷ op_at j ∷ []) = both_touch c i j (λ s t. (page_of s.pa).tag == (page_of t.pa).tag)
-predicate_holds c same_index (op_at i ∷ op_at j ∷ []) = both_touch c i j (λ s t. s.va.index == t.va.index)
-predicate_holds c same_data (op_at i ∷ op_at j ∷ []) = both_touch c i j (λ s t. same_value s.value t.value)
-predicate_holds c data_from_initial (op_at i ∷ []) = touch_at c i (λ t. same_value t.value (initial_at c t.pa))
-predicate_holds c data_from_final (op_at i ∷ []) = touch_at c i (λ t. is_stated (stated_at c.final t.pa) t.value)
-predicate_holds c has_dependency (plain_name k ∷ op_at i ∷ op_at j ∷ []) =
-    list_any (λ d. same_name d.kind k && (d.source == i) && (d.target == j)) c.dependencies
-predicate_holds _ _ _ = false
+abbrev pub page_of : Address → PageAt
+page_of (page p) = p
+
+-- a value is stated, and is this one
+abbrev pub is_stated : Option Value → Value → Bool
+is_stated None v = false
+is_stated (Some w) v = same_value w v
+
+abbrev pub row_of : Pred → Row
+row_of True = row (codes "True") (constant true)
+row_of False = row (codes "False") (constant false)
+row_of IsAnyRead = row (codes "IsAnyRead") (of_op (λ a. same_kind a.kind read))
+row_of IsAnyWrite = row (codes "IsAnyWrite") (of_op (λ a. same_kind a.kind write))
+row_of IsAnyFence = row (codes "IsAnyFence") (of_op (λ a. same_kind a.kind fence))
+row_of AccessType = row (codes "AccessType") (of_plain_op (λ t a. list_any (λ name. same_name name t) a.types))
+row_of OnCore = row (codes "OnCore") (of_core_op (λ c a. a.core == c))
+row_of SameCore = row (codes "SameCore") (of_ops (λ a b. a.core == b.core))
+row_of SameThread = row (codes "SameThread") (of_ops (λ a b. a.thread == b.thread))
+row_of SameMicroop = row (codes "SameMicroop") (of_places (λ i j. i == j))
+row_of SameInstruction = row (codes "SameInstruction") (of_ops (λ a b. a.g == b.g))
+row_of SameIntra = row (codes "SameIntra") (of_ops (λ a b. a.n == b.n))
+row_of ProgramOrder = row (codes "ProgramOrder") (of_ops is_before)
+row_of SameVirtualAddress = row (codes "SameVirtualAddress") (of_touches (λ s t. same_page s.va t.va))
+row_of SamePhysicalAddress = row (codes "SamePhysicalAddress") (of_touches (λ s t. same_address s.pa t.pa))
+row_of SameVirtualTag = row (codes "SameVirtualTag") (of_touches (λ s t. s.va.tag == t.va.tag))
+row_of SamePhysicalTag = row (codes "SamePhysicalTag") (of_touches (λ s t. (page_of s.pa).tag == (page_of t.pa).tag))
+row_of SameIndex = row (codes "SameIndex") (of_touches (λ s t. s.va.index == t.va.index))
+row_of SameData = row (codes "SameData") (of_touches (λ s t. same_value s.value t.value))
+row_of DataFromInitialStateAtPA =
+    row (codes "DataFromInitialStateAtPA") (of_touch (λ c t. same_value t.value (initial_at c t.pa)))
+row_of DataFromFinalStateAtPA =
+    row (codes "DataFromFinalStateAtPA") (of_touch (λ c t. is_stated (stated_at c.final t.pa) t.value))
+row_of HasDependency = row (codes "HasDependency") (of_plain_places (λ c kind i j. depends_by c.dependencies kind i j))
+
+-- all of them
+unfoldable pub all_preds : List Pred
+all_preds = ALL
+
+abbrev pub pred_name : Pred → List ℕ
+pred_name p = (row_of p).name
+
+-- the predicate of this name, if there is one
+abbrev pub pred_named : List ℕ → Option Pred
+pred_named name = find (λ p. same_name (pred_name p) name) all_preds
+
+abbrev pub taken_by : Rule → List Takes
+taken_by (constant b) = []
+taken_by (of_op test) = Op ∷ []
+taken_by (of_touch test) = Op ∷ []
+taken_by (of_ops test) = Op ∷ Op ∷ []
+taken_by (of_touches test) = Op ∷ Op ∷ []
+taken_by (of_places test) = Op ∷ Op ∷ []
+taken_by (of_core_op test) = Core ∷ Op ∷ []
+taken_by (of_plain_op test) = Plain ∷ Op ∷ []
+taken_by (of_plain_places test) = Plain ∷ Op ∷ Op ∷ []
+
+-- what a predicate takes, in order
+abbrev pub takes_of : Pred → List Takes
+takes_of p = taken_by (row_of p).rule
+
+abbrev pub rule_holds : Case → Rule → List Argument → Bool
+rule_holds c (constant b) args = b
+rule_holds c (of_op test) args = holds_of (op_in c args 0) test
+rule_holds c (of_touch test) args = holds_of (touch_in c args 0) (test c)
+rule_holds c (of_ops test) args = holds_of_both (op_in c args 0) (op_in c args 1) test
+rule_holds c (of_touches test) args = holds_of_both (touch_in c args 0) (touch_in c args 1) test
+rule_holds c (of_places test) args = holds_of_both (place_in args 0) (place_in args 1) test
+rule_holds c (of_core_op test) args = holds_of_both (core_in args 0) (op_in c args 1) test
+rule_holds c (of_plain_op test) args = holds_of_both (plain_in args 0) (op_in c args 1) test
+rule_holds c (of_plain_places test) args =
+    holds_of (plain_in args 0) (λ name. holds_of_both (place_in args 1) (place_in args 2) (test c name))
+
+-- the truth of a predicate at the values of its arguments, of which there are as many as it takes
+abbrev pub predicate_holds : Case → Pred → List Argument → Bool
+predicate_holds c p args = rule_holds c (row_of p).rule args

@@ -4,7 +4,7 @@ use Rattle.pc_syntax.specs.declared.term.Sort.{Sort}
 use Rattle.pc_syntax.specs.declared.term.Sort.TheVariants.{Core}
 use Rattle.pc_syntax.specs.declared.term.Arg.{Arg}
 use Rattle.pc_syntax.specs.declared.term.Arg.TheVariants.{Word as word_arg, Number as number_arg}
-use Rattle.pc_syntax.specs.Predicates.{same_name}
+use Rattle.pc_common.specs.Names.{same_name}
 
 -- a bound name, its sort, and its slot: how many bindings came before it
 pub record Binding : Type 0 where

@@ -3,14 +3,19 @@ use Rattle.std.specs.Prelude.{ℕ, Bool, false, not, List, [], ◌∷◌, ◌++�
 use Rattle.std.specs.List.{list_any, list_all, range_with_len}
 use Rattle.pc_common.specs.Case.{MicroOp, Case, cores_of}
 use Rattle.pc_common.specs.World.{Node, World, has_node, has_edge}
+use Rattle.pc_common.specs.Names.{same_name}
 use Rattle.pc_syntax.specs.declared.term.Sort.{Sort}
 use Rattle.pc_syntax.specs.declared.term.Sort.TheVariants.{Microop, Core}
 use Rattle.pc_syntax.specs.declared.term.Arg.{Arg}
 use Rattle.pc_syntax.specs.declared.term.Arg.TheVariants.{Word as word_arg, Number as number_arg}
 use Rattle.pc_syntax.specs.declared.term.NodeTerm.{NodeTerm}
 use Rattle.pc_syntax.specs.declared.model.StageItem.{StageItem}
+use Rattle.pc_syntax.specs.declared.pred.Pred.{Pred}
+use Rattle.pc_syntax.specs.declared.pred.Takes.{Takes}
+use Rattle.pc_syntax.specs.declared.pred.Takes.TheVariants.{Op as takes_op, Core as takes_core, Plain as takes_plain}
 use Rattle.pc_syntax.specs.Written.{Written, not_, and_, or_, implies_, forall_, exists_, static_, nodes_, edges_, expand_, bind_, MacroAt}
-use Rattle.pc_syntax.specs.Predicates.{same_name, Argument, op_at, core_at, plain_name, Takes, takes_op, takes_core, takes_plain, Row, row_named, predicate_holds}
+use Rattle.pc_syntax.specs.Arguments.{Argument, op_at, core_at, plain_name}
+use Rattle.pc_syntax.specs.Predicates.{takes_of, pred_named, predicate_holds}
 
 -- what a name stands for: a micro-op by its place in test order, or a core
 pub data Meaning : Type 0 where
@@ -25,7 +30,7 @@ Environment = List (List ℕ × Meaning)
 pub record Setting : Type 0 where
   pub stages : List StageItem
   pub case : Case
-  pub world : World
+  pub world : World Node
 
 -- the value of a name is that of its first binding
 abbrev pub value_of : Environment → List ℕ → Option Meaning
@@ -78,11 +83,11 @@ node_of stages c env t =
     let op = op_of (value_of env t.op.name) in
     node_at op (core_there c env op t.core) (stage_of stages t.stage.name)
 
-abbrev pub node_holds : World → Option Node → Bool
+abbrev pub node_holds : World Node → Option Node → Bool
 node_holds w None = false
 node_holds w (Some a) = has_node w a
 
-abbrev pub edge_holds : World → Option Node → Option Node → Bool
+abbrev pub edge_holds : World Node → Option Node → Option Node → Bool
 edge_holds w (Some a) (Some b) = has_edge w a b
 edge_holds w _ _ = false
 
@@ -102,14 +107,14 @@ arguments_of env [] [] = Some []
 arguments_of env (t ∷ ts) (a ∷ as_) = put_first (argument_of env t a) (arguments_of env ts as_)
 arguments_of env _ _ = None
 
-abbrev pub row_holds : Case → Environment → List Arg → Option Row → Bool
-row_holds c env args None = false
-row_holds c env args (Some r) =
-    elim (arguments_of env r.takes args) [ None ↦ false | Some as_ ↦ predicate_holds c r.predicate as_ ]
+abbrev pub pred_holds : Case → Environment → List Arg → Option Pred → Bool
+pred_holds c env args None = false
+pred_holds c env args (Some p) =
+    elim (arguments_of env (takes_of p) args) [ None ↦ false | Some as_ ↦ predicate_holds c p as_ ]
 
 -- a predicate by its name, at the values of its arguments
 abbrev pub static_holds : Case → Environment → List ℕ → List Arg → Bool
-static_holds c env name args = row_holds c env args (row_named name)
+static_holds c env name args = pred_holds c env args (pred_named name)
 
 -- 0, 1, .. below n
 abbrev pub below : ℕ → List ℕ

@@ -1,7 +1,7 @@
 ghost use Rattle.std.specs.Prelude.{◌≡◌, ◌<◌, Some, length, slice_get};
 ghost use Rattle.std.specs.List.{find};
-ghost use Rattle.pc_syntax.specs.Predicates.{same_name};
-ghost use Rattle.pc_syntax.specs.Preds.{pred_name, pred_named, takes_of, takes_meant};
+ghost use Rattle.pc_common.specs.Names.{same_name};
+ghost use Rattle.pc_syntax.specs.Predicates.{pred_name, pred_named, takes_of};
 
 /// The static predicates, named as models spell them.
 #[derive(Clone, Copy, Debug, PartialEq, Eq)]
@@ -38,6 +38,22 @@ pub enum Takes {
     Plain,
 }
 
+/// A predicate's name, as models spell it, and what it takes, in order.
+#[derive(Clone, Copy)]
+struct Row {
+    name: &'static [u8],
+    takes: &'static [Takes],
+}
+
+impl Row {
+    fn new(name: &'static [u8], takes: &'static [Takes]) -> Row
+        ensures name { result.name.now ≡ name.now }
+        ensures takes { result.takes.now ≡ takes.now }
+    {
+        Row { name, takes }
+    }
+}
+
 impl Pred {
     /// All predicates, in the order of their declaration.
     const ALL: [Pred; 22] = [
@@ -65,38 +81,49 @@ impl Pred {
         Pred::HasDependency,
     ];
 
-    /// The name, as models spell it.
-    pub fn name(self) -> &'static [u8]
-        ensures { result.now ≡ pred_name self }
+    #[tactic(auto, unfolding(crate::specs::Predicates::all_preds))]
+    fn row(self) -> Row
+        ensures name { result.name.now ≡ pred_name self }
+        ensures found { pred_named (pred_name self) ≡ Some self }
+        ensures takes { result.takes.now ≡ takes_of self }
     {
+        use Takes::{Core, Op, Plain};
         match self {
-            Pred::True => b"True",
-            Pred::False => b"False",
-            Pred::IsAnyRead => b"IsAnyRead",
-            Pred::IsAnyWrite => b"IsAnyWrite",
-            Pred::IsAnyFence => b"IsAnyFence",
-            Pred::AccessType => b"AccessType",
-            Pred::OnCore => b"OnCore",
-            Pred::SameCore => b"SameCore",
-            Pred::SameThread => b"SameThread",
-            Pred::SameMicroop => b"SameMicroop",
-            Pred::SameInstruction => b"SameInstruction",
-            Pred::SameIntra => b"SameIntra",
-            Pred::ProgramOrder => b"ProgramOrder",
-            Pred::SameVirtualAddress => b"SameVirtualAddress",
-            Pred::SamePhysicalAddress => b"SamePhysicalAddress",
-            Pred::SameVirtualTag => b"SameVirtualTag",
-            Pred::SamePhysicalTag => b"SamePhysicalTag",
-            Pred::SameIndex => b"SameIndex",
-            Pred::SameData => b"SameData",
-            Pred::DataFromInitialStateAtPA => b"DataFromInitialStateAtPA",
-            Pred::DataFromFinalStateAtPA => b"DataFromFinalStateAtPA",
-            Pred::HasDependency => b"HasDependency",
+            Pred::True => Row::new(b"True", &[]),
+            Pred::False => Row::new(b"False", &[]),
+            Pred::IsAnyRead => Row::new(b"IsAnyRead", &[Op]),
+            Pred::IsAnyWrite => Row::new(b"IsAnyWrite", &[Op]),
+            Pred::IsAnyFence => Row::new(b"IsAnyFence", &[Op]),
+            Pred::AccessType => Row::new(b"AccessType", &[Plain, Op]),
+            Pred::OnCore => Row::new(b"OnCore", &[Core, Op]),
+            Pred::SameCore => Row::new(b"SameCore", &[Op, Op]),
+            Pred::SameThread => Row::new(b"SameThread", &[Op, Op]),
+            Pred::SameMicroop => Row::new(b"SameMicroop", &[Op, Op]),
+            Pred::SameInstruction => Row::new(b"SameInstruction", &[Op, Op]),
+            Pred::SameIntra => Row::new(b"SameIntra", &[Op, Op]),
+            Pred::ProgramOrder => Row::new(b"ProgramOrder", &[Op, Op]),
+            Pred::SameVirtualAddress => Row::new(b"SameVirtualAddress", &[Op, Op]),
+            Pred::SamePhysicalAddress => Row::new(b"SamePhysicalAddress", &[Op, Op]),
+            Pred::SameVirtualTag => Row::new(b"SameVirtualTag", &[Op, Op]),
+            Pred::SamePhysicalTag => Row::new(b"SamePhysicalTag", &[Op, Op]),
+            Pred::SameIndex => Row::new(b"SameIndex", &[Op, Op]),
+            Pred::SameData => Row::new(b"SameData", &[Op, Op]),
+            Pred::DataFromInitialStateAtPA => Row::new(b"DataFromInitialStateAtPA", &[Op]),
+            Pred::DataFromFinalStateAtPA => Row::new(b"DataFromFinalStateAtPA", &[Op]),
+            Pred::HasDependency => Row::new(b"HasDependency", &[Plain, Op, Op]),
         }
     }
 
+    /// The name, as models spell it. No other predicate has it.
+    pub fn name(self) -> &'static [u8]
+        ensures value { result.now ≡ pred_name self }
+        ensures found { pred_named result.now ≡ Some self }
+    {
+        self.row().name
+    }
+
     /// The predicate that models spell so, if there is one.
-    #[tactic(auto, using(crate::proofs::PredLaws::pred_named_all))]
+    #[tactic(auto, unfolding(crate::specs::Predicates::all_preds))]
     pub fn of_name(name: &[u8]) -> Option<Pred>
         ensures { result ≡ pred_named name.now }
     {
@@ -107,25 +134,15 @@ impl Pred {
     pub fn arity(self) -> usize
         ensures { result ≡ length (takes_of self) }
     {
-        match self {
-            Pred::True | Pred::False => 0,
-            Pred::IsAnyRead | Pred::IsAnyWrite | Pred::IsAnyFence => 1,
-            Pred::DataFromInitialStateAtPA | Pred::DataFromFinalStateAtPA => 1,
-            Pred::HasDependency => 3,
-            _ => 2,
-        }
+        self.row().takes.len()
     }
 
     /// What the predicate takes at the place `k`, from 0.
     pub fn takes(self, k: usize) -> Takes
         requires { k < length (takes_of self) }
-        ensures { slice_get (takes_of self) k ≡ Some (takes_meant result) }
+        ensures { slice_get (takes_of self) k ≡ Some result }
     {
-        match self {
-            Pred::AccessType | Pred::HasDependency if k == 0 => Takes::Plain,
-            Pred::OnCore if k == 0 => Takes::Core,
-            _ => Takes::Op,
-        }
+        self.row().takes[k]
     }
 }
 

@@ -13,7 +13,7 @@ use Rattle.pc_syntax.specs.Truth.{Environment, an_op, node_of, static_holds}
 use Rattle.pc_syntax.specs.Observable.{axioms_of, IsNodeOf}
 use Rattle.edge_model.specs.EdgeModel.{IsOneEdge, IsGuard, IsEdgeFormula, IsEdgeItem, IsEdgeModel, stage_names}
 use Rattle.pipecheck_run.specs.Asserted.{edge_between, asserted, asserted_edges}
-use Rattle.pipecheck_run.proofs.Elements.{In, contains_from_in, from_map, from_flat, from_range, in_either}
+use Rattle.pc_common.proofs.Elements.{In, contains_from_in, from_map, from_flat, from_range, in_either}
 use Rattle.pipecheck_run.proofs.Truths.{InScope, scope_more, names_of, node_known, Known}
 
 -- each core is below 64

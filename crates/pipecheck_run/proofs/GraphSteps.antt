@@ -7,7 +7,7 @@ use Rattle.indexmap.specs.IndexSet.{insert_key}
 use Rattle.pc_common.specs.World.{Edge}
 use Rattle.pipecheck_run.specs.declared.graph.NodeKey.{NodeKey}
 use Rattle.pipecheck_run.specs.Graphs.{key_node, IsNumbered, Stands, IsEnd, IsGraphOf}
-use Rattle.pipecheck_run.proofs.Elements.{In, true_or_false, any_holds, contains_from_in, in_from_contains, and_first, and_second}
+use Rattle.pc_common.proofs.Elements.{In, true_or_false, any_holds, contains_from_in, in_from_contains, and_first, and_second}
 
 abbrev pub pair_eq : ℕ × ℕ → ℕ × ℕ → Bool
 pair_eq a b = nat_eq a.0 b.0 && nat_eq a.1 b.1

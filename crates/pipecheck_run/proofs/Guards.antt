@@ -9,13 +9,16 @@ use Rattle.pc_syntax.specs.declared.term.Arg.TheVariants.{Word as variable, Numb
 use Rattle.pc_syntax.specs.declared.term.EdgeTerm.{EdgeTerm}
 use Rattle.pc_syntax.specs.declared.model.StageItem.{StageItem}
 use Rattle.pc_syntax.specs.Written.{Written, implies_, static_}
-use Rattle.pc_syntax.specs.Predicates.{program_order, takes_op, row_named, predicate_rows, predicate_holds, is_before, Argument, op_at}
-use Rattle.pc_syntax.specs.Truth.{Environment, Meaning, an_op, value_of, static_holds, row_holds, argument_of, put_first, op_of, node_of}
+use Rattle.pc_syntax.specs.declared.pred.Pred.TheVariants.{ProgramOrder}
+use Rattle.pc_syntax.specs.declared.pred.Takes.TheVariants.{Op as takes_op}
+use Rattle.pc_syntax.specs.Arguments.{Argument, op_at, holds_of_both}
+use Rattle.pc_syntax.specs.Predicates.{pred_named, all_preds, predicate_holds, is_before}
+use Rattle.pc_syntax.specs.Truth.{Environment, Meaning, an_op, value_of, static_holds, pred_holds, argument_of, put_first, op_of, node_of}
 use Rattle.pipecheck_run.specs.Asserted.{IsGuardNamed, edge_of, edge_between, asserted}
 
-row_is : row_named (codes "ProgramOrder") ≡ Some (record { name = codes "ProgramOrder"; predicate = program_order; takes = takes_op ∷ takes_op ∷ [] })
-unfolding predicate_rows
-row_is = refl
+pred_is : pred_named (codes "ProgramOrder") ≡ Some ProgramOrder
+unfolding all_preds
+pred_is = refl
 
 argument_is : (env : Environment) (x : Word) (i : ℕ) → value_of env x.name ≡ Some (an_op i) → argument_of env takes_op (variable x) ≡ Some (op_at i)
 argument_is env x i v = ap (λ (m : Option Meaning). argument_from (op_of m)) v
@@ -26,20 +29,20 @@ argument_is env x i v = ap (λ (m : Option Meaning). argument_from (op_of m)) v
 
 abbrev given : Case → Option (List Argument) → Bool
 given c None = false
-given c (Some as_) = predicate_holds c program_order as_
+given c (Some as_) = predicate_holds c ProgramOrder as_
 
 order_of_ops : (c : Case) (i j : ℕ) (a b : MicroOp) → slice_get c.ops i ≡ Some a → slice_get c.ops j ≡ Some b
-    → predicate_holds c program_order (op_at i ∷ op_at j ∷ []) ≡ is_before a b
+    → predicate_holds c ProgramOrder (op_at i ∷ op_at j ∷ []) ≡ is_before a b
 order_of_ops c i j a b oi oj =
-    ap (λ (m : Option MicroOp). elim m as (λ _. Bool) [ None ↦ false | Some o ↦ elim (slice_get c.ops j) as (λ _. Bool) [ None ↦ false | Some q ↦ is_before o q ] ]) oi ∙
-    ap (λ (m : Option MicroOp). elim m as (λ _. Bool) [ None ↦ false | Some q ↦ is_before a q ]) oj
+    ap (λ (m : Option MicroOp). holds_of_both m (slice_get c.ops j) is_before) oi ∙
+    ap (λ (m : Option MicroOp). holds_of_both (Some a) m is_before) oj
 
 order_holds : (c : Case) (env : Environment) (x y : Word) (i j : ℕ) (a b : MicroOp)
     → value_of env x.name ≡ Some (an_op i) → value_of env y.name ≡ Some (an_op j)
     → slice_get c.ops i ≡ Some a → slice_get c.ops j ≡ Some b
     → static_holds c env (codes "ProgramOrder") (variable x ∷ variable y ∷ []) ≡ is_before a b
 order_holds c env x y i j a b vi vj oi oj =
-    ap (λ r. row_holds c env (variable x ∷ variable y ∷ []) r) row_is ∙
+    ap (λ r. pred_holds c env (variable x ∷ variable y ∷ []) r) pred_is ∙
     (ap (λ (m : Option Argument). given c (put_first m (put_first (argument_of env takes_op (variable y)) (Some [])))) (argument_is env x i vi) ∙
     (ap (λ (m : Option Argument). given c (put_first (Some (op_at i)) (put_first m (Some [])))) (argument_is env y j vj) ∙
     order_of_ops c i j a b oi oj))

@@ -1,7 +1,4 @@
-pub mod Elements
 pub mod Truths
-pub mod Nodes
-pub mod Joined
 pub mod Worlds
 pub mod Three
 pub mod Said

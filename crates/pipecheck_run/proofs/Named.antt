@@ -15,7 +15,7 @@ use Rattle.pc_syntax.specs.Written.{Written, not_, and_, or_, implies_, forall_,
 use Rattle.pc_syntax.specs.Truth.{Environment, an_op}
 use Rattle.edge_model.specs.EdgeModel.{IsEdgeNode, IsOneEdge, IsGuard, IsEdgeFormula, IsEdgeItem, IsEdgeModel, stage_names}
 use Rattle.pipecheck_run.specs.Asserted.{IsNodeNamed, IsEdgeNamed, IsGuardNamed, IsNamed, IsItemNamed, item_edges, asserted, asserted_edges}
-use Rattle.pipecheck_run.proofs.Elements.{In, in_from_contains, contains_from_in, in_map, from_map}
+use Rattle.pc_common.proofs.Elements.{In, in_from_contains, contains_from_in, in_map, from_map}
 use Rattle.pipecheck_run.proofs.Truths.{InScope, scope_more, names_of, stage_known}
 use Rattle.pipecheck_run.proofs.Taken.{flat_more, flat_all}
 

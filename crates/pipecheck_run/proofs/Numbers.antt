@@ -5,7 +5,7 @@ use Rattle.std.specs.List.{list_any}
 use Rattle.indexmap.specs.IndexSet.{insert_key}
 use Rattle.pipecheck_run.specs.declared.graph.NodeKey.{NodeKey}
 use Rattle.pipecheck_run.specs.Graphs.{IsNumbered}
-use Rattle.pipecheck_run.proofs.Elements.{true_or_false, or_first, or_later, and_first, and_second}
+use Rattle.pc_common.proofs.Elements.{true_or_false, or_first, or_later, and_first, and_second}
 
 slice_in : (xs : List NodeKey) (i : ℕ) (a : NodeKey) (p : NodeKey → Bool) → slice_get xs i ≡ Some a → p a ≡ true → list_any p xs ≡ true
 slice_in [] i a p e h = cc

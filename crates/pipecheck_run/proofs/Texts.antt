@@ -12,10 +12,10 @@ use Rattle.edge_model.specs.EdgeModel.{IsEdgeModel}
 use Rattle.edge_graph.specs.Joins.{IsCycle, IsAcyclic}
 use Rattle.pipecheck_run.specs.declared.graph.NodeKey.{NodeKey}
 use Rattle.pipecheck_run.specs.Asserted.{asserted_edges}
-use Rattle.pipecheck_run.specs.Certificates.{names_of, graph_lines, cycle_lines, HasEnds, IsGraphText, IsAssertedCycle, IsCycleText}
+use Rattle.pipecheck_run.specs.Certificates.{names_of, graph_lines, cycle_lines, IsGraphText, IsAssertedCycle, IsCycleText}
 use Rattle.pipecheck_run.specs.Graphs.{key_node, node_at, edge_at, IsGraphOf}
-use Rattle.pipecheck_run.proofs.Elements.{In, in_from_contains, contains_from_in}
-use Rattle.pipecheck_run.proofs.Worlds.{world_of, graph_world, cycle_refutes}
+use Rattle.pc_common.proofs.Elements.{In, in_from_contains, contains_from_in}
+use Rattle.pipecheck_run.proofs.Worlds.{graph_world, cycle_refutes}
 use Rattle.pipecheck_run.proofs.AssertedNodes.{Cores}
 use Rattle.pipecheck_run.proofs.Verdicts.{order_shows, cycle_asserted}
 
@@ -31,18 +31,12 @@ graph_text m c keys edges kept is g acyclic =
       nodes = nodes;
       edges = plain;
       text_is = refl;
-      ends = each nodes plain shows.ends;
-      world = world_of nodes plain;
-      generated = w.0;
-      of_both = w.1;
-      satisfied = w.2;
+      ends = shows.ends;
+      world = w.0;
+      generated = w.1;
+      of_both = w.2;
+      satisfied = w.3;
     }
-  where
-    each : (nodes : List Node) (edges : List Edge) → ((a b : Node) → In (a, b) edges → In a nodes × In b nodes) → All (HasEnds nodes) edges
-    each nodes edges ends k d inside =
-        let e : Edge = get_or edges k d in
-        let both = ends e.0 e.1 (in_from_contains e edges (All-contains_itself edges k d inside)) in
-        (contains_from_in e.0 nodes both.0, contains_from_in e.1 nodes both.1)
 
 pub cycle_text : (m : WrittenModel) (c : Case) (keys : List NodeKey) (edges : List (ℕ × ℕ)) (cycle : List ℕ)
     → IsGraphOf (asserted_edges m c) keys edges → IsCycle edges cycle
@@ -59,11 +53,6 @@ graph_observable m c text t = (t.world, t.of_both, t.satisfied)
 pub cycle_unobservable : (m : WrittenModel) (c : Case) (text : List ℕ) → IsEdgeModel m → IsCycleText m c text → Observable m c → ⊥
 cycle_unobservable m c text is t o = go t.nodes t.asserted
   where
-    leads : (a : Node) (via : List Node) (b : Node) → Leads (λ x y. Contains (asserted_edges m c) (x, y)) a via b
-        → Leads (λ x y. In (x, y) (asserted_edges m c)) a via b
-    leads a [] b l = in_from_contains (a, b) (asserted_edges m c) l
-    leads a (x ∷ xs) b l = (in_from_contains (a, x) (asserted_edges m c) l.0, leads x xs b l.1)
-
     go : (nodes : List Node) → IsAssertedCycle (asserted_edges m c) nodes → ⊥
     go [] h = h
-    go (a ∷ via) h = cycle_refutes m c is a (via, leads a via a h) o
+    go (a ∷ via) h = cycle_refutes m c is a (via, h) o

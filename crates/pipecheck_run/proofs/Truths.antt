@@ -11,11 +11,11 @@ use Rattle.pc_syntax.specs.declared.term.Arg.{Arg}
 use Rattle.pc_syntax.specs.declared.term.NodeTerm.{NodeTerm}
 use Rattle.pc_syntax.specs.declared.model.StageItem.{StageItem}
 use Rattle.pc_syntax.specs.Written.{Written, not_, and_, or_, implies_, forall_, exists_, static_, nodes_, edges_, expand_, bind_, MacroAt}
-use Rattle.pc_syntax.specs.Predicates.{same_name}
+use Rattle.pc_common.specs.Names.{same_name}
 use Rattle.pc_syntax.specs.Truth.{Environment, Meaning, an_op, Setting, value_of, stage_of, node_of, node_at, op_of, core_there, location_core, is_true, static_holds, edge_holds}
 use Rattle.edge_model.specs.EdgeModel.{IsEdgeNode, IsOneEdge, IsGuard, IsEdgeFormula}
 use Rattle.pipecheck_run.specs.Asserted.{edge_between, asserted}
-use Rattle.pipecheck_run.proofs.Elements.{In, in_from_contains, true_or_false}
+use Rattle.pc_common.proofs.Elements.{In, in_from_contains, true_or_false}
 
 same_number : (n : ℕ) → nat_eq n n ≡ true
 same_number n = eq-eqb n n refl
@@ -82,10 +82,10 @@ node_known stages c bound env t s is =
 abbrev pub names_of : List StageItem → List (List ℕ)
 names_of stages = map (λ s. s.name.name) stages
 
-abbrev pub setting_of : List StageItem → Case → World → Setting
+abbrev pub setting_of : List StageItem → Case → World Node → Setting
 setting_of stages c w = record { stages = stages; case = c; world = w }
 
-abbrev pub has : World → Edge → Bool
+abbrev pub has : World Node → Edge → Bool
 has w e = has_edge w e.0 e.1
 
 pub all_append : {X : Type 0} (p : X → Bool) (xs ys : List X) → list_all p (xs ++ ys) ≡ (list_all p xs && list_all p ys)
@@ -107,7 +107,7 @@ over_ops p test gives top a (suc n) h each =
     sym (all_append p (gives (an_op a)) (flat_map gives (map an_op (range_with_len (a + 1) n))) ∙
     sym (ap (λ b. b && list_all test (map an_op (range_with_len (a + 1) n))) first ∙ ap (λ b. list_all p (gives (an_op a)) && b) rest))
 
-one_edge : (stages : List StageItem) (c : Case) (w : World) (ms : List MacroAt) (bound : List (List ℕ)) (env : Environment) (f : Written)
+one_edge : (stages : List StageItem) (c : Case) (w : World Node) (ms : List MacroAt) (bound : List (List ℕ)) (env : Environment) (f : Written)
     → InScope c bound env → IsOneEdge (names_of stages) bound f
     → is_true (setting_of stages c w) ms env f ≡ list_all (has w) (asserted stages c env f)
 one_edge stages c w ms bound env (edges_ (e ∷ [])) s is =
@@ -129,7 +129,7 @@ one_edge stages c w ms bound env (nodes_ ts) s is = absurd is
 one_edge stages c w ms bound env (expand_ at name args) s is = absurd is
 one_edge stages c w ms bound env (bind_ at names args p) s is = absurd is
 
-guarded : (stages : List StageItem) (c : Case) (w : World) (ms : List MacroAt) (bound : List (List ℕ)) (env : Environment) (g f : Written)
+guarded : (stages : List StageItem) (c : Case) (w : World Node) (ms : List MacroAt) (bound : List (List ℕ)) (env : Environment) (g f : Written)
     → InScope c bound env → IsGuard bound g → IsOneEdge (names_of stages) bound f
     → is_true (setting_of stages c w) ms env (implies_ g f) ≡ list_all (has w) (asserted stages c env (implies_ g f))
 guarded stages c w ms bound env (static_ p args) f s guard is =
@@ -149,7 +149,7 @@ guarded stages c w ms bound env (edges_ ts) f s guard is = absurd guard
 guarded stages c w ms bound env (expand_ at name args) f s guard is = absurd guard
 guarded stages c w ms bound env (bind_ at names args p) f s guard is = absurd guard
 
-pub formula_truth : (stages : List StageItem) (c : Case) (w : World) (ms : List MacroAt) (bound : List (List ℕ)) (env : Environment) (f : Written)
+pub formula_truth : (stages : List StageItem) (c : Case) (w : World Node) (ms : List MacroAt) (bound : List (List ℕ)) (env : Environment) (f : Written)
     → InScope c bound env → IsEdgeFormula (names_of stages) bound f
     → is_true (setting_of stages c w) ms env f ≡ list_all (has w) (asserted stages c env f)
 formula_truth stages c w ms bound env (forall_ at Microop name p) s is =

@@ -6,6 +6,7 @@ use Rattle.std.proofs.lemmas.List.Elements.{All-contains_itself}
 use Rattle.pc_common.specs.Case.{Case}
 use Rattle.pc_common.specs.World.{Node, Edge}
 use Rattle.pc_common.specs.Chain.{Leads, Acyclic}
+use Rattle.pc_common.specs.Generated.{IsListed, HasEnds}
 use Rattle.pc_syntax.specs.Written.{WrittenModel}
 use Rattle.pc_syntax.specs.Observable.{IsNodeOf}
 use Rattle.edge_model.specs.EdgeModel.{IsEdgeModel}
@@ -14,8 +15,7 @@ use Rattle.pipecheck_run.specs.declared.graph.NodeKey.{NodeKey}
 use Rattle.pipecheck_run.specs.Asserted.{asserted_edges}
 use Rattle.pipecheck_run.specs.Certificates.{IsAssertedCycle}
 use Rattle.pipecheck_run.specs.Graphs.{key_node, node_at, edge_at, Stands, IsGraphOf}
-use Rattle.pipecheck_run.proofs.Elements.{In, in_from_contains, contains_from_in, in_map, from_map}
-use Rattle.pipecheck_run.proofs.Joined.{Between}
+use Rattle.pc_common.proofs.Elements.{In, in_from_contains, contains_from_in, in_map, from_map}
 use Rattle.pipecheck_run.proofs.Worlds.{Shows}
 use Rattle.pipecheck_run.proofs.AssertedNodes.{asserted_of, Cores}
 
@@ -59,10 +59,10 @@ record Step (keys : List NodeKey) (edges : List (ℕ × ℕ)) (i : ℕ) (x : Nod
   is : key_node key ≡ x
 
 step : (asserted : List Edge) (keys : List NodeKey) (edges : List (ℕ × ℕ)) → IsGraphOf asserted keys edges
-    → (a x : Node) → Between (map (edge_at keys) edges) a x
+    → (a x : Node) → IsListed (map (edge_at keys) edges) a x
     → (i : ℕ) (ka : NodeKey) → slice_get keys i ≡ Some ka → key_node ka ≡ a → Step keys edges i x
 step asserted keys edges g a x between i ka at is =
-    let r = from_map (edge_at keys) (a, x) edges between in
+    let r = from_map (edge_at keys) (a, x) edges (in_from_contains (a, x) (map (edge_at keys) edges) between) in
     let sound = g.sound r.0 (contains_from_in r.0 edges r.1) in
     let s = sound.2 in
     let f_is : (key_node s.from, key_node s.to) ≡ (a, x) = sym s.is ∙ sym (edge_is keys r.0 sound.0 s) ∙ r.2 in
@@ -86,7 +86,7 @@ record Numbered (keys : List NodeKey) (edges : List (ℕ × ℕ)) (i : ℕ) (b :
   is : key_node key ≡ b
 
 numbers : (asserted : List Edge) (keys : List NodeKey) (edges : List (ℕ × ℕ)) → IsGraphOf asserted keys edges
-    → (a : Node) (via : List Node) (b : Node) → Leads (Between (map (edge_at keys) edges)) a via b
+    → (a : Node) (via : List Node) (b : Node) → Leads (IsListed (map (edge_at keys) edges)) a via b
     → (i : ℕ) (ka : NodeKey) → slice_get keys i ≡ Some ka → key_node ka ≡ a → Numbered keys edges i b
 numbers asserted keys edges g a [] b l i ka at is =
     let s = step asserted keys edges g a b l i ka at is in
@@ -98,27 +98,27 @@ numbers asserted keys edges g a (x ∷ xs) b l i ka at is =
 
 -- the first node of a chain has a number
 first_key : (asserted : List Edge) (keys : List NodeKey) (edges : List (ℕ × ℕ)) → IsGraphOf asserted keys edges
-    → (a x : Node) → Between (map (edge_at keys) edges) a x → (i : ℕ) × (ka : NodeKey) × (slice_get keys i ≡ Some ka) × (key_node ka ≡ a)
+    → (a x : Node) → IsListed (map (edge_at keys) edges) a x → (i : ℕ) × (ka : NodeKey) × (slice_get keys i ≡ Some ka) × (key_node ka ≡ a)
 first_key asserted keys edges g a x between =
-    let r = from_map (edge_at keys) (a, x) edges between in
+    let r = from_map (edge_at keys) (a, x) edges (in_from_contains (a, x) (map (edge_at keys) edges) between) in
     let sound = g.sound r.0 (contains_from_in r.0 edges r.1) in
     let s = sound.2 in
     (r.0.0, s.from, s.from_at, ap (λ e. e.0) (sym s.is ∙ sym (edge_is keys r.0 sound.0 s) ∙ r.2))
 
-second_key : (asserted : List Edge) (keys : List NodeKey) (edges : List (ℕ × ℕ)) → IsGraphOf asserted keys edges
-    → (a x : Node) → Between (map (edge_at keys) edges) a x → In a (map key_node keys) × In x (map key_node keys)
-second_key asserted keys edges g a x between =
-    let r = from_map (edge_at keys) (a, x) edges between in
+both_keys : (asserted : List Edge) (keys : List NodeKey) (edges : List (ℕ × ℕ)) → IsGraphOf asserted keys edges
+    → HasEnds (map key_node keys) (map (edge_at keys) edges)
+both_keys asserted keys edges g a x between =
+    let r = from_map (edge_at keys) (a, x) edges (in_from_contains (a, x) (map (edge_at keys) edges) between) in
     let sound = g.sound r.0 (contains_from_in r.0 edges r.1) in
     let s = sound.2 in
     let f_is : (key_node s.from, key_node s.to) ≡ (a, x) = sym s.is ∙ sym (edge_is keys r.0 sound.0 s) ∙ r.2 in
     let P : Node → Type 0 = λ n. In n (map key_node keys) in (
-      subst P (ap (λ e. e.0) f_is) (in_map key_node s.from keys (in_slice keys r.0.0 s.from s.from_at)),
-      subst P (ap (λ e. e.1) f_is) (in_map key_node s.to keys (in_slice keys r.0.1 s.to s.to_at)),
+      contains_from_in a (map key_node keys) (subst P (ap (λ e. e.0) f_is) (in_map key_node s.from keys (in_slice keys r.0.0 s.from s.from_at))),
+      contains_from_in x (map key_node keys) (subst P (ap (λ e. e.1) f_is) (in_map key_node s.to keys (in_slice keys r.0.1 s.to s.to_at))),
     )
 
 no_round : (asserted : List Edge) (keys : List NodeKey) (edges : List (ℕ × ℕ)) → IsGraphOf asserted keys edges → IsAcyclic edges
-    → (a : Node) (via : List Node) → Leads (Between (map (edge_at keys) edges)) a via a
+    → (a : Node) (via : List Node) → Leads (IsListed (map (edge_at keys) edges)) a via a
     → (i : ℕ) × (ka : NodeKey) × (slice_get keys i ≡ Some ka) × (key_node ka ≡ a) → ⊥
 no_round asserted keys edges g acyclic a via l first =
     let n = numbers asserted keys edges g a via a l first.0 first.1 first.2 first.3 in
@@ -127,10 +127,10 @@ no_round asserted keys edges g acyclic a via l first =
     acyclic first.0 (n.via, (let P : ℕ → Type 0 = λ j. Leads (Joins edges) first.0 n.via j in subst P round n.leads))
 
 pub acyclic_nodes : (asserted : List Edge) (keys : List NodeKey) (edges : List (ℕ × ℕ)) → IsGraphOf asserted keys edges → IsAcyclic edges
-    → Acyclic (Between (map (edge_at keys) edges))
+    → Acyclic (IsListed (map (edge_at keys) edges))
 acyclic_nodes asserted keys edges g acyclic a chain = go chain.0 chain.1
   where
-    go : (via : List Node) → Leads (Between (map (edge_at keys) edges)) a via a → ⊥
+    go : (via : List Node) → Leads (IsListed (map (edge_at keys) edges)) a via a → ⊥
     go [] l = no_round asserted keys edges g acyclic a [] l (first_key asserted keys edges g a a l)
     go (x ∷ xs) l = no_round asserted keys edges g acyclic a (x ∷ xs) l (first_key asserted keys edges g a x l.0)
 
@@ -138,7 +138,7 @@ acyclic_nodes asserted keys edges g acyclic a chain = go chain.0 chain.1
 pub order_shows : (m : WrittenModel) (c : Case) (keys : List NodeKey) (edges : List (ℕ × ℕ)) → Cores c → IsEdgeModel m
     → IsGraphOf (asserted_edges m c) keys edges → IsAcyclic edges → Shows m c (map key_node keys) (map (edge_at keys) edges)
 order_shows m c keys edges kept is g acyclic = record {
-  ends = second_key (asserted_edges m c) keys edges g;
+  ends = both_keys (asserted_edges m c) keys edges g;
   acyclic = acyclic_nodes (asserted_edges m c) keys edges g acyclic;
   nodes_of = λ a i.
       let r = from_map key_node a keys i in
@@ -149,8 +149,8 @@ order_shows m c keys edges kept is g acyclic = record {
       elim (e.2) [ inl f ↦ subst P (f ∙ r.2) both.0 | inr f ↦ subst P (f ∙ r.2) both.1 ];
   all = λ a b i.
       let r = g.complete (a, b) (contains_from_in (a, b) (asserted_edges m c) i) in
-      let P : Edge → Type 0 = λ f. In f (map (edge_at keys) edges) in
-      subst P (edge_is keys r.0 (a, b) r.2) (in_map (edge_at keys) r.0 edges (in_from_contains r.0 edges r.1));
+      let P : Edge → Type 0 = λ f. Contains (map (edge_at keys) edges) f in
+      subst P (edge_is keys r.0 (a, b) r.2) (contains_from_in (edge_at keys r.0) (map (edge_at keys) edges) (in_map (edge_at keys) r.0 edges (in_from_contains r.0 edges r.1)));
 }
 
 -- a cycle of the numbers is one of asserted edges
@@ -166,6 +166,6 @@ cycle_asserted asserted keys edges g (i ∷ via) is = go i via i is
         subst P (sym (edge_is keys (i, j) r.0 r.2)) r.1
 
     go : (i : ℕ) (via : List ℕ) (j : ℕ) → Leads (Joins edges) i via j
-        → Leads (λ x y. Contains asserted (x, y)) (node_at keys i) (map (node_at keys) via) (node_at keys j)
+        → Leads (IsListed asserted) (node_at keys i) (map (node_at keys) via) (node_at keys j)
     go i [] j h = one i j h
     go i (k ∷ ks) j h = (one i k h.0, go k ks j h.1)

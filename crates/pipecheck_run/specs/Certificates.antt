@@ -1,9 +1,9 @@
 -- The two certificates: a graph whose world satisfies, and a cycle of edges that the axioms assert.
-use Rattle.std.specs.Prelude.{◌≡◌, ℕ, List, [], ◌∷◌, ◌++◌, map, All, Contains, IsTrue}
+use Rattle.std.specs.Prelude.{◌≡◌, ℕ, List, [], ◌∷◌, ◌++◌, map, IsTrue}
 use Rattle.pc_common.specs.Case.{Case, Expectation}
 use Rattle.pc_common.specs.World.{Node, Edge, World}
 use Rattle.pc_common.specs.Chain.{Leads}
-use Rattle.pc_common.specs.Generated.{IsGenerated}
+use Rattle.pc_common.specs.Generated.{IsListed, HasEnds, IsGenerated}
 use Rattle.pc_common.specs.Lines.{Names, Line, observable, unobservable, verdict, second, node, edge, cycle, end, lines_text}
 use Rattle.pc_syntax.specs.Written.{WrittenModel}
 use Rattle.pc_syntax.specs.Observable.{IsWorldOf, satisfies}
@@ -23,17 +23,13 @@ graph_lines expected nodes edges =
 abbrev pub cycle_lines : Expectation → List Node → List Line
 cycle_lines expected nodes = verdict unobservable ∷ second unobservable expected ∷ cycle nodes ∷ end ∷ []
 
--- each edge's ends are listed
-abbrev pub HasEnds : List Node → Edge → Type 0
-HasEnds nodes e = Contains nodes e.0 × Contains nodes e.1
-
 -- the text is that of a graph whose world satisfies
 pub record IsGraphText (m : WrittenModel) (c : Case) (text : List ℕ) : Type 0 where
   pub nodes : List Node
   pub edges : List Edge
   pub text_is : text ≡ lines_text (names_of m c) (graph_lines c.expectation nodes edges)
-  pub ends : All (HasEnds nodes) edges
-  pub world : World
+  pub ends : HasEnds nodes edges
+  pub world : World Node
   pub generated : IsGenerated nodes edges world
   pub of_both : IsWorldOf m c world
   pub satisfied : IsTrue (satisfies m c world)
@@ -41,7 +37,7 @@ pub record IsGraphText (m : WrittenModel) (c : Case) (text : List ℕ) : Type 0 
 -- each node has an asserted edge to the next, and the last to the first
 abbrev pub IsAssertedCycle : List Edge → List Node → Type 0
 IsAssertedCycle edges [] = ⊥
-IsAssertedCycle edges (a ∷ via) = Leads (λ x y. Contains edges (x, y)) a via a
+IsAssertedCycle edges (a ∷ via) = Leads (IsListed edges) a via a
 
 -- the text is that of a cycle that the axioms assert
 pub record IsCycleText (m : WrittenModel) (c : Case) (text : List ℕ) : Type 0 where

@@ -6,7 +6,7 @@ use Rattle.pc_syntax.specs.declared.term.Arg.{Arg}
 use Rattle.pc_syntax.specs.NameFaults.{scope_fault}
 use Rattle.std.proofs.lemmas.Bool.Decides.{nat_tests}
 use Rattle.std.specs.List.{find}
-use Rattle.pc_syntax.specs.Predicates.{same_name}
+use Rattle.pc_common.specs.Names.{same_name}
 use Rattle.pc_syntax.specs.Scope.{Binding, Scope, binding_of, sort_of_arg, bindings_from, bound_in}
 use Rattle.scope_check.specs.declared.scope.Variable.{Variable}
 use Rattle.scope_check.specs.Bindings.{binding}

@@ -2,7 +2,7 @@
 use Rattle.std.proofs.Common.{◌≡◌, ℕ, ◌+◌, true, false, List, ◌∷◌, Some, None, length, drop, cond, sym, ap, ◌∙◌}
 use Rattle.std.proofs.Math.Seq.{drop-length}
 use Rattle.pc_syntax.specs.declared.model.StageItem.{StageItem}
-use Rattle.pc_syntax.specs.Predicates.{same_name}
+use Rattle.pc_common.specs.Names.{same_name}
 use Rattle.pc_syntax.specs.Truth.{stage_of}
 
 module _ (stages : List StageItem) (k : ℕ) where

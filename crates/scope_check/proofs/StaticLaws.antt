@@ -1,31 +1,29 @@
 -- The first fault of a predicate that the table has.
-use Rattle.std.proofs.Common.{◌≡◌, List, Option, Some, None, length, option_map, ap, ◌∙◌, arith}
+use Rattle.std.proofs.Common.{◌≡◌, List, Option, Some, None, length, ap, ◌∙◌, arith}
 use Rattle.std.proofs.lemmas.Bool.Decides.{nat_tests}
 use Rattle.std.specs.Option.{option_or}
 use Rattle.pc_common.specs.declared.fault.FaultKind.TheVariants.{PredicateUnknown, Arity}
 use Rattle.pc_syntax.specs.declared.term.Word.{Word}
 use Rattle.pc_syntax.specs.declared.term.Arg.{Arg}
 use Rattle.pc_syntax.specs.declared.pred.Pred.{Pred}
-use Rattle.pc_syntax.specs.Predicates.{Row}
-use Rattle.pc_syntax.specs.Preds.{pred_named, takes_of, row_of}
+use Rattle.pc_syntax.specs.Predicates.{pred_named, takes_of}
 use Rattle.pc_syntax.specs.Scope.{Scope}
 use Rattle.pc_syntax.specs.Fault.{Fault}
 use Rattle.pc_syntax.specs.NameFaults.{arity_fault, arguments_fault, static_fault}
-use Rattle.pc_syntax.proofs.PredLaws.{row_named-pred_named}
 
 module _ (scope : Scope) (word : Word) (args : List Arg) where
-  -- the fault, where the name has this row
-  of_row : Option Row → Option Fault
-  of_row o =
+  -- the fault, where the name is that of this predicate
+  of_pred : Option Pred → Option Fault
+  of_pred o =
       elim o [
         | None ↦ Some (PredicateUnknown, word.at)
-        | Some r ↦ option_or (arity_fault word args r.takes) (arguments_fault scope r.takes args)
+        | Some p ↦ option_or (arity_fault word args (takes_of p)) (arguments_fault scope (takes_of p) args)
       ]
 
   known : (p : Pred) → pred_named word.name ≡ Some p
       → static_fault scope word args ≡ option_or (arity_fault word args (takes_of p)) (arguments_fault scope (takes_of p) args)
-  unfolding of_row
-  known p h = ap of_row (row_named-pred_named word.name ∙ ap (option_map row_of) h)
+  unfolding of_pred
+  known p h = ap of_pred h
 
   arity_other : (p : Pred) → (length args ≡ length (takes_of p) → ⊥)
       → arity_fault word args (takes_of p) ≡ Some (Arity (length args) (length (takes_of p)), word.at)

@@ -1,7 +1,7 @@
 ghost use Rattle.std.specs.Prelude.{◌≡◌, IfOk, IfErr, None, length};
 ghost use Rattle.pc_syntax.specs.declared.closed_term.ClosedArg.TheVariants.{Core as core_arg};
-ghost use Rattle.pc_syntax.specs.Predicates.{takes_core};
-ghost use Rattle.pc_syntax.specs.Preds.{takes_of, takes_meant};
+ghost use Rattle.pc_syntax.specs.declared.pred.Takes.TheVariants.{Core as takes_core};
+ghost use Rattle.pc_syntax.specs.Predicates.{takes_of};
 ghost use Rattle.pc_syntax.specs.Fault.{first_fault};
 ghost use Rattle.pc_syntax.specs.NameFaults.{variable_fault, core_fault, argument_fault, arguments_fault, value_fault};
 ghost use Rattle.pc_syntax.specs.Closing.{slot_of, closing_of_value, closing_of_bound, closing_of_arg, closing_of_args};
@@ -73,9 +73,8 @@ fn close_argument(
     takes: Takes,
     arg: &Arg,
 ) -> Result<ClosedArg, NameFault>
-    ensures ok { let taken = takes_meant takes in
-        IfOk result (λ closed. (argument_fault scope.now taken arg.now ≡ None) × (closed ≡ closing_of_arg scope.now taken arg.now)) }
-    ensures err { IfErr result (Answers (argument_fault scope.now (takes_meant takes) arg.now)) }
+    ensures ok { IfOk result (λ closed. (argument_fault scope.now takes arg.now ≡ None) × (closed ≡ closing_of_arg scope.now takes arg.now)) }
+    ensures err { IfErr result (Answers (argument_fault scope.now takes arg.now)) }
 {
     match (takes, arg) {
         (Takes::Op, Arg::Word(word)) => {

@@ -1,7 +1,7 @@
 ghost use Rattle.std.specs.Prelude.{◌≡◌, ◌+◌, ◌<◌, ◌≤◌, ◌++◌, ◌∷◌, [], IfOk, IfErr, MatchBool, Some, None, length, option_map};
 ghost use Rattle.std.specs.List.{find};
 ghost use Rattle.pc_common.specs.declared.fault.FaultKind.TheVariants.{TooManyVariables};
-ghost use Rattle.pc_syntax.specs.Predicates.{same_name};
+ghost use Rattle.pc_common.specs.Names.{same_name};
 ghost use Rattle.pc_syntax.specs.Scope.{binding_of, sort_of_arg, quantified_in, bound_in};
 ghost use Rattle.pc_syntax.specs.NameFaults.{scope_fault};
 ghost use Rattle.scope_check.specs.Bindings.{binding};

@@ -1,6 +1,6 @@
 ghost use Rattle.std.specs.Prelude.{◌≡◌, IfOk, IfErr, None, unwrap_or};
 ghost use Rattle.pc_syntax.specs.declared.pred.Pred.TheVariants.{True};
-ghost use Rattle.pc_syntax.specs.Preds.{pred_named};
+ghost use Rattle.pc_syntax.specs.Predicates.{pred_named};
 ghost use Rattle.pc_syntax.specs.NameFaults.{static_fault};
 ghost use Rattle.pc_syntax.specs.Closed.{plain_closed};
 ghost use Rattle.pc_syntax.specs.Closing.{closing_of_static};

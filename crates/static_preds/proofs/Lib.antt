@@ -1,1 +1,2 @@
 pub mod SlotsBelow
+pub mod GivenLaws

@@ -8,7 +8,7 @@ use Rattle.pc_syntax.specs.declared.bound.Bound.{Bound}
 use Rattle.pc_syntax.specs.declared.bound.Bound.TheVariants.{Op, Core}
 use Rattle.pc_syntax.specs.declared.closed_term.ClosedArg.{ClosedArg}
 use Rattle.pc_syntax.specs.declared.closed_term.ClosedArg.TheVariants.{Slot, Core as core_arg, Plain}
-use Rattle.pc_syntax.specs.Predicates.{Argument}
+use Rattle.pc_syntax.specs.Arguments.{Argument}
 use Rattle.pc_syntax.specs.Truth.{a_core}
 use Rattle.pc_syntax.specs.Closed.{meaning_of, argument_at}
 use Rattle.static_preds.specs.Values.{values_of, AreOpsBelow}

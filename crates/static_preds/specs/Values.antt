@@ -1,11 +1,14 @@
 -- What the arguments of a predicate stand for, where the slots stand for these micro-ops and cores.
 use Rattle.std.specs.Prelude.{ℕ, ◌<◌, List, [], ◌∷◌, map}
+use Rattle.pc_common.specs.Case.{Touch, number}
+use Rattle.pc_case.specs.declared.op.Memop.{Memop}
+use Rattle.pc_case.specs.Plain.{page_at, address_at}
 use Rattle.pc_syntax.specs.declared.term.Sort.{Sort}
 use Rattle.pc_syntax.specs.declared.term.Sort.TheVariants.{Microop, Core as core_sort}
 use Rattle.pc_syntax.specs.declared.bound.Bound.{Bound}
 use Rattle.pc_syntax.specs.declared.bound.Bound.TheVariants.{Op, Core}
 use Rattle.pc_syntax.specs.declared.closed_term.ClosedArg.{ClosedArg}
-use Rattle.pc_syntax.specs.Predicates.{Argument, op_at, core_at, plain_name}
+use Rattle.pc_syntax.specs.Arguments.{Argument, op_at, core_at, plain_name}
 use Rattle.pc_syntax.specs.Closed.{meaning_of, closed_argument}
 
 -- a slot's micro-op or core, a core's number, or a plain name
@@ -29,3 +32,10 @@ AreOpsBelow n [] = Unit {0}
 AreOpsBelow n (op_at i ∷ rest) = (i < n) × AreOpsBelow n rest
 AreOpsBelow n (core_at k ∷ rest) = AreOpsBelow n rest
 AreOpsBelow n (plain_name t ∷ rest) = AreOpsBelow n rest
+
+-- what a read or a write touches, and what two do
+abbrev pub touch_at : Memop → Touch
+touch_at m = record { va = page_at m.va; pa = address_at m.pa; value = number m.value }
+
+abbrev pub touches_at : Memop × Memop → Touch × Touch
+touches_at m = (touch_at m.0, touch_at m.1)

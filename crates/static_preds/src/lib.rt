@@ -1,16 +1,13 @@
 //! The static predicates: what a model may ask of a test without a word about its order.
 //!
 //! `holds` takes a case, a predicate, its closed arguments and what their slots stand for, and answers
-//! the predicate's row in the table of `pc_syntax`. An argument is resolved first; then there is one
-//! function for each shape of arguments, with one line for each predicate. What is asked of addresses
-//! or values is false of a fence, which has neither. Nothing here takes memory or refuses.
+//! the predicate's row in the table of `pc_syntax`. What is asked of addresses or values is false of a
+//! fence, which has neither. Nothing here takes memory or refuses.
 #![tactic(auto)]
 
-mod one_op;
+mod given;
 mod table;
 #[cfg(test)]
 mod tests;
-mod two_ops;
-mod value;
 
 pub use table::holds;

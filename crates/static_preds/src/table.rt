@@ -1,13 +1,13 @@
 ghost use Rattle.std.specs.Prelude.{◌≡◌, length};
+ghost use Rattle.std.specs.List.{list_any};
+ghost use Rattle.pc_common.specs.Names.{same_name};
+ghost use Rattle.pc_case.specs.Plain.{micro_op};
 ghost use Rattle.pc_syntax.specs.IsClosed.{FitArgs};
-ghost use Rattle.pc_syntax.specs.Preds.{predicate_of, takes_of};
-ghost use Rattle.pc_syntax.specs.Predicates.{predicate_holds};
+ghost use Rattle.pc_syntax.specs.Predicates.{takes_of, predicate_holds, is_before as is_before_of};
 ghost use Rattle.static_preds.specs.Values.{values_of, scope_of, AreOpsBelow};
 
-use super::one_op::{has_type, of_op};
-use super::two_ops::of_two_ops;
-use super::value::{core_of, name_of, op_of};
-use pc_case::Case;
+use super::given::Given;
+use pc_case::{Access, Case, Op, TypeNames};
 use pc_syntax::{ClosedArgs, Env, Pred};
 
 /// Whether the predicate is true of its arguments, whose slots stand for what `env` says. Takes no
@@ -18,18 +18,54 @@ use pc_syntax::{ClosedArgs, Env, Pred};
 pub fn holds(case: &Case, pred: Pred, args: &ClosedArgs, env: &Env) -> bool
     requires fit { FitArgs (scope_of env.now.items) (takes_of pred) args.now }
     requires below { AreOpsBelow (length case.now.ops) (values_of env.now.items args.now) }
-    ensures { result ≡ predicate_holds case.now (predicate_of pred) (values_of env.now.items args.now) }
+    ensures { result ≡ predicate_holds case.now pred (values_of env.now.items args.now) }
 {
-    match (pred, args.as_slice()) {
-        (Pred::True, _) => true,
-        (Pred::False, _) => false,
-        (Pred::AccessType, [name, op]) => has_type(case, name_of(name), op_of(op, env)),
-        (Pred::OnCore, [core, op]) => case.op(op_of(op, env)).core == core_of(core, env),
-        (Pred::HasDependency, [kind, source, target]) => {
-            case.depends(name_of(kind), op_of(source, env), op_of(target, env))
+    let args = args.as_slice();
+    let given = Given { case, pred, args, env };
+    match pred {
+        Pred::True => true,
+        Pred::False => false,
+        Pred::IsAnyRead => given.op(0).access == Access::Read,
+        Pred::IsAnyWrite => given.op(0).access == Access::Write,
+        Pred::IsAnyFence => given.op(0).access == Access::Fence,
+        Pred::AccessType => is_among(given.plain(0), &given.op(1).types),
+        Pred::OnCore => given.op(1).core == given.core(0),
+        Pred::SameCore => given.op(0).core == given.op(1).core,
+        Pred::SameThread => given.op(0).thread == given.op(1).thread,
+        Pred::SameMicroop => given.place(0) == given.place(1),
+        Pred::SameInstruction => given.op(0).id.g == given.op(1).id.g,
+        Pred::SameIntra => given.op(0).id.n == given.op(1).id.n,
+        Pred::ProgramOrder => is_before(given.op(0), given.op(1)),
+        Pred::SameVirtualAddress => given.touches().is_some_and(|(a, b)| a.va == b.va),
+        Pred::SamePhysicalAddress => given.touches().is_some_and(|(a, b)| a.pa == b.pa),
+        Pred::SameVirtualTag => given.touches().is_some_and(|(a, b)| a.va.tag == b.va.tag),
+        Pred::SamePhysicalTag => given.touches().is_some_and(|(a, b)| a.pa.tag == b.pa.tag),
+        Pred::SameIndex => given.touches().is_some_and(|(a, b)| a.va.index == b.va.index),
+        Pred::SameData => given.touches().is_some_and(|(a, b)| a.value == b.value),
+        Pred::DataFromInitialStateAtPA => {
+            given.touch(0).is_some_and(|a| a.value == case.initial(a.pa))
         }
-        (_, [op]) => of_op(case, pred, op_of(op, env)),
-        (_, [first, second]) => of_two_ops(case, pred, op_of(first, env), op_of(second, env)),
-        _ => unreachable!(),
+        Pred::DataFromFinalStateAtPA => {
+            given.touch(0).is_some_and(|a| case.final_of(a.pa) == Some(a.value))
+        }
+        Pred::HasDependency => case.depends(given.plain(0), given.place(1), given.place(2)),
     }
+}
+
+/// Whether the first is before the second in program order: on one core, in one thread, of an earlier
+/// instruction.
+fn is_before(first: &Op, second: &Op) -> bool
+    ensures { result ≡ is_before_of (micro_op first.now) (micro_op second.now) }
+{
+    first.core == second.core && first.thread == second.thread && first.id.g < second.id.g
+}
+
+/// Whether one of these is the name.
+fn is_among(name: &[u8], types: &TypeNames) -> bool
+    ensures { result ≡ list_any (λ known. same_name known name.now) types.now }
+{
+    types
+        .as_slice()
+        .iter()
+        .any(|known| known.as_slice() == name)
 }

@@ -3,8 +3,8 @@ ghost use Rattle.pc_case.specs.Plain.{micro_op, dependency, stated_value};
 ghost use Rattle.pc_case.specs.Kept.{IsKept};
 ghost use Rattle.pc_case.specs.Stated.{IsStatedOnce, AreWithin};
 ghost use Rattle.pc_syntax.specs.declared.bound.Bound.TheVariants.{Op as bound_op};
-ghost use Rattle.pc_syntax.specs.Preds.{takes_of};
-ghost use Rattle.pc_syntax.specs.Predicates.{takes_op, takes_plain};
+ghost use Rattle.pc_syntax.specs.Predicates.{takes_of};
+ghost use Rattle.pc_syntax.specs.declared.pred.Takes.TheVariants.{Op as takes_op};
 
 use super::*;
 use pc_case::{

@@ -1,6 +1,6 @@
 use Rattle.std.proofs.Common.{refl, arith}
 use Rattle.std.proofs.lemmas.Result.{err_from_is_err_and}
-use Rattle.pc_syntax.specs.Preds.{takes_of, takes_meant}
+use Rattle.pc_syntax.specs.Predicates.{takes_of}
 use Rattle.scope_check.proofs.Walks.{drop_at, arguments_more, arguments_stop, arguments_all}
 use Rattle.scope_check.proofs.arguments.close_arguments.Goals as goal
 
@@ -14,7 +14,7 @@ returns-in_err-close_argument-clause-err c =
     let k = c.loop-k.k in
     let p = err_from_is_err_and c.from_residual.result c.from_residual.ensures.1 in
     rw (p.1, p.2)
-    (arguments_stop c.args.scope.now takes args k (takes_meant c.takes.result) c.get.result.now c.loop-k.closed _
+    (arguments_stop c.args.scope.now takes args k c.takes.result c.get.result.now c.loop-k.closed _
     (drop_at takes k _ c.takes.ensures) (drop_at args k _ c.get.ensures) c.in_err-close_argument.ensures.err c.loop-k.invariant)
 
 pub loop-k-preserved : goal.loop-k-preserved
@@ -24,7 +24,7 @@ loop-k-preserved c =
     let k = c.loop-k.k in
     let made = c.in_ok-close_argument.ensures.ok in
     rw c.in_ok-push.ensures
-    (arguments_more c.args.scope.now takes args k (takes_meant c.takes.result) c.get.result.now c.in_ok-close_argument.field-0 c.loop-k.closed
+    (arguments_more c.args.scope.now takes args k c.takes.result c.get.result.now c.in_ok-close_argument.field-0 c.loop-k.closed
     (drop_at takes k _ c.takes.ensures) (drop_at args k _ c.get.ensures) made.0 made.1 c.loop-k.invariant)
 
 pub returns-clause-ok : goal.returns-clause-ok

@@ -1,5 +1,5 @@
 -- The arguments up to here have no fault, and are closed.
-use Rattle.pc_syntax.specs.Preds.{takes_of}
+use Rattle.pc_syntax.specs.Predicates.{takes_of}
 use Rattle.scope_check.proofs.Walks.{AreClosedTo}
 use Rattle.scope_check.proofs.arguments.close_arguments.Given as goal
 

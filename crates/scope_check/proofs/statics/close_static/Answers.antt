@@ -1,6 +1,6 @@
 use Rattle.std.proofs.Common.{◌≡◌, length, sym, ap, ◌∙◌, unwrap_or}
 use Rattle.std.proofs.lemmas.Result.{err_from_is_err_and}
-use Rattle.pc_syntax.specs.Preds.{takes_of}
+use Rattle.pc_syntax.specs.Predicates.{takes_of}
 use Rattle.pc_syntax.specs.declared.pred.Pred.TheVariants.{True}
 use Rattle.pc_syntax.specs.Closed.{closed_static}
 use Rattle.pc_syntax.specs.Closing.{closing_of_static}

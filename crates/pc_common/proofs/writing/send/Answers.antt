@@ -1,6 +1,6 @@
 use Rattle.std.proofs.Common.{rules}
 use Rattle.pc_common.proofs.Moves.{went_on}
-use Rattle.pc_common.proofs.writing.write_all.Goals as goal
+use Rattle.pc_common.proofs.writing.send.Goals as goal
 
 pub loop-at-preserved : goal.loop-at-preserved
 loop-at-preserved g c = record {
@@ -8,6 +8,6 @@ loop-at-preserved g c = record {
   same_told = search rules;
   count = search rules;
   bytes = λ told. went_on (g.K.Sink.taken c.args.sink.now) (g.K.Sink.taken c.loop-at.sink)
-      (g.K.Sink.taken c.write.new.self) c.args.piece.now c.loop-at.at c.in_ok-at.field-0
-      (c.loop-at.invariant.bytes told) (c.in_ok-at.ensures.bytes (search rules));
+      (g.K.Sink.taken c.write.new.self) c.args.piece.now c.loop-at.at c.in-Ok.n
+      (c.loop-at.invariant.bytes told) (c.in-Ok.ensures.bytes (search rules));
 }

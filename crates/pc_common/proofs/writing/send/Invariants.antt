@@ -1,6 +1,6 @@
 -- The first `at` bytes of the piece went out.
 use Rattle.std.proofs.Common.{length, take, ◌-◌, ◌≡◌, ◌≤◌, ◌++◌, IsTrue}
-use Rattle.pc_common.proofs.writing.write_all.Given as goal
+use Rattle.pc_common.proofs.writing.send.Given as goal
 
 abbrev pub invariant-loop-at : goal.invariant-loop-at
 invariant-loop-at g l = record {

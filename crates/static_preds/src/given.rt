@@ -1,0 +1,96 @@
+ghost use Rattle.std.specs.Prelude.{◌≡◌, ◌<◌, Some, length, slice_get};
+ghost use Rattle.std.specs.Option.{option_zip, option_map};
+ghost use Rattle.pc_case.specs.Plain.{micro_op};
+ghost use Rattle.pc_syntax.specs.declared.pred.Takes.TheVariants.{Op as takes_op, Core as takes_core, Plain as takes_plain};
+ghost use Rattle.pc_syntax.specs.Arguments.{place_in, core_in, plain_in, op_in, touch_in};
+ghost use Rattle.pc_syntax.specs.Predicates.{takes_of};
+ghost use Rattle.static_preds.specs.Given.{IsGiven};
+ghost use Rattle.static_preds.specs.Values.{values_of, touch_at, touches_at};
+
+use pc_case::{Case, Memop, Op};
+use pc_syntax::{Bound, ClosedArg, Env, Pred};
+
+/// The arguments of a predicate in a case, each at its place, from 0.
+#[derive(Clone, Copy)]
+pub(crate) struct Given<'a> {
+    pub(crate) case: &'a Case,
+    pub(crate) pred: Pred,
+    pub(crate) args: &'a [ClosedArg],
+    /// What the slots stand for.
+    pub(crate) env: &'a Env,
+}
+
+impl<'a> Given<'a> {
+    /// The micro-op at place `k`, by its own place in test order.
+    pub(crate) fn place(&self, k: usize) -> usize
+        requires given { IsGiven self.now }
+        requires taken { slice_get (takes_of self.now.pred) k ≡ Some takes_op }
+        ensures value { place_in (values_of self.now.env.now.items self.now.args.now) k ≡ Some result }
+        ensures below { result < length self.now.case.now.ops }
+    {
+        match &self.args[k] {
+            ClosedArg::Slot(slot) => match self.env.as_slice()[*slot as usize] {
+                Bound::Op(place) => place as usize,
+                Bound::Core(_) => unreachable!(),
+            },
+            ClosedArg::Core(_) | ClosedArg::Plain(_) => unreachable!(),
+        }
+    }
+
+    /// The core at place `k`.
+    pub(crate) fn core(&self, k: usize) -> u8
+        requires given { IsGiven self.now }
+        requires taken { slice_get (takes_of self.now.pred) k ≡ Some takes_core }
+        ensures { core_in (values_of self.now.env.now.items self.now.args.now) k ≡ Some result }
+    {
+        match &self.args[k] {
+            ClosedArg::Slot(slot) => match self.env.as_slice()[*slot as usize] {
+                Bound::Core(core) => core,
+                Bound::Op(_) => unreachable!(),
+            },
+            ClosedArg::Core(core) => *core,
+            ClosedArg::Plain(_) => unreachable!(),
+        }
+    }
+
+    /// The plain name at place `k`.
+    pub(crate) fn plain(&self, k: usize) -> &'a [u8]
+        requires given { IsGiven self.now }
+        requires taken { slice_get (takes_of self.now.pred) k ≡ Some takes_plain }
+        ensures { plain_in (values_of self.now.env.now.items self.now.args.now) k ≡ Some result.now }
+    {
+        match &self.args[k] {
+            ClosedArg::Plain(name) => name.as_slice(),
+            ClosedArg::Slot(_) | ClosedArg::Core(_) => unreachable!(),
+        }
+    }
+
+    /// The micro-op at place `k`.
+    pub(crate) fn op(&self, k: usize) -> &'a Op
+        requires given { IsGiven self.now }
+        requires taken { slice_get (takes_of self.now.pred) k ≡ Some takes_op }
+        ensures { op_in self.now.case.now (values_of self.now.env.now.items self.now.args.now) k ≡ Some (micro_op result.now) }
+    {
+        self.case.op(self.place(k))
+    }
+
+    /// What the micro-op at place `k` touches, None of a fence.
+    pub(crate) fn touch(&self, k: usize) -> Option<Memop>
+        requires given { IsGiven self.now }
+        requires taken { slice_get (takes_of self.now.pred) k ≡ Some takes_op }
+        ensures { touch_in self.now.case.now (values_of self.now.env.now.items self.now.args.now) k ≡ option_map touch_at result }
+    {
+        self.op(k).memop
+    }
+
+    /// What the micro-ops at places 0 and 1 touch, None where one is a fence.
+    pub(crate) fn touches(&self) -> Option<(Memop, Memop)>
+        requires given { IsGiven self.now }
+        requires first { slice_get (takes_of self.now.pred) 0 ≡ Some takes_op }
+        requires second { slice_get (takes_of self.now.pred) 1 ≡ Some takes_op }
+        ensures { let values = values_of self.now.env.now.items self.now.args.now in
+            option_zip (touch_in self.now.case.now values 0) (touch_in self.now.case.now values 1) ≡ option_map touches_at result }
+    {
+        self.touch(0).zip(self.touch(1))
+    }
+}
