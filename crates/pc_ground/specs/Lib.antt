@@ -12,4 +12,3 @@ pub mod Stages
 pub mod Decimals
 pub mod NodeForm
 pub mod NodeWords
-pub mod Writes

@@ -19,13 +19,13 @@ size_of (leaf l) = 1
 size_of (both a b) = 1 + (size_of a + size_of b)
 size_of (either a b) = 1 + (size_of a + size_of b)
 
-abbrev pub literal_true : World → Literal Node → Bool
+abbrev pub literal_true : World Node → Literal Node → Bool
 literal_true w (a_node a) = has_node w a
 literal_true w (Edge a b) = has_edge w a b
 literal_true w (NoNode a) = not (has_node w a)
 literal_true w (NoEdge a b) = not (has_edge w a b)
 
-abbrev pub tree_true : World → Tree Node → Bool
+abbrev pub tree_true : World Node → Tree Node → Bool
 tree_true w always = true
 tree_true w never = false
 tree_true w (leaf l) = literal_true w l

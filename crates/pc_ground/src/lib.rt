@@ -31,4 +31,3 @@ pub use node_text::NodeText;
 pub use numbering::Numbering;
 pub use row::{Row, RowKind};
 pub use stage::{Axioms, Stage, Stages};
-pub use writing::write_pieces;

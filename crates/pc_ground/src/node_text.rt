@@ -3,7 +3,7 @@ ghost use Rattle.pc_common.specs.World.{Node};
 ghost use Rattle.pc_common.specs.Lines.{node_text, stage_name as name_of_stage};
 ghost use Rattle.pc_case.specs.Kept.{IsKept, IsNamed};
 ghost use Rattle.pc_ground.specs.Keys.{key_node};
-ghost use Rattle.pc_ground.specs.Writes.{Writes};
+ghost use Rattle.pc_common.specs.Writes.{Writes};
 ghost use Rattle.pc_ground.specs.Stages.{plain_stage};
 ghost use Rattle.pc_ground.specs.NodeForm.{names_of, IsNodeIn, Reads, Answers, AreReadable};
 ghost use Rattle.pc_ground.specs.NodeWords.{IsStage, AreSmall, AreKept, NamesNode};

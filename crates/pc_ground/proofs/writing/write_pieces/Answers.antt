@@ -1,15 +1,9 @@
-use Rattle.std.proofs.Common.{rules}
-use Rattle.pc_common.proofs.Rises.{rose_after}
-use Rattle.pc_ground.proofs.Went.{went_err, cut_at}
+use Rattle.std.proofs.Common.{ap}
+use Rattle.std.specs.Result.{is_err}
+use Rattle.pc_ground.proofs.Went.{pieces_cut}
 use Rattle.pc_ground.proofs.writing.write_pieces.Goals as goal
 
 pub returns-in_err-write_all : goal.returns-in_err-write_all
-returns-in_err-write_all g c = let e = c.from_residual.ensures in record {
-  same_told = search rules;
-  count = search rules;
-  cause = search (rules, rose_after);
-  went = λ told.
-      went_err c.from_residual.result _ _ _ c.from_residual.ensures.0
-      (cut_at (λ p. p.now) c.args.pieces.now c.loop-piece.piece-index _ _ _ _ c.loop-piece-test.true (c.loop-piece.invariant.text told)
-      (c.in_err-write_all.ensures.short (rw c.loop-piece.invariant.same_told told)));
-}
+returns-in_err-write_all g c =
+    pieces_cut c.write_all.result c.from_residual.result (λ p. p.now) c.args.pieces.now c.loop-piece.piece-index _ c.loop-piece-test.true (ap is_err c.in_err-write_all.was) c.from_residual.ensures.0
+    c.loop-piece.invariant c.write_all.ensures
