@@ -1,0 +1,5 @@
+pub mod Spelled
+pub mod Named
+pub mod Met
+pub mod Places
+pub mod Weights

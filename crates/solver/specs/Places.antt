@@ -1,0 +1,23 @@
+-- Positions of a tree on a branch.
+use Rattle.std.specs.Prelude.{ℕ, ◌≡◌, ◌+◌, List, [], Option, Some, None, Contains, map}
+use Rattle.pc_ground.specs.Tree.{Tree, always, never, leaf, both, either, size_of}
+use Rattle.pc_ground.specs.Refutes.{Branch, subtree_at, asserted, literals_of}
+use Rattle.solver.specs.Met.{IsMet}
+
+abbrev pub reached_in : {N : Type 0} → Option (Tree N) → ℕ → List ℕ
+reached_in None p = []
+reached_in (Some s) p = asserted s p
+
+-- the positions that the side at p asserts
+abbrev pub reached : {N : Type 0} → Tree N → ℕ → List ℕ
+reached t p = reached_in (subtree_at t p) p
+
+-- an asserted Or that has no side on the branch and is not true in the world that the branch's literals generate
+pub record IsCandidate {N : Type 0} (t : Tree N) (ps : Branch) (p : ℕ) : Type 0 where
+  pub left : Tree N
+  pub right : Tree N
+  pub is_or : subtree_at t p ≡ Some (either left right)
+  pub on_branch : Contains ps p
+  pub no_left : Contains ps (p + 1) → ⊥
+  pub no_right : Contains ps (p + 1 + size_of left) → ⊥
+  pub is_false : IsMet (literals_of t ps) (either left right) → ⊥

@@ -1,0 +1,5 @@
+/// A position of the tree that is asserted on a branch.
+#[derive(Clone, Copy, Debug)]
+pub struct Asserted {
+    pub position: usize,
+}

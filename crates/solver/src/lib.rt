@@ -1,0 +1,6 @@
+//! The search for a world that satisfies a ground tree.
+#![tactic(auto)]
+
+mod asserted;
+
+pub use asserted::Asserted;
