@@ -1,0 +1,15 @@
+pub mod Decide
+pub mod Widen
+pub mod Reached
+pub mod Nearest
+pub mod EdgeWays
+pub mod Chains
+pub mod Pushed
+pub mod Clashing
+pub mod Standing
+pub mod Closing
+pub mod Telling
+pub mod EdgeLists
+pub mod Results
+pub mod MarkLists
+pub mod Orders

@@ -1,0 +1,6 @@
+-- A fact for the value in `Ok` leads to another.
+use Rattle.std.proofs.Common.{Result, Ok, Err, IfOk}
+
+pub if_ok : {T E : Type 0} (P Q : T → Type 0) (r : Result T E) → IfOk r P → ((x : T) → P x → Q x) → IfOk r Q
+if_ok P Q (Ok x) p f = f x p
+if_ok P Q (Err e) p f = tt

@@ -1,0 +1,10 @@
+pub mod Ways
+pub mod Edges
+pub mod Clashes
+pub mod State
+pub mod Levels
+pub mod Rows
+pub mod Marks
+pub mod Order
+pub mod Adding
+pub mod Law

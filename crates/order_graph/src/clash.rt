@@ -1,0 +1,24 @@
+use pc_common::Listed;
+
+/// A list of node numbers.
+pub type Numbers = Listed<u32>;
+
+/// Why literals can't stand together.
+#[derive(Drop)]
+pub enum Clash {
+    /// An edge is asserted from each node to the next, and from the last to the first.
+    Cycle(Numbers),
+    /// An edge is asserted from each node to the next, and the first is denied to come before the last.
+    Path(Numbers),
+    /// The node is denied, and asserted as a node or as an end of an edge.
+    Absent(u32),
+}
+
+/// What came of a literal.
+#[derive(Drop)]
+pub enum Added {
+    /// It stands behind the others.
+    Kept,
+    /// It can't stand with the others, and the graph is as it was.
+    Clash(Clash),
+}

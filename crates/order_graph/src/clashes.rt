@@ -1,0 +1,215 @@
+ghost use Rattle.std.specs.Prelude.{◌≡◌, ◌<◌, ◌≤◌, ◌+◌, ◌*◌, ◌++◌, [], ◌∷◌, ℕ, List, true, false, All, Contains, IfOk, MatchOption, MatchBool};
+ghost use Rattle.undo_trail.specs.Kept.{bit_now};
+ghost use Rattle.pc_ground.specs.Literals.{Joins, IsConsistent};
+ghost use Rattle.pc_ground.specs.declared.literal.Literal.{Literal as AnyLiteral};
+ghost use Rattle.order_graph.specs.Ways.{IsBelow};
+ghost use Rattle.order_graph.specs.Rows.{pair_row, leads_to, IsSized, IsOver, Stands};
+ghost use Rattle.order_graph.specs.Clashes.{IsClash, JoinsNone};
+
+use super::chain::way;
+use super::clash::{Clash, Numbers};
+use super::rows::{is_missing, is_present, leads_to, reaches};
+use pc_common::Memory;
+use pc_ground::Literal;
+use std::alloc::Global;
+use undo_trail::{UndoTable, meets_words};
+
+/// Whether `x` is denied to come before `b`, or before a node that `b` reaches.
+fn is_denied_past(table: &UndoTable, nodes: u32, x: u32, b: u32) -> bool
+    requires sized { IsSized nodes table.now }
+    requires x_in { x < nodes }
+    requires b_in { b < nodes }
+    ensures { MatchBool result ((y : ℕ) × (y < 64 * table.now.words) × (leads_to table.now b y ≡ true) × (bit_now table.now (pair_row nodes x) y ≡ true)) ((y : ℕ) → y < 64 * table.now.words → leads_to table.now b y ≡ true → bit_now table.now (pair_row nodes x) y ≡ false) }
+{
+    let row = nodes as usize + x as usize;
+    table.bit(row, b as usize) || meets_words(table.row(b as usize), table.row(row))
+}
+
+/// Whether the edge from `a` to `b` would join a denied pair.
+fn joins_denied(table: &UndoTable, nodes: u32, a: u32, b: u32) -> bool
+    requires sized { IsSized nodes table.now }
+    requires a_in { a < nodes }
+    requires b_in { b < nodes }
+    ensures { MatchBool result ((x : ℕ) × (y : ℕ) × (x < nodes) × (y < 64 * table.now.words) × IsOver table.now a b x y × (bit_now table.now (pair_row nodes x) y ≡ true)) ((x y : ℕ) → x < nodes → y < 64 * table.now.words → IsOver table.now a b x y → bit_now table.now (pair_row nodes x) y ≡ false) }
+{
+    for x in 0..nodes {
+        if leads_to(table, x, a) && is_denied_past(table, nodes, x, b) {
+            return true;
+        }
+    }
+    false
+}
+
+/// Whether the edge from `a` to `b` would clash with the literals that the table stands for.
+fn edge_would_clash(table: &UndoTable, nodes: u32, a: u32, b: u32) -> bool
+    requires sized { IsSized nodes table.now }
+    requires a_in { a < nodes }
+    requires b_in { b < nodes }
+    ensures { (ls : List (AnyLiteral ℕ)) → Stands nodes table.now.words ls table.now.now → MatchBool result (IsConsistent (ls ++ Literal.Edge a b ∷ []) → ⊥) (IsConsistent (ls ++ Literal.Edge a b ∷ [])) }
+{
+    if is_missing(table, nodes, a) || is_missing(table, nodes, b) || leads_to(table, b, a) {
+        return true;
+    }
+    joins_denied(table, nodes, a, b)
+}
+
+/// Whether the literal would clash with those that the table stands for. It takes no memory.
+pub fn would_clash(table: &UndoTable, nodes: u32, literal: Literal<u32>) -> bool
+    requires sized { IsSized nodes table.now }
+    requires below { IsBelow nodes literal }
+    ensures { (ls : List (AnyLiteral ℕ)) → Stands nodes table.now.words ls table.now.now → MatchBool result (IsConsistent (ls ++ literal ∷ []) → ⊥) (IsConsistent (ls ++ literal ∷ [])) }
+{
+    match literal {
+        Literal::Node(a) => is_missing(table, nodes, a),
+        Literal::Edge(a, b) => edge_would_clash(table, nodes, a, b),
+        Literal::NoNode(a) => is_present(table, nodes, a),
+        Literal::NoEdge(a, b) => reaches(table, a, b),
+    }
+}
+
+/// The denied pair of this literal, where the edge from `a` to `b` would join it.
+fn joined_pair(
+    table: &UndoTable,
+    nodes: u32,
+    literal: Literal<u32>,
+    a: u32,
+    b: u32,
+) -> Option<(u32, u32)>
+    requires sized { IsSized nodes table.now }
+    requires below { IsBelow nodes literal }
+    requires a_in { a < nodes }
+    requires b_in { b < nodes }
+    ensures { MatchOption result ((x y : ℕ) → literal ≡ Literal.NoEdge x y → IsOver table.now a b x y → ⊥) (λ pair. (literal ≡ Literal.NoEdge pair.0 pair.1) × IsOver table.now a b pair.0 pair.1) }
+{
+    match literal {
+        Literal::NoEdge(x, y) if leads_to(table, x, a) && leads_to(table, b, y) => Some((x, y)),
+        _ => None,
+    }
+}
+
+/// The first denied pair, in order of assertion, that the edge from `a` to `b` would join.
+fn first_joined(
+    table: &UndoTable,
+    nodes: u32,
+    literals: &[Literal<u32>],
+    a: u32,
+    b: u32,
+) -> Option<(u32, u32)>
+    requires sized { IsSized nodes table.now }
+    requires below { All (IsBelow nodes) literals.now }
+    requires a_in { a < nodes }
+    requires b_in { b < nodes }
+    ensures { MatchOption result ((x y : ℕ) → Contains literals.now (Literal.NoEdge x y) → IsOver table.now a b x y → ⊥) (λ pair. Contains literals.now (Literal.NoEdge pair.0 pair.1) × IsOver table.now a b pair.0 pair.1) }
+{
+    for literal in literals {
+        if let Some(pair) = joined_pair(table, nodes, *literal, a, b) {
+            return Some(pair);
+        }
+    }
+    None
+}
+
+/// The clash of the edge from `a` to `b` with the first denied pair that it would join, if it joins one.
+fn path_clash(
+    alloc: Global,
+    table: &UndoTable,
+    nodes: u32,
+    literals: &[Literal<u32>],
+    a: u32,
+    b: u32,
+) -> Result<Option<Clash>, Memory>
+    requires sized { IsSized nodes table.now }
+    requires stands { Stands nodes table.now.words literals.now table.now.now }
+    requires a_in { a < nodes }
+    requires b_in { b < nodes }
+    ensures { IfOk result (λ found. MatchOption found (JoinsNone literals.now a b) (IsClash (literals.now ++ Literal.Edge a b ∷ []))) }
+{
+    let Some((x, y)) = first_joined(table, nodes, literals, a, b) else {
+        return Ok(None);
+    };
+    let mut path = way(alloc, nodes, literals, x, a)?;
+    let rest = way(alloc, nodes, literals, b, y)?;
+    path.extend_from_slice(&rest)?;
+    Ok(Some(Clash::Path(Numbers::from_vec(path))))
+}
+
+/// The clash of the edge from `a` to `b`: with a denied end, with a chain back, or with a denied pair.
+fn edge_clash(
+    alloc: Global,
+    table: &UndoTable,
+    nodes: u32,
+    literals: &[Literal<u32>],
+    a: u32,
+    b: u32,
+) -> Result<Option<Clash>, Memory>
+    requires sized { IsSized nodes table.now }
+    requires stands { Stands nodes table.now.words literals.now table.now.now }
+    requires a_in { a < nodes }
+    requires b_in { b < nodes }
+    ensures { IfOk result (λ found. MatchOption found (IsConsistent (literals.now ++ Literal.Edge a b ∷ [])) (IsClash (literals.now ++ Literal.Edge a b ∷ []))) }
+{
+    if is_missing(table, nodes, a) {
+        return Ok(Some(Clash::Absent(a)));
+    }
+    if is_missing(table, nodes, b) {
+        return Ok(Some(Clash::Absent(b)));
+    }
+    if leads_to(table, b, a) {
+        let cycle = way(alloc, nodes, literals, b, a)?;
+        return Ok(Some(Clash::Cycle(Numbers::from_vec(cycle))));
+    }
+    if !joins_denied(table, nodes, a, b) {
+        return Ok(None);
+    }
+    path_clash(alloc, table, nodes, literals, a, b)
+}
+
+/// The clash of a denied edge from `a` to `b` with a chain.
+fn no_edge_clash(
+    alloc: Global,
+    table: &UndoTable,
+    nodes: u32,
+    literals: &[Literal<u32>],
+    a: u32,
+    b: u32,
+) -> Result<Option<Clash>, Memory>
+    requires sized { IsSized nodes table.now }
+    requires stands { Stands nodes table.now.words literals.now table.now.now }
+    requires a_in { a < nodes }
+    requires b_in { b < nodes }
+    ensures { IfOk result (λ found. MatchOption found (IsConsistent (literals.now ++ Literal.NoEdge a b ∷ [])) (IsClash (literals.now ++ Literal.NoEdge a b ∷ []))) }
+{
+    if !reaches(table, a, b) {
+        return Ok(None);
+    }
+    let path = way(alloc, nodes, literals, a, b)?;
+    Ok(Some(Clash::Path(Numbers::from_vec(path))))
+}
+
+/// The absence of `a`, where it clashes.
+fn absence(clashes: bool, a: u32) -> Option<Clash>
+    ensures { MatchBool clashes (result ≡ Some (Clash.Absent a)) (result ≡ None) }
+{
+    if clashes { Some(Clash::Absent(a)) } else { None }
+}
+
+/// The clash of the literal with `literals`, for which the table stands, or none where all are consistent.
+pub fn clash_of(
+    alloc: Global,
+    table: &UndoTable,
+    nodes: u32,
+    literals: &[Literal<u32>],
+    literal: Literal<u32>,
+) -> Result<Option<Clash>, Memory>
+    requires sized { IsSized nodes table.now }
+    requires stands { Stands nodes table.now.words literals.now table.now.now }
+    requires below { IsBelow nodes literal }
+    ensures { IfOk result (λ found. MatchOption found (IsConsistent (literals.now ++ literal ∷ [])) (IsClash (literals.now ++ literal ∷ []))) }
+{
+    match literal {
+        Literal::Node(a) => Ok(absence(is_missing(table, nodes, a), a)),
+        Literal::Edge(a, b) => edge_clash(alloc, table, nodes, literals, a, b),
+        Literal::NoNode(a) => Ok(absence(is_present(table, nodes, a), a)),
+        Literal::NoEdge(a, b) => no_edge_clash(alloc, table, nodes, literals, a, b),
+    }
+}

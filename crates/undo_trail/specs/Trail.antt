@@ -1,0 +1,35 @@
+-- A trail of changes: what each changed word held before, oldest first.
+use Rattle.std.specs.Prelude.{ℕ, List, [], ◌∷◌, ◌≡◌, ◌≢◌, ◌<◌, length, replicate, slice_set, slice_index, All}
+use Rattle.undo_trail.specs.declared.trail.Change.{Change}
+use Rattle.undo_trail.specs.Kept.{Kept, Extends}
+
+-- a table with the changes taken back, newest first
+abbrev pub back : List Change → List ℕ → List ℕ
+back [] t = t
+back (c ∷ cs) t = slice_set (back cs t) c.place c.old
+
+-- the tables before each change
+abbrev pub past : List Change → List ℕ → List (List ℕ)
+past [] t = []
+past (c ∷ cs) t = back (c ∷ cs) t ∷ past cs t
+
+-- each change changed its word
+abbrev pub IsChanging : List Change → List ℕ → Type 0
+IsChanging [] t = Unit {0}
+IsChanging (c ∷ cs) t = (c.old ≢ slice_index (back cs t) c.place) × IsChanging cs t
+
+abbrev pub kept : ℕ → ℕ → List Change → List ℕ → Kept
+kept rows words trail t = record { rows = rows; words = words; past = past trail t; now = t }
+
+-- what the trail of a table of so many words keeps
+pub record IsTrail (size : ℕ) (trail : List Change) (t : List ℕ) : Type 0 where
+  pub all : length t ≡ size
+  pub inside : All (λ c. c.place < size) trail
+  pub changing : IsChanging trail t
+  pub cleared : back trail t ≡ replicate size 0
+
+-- at most n words changed, each with its change behind the trail
+pub record Grows (old : List Change) (t : List ℕ) (new : List Change) (u : List ℕ) (n : ℕ) : Type 0 where
+  pub same_size : length u ≡ length t
+  pub keeps : (size : ℕ) → IsTrail size old t → IsTrail size new u
+  pub extends : (rows words : ℕ) → Extends (kept rows words old t) (kept rows words new u) n

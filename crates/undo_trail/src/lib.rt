@@ -1,0 +1,22 @@
+//! A table of bits that can go back to what it was.
+//!
+//! The table has rows of words, 64 columns to a word. Each word that changes is put on a trail first, with
+//! what it held. A mark is a length of the trail, and `undo` puts the words behind it back, the newest
+//! first. The trail's room is taken before a word changes, so a refusal of memory changes nothing.
+//!
+//! `or_words` and `meets_words` are the two loops over words that a closure over bit rows needs, and `Steps`
+//! counts them without a cost.
+#![tactic(auto)]
+
+mod kernels;
+mod mark;
+mod steps;
+mod table;
+#[cfg(test)]
+mod tests;
+mod trail;
+
+pub use kernels::{meets_words, or_words};
+pub use mark::Mark;
+pub use steps::Steps;
+pub use table::UndoTable;
