@@ -4,3 +4,8 @@ pub mod Running
 pub mod Growing
 pub mod Meeting
 pub mod Weighing
+pub mod Entering
+pub mod Telling
+pub mod Choosing
+pub mod Going
+pub mod Closing

@@ -9,12 +9,8 @@ use Rattle.pc_ground.specs.Literals.{Joins, IsPresent, Holds, AreMet}
 use Rattle.pc_ground.specs.Refutes.{Branch, subtree_at, literal_of, literals_of}
 use Rattle.pc_ground.proofs.FlatRows.{children_both, children_either}
 use Rattle.solver.specs.Met.{IsMet}
+use Rattle.solver.specs.Places.{AreChosen}
 use Rattle.solver.proofs.Growing.{IsGrown}
-
--- an Or on the branch is true, or has a side on it
-abbrev pub AreChosen : {N : Type 0} → Tree N → Branch → Type 0
-AreChosen {N} t ps = (p : ℕ) (a b : Tree N) → In p ps → subtree_at t p ≡ Some (either a b)
-    → IsMet (literals_of t ps) (either a b) ⊎ In (p + 1) ps ⊎ In (p + 1 + size_of a) ps
 
 -- no False stands in the tree
 abbrev pub NoFalse : {N : Type 0} → Tree N → Type 0
@@ -38,11 +34,11 @@ met_at t ps grown met chosen none (both a b) p i e =
     )
 met_at t ps grown met chosen none (either a b) p i e =
     let children = children_either t p a b e in
-    elim (chosen p a b i e) [
+    elim (chosen p a b (contains_from_in p ps i) e) [
       | inl h ↦ h
       | inr side ↦ elim side [
-        | inl left ↦ inl (met_at t ps grown met chosen none a (p + 1) left children.0)
-        | inr right ↦ inr (met_at t ps grown met chosen none b (p + 1 + size_of a) right children.1)
+        | inl left ↦ inl (met_at t ps grown met chosen none a (p + 1) (in_from_contains (p + 1) ps left) children.0)
+        | inr right ↦ inr (met_at t ps grown met chosen none b (p + 1 + size_of a) (in_from_contains (p + 1 + size_of a) ps right) children.1)
       ]
     ]
 

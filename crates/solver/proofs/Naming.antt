@@ -125,24 +125,21 @@ same_row {N} r k n e f =
     let P : RowKind N → ℕ → Row N = λ x m. record { kind = x; skip = m } in
     ap (λ x. P x r.skip) e ∙ ap (P k) f
 
-head_kind : {N : Type 0} → List (Row N) → RowKind N
+abbrev head_kind : {N : Type 0} → List (Row N) → RowKind N
 head_kind [] = True
 head_kind (r ∷ rs) = r.kind
 
-head_skip : {N : Type 0} → List (Row N) → ℕ
+abbrev head_skip : {N : Type 0} → List (Row N) → ℕ
 head_skip [] = 0
 head_skip (r ∷ rs) = r.skip
 
-tail_of : {X : Type 0} → List X → List X
+abbrev tail_of : {X : Type 0} → List X → List X
 tail_of [] = []
 tail_of (x ∷ xs) = xs
 
 -- rows of numbers that are named as those of a tree are those of a tree of numbers
 tree_back : {M N : Type 0} (f : M → N) (t : Tree N) (ns : List (Row M)) (rest : List (Row N)) → map (renamed_row f) ns ≡ rows_of t ++ rest
     → (s : Tree M) × (ms : List (Row M)) × (ns ≡ rows_of s ++ ms) × (renamed_tree f s ≡ t) × (map (renamed_row f) ms ≡ rest)
-unfolding head_kind
-unfolding head_skip
-unfolding tail_of
 tree_back f always [] rest e = cc
 tree_back f always (r ∷ rs) rest e =
     let kind : renamed_kind f r.kind ≡ True = ap head_kind e in

@@ -3,6 +3,7 @@ use Rattle.std.proofs.Common.{◌≡◌, ◌≤◌, ◌<◌, ◌⊎◌, inl, inr
 use Rattle.std.specs.Prelude.{Contains, if◌then◌else◌, nat_lt, sum_by, ◌==◌}
 use Rattle.std.specs.List.{list_any}
 use Rattle.std.proofs.Math.Nat.{pow-le-pow_right, pow-suc, one-le-pow}
+use Rattle.std.proofs.lemmas.List.Sums.{sum_by-cons}
 use Rattle.std.proofs.lemmas.Bool.{ltb-true, ltb-false, lt-ltb}
 use Rattle.pc_common.proofs.Elements.{In, in_front, in_back, any_holds, holds_any, true_or_false, or_first, or_later, or_second}
 use Rattle.pc_ground.specs.Tree.{Tree, always, never, leaf, both, either, size_of}
@@ -126,21 +127,23 @@ power_pos n = one-le-pow n 3 (omega arith)
 powers_less : (u v w : ℕ) → v < u → w < u → 3 ^ v + 3 ^ w < 3 ^ u
 powers_less zero v w h k = absurd (omega (arith, h))
 powers_less (suc u) v w h k =
-    let left : 3 ^ v ≤ 3 ^ u = pow-le-pow_right v u 3 (omega arith) (omega (arith, h)) in
-    let right : 3 ^ w ≤ 3 ^ u = pow-le-pow_right w u 3 (omega arith) (omega (arith, k)) in
+    let left : 3 ^ v ≤ 3 ^ u = pow-le-pow_right {n = 3} (omega arith) {i = v} {j = u} (omega (arith, h)) in
+    let right : 3 ^ w ≤ 3 ^ u = pow-le-pow_right {n = 3} (omega arith) {i = w} {j = u} (omega (arith, k)) in
     let whole : 3 ^ suc u ≡ 3 ^ u * 3 = pow-suc 3 u in
     let pos = power_pos u in
     omega (arith, left, right, whole, pos)
 
-pub weight_more : {N : Type 0} (t : Tree N) (ps : Branch) (opens : List Branch) → weight t opens < weight t (ps ∷ opens)
+weight_cons : {N : Type 0} (t : Tree N) (ps : Branch) (opens : List Branch) → weight t (ps ∷ opens) ≡ 3 ^ undecided t 0 ps + weight t opens
 unfolding weight
-weight_more t ps opens = let pos = power_pos (undecided t 0 ps) in omega (arith, pos)
+weight_cons t ps opens = sum_by-cons (λ qs. 3 ^ undecided t 0 qs) ps opens
+
+pub weight_more : {N : Type 0} (t : Tree N) (ps : Branch) (opens : List Branch) → weight t opens < weight t (ps ∷ opens)
+weight_more t ps opens = let pos = power_pos (undecided t 0 ps) in omega (arith, pos, weight_cons t ps opens)
 
 -- an Or is split that has no side on the branch
 pub weight_split : {N : Type 0} (t : Tree N) (ps : Branch) (opens : List Branch) (p : ℕ) (a b : Tree N)
     → subtree_at t p ≡ Some (either a b) → (In (p + 1) ps → ⊥) → (In (p + 1 + size_of a) ps → ⊥)
     → weight t (with_side ps a (p + 1) ∷ with_side ps b (p + 1 + size_of a) ∷ opens) < weight t (ps ∷ opens)
-unfolding weight
 weight_split {N} t ps opens p a b e no_left no_right =
     let left = with_side ps a (p + 1) in
     let right = with_side ps b (p + 1 + size_of a) in
@@ -155,7 +158,7 @@ weight_split {N} t ps opens p a b e no_left no_right =
     (moved p (0 + p) (size_of a) ps right (omega arith)
       (record { before = before; after = or_later (is_on right (p + 1)) (is_on right (p + 1 + size_of a)) on_right })) in
     let powers = powers_less (undecided t 0 ps) (undecided t 0 left) (undecided t 0 right) less_left less_right in
-    omega (arith, powers)
+    omega (arith, powers, weight_cons t ps opens, weight_cons t left (right ∷ opens), weight_cons t right opens)
   where
     neither : (c d : Bool) → (c ≡ true → ⊥) → (d ≡ true → ⊥) → (c || d) ≡ false
     neither true d f g = absurd (f refl)

@@ -1,5 +1,10 @@
 pub mod Spelled
 pub mod Named
+pub mod Below
 pub mod Met
 pub mod Places
+pub mod Opens
 pub mod Weights
+pub mod Flags
+pub mod Leaves
+pub mod Descents

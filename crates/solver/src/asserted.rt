@@ -1,5 +1,5 @@
-/// A position of the tree that is asserted on a branch.
+/// A position of the tree that is asserted on the first open branch.
 #[derive(Clone, Copy, Debug)]
-pub struct Asserted {
-    pub position: usize,
+pub(crate) struct Asserted {
+    pub(crate) position: usize,
 }

@@ -1,6 +1,13 @@
-//! The search for a world that satisfies a ground tree.
+//! The search for a world that satisfies a ground tree, or for a refutation.
 #![tactic(auto)]
 
 mod asserted;
-
-pub use asserted::Asserted;
+mod candidates;
+mod choose;
+mod descend;
+mod enter;
+mod flags;
+mod later;
+mod leaf;
+mod rows;
+mod truths;
