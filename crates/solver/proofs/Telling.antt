@@ -1,6 +1,6 @@
 -- Flags for the truth of subtrees, and for the positions of a branch.
 use Rattle.std.proofs.Common.{◌≡◌, ◌≢◌, ◌≤◌, ◌<◌, ◌⊎◌, inl, inr, ℕ, ◌+◌, ◌-◌, Bool, true, false, ◌&&◌, ◌||◌, List, [], ◌∷◌, ◌++◌, Option, Some, None, map, take, length, refl, sym, ap, ◌∙◌, subst, arith, get_or, eq-eqb, eqb-true, set}
-use Rattle.std.specs.Prelude.{slice_get, slice_index_or, ◌↔◌, ◌==◌, IsTrue, replicate}
+use Rattle.std.specs.Prelude.{slice_get, slice_index_or, ◌↔◌, ◌==◌, IsTrue, replicate, All, Contains}
 use Rattle.std.specs.List.{list_any}
 use Rattle.std.proofs.lemmas.List.{get_or-set_same, get_or-set_other, get_or-replicate, get_or_past, length-set, length-replicate}
 use Rattle.std.proofs.lemmas.List.Folds.{list_any-append}
@@ -19,6 +19,11 @@ use Rattle.pc_ground.proofs.StageWalks.{some_same}
 use Rattle.solver.specs.Spelled.{spelled, IsSpelled}
 use Rattle.solver.specs.Met.{IsMet}
 use Rattle.solver.specs.Flags.{flag, AreTruths, HasChildren, of_both, of_either, SomeChildren, AreChildFlags}
+use Rattle.solver.specs.Places.{IsOr, AreChildren}
+use Rattle.solver.specs.Below.{IsKindBelow, IsRowBelow}
+use Rattle.order_graph.specs.Ways.{IsBelow}
+use Rattle.std.proofs.lemmas.Option.{slice_get_within, get_or_from_slice_get}
+use Rattle.std.proofs.lemmas.List.Elements.{All-contains}
 use Rattle.solver.specs.Weights.{is_on}
 use Rattle.solver.specs.Opens.{positions}
 use Rattle.solver.specs.declared.asserted.Asserted.{Asserted}
@@ -192,3 +197,29 @@ flags_none n p =
       | inl inside ↦ get_or-replicate n p false false inside
       | inr past ↦ get_or_past (replicate n false) p false (omega (arith, length-replicate {A = Bool} n false))
     ]
+
+-- the children of an Or
+pub or_places : (rows : List (Row ℕ)) (p : ℕ) (r : Row ℕ) → IsSpelled rows → IsOr (spelled rows) p → slice_get rows (p + 1) ≡ Some r
+    → AreChildren (spelled rows) p (p + 1, p + 1 + r.skip)
+or_places rows p r flat is_or at = λ a b e. (refl, sym (right_is rows p (p + 1 + size_of a) r flat (of_either a b e) at))
+
+pub or_inside : (rows : List (Row ℕ)) (p : ℕ) → IsSpelled rows → IsOr (spelled rows) p → (p + 1 < length rows) × (p + 1 < size_of (spelled rows))
+or_inside rows p flat (a, b, e) =
+    let inside = children_inside rows p (p + 1 + size_of a) flat (of_either a b e) in
+    (inside.0, omega (arith, inside.0, length_spelled rows flat))
+
+pub or_right_inside : (rows : List (Row ℕ)) (p : ℕ) (r : Row ℕ) → IsSpelled rows → IsOr (spelled rows) p → slice_get rows (p + 1) ≡ Some r
+    → p + 1 + r.skip < size_of (spelled rows)
+or_right_inside rows p r flat (a, b, e) at =
+    let inside = children_inside rows p (p + 1 + size_of a) flat (of_either a b e) in
+    let right = right_is rows p (p + 1 + size_of a) r flat (of_either a b e) at in
+    omega (arith, inside.1, right, length_spelled rows flat)
+
+-- the literal of a row is over numbers below n
+pub literal_at : (n : ℕ) (rows : List (Row ℕ)) (p : ℕ) (r : Row ℕ) (l : Literal ℕ) → All (IsRowBelow n) rows → slice_get rows p ≡ Some r → r.kind ≡ Lit l → IsBelow n l
+literal_at n rows p r l all at kind =
+    let P : RowKind ℕ → Type 0 = IsKindBelow n in
+    subst P kind (All-contains (IsRowBelow n) rows r all (contains_at rows p r at))
+  where
+    contains_at : {X : Type 0} (xs : List X) (k : ℕ) (x : X) → slice_get xs k ≡ Some x → Contains xs x
+    contains_at xs k x e = (k, slice_get_within xs k x e, get_or_from_slice_get xs k x x e)

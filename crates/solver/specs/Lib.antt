@@ -8,3 +8,5 @@ pub mod Weights
 pub mod Flags
 pub mod Leaves
 pub mod Descents
+pub mod Known
+pub mod Shown

@@ -1,4 +1,4 @@
-ghost use Rattle.std.specs.Prelude.{◌≡◌, ◌<◌, ◌+◌, ℕ, All, Contains, IfOk, length, slice_index};
+ghost use Rattle.std.specs.Prelude.{◌≡◌, ◌<◌, ◌+◌, ◌^◌, ℕ, All, Contains, IfOk, length, slice_index};
 ghost use Rattle.pc_ground.specs.Tree.{size_of};
 ghost use Rattle.pc_ground.specs.Refutes.{literals_of};
 ghost use Rattle.solver.specs.Spelled.{spelled, IsSpelled};
@@ -53,6 +53,7 @@ fn has_closed_side<L: Ledger>(
 ) -> Result<bool, Memory>
     requires tree { IsSpelled rows.now }
     requires is_or { IsOr (spelled rows.now) p }
+    requires small { p < 2 ^ 63 }
     requires below { All (IsRowBelow graph.old.nodes) rows.now }
     requires literals { graph.old.literals ≡ literals_of (spelled rows.now) (positions asserted.old.items) }
     requires marked { IsMarked graph.old mark }
@@ -70,6 +71,7 @@ fn has_closed_side<L: Ledger>(
 pub(crate) fn children(rows: &[Row<u32>], p: usize) -> (usize, usize)
     requires tree { IsSpelled rows.now }
     requires is_or { IsOr (spelled rows.now) p }
+    requires small { p < 2 ^ 63 }
     ensures places { AreChildren (spelled rows.now) p result }
     ensures left_in { result.0 < size_of (spelled rows.now) }
     ensures right_in { result.1 < size_of (spelled rows.now) }
@@ -90,6 +92,7 @@ pub(crate) fn choose<L: Ledger>(
     requires tree { IsSpelled rows.now }
     requires some { 0 < length candidates.now }
     requires ors { All (IsOr (spelled rows.now)) candidates.now }
+    requires small { All (λ p. p < 2 ^ 63) candidates.now }
     requires below { All (IsRowBelow graph.old.nodes) rows.now }
     requires literals { graph.old.literals ≡ literals_of (spelled rows.now) (positions asserted.old.items) }
     requires marked { IsMarked graph.old mark }

@@ -37,9 +37,9 @@ pub(crate) fn descend<L: Ledger>(
     requires part { part < size_of (spelled rows.now) }
     requires below { All (IsRowBelow (length keys.now)) rows.now }
     requires kept { IsKept (map key_node keys.now) (spelled rows.now) graph.old asserted.old.items later.old.items refutation.old (reached (spelled rows.now) part) }
-    ensures descended { IfOk result (λ open. HasDescended (map key_node keys.now) (spelled rows.now)
+    ensures descended { IfOk result (λ is_open. HasDescended (map key_node keys.now) (spelled rows.now)
         (weight (spelled rows.now) (opens (spelled rows.now) (positions asserted.old.items ++ reached (spelled rows.now) part) asserted.old.items later.old.items) + 1)
-        graph.new asserted.new.items later.new.items refutation.new open) }
+        graph.new asserted.new.items later.new.items refutation.new is_open) }
     ensures longer { IfOk result (λ _. IsLonger refutation.old refutation.new) }
 {
     let mut part = part;

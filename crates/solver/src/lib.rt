@@ -1,6 +1,8 @@
 //! The search for a world that satisfies a ground tree, or for a refutation.
 #![tactic(auto)]
 
+mod advance;
+mod answer;
 mod asserted;
 mod candidates;
 mod choose;
@@ -9,5 +11,6 @@ mod enter;
 mod flags;
 mod later;
 mod leaf;
+mod numbers;
 mod rows;
 mod truths;
