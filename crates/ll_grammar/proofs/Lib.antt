@@ -5,3 +5,4 @@ pub mod Progress
 pub mod Faults
 pub mod Meanings
 pub mod Shallow
+pub mod Existence

@@ -1,5 +1,5 @@
 -- The first fault of a list of tokens, against any statement of what its texts are.
-use Rattle.std.specs.Prelude.{◌≡◌, ◌+◌, ◌<◌, ◌≤◌, ℕ, Bool, List, Option, Some, None, length, take}
+use Rattle.std.specs.Prelude.{◌≡◌, ◌≢◌, ◌⊎◌, ◌+◌, ◌<◌, ◌≤◌, ℕ, Bool, List, Option, Some, None, length, take}
 use Rattle.ll_grammar.specs.Texts.{IsText, IsViable, IsDeepAt, NoneDeep}
 use Rattle.ll_grammar.specs.declared.fault.Fault.{Fault}
 use Rattle.ll_grammar.specs.declared.fault.Fault.TheVariants.{Syntax, Depth}
@@ -25,6 +25,18 @@ IsFirstFault Marked cs (Depth k) = IsDeepAt Marked cs k × NoneDeep Marked cs k
 abbrev pub IsAnswer : {C : Type 0} → (List C → List Bool → Type 0) → List C → Option Fault → Type 0
 IsAnswer Marked cs None = IsAccepted Marked cs
 IsAnswer Marked cs (Some fault) = IsFirstFault Marked cs fault
+
+-- Each two are one or are not.
+abbrev pub AreDecided : Type 0 → Type 0
+AreDecided C = (a b : C) → (a ≡ b) ⊎ (a ≢ b)
+
+-- The tokens are accepted or have a first fault.
+abbrev pub HasAnswer : {C : Type 0} → (List C → List Bool → Type 0) → List C → Type 0
+HasAnswer Marked cs = (found : Option Fault) × IsAnswer Marked cs found
+
+-- And no two of these.
+abbrev pub HasOneAnswer : {C : Type 0} → (List C → List Bool → Type 0) → List C → Type 0
+HasOneAnswer Marked cs = (a b : Option Fault) → IsAnswer Marked cs a → IsAnswer Marked cs b → a ≡ b
 
 -- The same for a language with no bound on depth, stated by its texts alone.
 abbrev pub IsSyntaxAnswer : {C : Type 0} → (List C → Type 0) → List C → Option Fault → Type 0

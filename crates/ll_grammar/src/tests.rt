@@ -11,7 +11,7 @@ ghost use Rattle.ll_grammar.specs.Tables.{predictable_by, texts_by, is_predictab
 
 use crate::fault::{Fault, first_fault};
 use crate::grammar::{Grammar, Step, Symbol, TokenClass, push_body};
-use crate::laws::{one_answer, viable_prefixes};
+use crate::laws::{one_answer, some_answer, viable_prefixes};
 use std::alloc::AllocError;
 use std::test::Fail;
 
@@ -193,11 +193,7 @@ fn the_earlier_fault_is_named(rt: HostRuntime) -> Result<(), Fail> {
 #[test]
 fn the_laws_can_be_called(_rt: HostRuntime) -> Result<(), Fail> {
     viable_prefixes(Phrase::Items(0), &[Bracket::Open]);
-    one_answer(
-        Phrase::Items(0),
-        &[Bracket::Open],
-        Some(Fault::Syntax(1)),
-        None,
-    );
+    some_answer(Phrase::Items(0), &[Bracket::Open]);
+    one_answer(Phrase::Items(0), &[Bracket::Open]);
     Ok(())
 }

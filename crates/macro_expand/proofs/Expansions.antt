@@ -1,4 +1,4 @@
--- What the expanded axioms of a model are, and that expansion keeps their truth.
+-- What the expanded axioms of a model are, and that expansion keeps truth.
 use Rattle.std.proofs.Common.{◌≡◌, ℕ, ◌<◌, List, [], ◌∷◌, length, map, reverse, get_or, slice_get, option_map, ◌&&◌, Option, Some, None, All, refl, sym, ap, subst, ◌∙◌, arith}
 use Rattle.std.specs.List.{list_all, flat_map}
 use Rattle.std.proofs.lemmas.List.{take_all, get_or-map, length-map}
@@ -11,7 +11,7 @@ use Rattle.pc_syntax.specs.declared.model.Item.{Item}
 use Rattle.pc_syntax.specs.declared.expanded.Expanded.{Expanded}
 use Rattle.pc_syntax.specs.Written.{Written, written, MacroAt, WrittenItem, axiom_, macro_, written_item, WrittenModel, written_model}
 use Rattle.pc_syntax.specs.Observable.{axiom_of, macro_of, macros_in_order, macros_of, axioms_of, setting, satisfies}
-use Rattle.pc_syntax.specs.Truth.{Environment, Setting, is_true}
+use Rattle.pc_syntax.specs.Truth.{Setting, are_true}
 use Rattle.pc_syntax.specs.Expansion.{expansion_of, IsExpanded}
 use Rattle.pc_syntax.specs.MacroFaults.{body_fault, macro_fault, items_fault, first_macro_fault}
 use Rattle.pc_syntax.specs.Sizes.{sizes_fault, first_size_fault}
@@ -20,6 +20,7 @@ use Rattle.pc_syntax.proofs.ExpandedLaws.{axioms_expanded}
 use Rattle.pc_syntax.proofs.ExpansionLaws.{expansion_true}
 use Rattle.macro_expand.specs.declared.macros.Macro.{Macro}
 use Rattle.macro_expand.specs.Faults.{AreExpansions}
+use Rattle.macro_expand.specs.Laws.{ExpansionKeepsTruth, ExpansionsSatisfy}
 use Rattle.macro_expand.specs.Tables.{before, macro_at, listed, OfAxiom}
 
 pub latest_first : (ms : List Macro) → before (listed ms) (length ms) ≡ reverse (listed ms)
@@ -80,36 +81,14 @@ module _ (model : ModelFile) (items : List Item) (value : items ≡ model.items)
       ∙ ap (λ ms. map (expansion_of ms) (flat_map axiom_of (map written_item items))) sees_all
       ∙ ap (λ xs. map (expansion_of (macros_of (written_model model))) (flat_map axiom_of (map written_item xs))) value
 
-same_written : (v w : Written) → ◌≡◌ {A = Option Written} (Some v) (Some w) → v ≡ w
-same_written v w e = cc
+pub expansion_keeps : ExpansionKeepsTruth
+expansion_keeps s ms env w = expansion_true s ms env w
 
--- what is known of the expanded axioms of a model
-module _ (m : WrittenModel) (es : List Expanded) (are : AreExpansions m es) where
-  -- in every setting and environment each axiom is true where its expansion is
-  pub true_alike : (k : ℕ) (w : Written) (e : Expanded) → slice_get (axioms_of m) k ≡ Some w → slice_get es k ≡ Some e
-      → (s : Setting) (env : Environment) → is_true s (macros_of m) env w ≡ is_true s [] env (written e.body)
-  true_alike k w e asked expanded s env =
-      let same : expansion_of (macros_of m) w ≡ written e.body =
-      same_written (expansion_of (macros_of m) w) (written e.body)
-      (sym (slice_get-map (expansion_of (macros_of m)) (axioms_of m) k ∙ ap (option_map (expansion_of (macros_of m))) asked)
-      ∙ ap (λ ws. slice_get ws k) (sym are)
-      ∙ slice_get-map (λ x. written x.body) es k ∙ ap (option_map (λ x. written x.body)) expanded) in
-      expansion_true s (macros_of m) env w ∙ ap (is_true s [] env) same
+all_expanded : (s : Setting) (ms : List MacroAt) (ws : List Written)
+    → are_true s ms ws ≡ are_true s [] (map (expansion_of ms) ws)
+all_expanded s ms [] = refl
+all_expanded s ms (w ∷ ws) = λ i. expansion_true s ms [] w i && all_expanded s ms ws i
 
-  all_expanded : (s : Setting) (ms : List MacroAt) (ws : List Written)
-      → list_all (is_true s ms []) ws ≡ list_all (is_true s [] []) (map (expansion_of ms) ws)
-  all_expanded s ms [] = refl
-  all_expanded s ms (w ∷ ws) = λ i. expansion_true s ms [] w i && all_expanded s ms ws i
-
-  all_mapped : (s : Setting) (xs : List Expanded)
-      → list_all (is_true s [] []) (map (λ e. written e.body) xs) ≡ list_all (λ e. is_true s [] [] (written e.body)) xs
-  all_mapped s [] = refl
-  all_mapped s (x ∷ xs) = ap (λ b. is_true s [] [] (written x.body) && b) (all_mapped s xs)
-
-  -- a world satisfies the model where the expanded axioms are true in it
-  pub satisfied_alike : (c : Case) (w : World Node)
-      → satisfies m c w ≡ list_all (λ e. is_true (setting m c w) [] [] (written e.body)) es
-  satisfied_alike c w =
-      all_expanded (setting m c w) (macros_of m) (axioms_of m)
-      ∙ ap (list_all (is_true (setting m c w) [] [])) (sym are)
-      ∙ all_mapped (setting m c w) es
+pub expansions_satisfy : ExpansionsSatisfy
+expansions_satisfy m es are c w =
+    all_expanded (setting m c w) (macros_of m) (axioms_of m) ∙ ap (are_true (setting m c w) []) (sym are)

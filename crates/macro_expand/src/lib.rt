@@ -6,6 +6,7 @@ mod calls;
 mod expansion;
 mod fault;
 mod items;
+mod laws;
 mod macros;
 mod measure;
 mod parameters;
@@ -17,5 +18,6 @@ mod tests;
 mod top;
 
 pub use fault::MacroFault;
+pub use laws::{expansion_keeps_truth, expansions_satisfy};
 pub use stages::stage_faults;
 pub use top::expand;

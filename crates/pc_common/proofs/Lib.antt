@@ -6,5 +6,6 @@ pub mod Pieces
 pub mod Rises
 pub mod Writes
 pub mod Rooms
+pub mod RoomPieces
 mod HeldLemmas
 mod Moves

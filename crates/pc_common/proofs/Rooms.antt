@@ -1,7 +1,7 @@
 -- Texts put into a room by several calls, and what of them the sink took.
 use Rattle.std.proofs.Common.{◌≡◌, ◌<◌, ◌≤◌, ◌+◌, ◌-◌, ℕ, Bool, List, [], ◌++◌, Result, Ok, Err, length, take, drop, refl, sym, ◌∙◌, ap, subst, arith, append_assoc, length-append}
 use Rattle.std.specs.Prelude.{IsOk, IsErr, IsTrue, OnErr, OnOk}
-use Rattle.std.proofs.lemmas.List.{take-append-le, take-append-drop, take-take, take_all, length-drop, append-nil}
+use Rattle.std.proofs.lemmas.List.{append_cancel_left, take_at, take-take, take_all, drop_all, length-take-le, length-drop, append-nil}
 use Rattle.std.proofs.Math.Seq.{take-add, take-length}
 use Rattle.pc_common.specs.Faults.{Rose}
 use Rattle.pc_common.specs.Pieces.{IsCutShort}
@@ -108,3 +108,89 @@ puts_cut {told = told} {faults} {taken} {old} {mid} {new} {r = r} s piece at wit
       };
       grows = both.grows;
     }
+
+-- what a sink took of a text of which the first n bytes were put, where some bytes are missing or wait
+sent_cut : (before sent wait text after : List ℕ) (n : ℕ) → after ≡ before ++ sent → after ++ wait ≡ before ++ take n text → n ≤ length text
+    → n < length text + length wait → IsCutShort before text after
+sent_cut before sent wait text after n is whole within fewer =
+    let both : sent ++ wait ≡ take n text =
+    append_cancel_left before (sent ++ wait) (take n text) (sym (append_assoc before sent wait) ∙ ap (λ xs. xs ++ wait) (sym is) ∙ whole) in
+    let lengths : length sent + length wait ≡ n = sym (length-append sent wait) ∙ ap length both ∙ length-take-le n text within in
+    record {
+      shown = length sent;
+      short = omega arith;
+      bytes = is ∙ ap (λ xs. before ++ xs) (sym (take_at sent wait (length sent) refl) ∙ ap (take (length sent)) both ∙ take-take (length sent) n text (omega arith));
+    }
+
+cut_err : {U F : Type 0} (s : Result U F) (before text after : List ℕ) → IsErr s → IsCutShort before text after → Went s before text after
+cut_err (Ok x) before text after fails cut = cc
+cut_err (Err e) before text after fails cut = cut
+
+stop_went : {T E U F : Type 0} (r : Result T E) (s : Result U F) (before wait sent text after : List ℕ) → IsErr r → IsErr s
+    → after ≡ before ++ sent → Went r (before ++ []) text (after ++ wait) → Went s before text after
+stop_went (Ok x) s before wait sent text after err fails is went = cc
+stop_went (Err e) s before wait sent text after err fails is cut =
+    let inside = cut.short in
+    cut_err s before text after fails (sent_cut before sent wait text after cut.shown is
+    (cut.bytes ∙ ap (λ xs. xs ++ take cut.shown text) (append-nil before)) (omega arith) (omega arith))
+
+stopped : {K : Type 0} {told : K → Bool} {faults : K → ℕ} {taken : K → List ℕ} {old new : Room K}
+    {T E U F : Type 0} {r : Result T E} (s : Result U F) {text : List ℕ} → waits old ≡ [] → IsErr r → IsErr s
+    → Puts told faults taken old new r text → Writes told faults taken old.out.now new.out.now s text
+stopped {told = told} {faults} {taken} {old} {new} {r = r} s {text} empty err fails puts = record {
+  same_told = puts.writes.same_told;
+  count = puts.writes.count;
+  cause = on_err r s (Rose (faults old.out.now) (faults new.out.now)) (Rose (faults old.out.now) (faults new.out.now)) err (λ rose. rose) puts.writes.cause;
+  went = λ is.
+      let sent = puts.grows is in
+      let P : List ℕ → Type 0 = λ xs. Went r (taken old.out.now ++ xs) text (so_far taken new) in
+      stop_went r s (taken old.out.now) (waits new) sent.0 text (taken new.out.now) err fails sent.1 (subst P empty (puts.writes.went is));
+}
+
+flush_went : {U F : Type 0} (s : Result U F) (before sent wait text after : List ℕ) → after ≡ before ++ sent → after ++ wait ≡ before ++ text
+    → OnOk s (wait ≡ []) → OnErr s (0 < length wait) → Went s before text after
+flush_went (Ok x) before sent wait text after is whole empty left = sym (append-nil after) ∙ ap (λ xs. after ++ xs) (sym empty) ∙ whole
+flush_went (Err e) before sent wait text after is whole empty left =
+    sent_cut before sent wait text after (length text) is (whole ∙ ap (λ xs. before ++ xs) (sym (take-length text))) (omega arith) (omega arith)
+
+none_waits : {K U F : Type 0} (s : Result U F) (room : Room K) → OnOk s (room.waiting.used ≡ 0) → OnOk s (waits room ≡ [])
+none_waits (Ok x) room used = ap (λ n. drop room.waiting.from (take n room.waiting.bytes)) used ∙ drop_all room.waiting.from [] (omega arith)
+none_waits (Err e) room used = tt
+
+on_same : {U F : Type 0} (s : Result U F) (P Q : Type 0) → (P → Q) → OnErr s P → OnErr s Q
+on_same (Ok x) P Q f given = tt
+on_same (Err e) P Q f given = f given
+
+flushed : {K : Type 0} {told : K → Bool} {faults : K → ℕ} {taken : K → List ℕ} {old mid new : Room K}
+    {T E U F : Type 0} {r : Result T E} {s : Result U F} {text : List ℕ} → waits old ≡ [] → IsOk r
+    → Puts told faults taken old mid r text → Flushes told faults taken mid new s → Writes told faults taken old.out.now new.out.now s text
+flushed {told = told} {faults} {taken} {old} {mid} {new} {s = s} {text} empty ok puts flush =
+    let both = puts_then ok puts flush.puts in record {
+      same_told = both.writes.same_told;
+      count = both.writes.count;
+      cause = on_same s (Rose (faults mid.out.now) (faults new.out.now)) (Rose (faults old.out.now) (faults new.out.now))
+          (λ rose below. let after = rose below in omega (arith, puts.writes.count)) flush.cause;
+      went = λ is.
+          let sent = both.grows is in
+          flush_went s (taken old.out.now) sent.0 (waits new) text (taken new.out.now) sent.1
+          (both.writes.went is ∙ ap (λ xs. (taken old.out.now ++ xs) ++ (text ++ [])) empty ∙ ap (λ xs. xs ++ (text ++ [])) (append-nil (taken old.out.now)) ∙ ap (λ xs. taken old.out.now ++ xs) (append-nil text))
+          (none_waits s new flush.empty) flush.left;
+    }
+
+at_ends : {K : Type 0} (told : K → Bool) (faults : K → ℕ) (taken : K → List ℕ) {a b first last : K} {U F : Type 0} {s : Result U F} {text : List ℕ}
+    → a ≡ first → last ≡ b → Writes told faults taken a b s text → Writes told faults taken first last s text
+at_ends {K} told faults taken {last = last} {s = s} {text} from to writes =
+    let P : K → K → Type 0 = λ x y. Writes told faults taken x y s text in
+    subst (λ x. P x last) from (subst (P _) (sym to) writes)
+
+-- a text was put into an empty room in front of a sink until a call failed: so much of it the sink took
+pub room_stop : {K : Type 0} {told : K → Bool} {faults : K → ℕ} {taken : K → List ℕ} {first last : K} {old new : Room K}
+    {T E U F : Type 0} {r : Result T E} {s : Result U F} {text : List ℕ} → old.out.now ≡ first → last ≡ new.out.now → waits old ≡ []
+    → IsErr r → IsErr s → Puts told faults taken old new r text → Writes told faults taken first last s text
+room_stop {told = told} {faults} {taken} {s = s} from to empty err fails puts = at_ends told faults taken from to (stopped s empty err fails puts)
+
+-- a text was put into an empty room in front of a sink, and the room flushed: so much of it the sink took
+pub room_flushed : {K : Type 0} {told : K → Bool} {faults : K → ℕ} {taken : K → List ℕ} {first last : K} {old mid new : Room K}
+    {T E U F : Type 0} {r : Result T E} {s : Result U F} {text : List ℕ} → old.out.now ≡ first → last ≡ new.out.now → waits old ≡ []
+    → IsOk r → Puts told faults taken old mid r text → Flushes told faults taken mid new s → Writes told faults taken first last s text
+room_flushed {told = told} {faults} {taken} from to empty ok puts flush = at_ends told faults taken from to (flushed empty ok puts flush)

@@ -1,5 +1,5 @@
 -- A case: what a litmus test says, as plain data.
-use Rattle.std.specs.Prelude.{ℕ, Bool, true, false, List, [], ◌∷◌, Option, Some, None, length, map, max, ◌+◌, ◌&&◌, ◌==◌}
+use Rattle.std.specs.Prelude.{ℕ, List, [], ◌∷◌, Option, max, ◌+◌}
 
 -- a page of memory: its tag and the index inside it
 pub record PageAt : Type 0 where

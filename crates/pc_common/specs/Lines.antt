@@ -1,9 +1,9 @@
 -- The lines of a certificate, over plain nodes, and the text of each.
-use Rattle.std.specs.Prelude.{ℕ, List, [], ◌∷◌, ◌++◌, Option, Some, None, codes, slice_get, ◌==◌, if◌then◌else◌, Bool, true, false}
+use Rattle.std.specs.Prelude.{ℕ, List, [], ◌∷◌, ◌++◌, Option, Some, None, codes, slice_get, ◌==◌, if◌then◌else◌}
 use Rattle.std.specs.List.{flat_map}
 use Rattle.std.specs.Fmt.{decimal}
 use Rattle.pc_common.specs.Case.{MicroOp, Expectation, permitted, forbidden, unstated}
-use Rattle.pc_common.specs.World.{Node, Edge}
+use Rattle.pc_common.specs.World.{Node}
 
 pub data Verdict : Type 0 where
   observable : Verdict

@@ -1,4 +1,5 @@
 ghost use Rattle.std.specs.Prelude.{◌≡◌, ◌≤◌, ◌<◌, ◌+◌, [], length, IsOk, OnOk};
+ghost use Rattle.std.specs.List.{flat_map};
 ghost use Rattle.pc_common.specs.Room.{waits, Puts, Flushes};
 
 use super::failed::Failed;
@@ -43,6 +44,16 @@ impl<'a, K: Sink> Room<'a, K> {
         while at < piece.len() {
             self.make_space()?;
             at += self.waiting.put(&piece[at..]);
+        }
+        Ok(())
+    }
+
+    /// Puts the pieces behind what waits, one after another. Where handing on fails, the first bytes of them were put, but not all.
+    pub fn put_all(&mut self, pieces: &[&[u8]]) -> Result<(), Failed>
+        ensures { Puts K.told K.faults K.taken self.old self.new result (flat_map (λ p. p.now) pieces.now) }
+    {
+        for piece in pieces {
+            self.put(piece)?;
         }
         Ok(())
     }

@@ -1,6 +1,5 @@
 -- What a whole model's stages, expansions and closings say of the model.
 use Rattle.std.proofs.Common.{◌≡◌, ℕ, ◌<◌, zero, suc, ◌&&◌, List, [], ◌∷◌, ◌++◌, Option, Some, None, map, length, get_or, nat_lt, ltb-false, refl, sym, ◌∙◌, ap, arith}
-use Rattle.std.specs.List.{list_all}
 use Rattle.std.specs.Option.{option_or}
 use Rattle.std.specs.Prelude.{MatchOption}
 use Rattle.pc_common.specs.Case.{Case}
@@ -15,12 +14,12 @@ use Rattle.pc_syntax.specs.Sizes.{first_size_fault}
 use Rattle.pc_syntax.specs.NameFaults.{name_fault, first_name_fault}
 use Rattle.pc_syntax.specs.ModelFault.{first_model_fault}
 use Rattle.pc_syntax.specs.Observable.{axioms_of, macros_of, setting, satisfies}
-use Rattle.pc_syntax.specs.Truth.{is_true}
+use Rattle.pc_syntax.specs.Truth.{are_true}
 use Rattle.pc_syntax.specs.Expansion.{expansion_of}
-use Rattle.pc_syntax.specs.Closed.{closed_true}
+use Rattle.pc_syntax.specs.Closed.{closed_satisfies}
 use Rattle.pc_syntax.specs.Closing.{closing_of}
 use Rattle.pc_syntax.proofs.ExpansionLaws.{expansion_true, expansion_faults}
-use Rattle.pc_syntax.proofs.ClosingTruth.{closed_axiom_true}
+use Rattle.pc_syntax.proofs.ClosingTruth.{closing_true}
 use Rattle.pc_syntax.proofs.NoFault.{none_first, none_second, none_where}
 use Rattle.uspec_lexer.specs.Fault.{IsRefusal}
 use Rattle.uspec_lexer.specs.declared.fault.LexFault.{LexFault}
@@ -84,19 +83,19 @@ module _ (m : WrittenModel) (es : List Expanded) (expansions : AreExpansions m e
 
 true_alike : (m : WrittenModel) (c : Case) (w : World Node) (ws : List Written)
     → first_fault (λ v. name_fault m.stages [] [] (expansion_of (macros_of m) v)) ws ≡ None
-    → list_all (is_true (setting m c w) (macros_of m) []) ws ≡ list_all (closed_true c w []) (map (closed_axiom m) ws)
+    → are_true (setting m c w) (macros_of m) ws ≡ closed_satisfies (map (closed_axiom m) ws) c w
 true_alike m c w [] f = refl
 true_alike m c w (v ∷ vs) f =
     let e = expansion_of (macros_of m) v in
     let rest = first_fault (λ u. name_fault m.stages [] [] (expansion_of (macros_of m) u)) vs in
     let here = expansion_true (setting m c w) (macros_of m) [] v
-    ∙ closed_axiom_true (setting m c w) e (none_first (name_fault m.stages [] [] e) rest f) in
+    ∙ closing_true (setting m c w) [] [] [] refl tt e (none_first (name_fault m.stages [] [] e) rest f) in
     let later = true_alike m c w vs (none_second (name_fault m.stages [] [] e) rest f) in
     λ i. here i && later i
 
 -- the axioms are true exactly where the closed ones are
 pub satisfied_alike : (m : WrittenModel) → first_name_fault m ≡ None → (c : Case) (w : World Node)
-    → satisfies m c w ≡ list_all (closed_true c w []) (map (closed_axiom m) (axioms_of m))
+    → satisfies m c w ≡ closed_satisfies (map (closed_axiom m) (axioms_of m)) c w
 satisfied_alike m f c w = true_alike m c w (axioms_of m) (sym (names_expanded m (axioms_of m)) ∙ f)
 
 -- the first fault of a model, group by group

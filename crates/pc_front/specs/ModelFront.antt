@@ -1,6 +1,5 @@
 -- What the bytes of a whole model say: its stages and its closed axioms, or its first fault.
 use Rattle.std.specs.Prelude.{◌≡◌, ℕ, ⊤, List, [], Option, Some, None, length, map, slice_get}
-use Rattle.std.specs.List.{list_all}
 use Rattle.pc_common.specs.Case.{Case}
 use Rattle.pc_common.specs.World.{Node, World}
 use Rattle.pc_common.specs.declared.place.Place.{Place}
@@ -19,7 +18,7 @@ use Rattle.pc_syntax.specs.declared.closed.Closed.{Closed}
 use Rattle.pc_syntax.specs.Written.{Written, WrittenModel}
 use Rattle.pc_syntax.specs.Observable.{axioms_of, macros_of, satisfies}
 use Rattle.pc_syntax.specs.Expansion.{expansion_of}
-use Rattle.pc_syntax.specs.Closed.{PlainClosed, plain_closed, closed_true}
+use Rattle.pc_syntax.specs.Closed.{PlainClosed, plain_closed, closed_satisfies}
 use Rattle.pc_syntax.specs.Closing.{closing_of}
 use Rattle.pc_syntax.specs.ModelFault.{first_model_fault}
 use Rattle.pc_front.specs.declared.model_front.Stage.{Stage}
@@ -67,7 +66,7 @@ pub record IsFrontOf (m : WrittenModel) (front : ModelFront) : Type 0 where
   pub no_fault : first_model_fault m ≡ None
   pub stages : map stage_kept front.stages ≡ map stage_said m.stages
   pub axioms : plain_axioms front.axioms ≡ map (closed_axiom m) (axioms_of m)
-  pub true_alike : (c : Case) (w : World Node) → satisfies m c w ≡ list_all (closed_true c w []) (plain_axioms front.axioms)
+  pub true_alike : (c : Case) (w : World Node) → satisfies m c w ≡ closed_satisfies (plain_axioms front.axioms) c w
 
 abbrev pub IsFront : List ℕ → ModelFront → Type 0
 IsFront bytes front = (m : WrittenModel) × ModelOf bytes m × IsFrontOf m front

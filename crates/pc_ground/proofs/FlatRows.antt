@@ -1,18 +1,17 @@
 -- Rows and the trees that they spell: subtrees, sizes, children, literals, and that no two trees have the same rows.
-use Rattle.std.proofs.Common.{◌≡◌, ℕ, zero, suc, ◌+◌, ◌-◌, ◌<◌, ◌≤◌, ◌⊎◌, inl, inr, Bool, true, false, List, [], ◌∷◌, ◌++◌, Option, Some, None, length, drop, refl, sym, ◌∙◌, ap, subst, arith, append_assoc, length-append, length-drop}
+use Rattle.std.proofs.Common.{◌≡◌, ℕ, zero, suc, ◌+◌, ◌-◌, ◌<◌, ◌≤◌, inl, inr, false, List, [], ◌∷◌, ◌++◌, Some, None, length, drop, refl, sym, ◌∙◌, ap, subst, arith, append_assoc, length-append, length-drop}
 use Rattle.std.specs.Prelude.{slice_get, nat_lt}
 use Rattle.std.specs.List.{flat_map}
 use Rattle.std.specs.Option.{unwrap_or}
-use Rattle.std.proofs.lemmas.Bool.{ltb-true, ltb-false, lt-ltb}
+use Rattle.std.proofs.lemmas.Bool.{ltb-true, ltb-false}
 use Rattle.std.proofs.lemmas.Option.{slice_get_within, slice_get_past}
-use Rattle.pc_ground.specs.declared.literal.Literal.{Literal}
 use Rattle.pc_ground.specs.declared.row.RowKind.{RowKind}
 use Rattle.pc_ground.specs.declared.row.RowKind.TheVariants.{True, False, Lit, And, Or}
 use Rattle.pc_ground.specs.declared.row.Row.{Row}
 use Rattle.pc_ground.specs.Tree.{Tree, always, never, leaf, both, either, size_of}
 use Rattle.pc_ground.specs.Rows.{rows_of}
-use Rattle.pc_ground.specs.Refutes.{subtree_at, asserted, literal_of, literals_of}
-use Rattle.pc_ground.specs.Walks.{stride_of, stride, Walk, at_end, onward, literals_of_kind, literals_of_row}
+use Rattle.pc_ground.specs.Refutes.{subtree_at, literal_of, literals_of}
+use Rattle.pc_ground.specs.Walks.{literals_of_kind, literals_of_row}
 use Rattle.pc_ground.proofs.Bools.{true_or_false, false_from_not}
 
 not_lt : (p n : ℕ) → n ≤ p → nat_lt p n ≡ false

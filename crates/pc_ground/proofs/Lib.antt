@@ -6,6 +6,13 @@ pub mod Cuts
 pub mod StageWalks
 pub mod OpWalks
 pub mod NodeReading
-pub mod Went
 pub mod FlatRows
 pub mod Walks
+pub mod NormalForms
+pub mod UnfoldedTruth
+pub mod Refuted
+pub mod CutTruth
+pub mod UnfoldedClosing
+pub mod TreeNodes
+pub mod FirstSeen
+mod Examples

@@ -13,7 +13,7 @@ use Rattle.pc_ground.specs.NodeForm.{IsNodeForm, IsNodeIn, AreReadable}
 use Rattle.pc_ground.specs.NodeWords.{IsStage, AreSmall, AreWords, NamesNode, AreKept}
 use Rattle.pc_ground.proofs.Nodes.{node_parts}
 use Rattle.pc_ground.proofs.Cuts.{Cuts, same_cuts, words_cuts, form_grouped, decimal_lacks}
-use Rattle.pc_ground.proofs.StageWalks.{some_same, stage_name_is, stage_from_has, has_from_stage}
+use Rattle.pc_ground.proofs.StageWalks.{some_same, stage_name_is, stage_from_number, number_from_stage}
 
 -- a node's text, by the parts of its micro-op
 pub node_text_is : (names : Names) (a : Node) (o : MicroOp) → slice_get names.ops a.op ≡ Some o
@@ -21,7 +21,7 @@ pub node_text_is : (names : Names) (a : Node) (o : MicroOp) → slice_get names.
 node_text_is names a o at = ap (λ (m : Option MicroOp). op_text m ++ codes "@" ++ decimal a.core ++ codes ":" ++ stage_name names.stages a.stage) at
 
 pub op_at : (names : Names) (a : Node) → IsNodeIn names a → (o : MicroOp) × (slice_get names.ops a.op ≡ Some o)
-op_at names a h = found names.ops a.op h.op
+op_at names a h = found names.ops a.op h.op_of_test
   where
     found : (ops : List MicroOp) (k : ℕ) → k < length ops → (o : MicroOp) × (slice_get ops k ≡ Some o)
     found [] k inside = absurd (omega (arith, inside))
@@ -40,9 +40,9 @@ named_text names word w a stages words h =
 
 pub named_in : (names : Names) (w : NodeWords) (a : Node) → a.core < 64 → NamesNode names w a → IsNodeIn names a
 named_in names w a core h = record {
-  op = slice_get_within names.ops a.op h.op.0 h.op.1;
-  core = core;
-  stage = has_from_stage names.stages a.stage w.stage.now h.stage;
+  op_of_test = slice_get_within names.ops a.op h.op.0 h.op.1;
+  core_in_range = core;
+  stage_of_model = number_from_stage names.stages a.stage w.stage.now h.stage;
 }
 
 -- what words spell is what they name
@@ -54,14 +54,14 @@ named_by names word w a small stages words inside is =
     let cuts : Cuts word (decimal o.0.g) (decimal o.0.n) (decimal a.core) (stage_name names.stages a.stage) = record {
       g_lacks = decimal_lacks 46 (decimal o.0.g) refl (o.0.g, (bits.0, refl));
       n_lacks = decimal_lacks 64 (decimal o.0.n) refl (o.0.n, (bits.1, refl));
-      core_lacks = decimal_lacks 58 (decimal a.core) refl (a.core, (omega (arith, inside.core), refl));
+      core_lacks = decimal_lacks 58 (decimal a.core) refl (a.core, (omega (arith, inside.core_in_range), refl));
       is = is ∙ node_text_is names a o.0 o.1 ∙ form_grouped (decimal o.0.g) (decimal o.0.n) (decimal a.core) (stage_name names.stages a.stage);
     } in
     let same = same_cuts cuts (words_cuts words) in
-    let named = stage_from_has names.stages a.stage inside.stage in
+    let named = stage_from_number names.stages a.stage inside.stage_of_model in
     record {
       op = (o.0, o.1, decimal_injective o.0.g w.g (omega (arith, bits.0)) (omega (arith, words.g)) same.0, decimal_injective o.0.n w.n (omega (arith, bits.1)) (omega (arith, words.n)) same.1);
-      core = decimal_injective a.core w.core (omega (arith, inside.core)) (omega (arith, words.core)) same.2;
+      core = decimal_injective a.core w.core (omega (arith, inside.core_in_range)) (omega (arith, words.core)) same.2;
       stage = (let P : List ℕ → Type 0 = λ name. IsStage names.stages a.stage name in
           subst P (sym (stage_name_is names.stages stages a.stage named.0 named.1) ∙ same.3) named.1);
     }
@@ -80,13 +80,13 @@ text_cuts names a h small =
     record {
       g_lacks = decimal_lacks 46 (decimal o.0.g) refl (o.0.g, (bits.0, refl));
       n_lacks = decimal_lacks 64 (decimal o.0.n) refl (o.0.n, (bits.1, refl));
-      core_lacks = decimal_lacks 58 (decimal a.core) refl (a.core, (omega (arith, h.core), refl));
+      core_lacks = decimal_lacks 58 (decimal a.core) refl (a.core, (omega (arith, h.core_in_range), refl));
       is = node_text_is names a o.0 o.1 ∙ form_grouped (decimal o.0.g) (decimal o.0.n) (decimal a.core) (stage_name names.stages a.stage);
     }
 
 stage_known : (names : Names) (a : Node) → AreStages names.stages → IsNodeIn names a → IsStage names.stages a.stage (stage_name names.stages a.stage)
 stage_known names a stages h =
-    let named = stage_from_has names.stages a.stage h.stage in
+    let named = stage_from_number names.stages a.stage h.stage_of_model in
     let P : List ℕ → Type 0 = λ name. IsStage names.stages a.stage name in
     subst P (sym (stage_name_is names.stages stages a.stage named.0 named.1)) named.1
 
@@ -108,7 +108,7 @@ readable names kept = record {
           stage = stage_name names.stages a.stage;
           g_number = (o.0.g, (bits.0, refl));
           n_number = (o.0.n, (bits.1, refl));
-          core_number = (a.core, (omega (arith, h.core), refl));
+          core_number = (a.core, (omega (arith, h.core_in_range), refl));
           stage_name = kept.stages.names stage.0 (a.stage, stage_name names.stages a.stage) stage.1;
           is = node_text_is names a o.0 o.1;
         }
@@ -128,7 +128,7 @@ readable names kept = record {
         (kept.kept.once a.op b.op o.0 p.0 o.1 p.1
         (decimal_injective o.0.g p.0.g (omega (arith, bits.0)) (omega (arith, others.0)) same.0)
         (decimal_injective o.0.n p.0.n (omega (arith, bits.1)) (omega (arith, others.1)) same.1))
-        (decimal_injective a.core b.core (omega (arith, f.core)) (omega (arith, g.core)) same.2)
+        (decimal_injective a.core b.core (omega (arith, f.core_in_range)) (omega (arith, g.core_in_range)) same.2)
         (let P : List ℕ → Type 0 = λ name. IsStage names.stages b.stage name in
         one_stage names.stages kept.stages a.stage b.stage (stage_name names.stages a.stage) here (subst P (sym same.3) there))
 

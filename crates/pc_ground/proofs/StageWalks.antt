@@ -1,7 +1,7 @@
 -- Looking for a stage by its number or its name, a stage at a time.
 use Rattle.std.proofs.Common.{below_more, ◌≤◌, ◌≡◌, ◌≢◌, ℕ, zero, suc, inl, inr, ◌+◌, ◌<◌, ◌==◌, true, false, List, [], ◌∷◌, Some, length, drop, map, refl, sym, ◌∙◌, ap, arith, nat_eq, eq-eqb, eqb-true}
-use Rattle.std.specs.Prelude.{slice_get}
-use Rattle.std.specs.List.{list_any}
+use Rattle.std.specs.Prelude.{slice_get, Contains}
+use Rattle.pc_common.proofs.Elements.{In, in_from_contains, contains_from_in}
 use Rattle.std.specs.Option.{option_map, unwrap_or}
 use Rattle.std.specs.Cmp.Lexicographic.{pointwise}
 use Rattle.std.proofs.lemmas.List.{drop_more}
@@ -9,9 +9,9 @@ use Rattle.std.proofs.lemmas.Option.{slice_get_within, get_or_from_slice_get, sl
 use Rattle.std.proofs.lemmas.Bool.{ne_eqb}
 use Rattle.pc_common.specs.Lines.{StageName, stage_name}
 use Rattle.pc_ground.specs.declared.stage.Stage.{Stage}
-use Rattle.pc_ground.specs.Stages.{plain_stage, AreStages, has_stage}
+use Rattle.pc_ground.specs.Stages.{plain_stage, AreStages, numbers_of}
 use Rattle.pc_ground.specs.NodeWords.{IsStage}
-use Rattle.pc_ground.proofs.Bools.{and_first, and_second, and_both, or_either, or_first, or_second, true_or_false, not_both}
+use Rattle.pc_ground.proofs.Bools.{and_first, and_second, and_both, true_or_false, not_both}
 
 pub some_same : {X : Type 0} {x y : X} → Some x ≡ Some y → x ≡ y
 some_same {X} {x} {y} e = ap (λ o. unwrap_or o x) e
@@ -95,20 +95,20 @@ first_name (s ∷ ss) one (suc k) n name at =
 pub stage_name_is : (stages : List StageName) → AreStages stages → (n : ℕ) (name : List ℕ) → IsStage stages n name → stage_name stages n ≡ name
 stage_name_is stages h n name (k, at) = first_name stages h.one_number k n name at
 
-pub stage_from_has : (stages : List StageName) (n : ℕ) → has_stage stages n ≡ true → (name : List ℕ) × IsStage stages n name
-stage_from_has [] n h = cc
-stage_from_has (s ∷ ss) n h =
-    elim (or_either (s.0 == n) (list_any (λ t. t.0 == n) ss) h) [
-      | inl same ↦ (s.1, (zero, ap (λ k. Some (k, s.1)) (eqb-true s.0 n same)))
-      | inr later ↦ (let r = stage_from_has ss n later in (r.0, (suc r.1.0, r.1.1)))
-    ]
-
-pub has_from_stage : (stages : List StageName) (n : ℕ) (name : List ℕ) → IsStage stages n name → has_stage stages n ≡ true
-has_from_stage stages n name (k, at) = found stages k at
+pub stage_from_number : (stages : List StageName) (n : ℕ) → Contains (numbers_of stages) n → (name : List ℕ) × IsStage stages n name
+stage_from_number stages n h = found stages (in_from_contains n (numbers_of stages) h)
   where
-    found : (stages : List StageName) (k : ℕ) → slice_get stages k ≡ Some (n, name) → has_stage stages n ≡ true
+    found : (stages : List StageName) → In n (numbers_of stages) → (name : List ℕ) × IsStage stages n name
+    found [] i = elim i [ ]
+    found (s ∷ ss) (inl e) = (s.1, (zero, ap (λ k. Some (k, s.1)) e))
+    found (s ∷ ss) (inr i) = (let r = found ss i in (r.0, (suc r.1.0, r.1.1)))
+
+pub number_from_stage : (stages : List StageName) (n : ℕ) (name : List ℕ) → IsStage stages n name → Contains (numbers_of stages) n
+number_from_stage stages n name (k, at) = contains_from_in n (numbers_of stages) (found stages k at)
+  where
+    found : (stages : List StageName) (k : ℕ) → slice_get stages k ≡ Some (n, name) → In n (numbers_of stages)
     found [] k at = cc
     found (s ∷ ss) zero at =
-        let is : s ≡ (n, name) = cc in
-        or_first (s.0 == n) (list_any (λ t. t.0 == n) ss) (eq-eqb s.0 n (ap (λ t. t.0) is))
-    found (s ∷ ss) (suc k) at = or_second (s.0 == n) (list_any (λ t. t.0 == n) ss) (found ss k at)
+        let is : s ≡ (n, name) = some_same at in
+        inl (ap (λ t. t.0) is)
+    found (s ∷ ss) (suc k) at = inr (found ss k at)

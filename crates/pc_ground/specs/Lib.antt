@@ -3,11 +3,14 @@ pub mod Literals
 pub mod Tree
 pub mod Rows
 pub mod PlainGround
+pub mod Folded
 pub mod Unfolded
 pub mod GroundTree
 pub mod Numbers
 pub mod Refutes
 pub mod Walks
+pub mod CutWorlds
+pub mod Laws
 pub mod Stages
 pub mod Decimals
 pub mod NodeForm

@@ -1,14 +1,15 @@
 -- The text of a node, g.n@core:Stage, by its form, and which nodes are of a test and a model.
-use Rattle.std.specs.Prelude.{ℕ, ◌≡◌, ◌<◌, ◌++◌, List, Result, Ok, Err, length, map, codes, IsTrue}
+use Rattle.std.specs.Prelude.{ℕ, ◌≡◌, ◌++◌, List, Result, Ok, Err, map, codes, IsTrue}
 use Rattle.pc_common.specs.World.{Node}
 use Rattle.pc_common.specs.Lines.{Names, node_text}
+use Rattle.pc_syntax.specs.Observable.{IsNodeOf}
 use Rattle.pc_ground.specs.declared.node_key.NodeKey.{NodeKey}
 use Rattle.pc_ground.specs.declared.line_fault.LineFault.{LineFault}
 use Rattle.pc_ground.specs.declared.line_fault.LineFault.TheVariants.{Malformed, Foreign}
 use Rattle.pc_ground.specs.declared.front.Front.{Front}
 use Rattle.pc_ground.specs.Keys.{key_node}
 use Rattle.pc_ground.specs.Decimals.{IsDecimal}
-use Rattle.pc_ground.specs.Stages.{plain_stage, is_name, has_stage}
+use Rattle.pc_ground.specs.Stages.{plain_stage, numbers_of, is_name}
 
 -- three decimals and a name, whatever they name
 pub record IsNodeForm (word : List ℕ) : Type 0 where
@@ -27,10 +28,8 @@ abbrev pub names_of : Front → Names
 names_of front = record { ops = front.case.ops; stages = map plain_stage front.stages }
 
 -- the node's micro-op is the test's, its core is 0 to 63 and its stage is the model's
-pub record IsNodeIn (names : Names) (a : Node) : Type 0 where
-  pub op : a.op < length names.ops
-  pub core : a.core < 64
-  pub stage : IsTrue (has_stage names.stages a.stage)
+abbrev pub IsNodeIn : Names → Node → Type 0
+IsNodeIn names a = IsNodeOf (numbers_of names.stages) names.ops a
 
 -- what reading a word answers: the node that it is the text of, or why it is none's
 abbrev pub Reads : Names → List ℕ → Result NodeKey LineFault → Type 0

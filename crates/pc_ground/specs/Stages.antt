@@ -1,12 +1,13 @@
--- The stages of a model: their numbers and names, and which stages closed axioms speak of.
-use Rattle.std.specs.Prelude.{ℕ, ◌≡◌, ◌<◌, Bool, true, false, List, [], ◌∷◌, Some, map, slice_get, nat_le, ◌==◌, ◌&&◌, ◌||◌, IsTrue}
-use Rattle.std.specs.List.{list_any, list_all}
+-- The stages of a model: their numbers and names, and that axioms name no others.
+use Rattle.std.specs.Prelude.{ℕ, ◌≡◌, ◌<◌, Bool, false, List, [], ◌∷◌, Some, map, slice_get, nat_le, ◌==◌, ◌&&◌, ◌||◌, IsTrue}
+use Rattle.std.specs.List.{list_all}
 use Rattle.std.specs.Coded.{le_prop}
 use Rattle.std.proofs.Math.Nat.{ℕ_set}
 use Rattle.std.proofs.Math.Bool.{Bool-set}
 use Rattle.pc_common.specs.Lines.{StageName}
 use Rattle.pc_syntax.specs.declared.closed.Closed.{Closed}
-use Rattle.pc_syntax.specs.Closed.{PlainClosed, plain_closed, closed_not, closed_and, closed_or, closed_implies, closed_forall, closed_exists, closed_static, closed_nodes, closed_edges, closed_bind}
+use Rattle.pc_syntax.specs.Closed.{PlainClosed, plain_closed}
+use Rattle.pc_syntax.specs.StagesWithin.{StagesWithin, StagesWithin-prop}
 use Rattle.pc_ground.specs.declared.stage.Stage.{Stage}
 
 abbrev pub plain_stage : Stage → StageName
@@ -38,22 +39,14 @@ pub record AreStages (stages : List StageName) : Type 0 where
 pub AreStages-prop : (stages : List StageName) → IsProp (AreStages stages)
 AreStages-prop stages = hlevel (le_prop, ℕ_set, Bool-set)
 
--- one of the stages has this number
-abbrev pub has_stage : List StageName → ℕ → Bool
-has_stage stages n = list_any (λ s. s.0 == n) stages
+abbrev pub numbers_of : List StageName → List ℕ
+numbers_of stages = map (λ s. s.0) stages
 
--- each stage number in the formula is the number of one of the stages
-abbrev pub is_within : List StageName → PlainClosed → Bool
-is_within stages (closed_not p) = is_within stages p
-is_within stages (closed_and p q) = is_within stages p && is_within stages q
-is_within stages (closed_or p q) = is_within stages p && is_within stages q
-is_within stages (closed_implies p q) = is_within stages p && is_within stages q
-is_within stages (closed_forall sort p) = is_within stages p
-is_within stages (closed_exists sort p) = is_within stages p
-is_within stages (closed_static pred args) = true
-is_within stages (closed_nodes ts) = list_all (λ t. has_stage stages t.stage) ts
-is_within stages (closed_edges ts) = list_all (λ t. has_stage stages t.from.stage && has_stage stages t.to.stage) ts
-is_within stages (closed_bind args p) = is_within stages p
+-- each stage that the axioms name has one of these numbers
+abbrev pub AxiomsWithin : List ℕ → List PlainClosed → Type 0
+AxiomsWithin numbers [] = Unit {0}
+AxiomsWithin numbers (p ∷ ps) = StagesWithin numbers p × AxiomsWithin numbers ps
 
-abbrev pub axioms_within : List StageName → List PlainClosed → Bool
-axioms_within stages axioms = list_all (is_within stages) axioms
+pub AxiomsWithin-prop : (numbers : List ℕ) (axioms : List PlainClosed) → IsProp (AxiomsWithin numbers axioms)
+AxiomsWithin-prop numbers [] = hlevel
+AxiomsWithin-prop numbers (p ∷ ps) = hlevel (StagesWithin-prop numbers p, AxiomsWithin-prop numbers ps)

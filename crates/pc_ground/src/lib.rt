@@ -4,12 +4,16 @@
 //! or denied). `specs/` say which tree that is, what its truth in a world is, how it is written as flat
 //! rows in preorder, in which order its nodes are numbered, when a list of literals is consistent, and
 //! what a refutation of the tree is. Search and checker stand on this crate and not on each other.
+//!
+//! A `Front` is what both files say, down to its tree and the numbers of its nodes. `NodeText` writes a
+//! node of it as text and reads it back. `laws` join the layers: they say which definitions keep truth.
 #![tactic(auto)]
 
 mod decimal;
 mod flat;
 mod front;
 mod ground;
+mod laws;
 mod line_fault;
 mod literal;
 mod node_key;
@@ -18,12 +22,16 @@ mod node_words;
 mod numbering;
 mod row;
 mod stage;
-mod writing;
 
 pub use decimal::decimal_value;
 pub use flat::Flat;
 pub use front::Front;
 pub use ground::Ground;
+pub use laws::{
+    cut_is_world, nodes_are_named, normal_is_folded, normal_of_simplified, numbered_lists_nodes,
+    refutation_is_sound, rows_spell_one_tree, tree_is_kept, tree_says_closed, tree_says_model,
+    truth_is_of_literals, walk_is_asserted,
+};
 pub use line_fault::LineFault;
 pub use literal::Literal;
 pub use node_key::NodeKey;

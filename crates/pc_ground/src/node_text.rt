@@ -1,9 +1,10 @@
 ghost use Rattle.std.specs.Prelude.{◌≡◌, ◌≤◌, ◌<◌, ◌++◌, ℕ, List, MatchOption, Some, length, map, slice_get};
 ghost use Rattle.pc_common.specs.World.{Node};
 ghost use Rattle.pc_common.specs.Lines.{node_text, stage_name as name_of_stage};
+ghost use Rattle.pc_common.specs.Room.{Puts};
+ghost use Rattle.pc_common.specs.Writes.{Writes};
 ghost use Rattle.pc_case.specs.Kept.{IsKept, IsNamed};
 ghost use Rattle.pc_ground.specs.Keys.{key_node};
-ghost use Rattle.pc_common.specs.Writes.{Writes};
 ghost use Rattle.pc_ground.specs.Stages.{plain_stage};
 ghost use Rattle.pc_ground.specs.NodeForm.{names_of, IsNodeIn, Reads, Answers, AreReadable};
 ghost use Rattle.pc_ground.specs.NodeWords.{IsStage, AreSmall, AreKept, NamesNode};
@@ -13,11 +14,13 @@ use super::line_fault::LineFault;
 use super::node_key::NodeKey;
 use super::node_words::{NodeWords, node_words};
 use super::stage::Stages;
-use super::writing::write_pieces;
 use itoa::Buffer;
 use pc_case::{Case, OpId};
-use pc_common::{Failed, Sink};
+use pc_common::{Failed, Room, Sink};
 use std::marker::Model;
+
+/// How many core numbers there are, from 0.
+const CORES: u64 = 64;
 
 /// What the nodes of a front are written and read by: its test's micro-ops and its model's stages.
 #[derive(Drop)]
@@ -94,23 +97,30 @@ impl<'a> NodeText<'a> {
         requires { IsNodeIn self.now (key_node key) }
         ensures { Writes K.told K.faults K.taken sink.old sink.new result (node_text self.now (key_node key)) }
     {
+        let mut room = Room::new(sink);
+        self.put(&mut room, key)?;
+        room.flush()
+    }
+
+    /// Puts the node's text into a room in front of a sink. Takes no memory.
+    pub fn put<K: Sink>(&self, room: &mut Room<'_, K>, key: NodeKey) -> Result<(), Failed>
+        requires { IsNodeIn self.now (key_node key) }
+        ensures { Puts K.told K.faults K.taken room.old room.new result (node_text self.now (key_node key)) }
+    {
         let front = self.front;
         let id = front.case.op(key.op as usize).id;
         let mut g = Buffer::new();
         let mut n = Buffer::new();
         let mut core = Buffer::new();
-        write_pieces(
-            sink,
-            &[
-                g.format(id.g).as_bytes(),
-                b".",
-                n.format(id.n).as_bytes(),
-                b"@",
-                core.format(key.core).as_bytes(),
-                b":",
-                stage_name(&front.stages, key.stage),
-            ],
-        )
+        room.put_all(&[
+            g.format(id.g).as_bytes(),
+            b".",
+            n.format(id.n).as_bytes(),
+            b"@",
+            core.format(key.core).as_bytes(),
+            b":",
+            stage_name(&front.stages, key.stage),
+        ])
     }
 
     /// The node that the word is the text of: `Malformed` where it has no form g.n@core:Stage, `Foreign` where it
@@ -148,7 +158,7 @@ impl<'a> NodeText<'a> {
         };
         let op = front.case.find(id)?;
         let stage = stage_named(&front.stages, words.stage)?;
-        if words.core >= 64 {
+        if words.core >= CORES {
             return None;
         }
         Some(NodeKey {

@@ -29,7 +29,8 @@ use Rattle.pc_syntax.specs.Fault.{Fault, first_fault}
 use Rattle.pc_syntax.specs.NameFaults.{sort_fault, variable_fault, argument_fault, arguments_fault, arity_fault, location_fault, stage_name_fault, node_fault, edge_fault, value_fault, scope_fault, binding_fault, name_fault}
 use Rattle.pc_syntax.specs.Closing.{slot_of, closing_of_value, closing_of_bound, closing_of_arg, closing_of_args, closing_of_node, closing_of_edge, closing_of_static, closing_of}
 use Rattle.pc_syntax.proofs.NoFault.{none_first, none_second, none_unless}
-use Rattle.pc_syntax.proofs.Slots.{sort_of_meaning, Fits, SameFound, found, slice_get-end, Fits-more, Fits-quantified}
+use Rattle.pc_syntax.specs.Fits.{sort_of_meaning, Fits}
+use Rattle.pc_syntax.proofs.Slots.{SameFound, found, slice_get-end, Fits-more, Fits-quantified}
 
 -- a name has a value, which is that of the slot, of the sort
 pub record Valued (slots : List Meaning) (o : Option Meaning) (k : ℕ) (sort : Sort) : Type 0 where
@@ -81,12 +82,12 @@ core_argument (an_op i) h = cc
 core_argument (a_core k) h = refl
 
 module _ (slots : List Meaning) (env : Environment) (scope : Scope) (fits : Fits slots env scope) where
-  variable_value : (wanted : Sort) (w : Word) → variable_fault scope wanted w ≡ None
+  pub variable_value : (wanted : Sort) (w : Word) → variable_fault scope wanted w ≡ None
       → Valued slots (value_of env w.name) (slot_of scope w) wanted
   variable_value wanted w f =
       variable_valued slots (value_of env w.name) (binding_of scope w.name) (found slots env scope fits w.name) wanted w f
 
-  argument_law : (t : Takes) (a : Arg) → argument_fault scope t a ≡ None
+  pub argument_law : (t : Takes) (a : Arg) → argument_fault scope t a ≡ None
       → argument_of env t a ≡ Some (closed_argument slots (closing_of_arg scope t a))
   unfolding as_op as_core
   argument_law takes_op (word_arg w) f =
@@ -100,7 +101,7 @@ module _ (slots : List Meaning) (env : Environment) (scope : Scope) (fits : Fits
   argument_law takes_plain (word_arg w) f = refl
   argument_law takes_plain (number_arg n at) f = cc
 
-  arguments_law : (ts : List Takes) (args : List Arg) → length args ≡ length ts → arguments_fault scope ts args ≡ None
+  pub arguments_law : (ts : List Takes) (args : List Arg) → length args ≡ length ts → arguments_fault scope ts args ≡ None
       → arguments_of env ts args ≡ Some (map (closed_argument slots) (closing_of_args scope ts args))
   arguments_law [] [] same f = refl
   arguments_law [] (a ∷ as_) same f = absurd (omega arith)
@@ -153,7 +154,7 @@ module _ (slots : List Meaning) (env : Environment) (scope : Scope) (fits : Fits
   stage_law None w f = cc
   stage_law (Some n) w f = refl
 
-  node_law : (stages : List StageItem) (c : Case) (t : NodeTerm) → node_fault stages scope t ≡ None
+  pub node_law : (stages : List StageItem) (c : Case) (t : NodeTerm) → node_fault stages scope t ≡ None
       → node_of stages c env t ≡ closed_node c slots (closing_of_node stages scope t)
   node_law stages c t f =
       let rest = none_second (variable_fault scope Microop t.op) (option_or (location_fault scope t.core) (stage_name_fault stages t.stage)) f in
@@ -177,7 +178,7 @@ module _ (slots : List Meaning) (env : Environment) (scope : Scope) (fits : Fits
       λ i. node_holds w (node_law stages c t (none_first (node_fault stages scope t) (first_fault (node_fault stages scope) ts) f) i)
       && nodes_law stages c w ts (none_second (node_fault stages scope t) (first_fault (node_fault stages scope) ts) f) i
 
-  edge_law : (stages : List StageItem) (c : Case) (w : World Node) (t : EdgeTerm) → edge_fault stages scope t ≡ None
+  pub edge_law : (stages : List StageItem) (c : Case) (w : World Node) (t : EdgeTerm) → edge_fault stages scope t ≡ None
       → edge_holds w (node_of stages c env t.from) (node_of stages c env t.to)
       ≡ edge_holds w (closed_node c slots (closing_of_node stages scope t.from)) (closed_node c slots (closing_of_node stages scope t.to))
   edge_law stages c w t f =
@@ -195,7 +196,7 @@ module _ (slots : List Meaning) (env : Environment) (scope : Scope) (fits : Fits
       && edges_law stages c w ts (none_second (edge_fault stages scope t) (first_fault (edge_fault stages scope) ts) f) i
 
   -- an argument of an expansion
-  value_law : (a : Arg) → value_fault scope a ≡ None
+  pub value_law : (a : Arg) → value_fault scope a ≡ None
       → (value_of_arg env a ≡ Some (closed_value slots (closing_of_value scope a)))
       × (sort_of_meaning (closed_value slots (closing_of_value scope a)) ≡ sort_of_arg scope a)
   value_law (word_arg w) f =
@@ -204,7 +205,7 @@ module _ (slots : List Meaning) (env : Environment) (scope : Scope) (fits : Fits
   value_law (number_arg n at) f = (refl, refl)
 
   -- the names of a binding, with slots from this one on
-  bound_fits : (names : List (List ℕ)) (args : List Arg) (held : List Meaning) (k : ℕ)
+  pub bound_fits : (names : List (List ℕ)) (args : List Arg) (held : List Meaning) (k : ℕ)
       → length held ≡ k → first_fault (value_fault scope) args ≡ None → Fits held env scope
       → Fits (held ++ map (closed_value slots) (closing_of_bound scope names args))
       (bound_to env names args ++ env) (bindings_from scope k names args ++ scope)
@@ -238,7 +239,7 @@ bound_length scope [] args k = refl
 bound_length scope (n ∷ ns) [] k = refl
 bound_length scope (n ∷ ns) (a ∷ as_) k = ap (λ m. suc m) (bound_length scope ns as_ (k + 1))
 
-bound_slots : (slots : List Meaning) (scope : Scope) (names : List (List ℕ)) (args : List Arg) → length slots ≡ length scope
+pub bound_slots : (slots : List Meaning) (scope : Scope) (names : List (List ℕ)) (args : List Arg) → length slots ≡ length scope
     → length (slots ++ map (closed_value slots) (closing_of_bound scope names args)) ≡ length (bound_in scope names args)
 bound_slots slots scope names args same =
     let values = map (closed_value slots) (closing_of_bound scope names args) in
@@ -273,21 +274,21 @@ any_cores : (f g : Meaning → Bool) → ((v : Meaning) → sort_of_meaning v �
 any_cores f g h [] = refl
 any_cores f g h (x ∷ xs) = λ i. h (a_core x) refl i || any_cores f g h xs i
 
-all_in_range : (c : Case) (sort : Sort) (f g : Meaning → Bool) → ((v : Meaning) → sort_of_meaning v ≡ sort → f v ≡ g v)
+pub all_in_range : (c : Case) (sort : Sort) (f g : Meaning → Bool) → ((v : Meaning) → sort_of_meaning v ≡ sort → f v ≡ g v)
     → list_all f (range_of c sort) ≡ list_all g (range_of c sort)
 all_in_range c Microop f g h = all_ops f g h (below (length c.ops))
 all_in_range c Core f g h = all_cores f g h (below (cores_of c.ops))
 
-any_in_range : (c : Case) (sort : Sort) (f g : Meaning → Bool) → ((v : Meaning) → sort_of_meaning v ≡ sort → f v ≡ g v)
+pub any_in_range : (c : Case) (sort : Sort) (f g : Meaning → Bool) → ((v : Meaning) → sort_of_meaning v ≡ sort → f v ≡ g v)
     → list_any f (range_of c sort) ≡ list_any g (range_of c sort)
 any_in_range c Microop f g h = any_ops f g h (below (length c.ops))
 any_in_range c Core f g h = any_cores f g h (below (cores_of c.ops))
 
-one_more : (slots : List Meaning) (v : Meaning) (scope : Scope) (name : List ℕ) (sort : Sort) → length slots ≡ length scope
+pub one_more : (slots : List Meaning) (v : Meaning) (scope : Scope) (name : List ℕ) (sort : Sort) → length slots ≡ length scope
     → length (slots ++ v ∷ []) ≡ length (quantified_in scope name sort)
 one_more slots v scope name sort same = omega (arith, length-append slots (v ∷ []), same)
 
-static_true : (slots : List Meaning) (env : Environment) (scope : Scope) → Fits slots env scope
+pub static_true : (slots : List Meaning) (env : Environment) (scope : Scope) → Fits slots env scope
     → (stages : List StageItem) (c : Case) (w : World Node) (pred : Word) (args : List Arg)
     → name_fault stages [] scope (static_ pred args) ≡ None
     → static_holds c env pred.name args ≡ closed_true c w slots (closing_of stages scope (static_ pred args))
@@ -345,8 +346,3 @@ closing_true s slots env scope same fits (bind_ at names args p) f =
     (bound_fits slots env scope fits names args slots (length scope) same values fits)
     p
     (none_second (binding_fault scope at names args) (name_fault s.stages [] inside p) f)
-
--- closing keeps the truth of an axiom
-pub closed_axiom_true : (s : Setting) (e : Written) → name_fault s.stages [] [] e ≡ None
-    → is_true s [] [] e ≡ closed_true s.case s.world [] (closing_of s.stages [] e)
-closed_axiom_true s e f = closing_true s [] [] [] refl tt e f

@@ -3,5 +3,6 @@ pub mod NoFault
 pub mod Slots
 pub mod ClosingTruth
 pub mod ClosingShape
+pub mod ClosingStages
 pub mod ExpandedLaws
 mod Examples

@@ -5,17 +5,7 @@ use Rattle.pc_syntax.specs.declared.term.Sort.TheVariants.{Microop, Core}
 use Rattle.pc_common.specs.Names.{same_name}
 use Rattle.pc_syntax.specs.Truth.{Meaning, an_op, a_core, Environment, value_of}
 use Rattle.pc_syntax.specs.Scope.{Binding, Scope, binding_of, quantified_in}
-
-abbrev pub sort_of_meaning : Meaning → Sort
-sort_of_meaning (an_op i) = Microop
-sort_of_meaning (a_core k) = Core
-
--- the environment and the scope have the same names, each with the value of its slot, of its sort
-abbrev pub Fits : List Meaning → Environment → Scope → Type 0
-Fits slots [] [] = Unit {0}
-Fits slots (e ∷ es) (b ∷ bs) =
-    (e.0 ≡ b.name) × (slice_get slots b.slot ≡ Some e.1) × (sort_of_meaning e.1 ≡ b.sort) × Fits slots es bs
-Fits slots _ _ = ⊥
+use Rattle.pc_syntax.specs.Fits.{sort_of_meaning, Fits}
 
 -- a value and a binding of one name, or neither
 abbrev pub SameFound : List Meaning → Option Meaning → Option Binding → Type 0

@@ -95,3 +95,7 @@ closed_true c w slots (closed_nodes ts) = list_all (λ t. node_holds w (closed_n
 closed_true c w slots (closed_edges ts) =
     list_all (λ t. edge_holds w (closed_node c slots t.from) (closed_node c slots t.to)) ts
 closed_true c w slots (closed_bind args p) = closed_true c w (slots ++ map (closed_value slots) args) p
+
+-- each axiom is true in the world, with no slots
+abbrev pub closed_satisfies : List PlainClosed → Case → World Node → Bool
+closed_satisfies axioms c w = list_all (closed_true c w []) axioms

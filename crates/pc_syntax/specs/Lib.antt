@@ -10,7 +10,9 @@ pub mod Sizes
 pub mod Expansion
 pub mod Closed
 pub mod IsClosed
+pub mod StagesWithin
 pub mod Scope
+pub mod Fits
 pub mod NameFaults
 pub mod Closing
 pub mod ModelFault

@@ -1,10 +1,10 @@
 -- Which worlds satisfy a model, and when a test's outcome is observable.
-use Rattle.std.specs.Prelude.{◌<◌, Bool, List, [], ◌∷◌, length, reverse, All, Contains, map, IsTrue}
-use Rattle.std.specs.List.{list_all, flat_map}
-use Rattle.pc_common.specs.Case.{Case}
+use Rattle.std.specs.Prelude.{ℕ, ◌<◌, Bool, List, [], ◌∷◌, length, reverse, All, Contains, map, IsTrue}
+use Rattle.std.specs.List.{flat_map}
+use Rattle.pc_common.specs.Case.{MicroOp, Case}
 use Rattle.pc_common.specs.World.{Node, World, IsWorld}
-use Rattle.pc_syntax.specs.Written.{Written, MacroAt, WrittenItem, axiom_, macro_, WrittenModel}
-use Rattle.pc_syntax.specs.Truth.{Setting, is_true}
+use Rattle.pc_syntax.specs.Written.{Written, MacroAt, WrittenItem, axiom_, macro_, stage_numbers, WrittenModel}
+use Rattle.pc_syntax.specs.Truth.{Setting, are_true}
 
 abbrev pub axiom_of : WrittenItem → List Written
 axiom_of (axiom_ at body) = body ∷ []
@@ -28,18 +28,22 @@ macros_of m = reverse (macros_in_order m)
 abbrev pub setting : WrittenModel → Case → World Node → Setting
 setting m c w = record { stages = m.stages; case = c; world = w }
 
--- every axiom is true in the empty environment
+-- every axiom is true, with all macros of the file
 abbrev pub satisfies : WrittenModel → Case → World Node → Bool
-satisfies m c w = list_all (is_true (setting m c w) (macros_of m) []) (axioms_of m)
+satisfies m c w = are_true (setting m c w) (macros_of m) (axioms_of m)
 
--- the node's micro-op is the test's, its core is 0 to 63 and its stage is the model's
-pub record IsNodeOf (m : WrittenModel) (c : Case) (a : Node) : Type 0 where
-  pub op_of_test : a.op < length c.ops
+-- the node's micro-op is one of these, its core is 0 to 63 and its stage has one of these numbers
+pub record IsNodeOf (stages : List ℕ) (ops : List MicroOp) (a : Node) : Type 0 where
+  pub op_of_test : a.op < length ops
   pub core_in_range : a.core < 64
-  pub stage_of_model : Contains (map (λ s. s.number) m.stages) a.stage
+  pub stage_of_model : Contains stages a.stage
 
-abbrev pub IsWorldOf : WrittenModel → Case → World Node → Type 0
-IsWorldOf m c w = IsWorld w × All (IsNodeOf m c) w.nodes
+abbrev pub IsWorldOf : List ℕ → List MicroOp → World Node → Type 0
+IsWorldOf stages ops w = IsWorld w × All (IsNodeOf stages ops) w.nodes
+
+-- some world over these stages and micro-ops satisfies
+abbrev pub IsObservable : List ℕ → List MicroOp → (World Node → Bool) → Type 0
+IsObservable stages ops satisfied = (w : World Node) × IsWorldOf stages ops w × IsTrue (satisfied w)
 
 abbrev pub Observable : WrittenModel → Case → Type 0
-Observable m c = (w : World Node) × IsWorldOf m c w × IsTrue (satisfies m c w)
+Observable m c = IsObservable (stage_numbers m.stages) c.ops (satisfies m c)

@@ -143,3 +143,7 @@ is_true s (m ∷ ms) env (expand_ at name args) =
     if same_name m.name.name name.name
     then is_true s ms (bound_to env (map (λ w. w.name) m.parameters) args ++ env) m.body
     else is_true s ms env (expand_ at name args)
+
+-- each axiom is true in the empty environment
+abbrev pub are_true : Setting → List MacroAt → List Written → Bool
+are_true s ms axioms = list_all (is_true s ms []) axioms

@@ -54,6 +54,9 @@ written_item (Axiom at body) = axiom_ at (written body)
 written_item (Macro name parameters body) =
     macro_ (record { name = name; parameters = parameters; body = written body })
 
+abbrev pub stage_numbers : List StageItem → List ℕ
+stage_numbers stages = map (λ s. s.number) stages
+
 pub record WrittenModel : Type 0 where
   pub stages : List StageItem
   pub items : List WrittenItem

@@ -8,7 +8,7 @@ use Rattle.pc_common.specs.World.{Node, Edge}
 use Rattle.pc_syntax.specs.declared.term.Sort.TheVariants.{Microop, Core}
 use Rattle.pc_syntax.specs.declared.term.NodeTerm.{NodeTerm}
 use Rattle.pc_syntax.specs.declared.model.StageItem.{StageItem}
-use Rattle.pc_syntax.specs.Written.{Written, not_, and_, or_, implies_, forall_, exists_, static_, nodes_, edges_, expand_, bind_, WrittenItem, axiom_, macro_, WrittenModel}
+use Rattle.pc_syntax.specs.Written.{Written, not_, and_, or_, implies_, forall_, exists_, static_, nodes_, edges_, expand_, bind_, WrittenItem, axiom_, macro_, stage_numbers, WrittenModel}
 use Rattle.pc_syntax.specs.Truth.{Environment, an_op, node_of, static_holds}
 use Rattle.pc_syntax.specs.Observable.{axioms_of, IsNodeOf}
 use Rattle.edge_model.specs.EdgeModel.{IsOneEdge, IsGuard, IsEdgeFormula, IsEdgeItem, IsEdgeModel, stage_names}
@@ -111,11 +111,11 @@ items_of m c (macro_ x ∷ items) kept each e i = items_of m c items kept (λ it
 
 -- both ends of an edge that the axioms assert
 pub asserted_of : (m : WrittenModel) (c : Case) → Cores c → IsEdgeModel m → (e : Edge) → In e (asserted_edges m c)
-    → IsNodeOf m c e.0 × IsNodeOf m c e.1
+    → IsNodeOf (stage_numbers m.stages) c.ops e.0 × IsNodeOf (stage_numbers m.stages) c.ops e.1
 asserted_of m c kept is e i =
     let both = items_of m c m.items kept
     (λ it j. All-contains (IsEdgeItem (stage_names m)) m.items it is.edge_items (contains_from_in it m.items j)) e i in
     (node both.0, node both.1)
   where
-    node : {a : Node} → IsOf m.stages c a → IsNodeOf m c a
+    node : {a : Node} → IsOf m.stages c a → IsNodeOf (stage_numbers m.stages) c.ops a
     node {a} h = record { op_of_test = h.0; core_in_range = h.1; stage_of_model = contains_from_in a.stage (map (λ s. s.number) m.stages) h.2 }

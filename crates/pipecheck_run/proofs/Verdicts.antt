@@ -7,7 +7,7 @@ use Rattle.pc_common.specs.Case.{Case}
 use Rattle.pc_common.specs.World.{Node, Edge}
 use Rattle.pc_common.specs.Chain.{Leads, Acyclic}
 use Rattle.pc_common.specs.Generated.{IsListed, HasEnds}
-use Rattle.pc_syntax.specs.Written.{WrittenModel}
+use Rattle.pc_syntax.specs.Written.{stage_numbers, WrittenModel}
 use Rattle.pc_syntax.specs.Observable.{IsNodeOf}
 use Rattle.edge_model.specs.EdgeModel.{IsEdgeModel}
 use Rattle.edge_graph.specs.Joins.{Joins, IsBelow, IsCycle, IsAcyclic}
@@ -145,7 +145,7 @@ order_shows m c keys edges kept is g acyclic = record {
       let at = slice_in keys r.0 r.1 in
       let e = g.ends at.0 r.0 at.1 in
       let both = asserted_of m c kept is e.0 (in_from_contains e.0 (asserted_edges m c) e.1) in
-      let P : Node → Type 0 = IsNodeOf m c in
+      let P : Node → Type 0 = IsNodeOf (stage_numbers m.stages) c.ops in
       elim (e.2) [ inl f ↦ subst P (f ∙ r.2) both.0 | inr f ↦ subst P (f ∙ r.2) both.1 ];
   all = λ a b i.
       let r = g.complete (a, b) (contains_from_in (a, b) (asserted_edges m c) i) in

@@ -7,7 +7,7 @@ use Rattle.pc_common.specs.Case.{Case}
 use Rattle.pc_common.specs.World.{Node, Edge, same_node, World, IsWorld}
 use Rattle.pc_common.specs.Chain.{Leads, Chain, Acyclic}
 use Rattle.pc_common.specs.Generated.{IsListed, HasEnds, IsGenerated}
-use Rattle.pc_syntax.specs.Written.{Written, WrittenItem, axiom_, macro_, WrittenModel, MacroAt}
+use Rattle.pc_syntax.specs.Written.{Written, WrittenItem, axiom_, macro_, stage_numbers, WrittenModel, MacroAt}
 use Rattle.pc_syntax.specs.Truth.{is_true}
 use Rattle.pc_syntax.specs.Observable.{setting, satisfies, axioms_of, macros_of, IsNodeOf, IsWorldOf, Observable}
 use Rattle.edge_model.specs.EdgeModel.{IsEdgeItem, IsEdgeModel, stage_names}
@@ -59,15 +59,15 @@ contained (x ∷ xs) (suc k) d h = inr (contained xs k d (omega arith))
 pub record Shows (m : WrittenModel) (c : Case) (nodes : List Node) (edges : List Edge) : Type 0 where
   pub ends : HasEnds nodes edges
   pub acyclic : Acyclic (IsListed edges)
-  pub nodes_of : (a : Node) → In a nodes → IsNodeOf m c a
+  pub nodes_of : (a : Node) → In a nodes → IsNodeOf (stage_numbers m.stages) c.ops a
   pub all : (a b : Node) → In (a, b) (asserted_edges m c) → IsListed edges a b
 
 pub graph_world : (m : WrittenModel) (c : Case) (nodes : List Node) (edges : List Edge) → IsEdgeModel m → Shows m c nodes edges
-    → (w : World Node) × IsGenerated nodes edges w × IsWorldOf m c w × IsTrue (satisfies m c w)
+    → (w : World Node) × IsGenerated nodes edges w × IsWorldOf (stage_numbers m.stages) c.ops w × IsTrue (satisfies m c w)
 graph_world m c nodes edges is s =
     let r = generates same_node node_tells nodes edges s.ends s.acyclic in
     let w : World Node = r.0 in
-    let P : List Node → Type 0 = λ ns. All (IsNodeOf m c) ns in (
+    let P : List Node → Type 0 = λ ns. All (IsNodeOf (stage_numbers m.stages) c.ops) ns in (
       w,
       r.1,
       (r.2, subst P (sym r.1.nodes_are) (all_nodes nodes (λ a i. s.nodes_of a i))),
@@ -75,5 +75,5 @@ graph_world m c nodes edges is s =
           (λ e i. (has_edge_is w e.0 e.1).1 ((r.1.order_is e.0 e.1).1 ([], s.all e.0 e.1 i))),
     )
   where
-    all_nodes : (xs : List Node) → ((a : Node) → In a xs → IsNodeOf m c a) → All (IsNodeOf m c) xs
+    all_nodes : (xs : List Node) → ((a : Node) → In a xs → IsNodeOf (stage_numbers m.stages) c.ops a) → All (IsNodeOf (stage_numbers m.stages) c.ops) xs
     all_nodes xs each k d inside = each (get_or xs k d) (contained xs k d inside)

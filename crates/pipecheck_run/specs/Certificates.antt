@@ -5,7 +5,7 @@ use Rattle.pc_common.specs.World.{Node, Edge, World}
 use Rattle.pc_common.specs.Chain.{Leads}
 use Rattle.pc_common.specs.Generated.{IsListed, HasEnds, IsGenerated}
 use Rattle.pc_common.specs.Lines.{Names, Line, observable, unobservable, verdict, second, node, edge, cycle, end, lines_text}
-use Rattle.pc_syntax.specs.Written.{WrittenModel}
+use Rattle.pc_syntax.specs.Written.{stage_numbers, WrittenModel}
 use Rattle.pc_syntax.specs.Observable.{IsWorldOf, satisfies}
 use Rattle.pipecheck_run.specs.Asserted.{asserted_edges}
 
@@ -31,7 +31,7 @@ pub record IsGraphText (m : WrittenModel) (c : Case) (text : List ℕ) : Type 0 
   pub ends : HasEnds nodes edges
   pub world : World Node
   pub generated : IsGenerated nodes edges world
-  pub of_both : IsWorldOf m c world
+  pub of_both : IsWorldOf (stage_numbers m.stages) c.ops world
   pub satisfied : IsTrue (satisfies m c world)
 
 -- each node has an asserted edge to the next, and the last to the first

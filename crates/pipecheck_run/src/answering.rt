@@ -1,32 +1,45 @@
-ghost use Rattle.std.specs.Prelude.{◌≡◌, ◌≤◌, ◌++◌, IsTrue, OnErr};
+ghost use Rattle.std.specs.Prelude.{◌≡◌, ◌≤◌, ◌+◌, ◌++◌, length};
 ghost use Rattle.std.specs.List.{flat_map};
-ghost use Rattle.std.specs.Bool.{OnTrue};
-ghost use Rattle.pc_common.specs.Faults.{Rose};
-ghost use Rattle.pipecheck_run.specs.Writing.{Went};
+ghost use Rattle.pc_common.specs.Writes.{Writes};
 ghost use Rattle.pipecheck_run.specs.Answered.{refusal_text, answer_text, answer_status};
 
 use super::answer::{Answer, Refusal};
 use super::report::write_verdict;
 use super::words::{fault_word, file_word};
-use super::writing::write_pieces;
 use arrayvec::ArrayVec;
 use itoa::Buffer;
 use pc_common::{Failed, Sink, Status, write_all};
 
-/// The longest line of a refusal is below this many bytes.
+/// No line of a refusal has more bytes.
 const LINE: usize = 96;
 
-/// Writes the line of a refusal as one piece.
-fn write_refusal<K: Sink>(out: &mut K, refusal: &Refusal) -> Result<(), Failed>
-    ensures same_told { K.told out.new ≡ K.told out.old }
-    ensures count { K.faults out.old ≤ K.faults out.new }
-    ensures cause { OnErr result (Rose (K.faults out.old) (K.faults out.new)) }
-    ensures text { IsTrue (K.told out.old) → Went result (K.taken out.old) (refusal_text refusal.now) (K.taken out.new) }
+/// Puts the piece behind the line.
+fn extend(line: &mut ArrayVec<u8, LINE>, piece: &[u8])
+    requires { length line.old.items + length piece.now ≤ 96 }
+    ensures { line.new.items ≡ line.old.items ++ piece.now }
+{
+    line.try_extend_from_slice(piece).unwrap();
+}
+
+/// Puts the pieces behind the line, one behind another.
+fn join(line: &mut ArrayVec<u8, LINE>, pieces: &[&[u8]])
+    requires { length line.old.items + length (flat_map (λ p. p.now) pieces.now) ≤ 96 }
+    ensures { line.new.items ≡ line.old.items ++ flat_map (λ p. p.now) pieces.now }
+{
+    for piece in pieces {
+        extend(line, piece);
+    }
+}
+
+/// The line of a refusal, which always fits: 38 bytes of words at most, and two numbers of ten digits.
+fn refusal_line(refusal: &Refusal) -> ArrayVec<u8, LINE>
+    ensures { result.items ≡ refusal_text refusal.now }
 {
     let mut line = Buffer::new();
     let mut column = Buffer::new();
-    write_joined(
-        out,
+    let mut text = ArrayVec::new();
+    join(
+        &mut text,
         &[
             b"refused ",
             file_word(refusal.fault.file),
@@ -38,42 +51,20 @@ fn write_refusal<K: Sink>(out: &mut K, refusal: &Refusal) -> Result<(), Failed>
             column.format(refusal.column).as_bytes(),
             b"\n",
         ],
-    )
+    );
+    text
 }
 
-/// Puts the pieces behind one another into the line, where they fit.
-fn join(line: &mut ArrayVec<u8, LINE>, pieces: &[&[u8]]) -> bool
-    ensures { OnTrue result (line.new.items ≡ line.old.items ++ flat_map (λ p. p.now) pieces.now) }
+/// Writes the line of a refusal as one piece: the text of `refusal_line`, by one `write_all`.
+fn write_refusal<K: Sink>(out: &mut K, refusal: &Refusal) -> Result<(), Failed>
+    ensures { Writes K.told K.faults K.taken out.old out.new result (refusal_text refusal.now) }
 {
-    for piece in pieces {
-        if line.try_extend_from_slice(piece).is_err() {
-            return false;
-        }
-    }
-    true
-}
-
-/// Writes the pieces as one piece, where they are short.
-fn write_joined<K: Sink>(out: &mut K, pieces: &[&[u8]]) -> Result<(), Failed>
-    ensures same_told { K.told out.new ≡ K.told out.old }
-    ensures count { K.faults out.old ≤ K.faults out.new }
-    ensures cause { OnErr result (Rose (K.faults out.old) (K.faults out.new)) }
-    ensures text { IsTrue (K.told out.old) → Went result (K.taken out.old) (flat_map (λ p. p.now) pieces.now) (K.taken out.new) }
-{
-    let mut line: ArrayVec<u8, LINE> = ArrayVec::new();
-    if join(&mut line, pieces) {
-        write_all(out, line.as_slice())
-    } else {
-        write_pieces(out, pieces)
-    }
+    write_all(out, refusal_line(refusal).as_slice())
 }
 
 /// Writes the text of an answer. Takes no memory.
 pub(crate) fn write_answer<K: Sink>(out: &mut K, answer: &Answer) -> Result<(), Failed>
-    ensures same_told { K.told out.new ≡ K.told out.old }
-    ensures count { K.faults out.old ≤ K.faults out.new }
-    ensures cause { OnErr result (Rose (K.faults out.old) (K.faults out.new)) }
-    ensures text { IsTrue (K.told out.old) → Went result (K.taken out.old) (answer_text answer.now) (K.taken out.new) }
+    ensures { Writes K.told K.faults K.taken out.old out.new result (answer_text answer.now) }
 {
     match answer {
         Answer::Usage => write_all(out, b"pipecheck: bad command line\n"),

@@ -1,6 +1,7 @@
 ghost use Rattle.std.specs.Prelude.{◌≡◌, ◌≢◌, ◌≤◌, ◌<◌, ◌^◌, ◌↔◌, ◌⊎◌, ℕ, List, None, length, map, IfOk, IsTrue};
 ghost use Rattle.std.specs.String.{string_bytes};
 ghost use Rattle.pc_common.specs.Faults.{Rose};
+ghost use Rattle.pc_common.specs.Reads.{Reads};
 ghost use Rattle.pc_common.specs.declared.status.Status.TheVariants.{Usage as SUsage, ReadFault as SReadFault, Memory as SMemory};
 ghost use Rattle.pipecheck_run.specs.Command.{IsCheck, IsNoCommand};
 ghost use Rattle.pipecheck_run.specs.Language.{Comes, fault_at, start};
@@ -78,10 +79,7 @@ fn ended(file: Which, end: ReadEnd) -> Answer
 
 /// Reads the model, then the test, and decides.
 fn check_files<F: Files>(alloc: Global, check: Check<'_>, files: &mut F) -> Answer
-    ensures same_told { F.told files.new ≡ F.told files.old }
-    ensures same_held { F.holds files.new ≡ F.holds files.old }
-    ensures same_calm { F.calm files.new ≡ F.calm files.old }
-    ensures count { F.faults files.old ≤ F.faults files.new }
+    ensures keeps { Reads F.told F.holds F.calm F.faults files.old files.new }
     ensures no_usage { answer_status result ≢ SUsage }
     ensures cause { answer_status result ≡ SReadFault → Rose (F.faults files.old) (F.faults files.new) }
     ensures calm { IsTrue (F.calm files.old) → answer_status result ≡ SReadFault → Comes (F.holds files.old) check.entry.model.now check.entry.test.now }
@@ -107,10 +105,7 @@ fn check_files<F: Files>(alloc: Global, check: Check<'_>, files: &mut F) -> Answ
 
 /// Decides the answer to the words.
 pub(crate) fn answer_to<F: Files>(alloc: Global, words: &[String], files: &mut F) -> Answer
-    ensures same_told { F.told files.new ≡ F.told files.old }
-    ensures same_held { F.holds files.new ≡ F.holds files.old }
-    ensures same_calm { F.calm files.new ≡ F.calm files.old }
-    ensures count { F.faults files.old ≤ F.faults files.new }
+    ensures keeps { Reads F.told F.holds F.calm F.faults files.old files.new }
     ensures usage { (answer_status result ≡ SUsage) ↔ IsNoCommand (map string_bytes words.now) }
     ensures cause { answer_status result ≡ SReadFault → Rose (F.faults files.old) (F.faults files.new) }
     ensures calm { IsTrue (F.calm files.old) → (model test : List ℕ) → IsCheck (map string_bytes words.now) model test

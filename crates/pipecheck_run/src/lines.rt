@@ -1,8 +1,8 @@
-ghost use Rattle.std.specs.Prelude.{◌≡◌, ◌≤◌, ◌++◌, ℕ, List, IsTrue, OnErr, codes, map};
+ghost use Rattle.std.specs.Prelude.{◌≡◌, ◌++◌, codes, map};
 ghost use Rattle.std.specs.List.{flat_map};
-ghost use Rattle.pc_common.specs.Faults.{Rose};
+ghost use Rattle.pc_common.specs.Writes.{Writes};
 ghost use Rattle.pc_common.specs.Lines.{line_text, node, edge, node_text, nodes_text};
-ghost use Rattle.pipecheck_run.specs.Writing.{Went, names_by, part_text};
+ghost use Rattle.pipecheck_run.specs.Writing.{names_by, part_text};
 ghost use Rattle.pipecheck_run.specs.Graphs.{key_node, node_at, edge_at};
 
 use super::graph::NodeKey;
@@ -12,11 +12,8 @@ use pc_common::{Failed, Sink, write_all};
 
 /// Writes a part of a line.
 fn write_part<K: Sink>(out: &mut K, names: &Names<'_>, part: &Part<'_>) -> Result<(), Failed>
-    ensures same_told { K.told out.new ≡ K.told out.old }
-    ensures count { K.faults out.old ≤ K.faults out.new }
-    ensures cause { OnErr result (Rose (K.faults out.old) (K.faults out.new)) }
-    ensures text { IsTrue (K.told out.old) → Went result (K.taken out.old)
-        (part_text (names_by names.now.case.now names.now.stages.now) part.now) (K.taken out.new) }
+    ensures { Writes K.told K.faults K.taken out.old out.new result
+        (part_text (names_by names.now.case.now names.now.stages.now) part.now) }
 {
     match part {
         Part::Bytes(bytes) => write_all(out, bytes),
@@ -30,11 +27,8 @@ pub(crate) fn write_parts<K: Sink>(
     names: &Names<'_>,
     parts: &[Part<'_>],
 ) -> Result<(), Failed>
-    ensures same_told { K.told out.new ≡ K.told out.old }
-    ensures count { K.faults out.old ≤ K.faults out.new }
-    ensures cause { OnErr result (Rose (K.faults out.old) (K.faults out.new)) }
-    ensures text { IsTrue (K.told out.old) → Went result (K.taken out.old)
-        (flat_map (part_text (names_by names.now.case.now names.now.stages.now)) parts.now) (K.taken out.new) }
+    ensures { Writes K.told K.faults K.taken out.old out.new result
+        (flat_map (part_text (names_by names.now.case.now names.now.stages.now)) parts.now) }
 {
     for part in parts {
         write_part(out, names, part)?;
@@ -62,11 +56,8 @@ pub(crate) fn write_node_lines<K: Sink>(
     names: &Names<'_>,
     keys: &[NodeKey],
 ) -> Result<(), Failed>
-    ensures same_told { K.told out.new ≡ K.told out.old }
-    ensures count { K.faults out.old ≤ K.faults out.new }
-    ensures cause { OnErr result (Rose (K.faults out.old) (K.faults out.new)) }
-    ensures text { IsTrue (K.told out.old) → Went result (K.taken out.old)
-        (flat_map (λ key. line_text (names_by names.now.case.now names.now.stages.now) (node (key_node key))) keys.now) (K.taken out.new) }
+    ensures { Writes K.told K.faults K.taken out.old out.new result
+        (flat_map (λ key. line_text (names_by names.now.case.now names.now.stages.now) (node (key_node key))) keys.now) }
 {
     for key in keys {
         write_node_line(out, names, *key)?;
@@ -76,11 +67,8 @@ pub(crate) fn write_node_lines<K: Sink>(
 
 /// Writes the line of a node.
 fn write_node_line<K: Sink>(out: &mut K, names: &Names<'_>, key: NodeKey) -> Result<(), Failed>
-    ensures same_told { K.told out.new ≡ K.told out.old }
-    ensures count { K.faults out.old ≤ K.faults out.new }
-    ensures cause { OnErr result (Rose (K.faults out.old) (K.faults out.new)) }
-    ensures text { IsTrue (K.told out.old) → Went result (K.taken out.old)
-        (line_text (names_by names.now.case.now names.now.stages.now) (node (key_node key))) (K.taken out.new) }
+    ensures { Writes K.told K.faults K.taken out.old out.new result
+        (line_text (names_by names.now.case.now names.now.stages.now) (node (key_node key))) }
 {
     write_parts(
         out,
@@ -96,11 +84,8 @@ pub(crate) fn write_edge_lines<K: Sink>(
     keys: &[NodeKey],
     edges: &[(u32, u32)],
 ) -> Result<(), Failed>
-    ensures same_told { K.told out.new ≡ K.told out.old }
-    ensures count { K.faults out.old ≤ K.faults out.new }
-    ensures cause { OnErr result (Rose (K.faults out.old) (K.faults out.new)) }
-    ensures text { IsTrue (K.told out.old) → Went result (K.taken out.old)
-        (flat_map (λ e. line_text (names_by names.now.case.now names.now.stages.now) (edge (node_at keys.now e.0) (node_at keys.now e.1))) edges.now) (K.taken out.new) }
+    ensures { Writes K.told K.faults K.taken out.old out.new result
+        (flat_map (λ e. line_text (names_by names.now.case.now names.now.stages.now) (edge (node_at keys.now e.0) (node_at keys.now e.1))) edges.now) }
 {
     for ends in edges {
         write_edge_line(out, names, keys, *ends)?;
@@ -115,11 +100,8 @@ fn write_edge_line<K: Sink>(
     keys: &[NodeKey],
     ends: (u32, u32),
 ) -> Result<(), Failed>
-    ensures same_told { K.told out.new ≡ K.told out.old }
-    ensures count { K.faults out.old ≤ K.faults out.new }
-    ensures cause { OnErr result (Rose (K.faults out.old) (K.faults out.new)) }
-    ensures text { IsTrue (K.told out.old) → Went result (K.taken out.old)
-        (line_text (names_by names.now.case.now names.now.stages.now) (edge (node_at keys.now ends.0) (node_at keys.now ends.1))) (K.taken out.new) }
+    ensures { Writes K.told K.faults K.taken out.old out.new result
+        (line_text (names_by names.now.case.now names.now.stages.now) (edge (node_at keys.now ends.0) (node_at keys.now ends.1))) }
 {
     write_parts(
         out,
@@ -140,11 +122,8 @@ fn write_numbered_node<K: Sink>(
     keys: &[NodeKey],
     number: u32,
 ) -> Result<(), Failed>
-    ensures same_told { K.told out.new ≡ K.told out.old }
-    ensures count { K.faults out.old ≤ K.faults out.new }
-    ensures cause { OnErr result (Rose (K.faults out.old) (K.faults out.new)) }
-    ensures text { IsTrue (K.told out.old) → Went result (K.taken out.old)
-        (codes " " ++ node_text (names_by names.now.case.now names.now.stages.now) (node_at keys.now number)) (K.taken out.new) }
+    ensures { Writes K.told K.faults K.taken out.old out.new result
+        (codes " " ++ node_text (names_by names.now.case.now names.now.stages.now) (node_at keys.now number)) }
 {
     write_node(out, names, key_at(keys, number))
 }
@@ -156,11 +135,8 @@ pub(crate) fn write_numbered_nodes<K: Sink>(
     keys: &[NodeKey],
     numbers: &[u32],
 ) -> Result<(), Failed>
-    ensures same_told { K.told out.new ≡ K.told out.old }
-    ensures count { K.faults out.old ≤ K.faults out.new }
-    ensures cause { OnErr result (Rose (K.faults out.old) (K.faults out.new)) }
-    ensures text { IsTrue (K.told out.old) → Went result (K.taken out.old)
-        (nodes_text (names_by names.now.case.now names.now.stages.now) (map (node_at keys.now) numbers.now)) (K.taken out.new) }
+    ensures { Writes K.told K.faults K.taken out.old out.new result
+        (nodes_text (names_by names.now.case.now names.now.stages.now) (map (node_at keys.now) numbers.now)) }
 {
     for number in numbers {
         write_numbered_node(out, names, keys, *number)?;

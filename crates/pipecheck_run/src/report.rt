@@ -1,8 +1,8 @@
-ghost use Rattle.std.specs.Prelude.{◌≡◌, ◌≤◌, ◌++◌, IsTrue, OnErr, codes};
-ghost use Rattle.pc_common.specs.Faults.{Rose};
+ghost use Rattle.std.specs.Prelude.{◌≡◌};
+ghost use Rattle.pc_common.specs.Writes.{Writes};
 ghost use Rattle.pc_common.specs.Lines.{line_text, verdict as verdict_line_of, second};
 ghost use Rattle.pc_case.specs.Plain.{expectation};
-ghost use Rattle.pipecheck_run.specs.Writing.{Went, names_by};
+ghost use Rattle.pipecheck_run.specs.Writing.{names_by};
 ghost use Rattle.pipecheck_run.specs.Verdicts.{verdict_of, body_text, verdict_text};
 
 use super::lines::{write_edge_lines, write_node_lines, write_numbered_nodes};
@@ -47,10 +47,7 @@ fn second_line(verdict: &Verdict) -> &'static [u8]
 
 /// Writes what stands between the second line and the last one.
 fn write_body<K: Sink>(out: &mut K, verdict: &Verdict) -> Result<(), Failed>
-    ensures same_told { K.told out.new ≡ K.told out.old }
-    ensures count { K.faults out.old ≤ K.faults out.new }
-    ensures cause { OnErr result (Rose (K.faults out.old) (K.faults out.new)) }
-    ensures text { IsTrue (K.told out.old) → Went result (K.taken out.old) (body_text verdict.now) (K.taken out.new) }
+    ensures { Writes K.told K.faults K.taken out.old out.new result (body_text verdict.now) }
 {
     let names = Names {
         case: &verdict.case,
@@ -72,10 +69,7 @@ fn write_body<K: Sink>(out: &mut K, verdict: &Verdict) -> Result<(), Failed>
 
 /// Writes a verdict with its certificate. Takes no memory.
 pub(crate) fn write_verdict<K: Sink>(out: &mut K, verdict: &Verdict) -> Result<(), Failed>
-    ensures same_told { K.told out.new ≡ K.told out.old }
-    ensures count { K.faults out.old ≤ K.faults out.new }
-    ensures cause { OnErr result (Rose (K.faults out.old) (K.faults out.new)) }
-    ensures text { IsTrue (K.told out.old) → Went result (K.taken out.old) (verdict_text verdict.now) (K.taken out.new) }
+    ensures { Writes K.told K.faults K.taken out.old out.new result (verdict_text verdict.now) }
 {
     write_all(out, verdict_line(verdict))?;
     write_all(out, second_line(verdict))?;

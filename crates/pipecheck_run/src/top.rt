@@ -1,6 +1,7 @@
 ghost use Rattle.std.specs.Prelude.{◌≡◌, ◌≢◌, ◌≤◌, ◌++◌, ◌⊎◌, ℕ, List, map, IsTrue};
 ghost use Rattle.std.specs.String.{string_bytes};
 ghost use Rattle.pc_common.specs.Faults.{Rose};
+ghost use Rattle.pc_common.specs.Reads.{Reads};
 ghost use Rattle.pc_common.specs.Pieces.{IsCutShort};
 ghost use Rattle.pc_common.specs.declared.status.Status.TheVariants.{Usage as SUsage, ReadFault as SReadFault, WriteFault as SWriteFault, Memory as SMemory};
 ghost use Rattle.pipecheck_run.specs.Command.{IsCheck, IsNoCommand};
@@ -53,10 +54,7 @@ fn tell<K: Sink>(out: &mut K, answer: &Answer) -> Status
 /// - `quiet`, `answers`, `short`: what was written.
 /// - `headline`, `due`: the verdict is true of the bytes of the two files, and it comes.
 pub fn run<F: Files, K: Sink>(alloc: Global, words: &[String], files: &mut F, out: &mut K) -> Status
-    ensures files_told { F.told files.new ≡ F.told files.old }
-    ensures files_held { F.holds files.new ≡ F.holds files.old }
-    ensures files_calm { F.calm files.new ≡ F.calm files.old }
-    ensures files_count { F.faults files.old ≤ F.faults files.new }
+    ensures files { Reads F.told F.holds F.calm F.faults files.old files.new }
     ensures sink_told { K.told out.new ≡ K.told out.old }
     ensures sink_count { K.faults out.old ≤ K.faults out.new }
     ensures usage { result ≡ SUsage → IsNoCommand (map string_bytes words.now) }

@@ -1,4 +1,4 @@
-ghost use Rattle.std.specs.Prelude.{◌≡◌};
+ghost use Rattle.std.specs.Prelude.{◌≡◌, ◌≤◌, length};
 ghost use Rattle.pipecheck_run.specs.Words.{fault_word as fault_word_of};
 ghost use Rattle.pipecheck_run.specs.Output.{file_word as file_word_of};
 
@@ -6,7 +6,8 @@ use pc_common::{FaultKind, Which};
 
 /// The word of a fault.
 pub(crate) fn fault_word(kind: FaultKind) -> &'static [u8]
-    ensures { result.now ≡ fault_word_of kind }
+    ensures word { result.now ≡ fault_word_of kind }
+    ensures short { length result.now ≤ 18 }
 {
     match kind {
         FaultKind::TooLarge { .. } => b"too-large",
@@ -40,7 +41,8 @@ pub(crate) fn fault_word(kind: FaultKind) -> &'static [u8]
 
 /// The word of an input file.
 pub(crate) fn file_word(file: Which) -> &'static [u8]
-    ensures { result.now ≡ file_word_of file }
+    ensures word { result.now ≡ file_word_of file }
+    ensures short { length result.now ≤ 5 }
 {
     match file {
         Which::Model => b"model",

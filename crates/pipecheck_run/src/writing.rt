@@ -1,8 +1,8 @@
-ghost use Rattle.std.specs.Prelude.{◌≡◌, ◌≤◌, ◌++◌, ℕ, List, IsTrue, OnErr, codes, map};
+ghost use Rattle.std.specs.Prelude.{◌≡◌, ◌++◌, codes, map};
 ghost use Rattle.std.specs.List.{flat_map};
-ghost use Rattle.pc_common.specs.Faults.{Rose};
+ghost use Rattle.pc_common.specs.Writes.{Writes};
 ghost use Rattle.pc_common.specs.Lines.{stage_name as stage_name_of, node_text};
-ghost use Rattle.pipecheck_run.specs.Writing.{Went, names_by};
+ghost use Rattle.pipecheck_run.specs.Writing.{names_by};
 ghost use Rattle.pipecheck_run.specs.Graphs.{key_node};
 
 use super::graph::NodeKey;
@@ -13,10 +13,7 @@ use pc_syntax::StageItems;
 
 /// Writes the pieces, one after another. Takes no memory.
 pub(crate) fn write_pieces<K: Sink>(out: &mut K, pieces: &[&[u8]]) -> Result<(), Failed>
-    ensures same_told { K.told out.new ≡ K.told out.old }
-    ensures count { K.faults out.old ≤ K.faults out.new }
-    ensures cause { OnErr result (Rose (K.faults out.old) (K.faults out.new)) }
-    ensures text { IsTrue (K.told out.old) → Went result (K.taken out.old) (flat_map (λ p. p.now) pieces.now) (K.taken out.new) }
+    ensures { Writes K.told K.faults K.taken out.old out.new result (flat_map (λ p. p.now) pieces.now) }
 {
     for piece in pieces {
         write_all(out, piece)?;
@@ -50,11 +47,8 @@ pub(crate) fn write_node<K: Sink>(
     names: &Names<'_>,
     key: NodeKey,
 ) -> Result<(), Failed>
-    ensures same_told { K.told out.new ≡ K.told out.old }
-    ensures count { K.faults out.old ≤ K.faults out.new }
-    ensures cause { OnErr result (Rose (K.faults out.old) (K.faults out.new)) }
-    ensures text { IsTrue (K.told out.old) → Went result (K.taken out.old)
-        (codes " " ++ node_text (names_by names.now.case.now names.now.stages.now) (key_node key)) (K.taken out.new) }
+    ensures { Writes K.told K.faults K.taken out.old out.new result
+        (codes " " ++ node_text (names_by names.now.case.now names.now.stages.now) (key_node key)) }
 {
     let stage = stage_name(names.stages, key.stage);
     let mut core = Buffer::new();

@@ -1,12 +1,13 @@
 ghost use Rattle.std.specs.Prelude.{◌≡◌, [], IfOk, IfErr, None};
 ghost use Rattle.std.specs.Option.{option_or};
 ghost use Rattle.pc_syntax.specs.Scope.{quantified_in};
-ghost use Rattle.pc_syntax.specs.Written.{written, bind_, written_model};
+ghost use Rattle.pc_syntax.specs.Written.{written, bind_, stage_numbers, written_model};
 ghost use Rattle.pc_syntax.specs.Expansion.{IsExpanded};
 ghost use Rattle.pc_syntax.specs.StageFaults.{stages_fault, first_stage_fault};
 ghost use Rattle.pc_syntax.specs.NameFaults.{scope_fault, name_fault};
 ghost use Rattle.pc_syntax.specs.Closed.{plain_closed};
 ghost use Rattle.pc_syntax.specs.Closing.{IsClosingOf};
+ghost use Rattle.pc_syntax.specs.StagesWithin.{StagesWithin};
 ghost use Rattle.scope_check.specs.FirstFault.{Answers};
 
 use super::arguments::close_values;
@@ -26,9 +27,11 @@ use std::alloc::Global;
 /// The model has no stage fault, so its stages are at most 64 and have numbers from 0 to 63. Of the
 /// model nothing but these is read. It nests a call for each connective, quantifier and binding above an
 /// atom, which in a model without faults are at most 512.
+#[tactic(auto, using(crate::proofs::Closings::closing_stages))]
 pub fn close(alloc: Global, model: &ModelFile, axiom: &Expanded) -> Result<Closed, NameFault>
     requires { first_stage_fault (written_model model.now) ≡ None }
     ensures ok { IfOk result (λ closed. IsClosingOf model.now.stages [] (written «axiom».now.body) (plain_closed closed.body)) }
+    ensures stages { IfOk result (λ closed. StagesWithin (stage_numbers model.now.stages) (plain_closed closed.body)) }
     ensures err { IfErr result (Answers (name_fault model.now.stages [] [] (written «axiom».now.body))) }
 {
     let body = close_formula(alloc, &model.stages, &Scope::new(), &axiom.body)?;

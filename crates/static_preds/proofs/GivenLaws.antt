@@ -1,13 +1,13 @@
 -- What stands at a place of the arguments that fit a predicate.
-use Rattle.std.proofs.Common.{◌≡◌, ℕ, zero, suc, ◌<◌, List, [], ◌∷◌, Option, Some, None, length, map, get_or, slice_get, refl, sym, ap, subst, ◌∙◌, arith}
+use Rattle.std.proofs.Common.{◌≡◌, ℕ, zero, suc, ◌<◌, List, [], ◌∷◌, Option, Some, length, get_or, slice_get, refl, ap, subst, ◌∙◌, arith}
 use Rattle.std.specs.Prelude.{unwrap_or}
 use Rattle.std.specs.Option.{option_map, option_and_then}
 use Rattle.std.proofs.lemmas.List.{length-map}
 use Rattle.std.proofs.lemmas.Option.{slice_get-map, slice_get_within, slice_get-get_or}
 use Rattle.pc_syntax.specs.declared.term.Sort.{Sort}
-use Rattle.pc_syntax.specs.declared.term.Sort.TheVariants.{Microop, Core as core_sort}
+use Rattle.pc_syntax.specs.declared.term.Sort.TheVariants.{Microop}
 use Rattle.pc_syntax.specs.declared.bound.Bound.{Bound}
-use Rattle.pc_syntax.specs.declared.bound.Bound.TheVariants.{Op as bound_op, Core as bound_core}
+use Rattle.pc_syntax.specs.declared.bound.Bound.TheVariants.{Op as bound_op}
 use Rattle.pc_syntax.specs.declared.pred.Takes.{Takes}
 use Rattle.pc_syntax.specs.declared.pred.Takes.TheVariants.{Op as takes_op}
 use Rattle.pc_syntax.specs.declared.closed_term.ClosedArg.{ClosedArg}

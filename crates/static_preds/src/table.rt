@@ -21,7 +21,12 @@ pub fn holds(case: &Case, pred: Pred, args: &ClosedArgs, env: &Env) -> bool
     ensures { result ≡ predicate_holds case.now pred (values_of env.now.items args.now) }
 {
     let args = args.as_slice();
-    let given = Given { case, pred, args, env };
+    let given = Given {
+        case,
+        pred,
+        args,
+        env,
+    };
     match pred {
         Pred::True => true,
         Pred::False => false,
@@ -40,13 +45,19 @@ pub fn holds(case: &Case, pred: Pred, args: &ClosedArgs, env: &Env) -> bool
         Pred::SamePhysicalAddress => given.touches().is_some_and(|(a, b)| a.pa == b.pa),
         Pred::SameVirtualTag => given.touches().is_some_and(|(a, b)| a.va.tag == b.va.tag),
         Pred::SamePhysicalTag => given.touches().is_some_and(|(a, b)| a.pa.tag == b.pa.tag),
-        Pred::SameIndex => given.touches().is_some_and(|(a, b)| a.va.index == b.va.index),
+        Pred::SameIndex => given
+            .touches()
+            .is_some_and(|(a, b)| a.va.index == b.va.index),
         Pred::SameData => given.touches().is_some_and(|(a, b)| a.value == b.value),
         Pred::DataFromInitialStateAtPA => {
-            given.touch(0).is_some_and(|a| a.value == case.initial(a.pa))
+            given
+                .touch(0)
+                .is_some_and(|a| a.value == case.initial(a.pa))
         }
         Pred::DataFromFinalStateAtPA => {
-            given.touch(0).is_some_and(|a| case.final_of(a.pa) == Some(a.value))
+            given
+                .touch(0)
+                .is_some_and(|a| case.final_of(a.pa) == Some(a.value))
         }
         Pred::HasDependency => case.depends(given.plain(0), given.place(1), given.place(2)),
     }

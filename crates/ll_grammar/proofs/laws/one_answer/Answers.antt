@@ -3,4 +3,4 @@ use Rattle.ll_grammar.proofs.Faults.{one_answer}
 use Rattle.ll_grammar.proofs.laws.one_answer.Goals as goal
 
 pub returns : goal.returns
-returns g c = one_answer (Derives g.N.Grammar.rules c.args.start) c.args.classes.now c.args.first c.args.second
+returns g c = one_answer (Derives g.N.Grammar.rules c.args.start) c.args.classes.now

@@ -1,6 +1,5 @@
 use Rattle.std.proofs.Common.{◌≡◌, None, Some, [], sym, ◌∙◌, ap, subst}
-use Rattle.std.specs.List.{list_all}
-use Rattle.pc_syntax.specs.Closed.{closed_true}
+use Rattle.pc_syntax.specs.Closed.{closed_satisfies}
 use Rattle.pc_syntax.specs.Written.{written_model}
 use Rattle.pc_syntax.specs.StageFaults.{first_stage_fault}
 use Rattle.pc_syntax.specs.NameFaults.{first_name_fault}
@@ -54,6 +53,6 @@ returns-in-Ok-stages_of-clause-ok c =
         no_fault = only_names m stages expanded.0.0 expanded.0.1 ∙ names;
         stages = c.in-Ok-stages_of.ensures;
         axioms = axioms;
-        true_alike = λ x w. satisfied_alike m names x w ∙ ap (λ as_. list_all (closed_true x w []) as_) (sym axioms);
+        true_alike = λ x w. satisfied_alike m names x w ∙ ap (λ as_. closed_satisfies as_ x w) (sym axioms);
       },
     )

@@ -20,7 +20,7 @@ returns-in-Err-read_all-clause-answered g c = λ told no_fault memory words chec
     } in
     ended_answers words (g.F.Files.holds c.args.files.now) c.args.check.model.now c.args.check.test.now Test c.in-Err-read_all.end c.ended-in-Err-read_all.result
     c.ended-in-Err-read_all.ensures no_fault memory check
-    (λ e. let l = rw first.same_held at (c.in-Err-read_all.ensures.too_large (ap (λ x. Err x) e) (rw first.same_told told)) in
+    (λ e. let l = rw first.keeps.same_held at (c.in-Err-read_all.ensures.too_large (ap (λ x. Err x) e) (rw first.keeps.same_told told)) in
     (large_test read (large_of (g.F.Files.holds c.args.files.now) c.args.check.test.now c.in-Err-read_all.end l), (l.0, l.1)))
 
 pub returns-in-Ok-decide-clause-answered : goal.returns-in-Ok-decide-clause-answered
@@ -32,7 +32,7 @@ returns-in-Ok-decide-clause-answered g c = λ told no_fault memory words check.
       within = (let h = first.within in omega arith);
     } in
     let test_read : IsRead (g.F.Files.holds c.args.files.now) c.args.check.test.now c.in-Ok-read_all.bytes.items = record {
-      held = (rw first.same_held at (second.whole (rw first.same_told told)));
+      held = (rw first.keeps.same_held at (second.whole (rw first.keeps.same_told told)));
       within = (let h = second.within in omega arith);
     } in
     decided_answers words (g.F.Files.holds c.args.files.now) c.args.check.model.now c.args.check.test.now _ _ c.in-Ok-decide.answer check

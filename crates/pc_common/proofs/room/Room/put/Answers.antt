@@ -1,4 +1,4 @@
-use Rattle.std.proofs.Common.{rules, arith, refl, inl, inr, ap, ◌∙◌, ◌≡◌, ◌<◌, ◌≤◌, [], ◌+◌}
+use Rattle.std.proofs.Common.{rules, arith, refl, inl, inr, ap, ◌∙◌, ◌≡◌, ◌≤◌, [], ◌+◌}
 use Rattle.std.proofs.lemmas.Bool.{cases_lt}
 use Rattle.pc_common.specs.Writes.{done}
 use Rattle.pc_common.specs.Room.{Puts}

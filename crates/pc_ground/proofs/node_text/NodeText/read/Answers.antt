@@ -28,7 +28,7 @@ returns-in-Some-named-clause-again c = λ a inside is.
 pub returns-in-None-clause-read : goal.returns-in-None-clause-read
 returns-in-None-clause-read c = (
   words_form c.in-Some.ensures,
-  λ a inside is. c.in-None.ensures a inside.core
+  λ a inside is. c.in-None.ensures a inside.core_in_range
       (named_by c.args.self.now c.args.word.now c.in-Some.words a c.show_kept.ensures.small c.show_kept.ensures.stages c.in-Some.ensures inside is),
 )
 
@@ -37,5 +37,5 @@ returns-in-None-clause-readable c = readable c.args.self.now c.show_kept.ensures
 
 pub returns-in-None-clause-again : goal.returns-in-None-clause-again
 returns-in-None-clause-again c = λ a inside is.
-    c.in-None.ensures a inside.core
+    c.in-None.ensures a inside.core_in_range
     (named_by c.args.self.now c.args.word.now c.in-Some.words a c.show_kept.ensures.small c.show_kept.ensures.stages c.in-Some.ensures inside is)

@@ -1,5 +1,4 @@
-use Rattle.std.proofs.Common.{◌≡◌, ◌<◌, Some, length, get_or, refl, sym, ap, ◌∙◌, arith}
-use Rattle.std.proofs.lemmas.Option.{slice_get-get_or}
+use Rattle.std.proofs.Common.{◌≡◌, length, get_or, sym, ap, ◌∙◌}
 use Rattle.pc_syntax.specs.declared.term.Sort.TheVariants.{Microop, Core as core_sort}
 use Rattle.pc_syntax.specs.declared.bound.Bound.TheVariants.{Op as bound_op, Core as bound_core}
 use Rattle.pc_syntax.specs.Predicates.{takes_of}

@@ -1,0 +1,202 @@
+"""The answer as the program is to word it: a search that makes the program's choices, down to the certificate.
+
+`searching.py` decides by a way of its own. This module is there for the text: which graph of several is written, and
+which refutation. The choices are these.
+
+1. Asserting a position asserts its literals in preorder. A disjunction becomes pending until it is split on this
+   branch. The first clash closes the branch.
+2. An edge clashes where its first end is denied; where its second end is; where it closes a cycle; where it joins the
+   ends of a denied edge, the first denied one of several. A chain is a shortest one, and of several, read from their
+   start, the one with the lowest node number where they first differ.
+3. A pending disjunction is a candidate where the world of the asserted literals does not make it true. The first
+   candidate in position order is split that has a member which clashes by itself; where there is none, the first
+   candidate. The left member is searched first. Without a candidate the outcome is observable.
+"""
+from dataclasses import dataclass
+
+from .positions import Inner, Leaf, Positions
+
+
+@dataclass(frozen=True)
+class Clash:
+    """The line that closes a branch: `cycle`, `path` or `absent` with its nodes."""
+
+    word: str
+    nodes: list[int]
+
+
+@dataclass(frozen=True)
+class Graph:
+    """The present nodes by number, and the asserted edges in the order of first assertion."""
+
+    nodes: list[int]
+    edges: list[tuple[int, int]]
+
+
+Step = int | Clash
+
+
+def answer(positions: Positions) -> Graph | list[Step]:
+    """The graph of an observable outcome, or the steps of a refutation: positions of splits and clashes. The steps of
+    a tree that is False are none."""
+    if positions.constant is not None:
+        return Graph([], []) if positions.constant else []
+    steps: list[Step] = []
+    # the right sides of the splits above, the nearest one last
+    waiting: list[tuple[Branch, int]] = []
+    branch, clash = Branch(positions), None
+    clash = branch.assert_position(0)
+    while True:
+        if clash is not None:
+            steps.append(clash)
+            if not waiting:
+                return steps
+            branch, position = waiting.pop()
+            clash = branch.assert_position(position)
+            continue
+        chosen = branch.candidate()
+        if chosen is None:
+            return branch.graph()
+        steps.append(chosen)
+        branch.pending.remove(chosen)
+        members = branch.members(chosen)
+        waiting.append((branch.copy(), members.right))
+        clash = branch.assert_position(members.left)
+
+
+class Branch:
+    """What is asserted on a branch, and the order that it generates; sets of nodes are bit sets."""
+
+    def __init__(self, positions: Positions) -> None:
+        self.positions = positions
+        self.after = [0] * len(positions.nodes)
+        self.before = [0] * len(positions.nodes)
+        self.present = 0
+        self.absent = 0
+        self.denied: list[tuple[int, int]] = []
+        self.edges: dict[tuple[int, int], None] = {}
+        self.pending: list[int] = []
+
+    def copy(self) -> "Branch":
+        """A branch that begins with all of this one."""
+        other = Branch(self.positions)
+        other.after, other.before = self.after[:], self.before[:]
+        other.present, other.absent = self.present, self.absent
+        other.denied, other.edges = self.denied[:], dict(self.edges)
+        other.pending = self.pending[:]
+        return other
+
+    def graph(self) -> Graph:
+        """The world of the asserted literals."""
+        nodes = [k for k in range(len(self.after)) if self.present >> k & 1]
+        return Graph(nodes, list(self.edges))
+
+    def members(self, position: int) -> Inner:
+        """The disjunction at a position."""
+        row = self.positions.rows[position]
+        assert isinstance(row, Inner)
+        return row
+
+    def assert_position(self, position: int) -> Clash | None:
+        """Asserts all that a position asserts, up to the first clash."""
+        waiting = [position]
+        while waiting:
+            here = waiting.pop()
+            row = self.positions.rows[here]
+            if isinstance(row, Leaf):
+                clash = self.assert_literal(row)
+                if clash is not None:
+                    return clash
+            elif row.is_disjunction:
+                self.pending.append(here)
+            else:
+                waiting += [row.right, row.left]
+        return None
+
+    def assert_literal(self, leaf: Leaf) -> Clash | None:
+        """Asserts a literal, where it does not clash."""
+        if leaf.end is None:
+            return self.assert_node(leaf)
+        clash = self.clash_of_edge(leaf.start, leaf.end, leaf.wanted)
+        if clash is None and leaf.wanted:
+            self.join(leaf.start, leaf.end)
+        elif clash is None:
+            self.denied.append((leaf.start, leaf.end))
+        return clash
+
+    def assert_node(self, leaf: Leaf) -> Clash | None:
+        """Asserts that a node is there, or that it is not."""
+        against = self.absent if leaf.wanted else self.present
+        if against >> leaf.start & 1:
+            return Clash("absent", [leaf.start])
+        if leaf.wanted:
+            self.present |= 1 << leaf.start
+        else:
+            self.absent |= 1 << leaf.start
+        return None
+
+    def clash_of_edge(self, start: int, end: int, wanted: bool) -> Clash | None:
+        """The first of the clashes of an edge, or the one of a denied edge."""
+        if not wanted:
+            is_joined = self.after[start] >> end & 1
+            return Clash("path", self.chain(start, end)) if is_joined else None
+        for node in (start, end):
+            if self.absent >> node & 1:
+                return Clash("absent", [node])
+        if start == end or self.after[end] >> start & 1:
+            return Clash("cycle", self.chain(end, start))
+        earlier, later = self.before[start] | 1 << start, self.after[end] | 1 << end
+        for first, last in self.denied:
+            if earlier >> first & 1 and later >> last & 1:
+                return Clash("path", self.chain(first, start) + self.chain(end, last))
+        return None
+
+    def join(self, start: int, end: int) -> None:
+        """Puts the end, and all after it, after the start and all before it."""
+        self.edges.setdefault((start, end))
+        self.present |= 1 << start | 1 << end
+        earlier, later = self.before[start] | 1 << start, self.after[end] | 1 << end
+        for node in range(len(self.after)):
+            if earlier >> node & 1:
+                self.after[node] |= later
+            if later >> node & 1:
+                self.before[node] |= earlier
+
+    def chain(self, start: int, end: int) -> list[int]:
+        """The shortest chain of edges that rule 2 takes; one node where both ends are one."""
+        distance = {end: 0}
+        waiting = [end]
+        for here in waiting:
+            for first, last in self.edges:
+                if last == here and first not in distance:
+                    distance[first] = distance[here] + 1
+                    waiting.append(first)
+        chain = [start]
+        while chain[-1] != end:
+            nearer = distance[chain[-1]] - 1
+            chain.append(min(b for a, b in self.edges if a == chain[-1] and distance.get(b) == nearer))
+        return chain
+
+    def is_true(self, position: int) -> bool:
+        """Whether the world of the asserted literals makes a position true."""
+        row = self.positions.rows[position]
+        while isinstance(row, Inner):
+            if self.is_true(row.left) is row.is_disjunction:
+                return row.is_disjunction
+            row = self.positions.rows[row.right]
+        if row.end is None:
+            return bool(self.present >> row.start & 1) is row.wanted
+        return bool(self.after[row.start] >> row.end & 1) is row.wanted
+
+    def clashes(self, position: int) -> bool:
+        """Whether asserting a position alone closes the branch."""
+        return self.copy().assert_position(position) is not None
+
+    def candidate(self) -> int | None:
+        """The disjunction that is split next; None where none is a candidate."""
+        candidates = [p for p in sorted(self.pending) if not self.is_true(p)]
+        for position in candidates:
+            row = self.members(position)
+            if self.clashes(row.left) or self.clashes(row.right):
+                return position
+        return candidates[0] if candidates else None

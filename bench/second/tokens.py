@@ -1,0 +1,97 @@
+"""Bytes to tokens, for models and tests alike, and the faults of a file."""
+import re
+from dataclasses import dataclass
+
+GREATEST_NUMBER = (1 << 64) - 1
+
+# Each piece is the longest that begins at its place. A text that is not closed in its line, or a block comment that
+# is not closed at all, begins none.
+PIECE = re.compile(
+    rb"""(?P<blank>[ \t\r\n]+)
+       | (?P<comment>%[^\n]*|//[^\n]*|\(\*.*?\*\))
+       | (?P<name>[A-Za-z][A-Za-z0-9_']*)
+       | (?P<number>[0-9]+)
+       | (?P<text>"[\x20\x21\x23-\x7e]*")
+       | (?P<symbol>/\\|\\/|=>|->|\((?!\*)|[)\[\],;:.~])""",
+    re.VERBOSE | re.DOTALL,
+)
+
+
+class Fault(Exception):
+    """The first fault of a file: its word, and its place as a number of bytes before it."""
+
+    def __init__(self, word: str, place: int) -> None:
+        super().__init__(f"{word} at byte {place}")
+        self.word = word
+        self.place = place
+
+
+@dataclass(frozen=True)
+class Token:
+    """A piece that counts. `kind` is name, number, text, symbol, or end behind the last one."""
+
+    kind: str
+    piece: str
+    at: int
+
+    @property
+    def content(self) -> str:
+        """What stands between the quotes of a text."""
+        return self.piece[1:-1]
+
+
+def tokens(data: bytes) -> list[Token]:
+    """The tokens of a file with the end as one more, or the fault `lexical`."""
+    found = []
+    at = 0
+    while at < len(data):
+        match = PIECE.match(data, at)
+        if match is None or (match.lastgroup == "number" and int(match.group()) > GREATEST_NUMBER):
+            raise Fault("lexical", at)
+        if match.lastgroup not in ("blank", "comment"):
+            found.append(Token(str(match.lastgroup), match.group().decode("ascii"), at))
+        at = match.end()
+    return found + [Token("end", "", len(data))]
+
+
+class Reader:
+    """Walks over tokens. What it does not find at its place is a fault of syntax there."""
+
+    def __init__(self, all_tokens: list[Token]) -> None:
+        self.all_tokens = all_tokens
+        self.next_index = 0
+
+    @property
+    def next(self) -> Token:
+        """The token that comes next."""
+        return self.all_tokens[self.next_index]
+
+    def take(self) -> Token:
+        """The next token, which is left behind."""
+        token = self.next
+        self.next_index += 1
+        return token
+
+    def refuse(self) -> Fault:
+        """The fault that no text goes on with the next token."""
+        return Fault("syntax", self.next.at)
+
+    def sees(self, *pieces: str) -> bool:
+        """Whether the next token is one of these names or symbols."""
+        return self.next.kind in ("name", "symbol") and self.next.piece in pieces
+
+    def expect(self, *pieces: str) -> Token:
+        """The next token, which has to be one of these names or symbols."""
+        if not self.sees(*pieces):
+            raise self.refuse()
+        return self.take()
+
+    def expect_kind(self, kind: str) -> Token:
+        """The next token, which has to be of this kind."""
+        if self.next.kind != kind:
+            raise self.refuse()
+        return self.take()
+
+    def number(self) -> int:
+        """The value of the next token, which has to be a number."""
+        return int(self.expect_kind("number").piece)

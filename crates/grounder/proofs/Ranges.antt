@@ -1,0 +1,45 @@
+-- The values that a quantifier ranges over, one by one.
+use Rattle.std.proofs.Common.{◌≡◌, ℕ, zero, suc, ◌+◌, ◌<◌, ◌≤◌, List, [], ◌∷◌, Some, length, map, drop, slice_get, refl, ap, ◌∙◌, arith}
+use Rattle.std.specs.List.{range_with_len}
+use Rattle.std.proofs.lemmas.List.FromFn.{length-map-range_with_len}
+use Rattle.pc_common.specs.Case.{MicroOp, Case, cores_of}
+use Rattle.pc_case.specs.Kept.{IsKept}
+use Rattle.pc_syntax.specs.declared.term.Sort.{Sort}
+use Rattle.pc_syntax.specs.declared.term.Sort.TheVariants.{Microop, Core}
+use Rattle.pc_syntax.specs.Truth.{an_op, a_core, range_of}
+use Rattle.pc_syntax.specs.Closed.{meaning_of}
+use Rattle.static_preds.specs.Values.{sort_bound}
+use Rattle.grounder.specs.Slots.{bound_at}
+use Rattle.grounder.proofs.Walked.{drop_at}
+
+pub op_count : (c : Case) → length (range_of c Microop) ≡ length c.ops
+op_count c = length-map-range_with_len an_op 0 (length c.ops)
+
+pub core_count : (c : Case) → length (range_of c Core) ≡ cores_of c.ops
+core_count c = length-map-range_with_len a_core 0 (cores_of c.ops)
+
+at : {X : Type 0} (f : ℕ → X) (a n k : ℕ) → k < n → slice_get (map f (range_with_len a n)) k ≡ Some (f (a + k))
+at f a zero k h = absurd (omega arith)
+at f a (suc n) zero h = ap (λ i. Some (f i)) (omega arith)
+at f a (suc n) (suc k) h = at f (a + 1) n k (omega arith) ∙ ap (λ i. Some (f i)) (omega arith)
+
+value : (c : Case) (sort : Sort) (k : ℕ) → k < length (range_of c sort) → slice_get (range_of c sort) k ≡ Some (meaning_of (bound_at sort k))
+value c Microop k h = at an_op 0 (length c.ops) k (omega (arith, op_count c)) ∙ ap (λ i. Some (an_op i)) (omega arith)
+value c Core k h = at a_core 0 (cores_of c.ops) k (omega (arith, core_count c)) ∙ ap (λ i. Some (a_core i)) (omega arith)
+
+-- the rest of a range begins with its next value
+pub next_value : (c : Case) (sort : Sort) (k : ℕ) → k < length (range_of c sort)
+    → drop k (range_of c sort) ≡ meaning_of (bound_at sort k) ∷ drop (k + 1) (range_of c sort)
+next_value c sort k h = drop_at (range_of c sort) k (k + 1) (meaning_of (bound_at sort k)) (value c sort k h) refl
+
+pub sort_of_value : (sort : Sort) (k : ℕ) → sort_bound (bound_at sort k) ≡ sort
+sort_of_value Microop k = refl
+sort_of_value Core k = refl
+
+most : (os : List MicroOp) → ((k : ℕ) (o : MicroOp) → slice_get os k ≡ Some o → o.core < 64) → cores_of os ≤ 64
+most [] below = omega arith
+most (o ∷ os) below = omega (arith, below 0 o refl, most os (λ k p h. below (suc k) p h))
+
+-- no core of a case is above 63
+pub few_cores : (os : List MicroOp) → IsKept os → cores_of os ≤ 64
+few_cores os kept = most os kept.cores

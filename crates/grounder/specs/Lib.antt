@@ -1,0 +1,4 @@
+pub mod Slots
+pub mod Members
+pub mod Said
+pub mod Folded

@@ -1,0 +1,98 @@
+ghost use Rattle.std.specs.Prelude.{◌≡◌, ◌<◌, Some, IfOk};
+ghost use Rattle.pc_common.specs.Case.{Case as PlainCase, MicroOp};
+ghost use Rattle.pc_syntax.specs.Closed.{closed_core, closed_node, closed_nodes, closed_edges};
+ghost use Rattle.pc_syntax.specs.IsClosed.{FitsCore, FitsNode, FitNodes, FitEdges};
+ghost use Rattle.pc_ground.specs.Keys.{key_node, literal_node};
+ghost use Rattle.pc_ground.specs.PlainGround.{plain_ground, ground_literal};
+ghost use Rattle.pc_ground.specs.Unfolded.{edge_said};
+ghost use Rattle.static_preds.specs.Values.{scope_of};
+ghost use Rattle.grounder.specs.Slots.{AreInRange};
+ghost use Rattle.grounder.specs.Said.{meanings, said};
+
+use super::slots::{core_in_slot, op_in_slot};
+use pc_case::Case;
+use pc_common::Memory;
+use pc_ground::{Ground, Literal, NodeKey};
+use pc_syntax::{ClosedArg, ClosedEdge, ClosedEdges, ClosedNode, ClosedNodes, Env};
+use std::alloc::Global;
+
+/// The core of a node whose term may name one, and whose micro-op has its own.
+fn core_or_own(env: &Env, core: &Option<ClosedArg>, own: u8) -> u8
+    requires { FitsCore (scope_of env.now.items) core.now }
+    ensures value { (op : MicroOp) → op.core ≡ own → closed_core (meanings env.now.items) op core.now ≡ Some result }
+    ensures range { (c : PlainCase) → AreInRange c env.now.items → own < 64 → result < 64 }
+{
+    match core {
+        Some(arg) => core_in_slot(env, arg),
+        None => own,
+    }
+}
+
+/// The node that a term names: on the micro-op's own core where it names none.
+#[tactic(auto, using(crate::proofs::Terms::node_named))]
+fn node_key(case: &Case, env: &Env, node: &ClosedNode) -> NodeKey
+    requires fits { FitsNode (scope_of env.now.items) node.now }
+    requires range { AreInRange case.now env.now.items }
+    ensures { closed_node case.now (meanings env.now.items) node.now ≡ Some (key_node result) }
+{
+    let op = op_in_slot(env, node.op);
+    let own = case.op(op as usize).core;
+    let core = core_or_own(env, &node.core, own);
+    NodeKey {
+        op,
+        core,
+        stage: node.stage,
+    }
+}
+
+/// And over nodes, built from the last one.
+pub(crate) fn ground_nodes(
+    alloc: Global,
+    case: &Case,
+    env: &Env,
+    nodes: &ClosedNodes,
+) -> Result<Ground, Memory>
+    requires fit { FitNodes (scope_of env.now.items) nodes.now }
+    requires range { AreInRange case.now env.now.items }
+    ensures { IfOk result (λ g. plain_ground g ≡ said case.now env.now.items (closed_nodes nodes.now)) }
+{
+    let mut whole = Ground::True;
+    for k in 0..nodes.len() {
+        let node = node_key(case, env, nodes.get(nodes.len() - 1 - k));
+        whole = Ground::conjunction(alloc, Ground::Lit(Literal::Node(node)), whole)?;
+    }
+    Ok(whole)
+}
+
+/// And over edges, built from the last one.
+pub(crate) fn ground_edges(
+    alloc: Global,
+    case: &Case,
+    env: &Env,
+    edges: &ClosedEdges,
+) -> Result<Ground, Memory>
+    requires fit { FitEdges (scope_of env.now.items) edges.now }
+    requires range { AreInRange case.now env.now.items }
+    ensures { IfOk result (λ g. plain_ground g ≡ said case.now env.now.items (closed_edges edges.now)) }
+{
+    let mut whole = Ground::True;
+    for k in 0..edges.len() {
+        let edge = edge_literal(case, env, edges.get(edges.len() - 1 - k));
+        whole = Ground::conjunction(alloc, Ground::Lit(edge), whole)?;
+    }
+    Ok(whole)
+}
+
+/// The literal of an edge.
+fn edge_literal(case: &Case, env: &Env, edge: &ClosedEdge) -> Literal<NodeKey>
+    requires from { FitsNode (scope_of env.now.items) edge.now.from }
+    requires to { FitsNode (scope_of env.now.items) edge.now.to }
+    requires range { AreInRange case.now env.now.items }
+    ensures { ground_literal (literal_node result)
+        ≡ edge_said (closed_node case.now (meanings env.now.items) edge.now.from) (closed_node case.now (meanings env.now.items) edge.now.to) }
+{
+    Literal::Edge(
+        node_key(case, env, &edge.from),
+        node_key(case, env, &edge.to),
+    )
+}

@@ -1,0 +1,157 @@
+ghost use Rattle.std.specs.Prelude.{◌≡◌, ℕ, ◌<◌, length, IfOk};
+ghost use Rattle.pc_syntax.specs.Closed.{plain_closed, closed_bind};
+ghost use Rattle.pc_syntax.specs.IsClosed.{IsClosed, with_sort};
+ghost use Rattle.pc_syntax.specs.Truth.{range_of};
+ghost use Rattle.pc_ground.specs.PlainGround.{plain_ground, simplified};
+ghost use Rattle.pc_ground.specs.Unfolded.{decided};
+ghost use Rattle.static_preds.specs.Values.{scope_of};
+ghost use Rattle.grounder.specs.Slots.{AreInRange, IsInRange, bound_at};
+ghost use Rattle.grounder.specs.Members.{joined};
+ghost use Rattle.grounder.specs.Said.{said, said_over};
+
+use super::atoms::{ground_edges, ground_nodes};
+use super::connective::Connective;
+use super::slots::{bind_next, copy_of, with_values};
+use pc_case::Case;
+use pc_common::Memory;
+use pc_ground::Ground;
+use pc_syntax::{Bound, ClosedArgs, ClosedFormula, Env, Sort};
+use static_preds::holds;
+use std::alloc::Global;
+
+/// Grounds a formula whose slots stand for what `env` says. What a constant on the left decides is not
+/// walked.
+#[cycle(walk)]
+pub(crate) fn ground_formula(
+    alloc: Global,
+    case: &Case,
+    env: &Env,
+    formula: &ClosedFormula,
+) -> Result<Ground, Memory>
+    requires closed { IsClosed (scope_of env.now.items) (plain_closed formula.now) }
+    requires range { AreInRange case.now env.now.items }
+    ensures { IfOk result (λ g. plain_ground g ≡ said case.now env.now.items (plain_closed formula.now)) }
+{
+    match formula {
+        ClosedFormula::Not(body) => {
+            Ground::negation(alloc, ground_formula(alloc, case, env, body)?)
+        }
+        ClosedFormula::And(left, right) => {
+            let left = ground_formula(alloc, case, env, left)?;
+            ground_rest(alloc, case, env, Connective::And, left, right)
+        }
+        ClosedFormula::Or(left, right) => {
+            let left = ground_formula(alloc, case, env, left)?;
+            ground_rest(alloc, case, env, Connective::Or, left, right)
+        }
+        ClosedFormula::Implies(left, right) => {
+            let left = Ground::negation(alloc, ground_formula(alloc, case, env, left)?)?;
+            ground_rest(alloc, case, env, Connective::Or, left, right)
+        }
+        ClosedFormula::Forall { sort, body } => {
+            ground_range(alloc, case, env, Connective::And, *sort, body)
+        }
+        ClosedFormula::Exists { sort, body } => {
+            ground_range(alloc, case, env, Connective::Or, *sort, body)
+        }
+        ClosedFormula::Static { pred, args } => Ok(constant(holds(case, *pred, args, env))),
+        ClosedFormula::Nodes(nodes) => ground_nodes(alloc, case, env, nodes),
+        ClosedFormula::Edges(edges) => ground_edges(alloc, case, env, edges),
+        ClosedFormula::Bind { args, body } => ground_binding(alloc, case, env, args, body),
+    }
+}
+
+/// True or False.
+fn constant(truth: bool) -> Ground
+    ensures { plain_ground result ≡ simplified (decided truth) }
+{
+    if truth { Ground::True } else { Ground::False }
+}
+
+/// What stands on the left, joined with what stands on the right, which is not walked where the left
+/// decides.
+#[cycle(walk)]
+fn ground_rest(
+    alloc: Global,
+    case: &Case,
+    env: &Env,
+    connective: Connective,
+    left: Ground,
+    right: &ClosedFormula,
+) -> Result<Ground, Memory>
+    requires closed { IsClosed (scope_of env.now.items) (plain_closed right.now) }
+    requires range { AreInRange case.now env.now.items }
+    ensures { IfOk result (λ g. plain_ground g ≡ joined connective (plain_ground left) (said case.now env.now.items (plain_closed right.now))) }
+{
+    if connective.is_decided_by(&left) {
+        return Ok(left);
+    }
+    let right = ground_formula(alloc, case, env, right)?;
+    connective.join(alloc, left, right)
+}
+
+/// How many values a quantifier ranges over: at most 64.
+#[tactic(auto, using(crate::proofs::Ranges::op_count, crate::proofs::Ranges::core_count, crate::proofs::Ranges::few_cores))]
+fn range_len(case: &Case, sort: Sort) -> u8
+    ensures count { result ≡ length (range_of case.now sort) }
+    ensures values { (k : ℕ) → k < result → IsInRange case.now (bound_at sort k) }
+{
+    match sort {
+        Sort::Microop => case.ops() as u8,
+        Sort::Core => case.cores() as u8,
+    }
+}
+
+/// The `k`-th value of a range, from 0.
+fn value_in_range(sort: Sort, k: u8) -> Bound
+    ensures { result ≡ bound_at sort k }
+{
+    match sort {
+        Sort::Microop => Bound::Op(k),
+        Sort::Core => Bound::Core(k),
+    }
+}
+
+/// The members of a quantifier, in the order of its range, joined from the last one. No member behind
+/// one that decides is walked.
+#[cycle(walk)]
+fn ground_range(
+    alloc: Global,
+    case: &Case,
+    env: &Env,
+    connective: Connective,
+    sort: Sort,
+    body: &ClosedFormula,
+) -> Result<Ground, Memory>
+    requires room { length env.now.items < 32 }
+    requires closed { IsClosed (with_sort (scope_of env.now.items) sort) (plain_closed body.now) }
+    requires range { AreInRange case.now env.now.items }
+    ensures { IfOk result (λ g. plain_ground g ≡ said_over connective case.now env.now.items sort (plain_closed body.now)) }
+{
+    let mut inside = copy_of(env);
+    let mut kept = Vec::new(alloc);
+    for k in 0..range_len(case, sort) {
+        bind_next(env, &mut inside, value_in_range(sort, k));
+        let member = ground_formula(alloc, case, &inside, body)?;
+        if connective.keep(&mut kept, member)? {
+            return Ok(connective.decider());
+        }
+    }
+    connective.join_all(alloc, kept)
+}
+
+/// The body of a binding.
+#[cycle(walk)]
+fn ground_binding(
+    alloc: Global,
+    case: &Case,
+    env: &Env,
+    args: &ClosedArgs,
+    body: &ClosedFormula,
+) -> Result<Ground, Memory>
+    requires closed { IsClosed (scope_of env.now.items) (closed_bind args.now (plain_closed body.now)) }
+    requires range { AreInRange case.now env.now.items }
+    ensures { IfOk result (λ g. plain_ground g ≡ said case.now env.now.items (closed_bind args.now (plain_closed body.now))) }
+{
+    ground_formula(alloc, case, &with_values(env, args), body)
+}

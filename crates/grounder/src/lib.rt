@@ -1,0 +1,16 @@
+//! Grounding: what closed axioms say of one test, with no quantifier, predicate or name left.
+//!
+//! `ground` unfolds each quantifier over its range and each list over its members, decides the
+//! predicates, and folds constants on the way, so that what a constant decides is never walked. A
+//! negation stays where it is; an implication becomes Or of the negated premise and the conclusion.
+#![tactic(auto)]
+
+mod atoms;
+mod connective;
+mod formula;
+mod grounding;
+mod laws;
+mod slots;
+
+pub use grounding::ground;
+pub use laws::a_constant_is_the_whole;
