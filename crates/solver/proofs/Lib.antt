@@ -9,3 +9,6 @@ pub mod Telling
 pub mod Choosing
 pub mod Going
 pub mod Closing
+pub mod Descending
+pub mod Numbering
+pub mod Showing

@@ -44,7 +44,7 @@ pub(crate) fn descend<L: Ledger>(
 {
     let mut part = part;
     while let Some(clash) = enter_side(rows, part, graph, asserted, steps)? {
-        close(alloc, keys, &clash, refutation)?;
+        close(alloc, keys, clash, refutation)?;
         let Some(next) = later.pop() else {
             return Ok(false);
         };

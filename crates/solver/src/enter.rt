@@ -1,4 +1,4 @@
-ghost use Rattle.std.specs.Prelude.{◌≡◌, ◌<◌, ◌≤◌, ℕ, All, length, take, slice_index, IfOk, vec_len};
+ghost use Rattle.std.specs.Prelude.{◌≡◌, ◌<◌, ◌≤◌, ℕ, All, length, take, slice_index, IfOk};
 ghost use Rattle.pc_ground.specs.Tree.{size_of};
 ghost use Rattle.pc_ground.specs.Refutes.{literals_of};
 ghost use Rattle.order_graph.specs.State.{IsCut};
@@ -49,7 +49,7 @@ pub(crate) fn enter_side<L: Ledger>(
     requires below { All (IsRowBelow graph.old.nodes) rows.now }
     requires literals { graph.old.literals ≡ literals_of (spelled rows.now) (positions asserted.old.items) }
     ensures further { IfOk result (λ _. IsFurther graph.old graph.new) }
-    ensures kept { IfOk result (λ _. take (vec_len asserted.old) asserted.new.items ≡ asserted.old.items) }
+    ensures kept { IfOk result (λ _. take (length asserted.old.items) asserted.new.items ≡ asserted.old.items) }
     ensures entered { IfOk result (λ found. HasEntered (spelled rows.now) part asserted.old.items graph.new asserted.new.items found) }
 {
     let end = part + row_at(rows, part).skip;

@@ -47,13 +47,13 @@ fn leaf_of(alloc: Global, keys: &[NodeKey], clash: &Clash) -> Result<Step, Memor
 pub(crate) fn close(
     alloc: Global,
     keys: &[NodeKey],
-    clash: &Clash,
+    clash: Clash,
     refutation: &mut Refutation,
 ) -> Result<(), Memory>
-    requires below { IsClashBelow (length keys.now) clash.now }
+    requires below { IsClashBelow (length keys.now) clash }
     requires open { 0 < open_branches refutation.old }
-    requires leaf { IsLeaf (clash_step (map key_node keys.now) clash.now) }
-    ensures { OnOk result (refutation.new ≡ refutation.old ++ clash_step (map key_node keys.now) clash.now ∷ []) }
+    requires leaf { IsLeaf (clash_step (map key_node keys.now) clash) }
+    ensures { OnOk result (refutation.new ≡ refutation.old ++ clash_step (map key_node keys.now) clash ∷ []) }
 {
-    refutation.close_leaf(leaf_of(alloc, keys, clash)?)
+    refutation.close_leaf(leaf_of(alloc, keys, &clash)?)
 }
