@@ -12,3 +12,5 @@ pub mod Closing
 pub mod Descending
 pub mod Numbering
 pub mod Showing
+pub mod Graphing
+pub mod Settling

@@ -10,3 +10,6 @@ pub mod Leaves
 pub mod Descents
 pub mod Known
 pub mod Shown
+pub mod Searched
+pub mod Answers
+pub mod Turns

@@ -13,4 +13,8 @@ mod later;
 mod leaf;
 mod numbers;
 mod rows;
+mod search;
 mod truths;
+
+pub use answer::Answer;
+pub use search::{Search, Turn};
