@@ -1,12 +1,12 @@
 -- From what a search keeps to what it hands out.
-use Rattle.std.proofs.Common.{◌≡◌, ◌≤◌, ◌<◌, ◌⊎◌, inl, inr, ℕ, ◌+◌, ◌^◌, List, [], ◌∷◌, ◌++◌, Option, Some, None, map, take, reverse, length, refl, sym, ap, ◌∙◌, subst, arith, get_or}
-use Rattle.std.specs.Prelude.{Contains, All, ◌↔◌, slice_get, IsTrue}
+use Rattle.std.proofs.Common.{◌≡◌, ◌≤◌, ◌<◌, ◌⊎◌, inl, inr, ℕ, zero, suc, ◌+◌, ◌-◌, ◌^◌, List, [], ◌∷◌, ◌++◌, Option, Some, None, map, take, reverse, length, refl, sym, ap, ◌∙◌, subst, arith, get_or}
+use Rattle.std.specs.Prelude.{Contains, All, ◌↔◌, slice_get, IsTrue, Bool, true, false, not, ◌==◌, nat_lt, if◌then◌else◌}
 use Rattle.std.specs.Option.{option_map}
 use Rattle.std.proofs.lemmas.List.{append-nil}
 use Rattle.std.proofs.lemmas.List.Elements.{All-contains}
 use Rattle.std.proofs.lemmas.Option.{slice_get-get_or, slice_get_within, get_or_from_slice_get}
 use Rattle.pc_common.specs.World.{Node, Edge}
-use Rattle.pc_common.proofs.Elements.{In, in_from_contains, contains_from_in, in_map, in_front, in_back}
+use Rattle.pc_common.proofs.Elements.{In, in_from_contains, contains_from_in, in_map, in_front, in_back, true_or_false}
 use Rattle.pc_ground.specs.declared.literal.Literal.{Literal}
 use Rattle.pc_ground.specs.declared.row.Row.{Row}
 use Rattle.pc_ground.specs.declared.node_key.NodeKey.{NodeKey}
@@ -15,31 +15,37 @@ use Rattle.pc_ground.specs.Rows.{rows_of}
 use Rattle.pc_ground.specs.Numbers.{AreDistinct}
 use Rattle.pc_ground.specs.Tree.{Tree, always, never, leaf, both, either, size_of}
 use Rattle.pc_ground.specs.Literals.{IsConsistent}
-use Rattle.pc_ground.specs.Refutes.{Step, Branch, subtree_at, literals_of, IsPartial}
-use Rattle.pc_ground.proofs.FlatRows.{subtree_size, size_pos}
+use Rattle.pc_ground.specs.Refutes.{Step, false_step, Branch, subtree_at, literals_of, asserted, a_falsity, IsPartial, IsRefutation}
+use Rattle.pc_ground.proofs.FlatRows.{subtree_size, size_pos, kind_of}
+use Rattle.pc_ground.proofs.Bools.{not_both}
+use Rattle.pc_ground.proofs.Refuted.{refutation_sound}
+use Rattle.pc_ground.proofs.StageWalks.{some_same}
+use Rattle.pc_ground.specs.Folded.{HasNoConstant, IsFolded}
+use Rattle.pc_ground.specs.declared.row.RowKind.TheVariants.{False}
 use Rattle.graph_text.specs.Graphs.{graph_nodes, graph_edges}
 use Rattle.graph_text.specs.declared.graph.Graph.{Graph as PlainGraph}
 use Rattle.order_graph.specs.State.{Graph, IsGraph}
 use Rattle.order_graph.proofs.Clashing.{consistent_are_met}
 use Rattle.solver.specs.Spelled.{spelled, IsSpelled}
-use Rattle.solver.specs.Named.{named, node_at, renamed_tree}
+use Rattle.solver.specs.Named.{named, named_rows, node_at, renamed_tree}
 use Rattle.solver.specs.Below.{IsRowBelow}
 use Rattle.solver.specs.Met.{IsMet}
-use Rattle.solver.specs.Places.{IsCandidate, AreChosen}
+use Rattle.solver.specs.Places.{IsCandidate, AreChosen, reached}
 use Rattle.solver.specs.Opens.{positions, waiting, opens, IsKept}
 use Rattle.solver.specs.Shown.{ArePresent, AreEdges}
-use Rattle.solver.specs.Answers.{IsWitness}
-use Rattle.solver.specs.Searched.{Searched, IsSearching, IsSearch, branches_of}
+use Rattle.solver.specs.Answers.{IsWitness, IsUnsatisfied}
+use Rattle.solver.specs.Searched.{Searched, searched_tree, IsSearching, IsSearch, branches_of}
 use Rattle.solver.specs.declared.asserted.Asserted.{Asserted}
 use Rattle.solver.specs.declared.later.Later.{Later}
-use Rattle.solver.proofs.Naming.{subtree_renamed, size_renamed}
+use Rattle.solver.proofs.Naming.{subtree_renamed, size_renamed, asserted_renamed, tree_of_names}
+use Rattle.solver.proofs.Spelling.{spelled_is, is_spelled}
 use Rattle.solver.proofs.Growing.{IsGrown, grown_first}
 use Rattle.solver.proofs.Meeting.{NoFalse, met_whole}
 use Rattle.solver.proofs.Showing.{Shows, AreBelow, shown_world}
 use Rattle.solver.proofs.Graphing.{all_by_in}
 use Rattle.solver.proofs.Numbering.{number_named}
 use Rattle.order_graph.specs.Ways.{IsBelow}
-use Rattle.solver.proofs.Entering.{length_spelled}
+use Rattle.solver.proofs.Entering.{length_spelled, row_root}
 
 option_back : {X Y : Type 0} (g : X → Y) (o : Option X) (y : Y) → option_map g o ≡ Some y → (x : X) × (o ≡ Some x) × (g x ≡ y)
 option_back g None y e = cc
@@ -160,3 +166,108 @@ candidates_small rows ps xs flat bound all = λ k d inside.
     let c = all k d inside in
     let size = subtree_size (spelled rows) (get_or xs k d) (either c.left c.right) c.is_or in
     omega (arith, size, size_pos (either c.left c.right), length_spelled rows flat, bound)
+
+pub not_zero : (n : ℕ) (b : Bool) → b ≡ (n == 0) → b ≡ false → 0 < n
+not_zero zero b e f = absurd (not_both b e f)
+not_zero (suc n) b e f = omega arith
+
+pub false_of_not : (b : Bool) → not b ≡ true → b ≡ false
+false_of_not true e = cc
+false_of_not false e = refl
+
+-- no branch is left open
+pub unsatisfied : (s u : Searched) (ss : List (Step Node)) → s ≡ u → IsPartial (searched_tree s) ss [] → IsRefutation (searched_tree u) ss × IsUnsatisfied (searched_tree u)
+unsatisfied s u ss e closed =
+    let P : Searched → Type 0 = λ x. IsRefutation (searched_tree x) ss × IsUnsatisfied (searched_tree x) in
+    subst P e (closed, refutation_sound (searched_tree s) ss closed)
+
+-- rows of numbers that are named as those of a tree
+pub names_tree : (nodes : List Node) (rows : List (Row ℕ)) (t : Tree Node) → named_rows nodes rows ≡ rows_of t → IsSpelled rows × (named nodes (spelled rows) ≡ t)
+names_tree nodes rows t e =
+    let back = tree_of_names (node_at nodes) t rows e in
+    (is_spelled rows back.0 back.1, ap (named nodes) (spelled_is rows back.0 back.1) ∙ back.2)
+
+some_false : {N : Type 0} (s : Tree N) → HasNoConstant s → (p : ℕ) → subtree_at s p ≡ Some never → ⊥
+some_false always h p e = h
+some_false never h p e = h
+some_false (leaf l) h zero e = cc
+some_false (leaf l) h (suc p) e = cc
+some_false (both a b) h zero e = cc
+some_false (both a b) h (suc p) e =
+    elim (true_or_false (nat_lt p (size_of a))) [
+      | inl l ↦ some_false a h.0 p (rw l at e)
+      | inr r ↦ some_false b h.1 (p - size_of a) (rw r at e)
+    ]
+some_false (either a b) h zero e = cc
+some_false (either a b) h (suc p) e =
+    elim (true_or_false (nat_lt p (size_of a))) [
+      | inl l ↦ some_false a h.0 p (rw l at e)
+      | inr r ↦ some_false b h.1 (p - size_of a) (rw r at e)
+    ]
+
+pub no_false : {N : Type 0} (t : Tree N) → IsFolded t → (t ≡ never → ⊥) → (p : ℕ) → subtree_at t p ≡ Some never → ⊥
+no_false always h other zero e = cc
+no_false always h other (suc p) e = cc
+no_false never h other p e = other refl
+no_false (leaf l) h other zero e = cc
+no_false (leaf l) h other (suc p) e = cc
+no_false (both a b) h other p e = some_false (both a b) h p e
+no_false (either a b) h other p e = some_false (either a b) h p e
+
+folded_back : {M N : Type 0} (f : M → N) (t : Tree M) → HasNoConstant (renamed_tree f t) → HasNoConstant t
+folded_back f always h = h
+folded_back f never h = h
+folded_back f (leaf l) h = tt
+folded_back f (both a b) h = (folded_back f a h.0, folded_back f b h.1)
+folded_back f (either a b) h = (folded_back f a h.0, folded_back f b h.1)
+
+pub folded_numbers : {M N : Type 0} (f : M → N) (t : Tree M) → IsFolded (renamed_tree f t) → IsFolded t
+folded_numbers f always h = tt
+folded_numbers f never h = tt
+folded_numbers f (leaf l) h = tt
+folded_numbers f (both a b) h = folded_back f (both a b) h
+folded_numbers f (either a b) h = folded_back f (either a b) h
+
+never_of : {N : Type 0} (s : Tree N) → kind_of s ≡ False → s ≡ never
+never_of always e = cc
+never_of never e = refl
+never_of (leaf l) e = cc
+never_of (both a b) e = cc
+never_of (either a b) e = cc
+
+-- the first row is False, where the whole tree is
+pub whole_false : (rows : List (Row ℕ)) (r : Row ℕ) → IsSpelled rows → slice_get rows 0 ≡ Some r → r.kind ≡ False → spelled rows ≡ never
+whole_false rows r flat at kind =
+    let there = row_root rows 0 r flat (size_pos (spelled rows)) at in
+    let same : spelled rows ≡ there.0 = some_same there.1 in
+    same ∙ never_of there.0 (sym (ap (λ (x : Row ℕ). x.kind) there.2) ∙ kind)
+
+pub not_false : (rows : List (Row ℕ)) (r : Row ℕ) → IsSpelled rows → slice_get rows 0 ≡ Some r → (r.kind ≡ False → ⊥) → spelled rows ≡ never → ⊥
+not_false rows r flat at other e =
+    let there = row_root rows 0 r flat (size_pos (spelled rows)) at in
+    let same : there.0 ≡ never = sym (some_same there.1) ∙ e in
+    other (ap (λ (x : Row ℕ). x.kind) there.2 ∙ ap kind_of same)
+
+-- what is kept before the root is entered
+pub first_kept : (nodes : List Node) (t : Tree ℕ) (g : Graph) (here : List Asserted) (ls : List Later) (ss : List (Step Node)) → g.nodes ≡ length nodes → g.literals ≡ [] → g.marks ≡ []
+    → here ≡ [] → ls ≡ [] → ss ≡ [] → IsKept nodes t g here ls ss (reached t 0)
+first_kept nodes t g here ls ss all literals marks none_here none_later none_steps =
+    let A : List Asserted → List Later → List (Step Node) → Type 0 = λ as' ls' ss'. IsKept nodes t g as' ls' ss' (reached t 0) in
+    let first : A [] [] [] = record {
+      stand = literals;
+      all_nodes = all;
+      marks = omega (arith, ap length marks);
+      waits = tt;
+      partial = ap (λ ps. ps ∷ []) (asserted_renamed (node_at nodes) t 0);
+    } in
+    subst (λ x. A here ls x) (sym none_steps) (subst (λ x. A here x []) (sym none_later) (subst (λ x. A x [] []) (sym none_here) first))
+
+-- the refutation of False
+pub false_refuted : (nodes : List Node) (t : Tree ℕ) (ss : List (Step Node)) → t ≡ never → ss ≡ false_step ∷ [] → IsRefutation (named nodes t) ss × IsUnsatisfied (named nodes t)
+false_refuted nodes t ss e f =
+    let T = named nodes t in
+    let is_never : T ≡ never = ap (named nodes) e in
+    let run : IsPartial T (false_step ∷ []) [] = (a_falsity is_never, refl) in
+    let P : List (Step Node) → Type 0 = IsRefutation T in
+    let closed : IsRefutation T ss = subst P (sym f) run in
+    (closed, refutation_sound T ss closed)

@@ -4,7 +4,7 @@ use Rattle.pc_common.specs.World.{Node}
 use Rattle.pc_ground.specs.declared.row.Row.{Row}
 use Rattle.pc_ground.specs.Tree.{Tree}
 use Rattle.pc_ground.specs.Refutes.{Step}
-use Rattle.solver.specs.Searched.{Searched, number_tree, IsSearching}
+use Rattle.solver.specs.Searched.{Searched, number_tree, searched_tree, IsSearching}
 use Rattle.solver.specs.Answers.{IsAnswer}
 use Rattle.solver.specs.Weights.{weight}
 use Rattle.solver.specs.Descents.{IsLonger}
@@ -22,6 +22,11 @@ turn_weight (Done a) = 0
 abbrev pub IsTurn : List Node → List (Row ℕ) → Turn → Type 0
 IsTurn nodes rows (More s) = (s.nodes ≡ nodes) × (s.rows ≡ rows) × IsSearching s
 IsTurn nodes rows (Done a) = IsAnswer nodes (named nodes (spelled rows)) a
+
+-- the same over the tree itself
+abbrev pub IsTurnOf : List Node → Tree Node → Turn → Type 0
+IsTurnOf nodes t (More s) = (s.nodes ≡ nodes) × (searched_tree s ≡ t) × IsSearching s
+IsTurnOf nodes t (Done a) = IsAnswer nodes t a
 
 -- where the search goes on, its steps go on from these
 abbrev pub GoesOn : (List (Step Node) → List (Step Node) → Type 0) → List (Step Node) → Turn → Type 0

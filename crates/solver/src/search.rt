@@ -13,18 +13,20 @@ ghost use Rattle.solver.specs.Opens.{positions, IsKept};
 ghost use Rattle.solver.specs.Weights.{weight};
 ghost use Rattle.solver.specs.Descents.{HasMore};
 ghost use Rattle.solver.specs.Searched.{IsSearching, branches_of};
-ghost use Rattle.solver.specs.Turns.{IsTurn, GoesOn, turn_weight};
+ghost use Rattle.solver.specs.Turns.{IsTurn, IsTurnOf, GoesOn, turn_weight};
 
 use super::advance::advance;
 use super::answer::{Answer, graph_of};
 use super::asserted::Asserted;
 use super::candidates::candidates;
+use super::descend::descend;
 use super::later::Later;
+use super::numbers::{keys_by_number, number_rows};
 use super::rows::row_at;
 use order_graph::OrderGraph;
 use pc_common::Memory;
-use pc_ground::{NodeKey, Row};
-use refutation::Refutation;
+use pc_ground::{Flat, NodeKey, Numbering, Row, RowKind};
+use refutation::{Refutation, Step};
 use std::alloc::Global;
 use std::marker::Model;
 use std::sync::ledger::Ledger;
@@ -103,7 +105,64 @@ pub(crate) fn settle(
     }))
 }
 
+/// Enters the root: what is handed out first.
+fn start<L: Ledger>(
+    alloc: Global,
+    keys: Vec<NodeKey>,
+    rows: Vec<Row<u32>>,
+    mut graph: OrderGraph,
+    mut refutation: Refutation,
+    steps: &mut Steps<L>,
+) -> Result<Turn, Memory>
+    requires tree { IsSpelled rows.items }
+    requires few { length keys.items ≤ 262144 }
+    requires distinct { AreDistinct (map key_node keys.items) }
+    requires below { All (IsRowBelow (length keys.items)) rows.items }
+    requires folded { IsFolded (spelled rows.items) }
+    requires nodes { graph.nodes ≡ length keys.items }
+    requires literals { graph.literals ≡ [] }
+    requires marks { graph.marks ≡ [] }
+    requires steps { refutation ≡ [] }
+    ensures { IfOk result (IsTurn (map key_node keys.items) rows.items) }
+{
+    let root = row_at(&rows, 0);
+    if let RowKind::False = root.kind {
+        refutation.close_leaf(Step::False)?;
+        return Ok(Turn::Done(Answer::Unobservable(refutation)));
+    }
+    let mut asserted = Vec::new(alloc);
+    let mut later = Vec::new(alloc);
+    let is_open = descend(
+        alloc, &keys, &rows, 0, &mut graph, &mut asserted, &mut later, &mut refutation, steps,
+    )?;
+    if !is_open {
+        return Ok(Turn::Done(Answer::Unobservable(refutation)));
+    }
+    settle(alloc, keys, rows, graph, asserted, later, refutation)
+}
+
 impl Search {
+    /// Begins the search over this tree, whose nodes the numbering lists. A constant stands in the tree only
+    /// where it is the whole tree.
+    pub fn begin<L: Ledger>(
+        alloc: Global,
+        tree: &Flat,
+        numbering: &Numbering,
+        steps: &mut Steps<L>,
+    ) -> Result<Turn, Memory>
+        requires numbered { (t : Tree PlainNode) → tree.now ≡ rows_of t → numbering.now ≡ numbered t }
+        requires folded { (t : Tree PlainNode) → tree.now ≡ rows_of t → IsFolded t }
+        ensures { IfOk result (λ turn. (t : Tree PlainNode) → tree.now ≡ rows_of t → IsTurnOf numbering.now t turn) }
+    {
+        let _count = tree.len();
+        let count = numbering.len();
+        let keys = keys_by_number(alloc, numbering)?;
+        let rows = number_rows(alloc, tree, numbering)?;
+        let graph = OrderGraph::new(alloc, count)?;
+        let turn = start(alloc, keys, rows, graph, Refutation::new(alloc), steps)?;
+        Ok(turn)
+    }
+
     /// What is asserted on the first open branch. Takes no memory.
     pub fn graph(&self) -> &OrderGraph
         ensures graph { result.now ≡ self.now.graph }

@@ -1,4 +1,4 @@
-use Rattle.std.proofs.Common.{◌≡◌, ◌≤◌, ◌<◌, ◌+◌, map, ap, sym, ◌∙◌, subst, length, arith, List, [], ℕ, refl, eqb-true}
+use Rattle.std.proofs.Common.{◌≡◌, ◌≤◌, ◌<◌, ◌+◌, ◌^◌, map, ap, sym, ◌∙◌, subst, length, arith, List, [], ℕ, refl, eqb-true}
 use Rattle.std.specs.Prelude.{All}
 use Rattle.std.proofs.lemmas.List.{nil_from_length, length-map}
 use Rattle.pc_ground.specs.declared.node_key.NodeKey.{NodeKey}
@@ -13,7 +13,7 @@ use Rattle.solver.specs.Places.{IsCandidate, AreChosen}
 use Rattle.solver.specs.Opens.{positions}
 use Rattle.solver.specs.Shown.{ArePresent, AreEdges}
 use Rattle.solver.proofs.Entering.{length_spelled}
-use Rattle.solver.proofs.Settling.{positions_inside, witness, searching, candidates_small}
+use Rattle.solver.proofs.Settling.{positions_inside, witness, searching, candidates_small, not_zero}
 use Rattle.solver.proofs.search.settle.Goals as goal
 
 pub candidates-requires-clause-inside : goal.candidates-requires-clause-inside
@@ -46,3 +46,47 @@ returns-then-is_empty-clause-turn c =
     witness nodes (length keys) rows c.args.graph c.args.asserted.items c.args.later.items c.args.refutation c.in_ok-graph.graph (sym (length-map keys key_node))
     c.requires.tree c.requires.distinct c.requires.below c.requires.no_false c.requires.kept c.len-asserted_so_far.ensures.graph chosen
     (subst N c.deref-then-is_empty.ensures.value c.in_ok-graph.ensures.nodes) (subst E c.deref-then-is_empty.ensures.value c.in_ok-graph.ensures.edges)
+
+pub invariant_of-result : goal.invariant_of-result
+invariant_of-result c =
+    let rows = c.args.rows.items in
+    let found = c.in_ok-found.found.items in
+    let R : List (Row ℕ) → Type 0 = λ xs. All (IsCandidate (spelled xs) (positions c.deref-2.result.now)) found in
+    let A : List Asserted → Type 0 = λ xs. All (IsCandidate (spelled rows) (positions xs)) found in
+    let all = subst A c.deref-2.ensures.value (subst R c.deref.ensures.value c.in_ok-found.ensures.all) in
+    let B : List (Row ℕ) → Type 0 = λ xs. length xs < 2 ^ 63 in
+    let bound = subst B c.deref-3.ensures.value c.row_at-root.ensures.bound in record {
+      tree = c.requires.tree;
+      few = c.requires.few;
+      distinct = c.requires.distinct;
+      below = c.requires.below;
+      no_false = c.requires.no_false;
+      kept = c.requires.kept;
+      some = (let some = not_zero _ c.is_empty.result c.is_empty.ensures c.if-is_empty.false in omega (arith, some));
+      all = all;
+      small = candidates_small rows (positions c.args.asserted.items) found c.requires.tree bound all;
+    }
+
+pub returns-clause-turn : goal.returns-clause-turn
+returns-clause-turn c =
+    let rows = c.args.rows.items in
+    let found = c.in_ok-found.found.items in
+    let R : List (Row ℕ) → Type 0 = λ xs. All (IsCandidate (spelled xs) (positions c.deref-2.result.now)) found in
+    let A : List Asserted → Type 0 = λ xs. All (IsCandidate (spelled rows) (positions xs)) found in
+    let all = subst A c.deref-2.ensures.value (subst R c.deref.ensures.value c.in_ok-found.ensures.all) in
+    let B : List (Row ℕ) → Type 0 = λ xs. length xs < 2 ^ 63 in
+    let bound = subst B c.deref-3.ensures.value c.row_at-root.ensures.bound in (
+      refl,
+      refl,
+      searching c.args.keys.items rows c.args.graph c.args.asserted.items c.args.later.items c.args.refutation found (record {
+        tree = c.requires.tree;
+        few = c.requires.few;
+        distinct = c.requires.distinct;
+        below = c.requires.below;
+        no_false = c.requires.no_false;
+        kept = c.requires.kept;
+        some = (let some = not_zero _ c.is_empty.result c.is_empty.ensures c.if-is_empty.false in omega (arith, some));
+        all = all;
+        small = candidates_small rows (positions c.args.asserted.items) found c.requires.tree bound all;
+      }),
+    )
