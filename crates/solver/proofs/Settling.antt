@@ -33,7 +33,10 @@ use Rattle.solver.specs.Met.{IsMet}
 use Rattle.solver.specs.Places.{IsCandidate, AreChosen, reached}
 use Rattle.solver.specs.Opens.{positions, waiting, opens, IsKept}
 use Rattle.solver.specs.Shown.{ArePresent, AreEdges}
-use Rattle.solver.specs.Answers.{IsWitness, IsUnsatisfied}
+use Rattle.solver.specs.Answers.{IsWitness, IsUnsatisfied, IsAnswer}
+use Rattle.solver.specs.Turns.{IsTurn, IsTurnOf}
+use Rattle.solver.specs.declared.search.Turn.{Turn}
+use Rattle.solver.specs.declared.search.Turn.TheVariants.{More, Done}
 use Rattle.solver.specs.Searched.{Searched, searched_tree, IsSearching, IsSearch, branches_of}
 use Rattle.solver.specs.declared.asserted.Asserted.{Asserted}
 use Rattle.solver.specs.declared.later.Later.{Later}
@@ -171,10 +174,6 @@ pub not_zero : (n : ℕ) (b : Bool) → b ≡ (n == 0) → b ≡ false → 0 < n
 not_zero zero b e f = absurd (not_both b e f)
 not_zero (suc n) b e f = omega arith
 
-pub false_of_not : (b : Bool) → not b ≡ true → b ≡ false
-false_of_not true e = cc
-false_of_not false e = refl
-
 -- no branch is left open
 pub unsatisfied : (s u : Searched) (ss : List (Step Node)) → s ≡ u → IsPartial (searched_tree s) ss [] → IsRefutation (searched_tree u) ss × IsUnsatisfied (searched_tree u)
 unsatisfied s u ss e closed =
@@ -271,3 +270,11 @@ false_refuted nodes t ss e f =
     let P : List (Step Node) → Type 0 = IsRefutation T in
     let closed : IsRefutation T ss = subst P (sym f) run in
     (closed, refutation_sound T ss closed)
+
+pub turn_of : (had nodes : List Node) (rows : List (Row ℕ)) (t : Tree Node) (turn : Turn) → had ≡ nodes → named had (spelled rows) ≡ t → IsTurn had rows turn → IsTurnOf nodes t turn
+turn_of had nodes rows t (More s) e f h =
+    (h.0 ∙ e, ap (λ ns. named ns (spelled s.rows)) h.0 ∙ ap (λ rs. named had (spelled rs)) h.1 ∙ f, h.2)
+turn_of had nodes rows t (Done a) e f h =
+    let P : List Node → Type 0 = λ ns. IsAnswer ns (named had (spelled rows)) a in
+    let Q : Tree Node → Type 0 = λ x. IsAnswer nodes x a in
+    subst Q f (subst P e h)

@@ -14,7 +14,9 @@ mod leaf;
 mod numbers;
 mod rows;
 mod search;
+mod solving;
 mod truths;
 
 pub use answer::Answer;
 pub use search::{Search, Turn};
+pub use solving::solve;

@@ -154,7 +154,7 @@ impl Search {
         requires folded { (t : Tree PlainNode) → tree.now ≡ rows_of t → IsFolded t }
         ensures { IfOk result (λ turn. (t : Tree PlainNode) → tree.now ≡ rows_of t → IsTurnOf numbering.now t turn) }
     {
-        let _count = tree.len();
+        let _positions = tree.len();
         let count = numbering.len();
         let keys = keys_by_number(alloc, numbering)?;
         let rows = number_rows(alloc, tree, numbering)?;
