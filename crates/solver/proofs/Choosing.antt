@@ -1,20 +1,19 @@
 -- Candidates by their flags.
-use Rattle.std.proofs.Common.{◌≡◌, ◌≤◌, ◌<◌, ◌⊎◌, inl, inr, ℕ, ◌+◌, Bool, true, false, ◌&&◌, ◌||◌, List, [], ◌∷◌, ◌++◌, Option, Some, None, length, refl, sym, ap, ◌∙◌, subst, arith}
+use Rattle.std.proofs.Common.{◌≡◌, ◌≤◌, ◌<◌, inl, inr, ℕ, ◌+◌, Bool, true, false, ◌&&◌, List, [], ◌∷◌, ◌++◌, Some, None, length, refl, sym, ◌∙◌, subst, arith}
 use Rattle.std.specs.Prelude.{slice_get, Contains, not, MatchBool, All}
 use Rattle.std.proofs.lemmas.Bool.{cases_lt}
 use Rattle.std.proofs.lemmas.List.Elements.{All-push}
-use Rattle.pc_common.proofs.Elements.{In, in_from_contains, contains_from_in, and_first, and_second, true_or_false}
+use Rattle.pc_common.proofs.Elements.{in_from_contains, contains_from_in}
 use Rattle.pc_ground.specs.declared.row.Row.{Row}
-use Rattle.pc_ground.specs.declared.row.RowKind.{RowKind}
-use Rattle.pc_ground.specs.declared.row.RowKind.TheVariants.{True, False, Lit, And, Or}
-use Rattle.pc_ground.specs.Tree.{Tree, always, never, leaf, both, either, size_of}
+use Rattle.pc_ground.specs.declared.row.RowKind.TheVariants.{Or}
+use Rattle.pc_ground.specs.Tree.{Tree, either, size_of}
 use Rattle.pc_ground.specs.Refutes.{Branch, subtree_at, literals_of}
-use Rattle.pc_ground.proofs.FlatRows.{kind_of, subtree_past}
+use Rattle.pc_ground.proofs.FlatRows.{subtree_past}
 use Rattle.pc_ground.proofs.StageWalks.{some_same}
 use Rattle.solver.specs.Spelled.{spelled, IsSpelled}
 use Rattle.solver.specs.Met.{IsMet}
 use Rattle.solver.specs.Places.{IsCandidate, IsChosen, AreChosen, IsNoted}
-use Rattle.solver.specs.Flags.{flag, AreTruths, HasChildren, of_either, AreChildFlags}
+use Rattle.solver.specs.Flags.{flag, AreTruths, of_either, AreChildFlags}
 use Rattle.solver.specs.Weights.{is_on}
 use Rattle.solver.proofs.Weighing.{on_from_in, in_from_on}
 use Rattle.solver.proofs.Telling.{kind_at, or_tree}

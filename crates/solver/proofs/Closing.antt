@@ -1,5 +1,5 @@
 -- A clash of asserted literals closes a branch: over numbers, and so over nodes.
-use Rattle.std.proofs.Common.{◌≡◌, ◌≤◌, ◌<◌, inl, inr, ℕ, ◌+◌, List, [], ◌∷◌, ◌++◌, map, length, get_or, Option, Some, None, ◌⊎◌, refl, sym, ap, ◌∙◌, subst, arith}
+use Rattle.std.proofs.Common.{◌≡◌, ◌≤◌, ◌<◌, inl, inr, ℕ, List, [], ◌∷◌, ◌++◌, map, length, get_or, Option, Some, None, ◌⊎◌, refl, sym, ap, ◌∙◌, subst}
 use Rattle.std.specs.Prelude.{Contains, All, slice_get}
 use Rattle.std.proofs.lemmas.List.Elements.{All-contains, All-nil, All-cons, All-push, All-append}
 use Rattle.std.proofs.lemmas.Option.{slice_get_cases, slice_get_read, slice_get-map}
@@ -23,7 +23,7 @@ use Rattle.pc_ground.specs.Literals.{Joins, IsPresent, as_node, as_start, as_end
 use Rattle.pc_ground.specs.Refutes.{Branch, path, subtree_at, literal_of, literals_of, Closes, a_cycle, a_path, an_absence}
 use Rattle.refutation.specs.Steps.{IsLeaf}
 use Rattle.order_graph.specs.Ways.{IsBelow}
-use Rattle.order_graph.specs.Clashes.{IsCycle, IsDeniedPath, IsClash}
+use Rattle.order_graph.specs.Clashes.{IsClash}
 use Rattle.order_graph.specs.declared.clash.Clash.{Clash}
 use Rattle.order_graph.specs.declared.clash.Clash.TheVariants.{Cycle, Path, Absent}
 use Rattle.solver.specs.Named.{named, node_at}

@@ -1,30 +1,29 @@
 -- One turn of a descent, and its end.
-use Rattle.std.proofs.Common.{◌≡◌, ◌≤◌, ◌<◌, ℕ, Bool, true, false, ◌+◌, List, [], ◌∷◌, ◌++◌, Option, Some, None, map, take, reverse, length, refl, sym, ap, ◌∙◌, subst, arith, append_assoc}
-use Rattle.std.specs.Prelude.{All, slice_index, Contains}
-use Rattle.std.proofs.lemmas.List.{append-nil, reverse-append, length-map}
-use Rattle.std.proofs.lemmas.List.Elements.{All-contains}
+use Rattle.std.proofs.Common.{◌≡◌, ◌≤◌, ◌<◌, ℕ, Bool, true, false, ◌+◌, List, [], ◌∷◌, ◌++◌, take, reverse, length, refl, sym, ap, ◌∙◌, subst, arith, append_assoc}
+use Rattle.std.specs.Prelude.{All}
+use Rattle.std.proofs.lemmas.List.{reverse-append, length-map}
 use Rattle.pc_common.specs.World.{Node}
-use Rattle.pc_common.proofs.Elements.{In, in_from_contains, contains_from_in}
+use Rattle.pc_common.proofs.Elements.{contains_from_in}
 use Rattle.pc_ground.specs.declared.row.Row.{Row}
 use Rattle.pc_ground.specs.Tree.{Tree, size_of}
-use Rattle.pc_ground.specs.Refutes.{Step, split, Branch, subtree_at, literals_of, Closes, IsPartial, with_side}
+use Rattle.pc_ground.specs.Refutes.{Step, split, Branch, literals_of, with_side}
 use Rattle.refutation.specs.Steps.{open_branches}
-use Rattle.order_graph.specs.State.{Graph, IsCut}
+use Rattle.order_graph.specs.State.{Graph}
 use Rattle.order_graph.specs.Clashes.{IsClash}
 use Rattle.order_graph.specs.declared.clash.Clash.{Clash}
 use Rattle.solver.specs.Spelled.{spelled, IsSpelled}
 use Rattle.solver.specs.Below.{IsRowBelow}
 use Rattle.solver.specs.Named.{named}
 use Rattle.solver.specs.Places.{reached, IsOr, IsCandidate, AreChildren}
-use Rattle.solver.specs.Leaves.{clash_step, IsClashBelow}
-use Rattle.solver.specs.Opens.{positions, waiting, IsLater, AreLater, opens, IsKept, IsFurther, IsSame, IsMarked}
+use Rattle.solver.specs.Leaves.{IsClashBelow}
+use Rattle.solver.specs.Opens.{positions, waiting, IsLater, AreLater, opens, IsKept, IsSame}
 use Rattle.solver.specs.Weights.{weight}
 use Rattle.solver.specs.Descents.{HasDescended, IsLonger, HasMore}
 use Rattle.solver.specs.declared.asserted.Asserted.{Asserted}
 use Rattle.solver.specs.declared.later.Later.{Later}
 use Rattle.solver.proofs.Running.{open_partial, reached_at}
-use Rattle.solver.proofs.Closing.{clash_closes, clash_below, literals_below}
-use Rattle.solver.proofs.Going.{closed_kept, closed_all, entered_kept, split_kept}
+use Rattle.solver.proofs.Closing.{clash_below, literals_below}
+use Rattle.solver.proofs.Going.{split_kept}
 use Rattle.solver.proofs.Weighing.{weight_more, weight_split}
 use Rattle.pc_ground.proofs.FlatRows.{children_either}
 

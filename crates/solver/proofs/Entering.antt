@@ -1,12 +1,10 @@
 -- Entering a side: where its walk starts, one row more, and what a clash of a first part says of the whole.
-use Rattle.std.proofs.Common.{◌≡◌, ◌≤◌, ◌<◌, ℕ, ◌+◌, ◌-◌, List, [], ◌∷◌, ◌++◌, Option, Some, None, map, take, drop, length, refl, sym, ap, ◌∙◌, subst, arith, append_assoc, length-append}
-use Rattle.std.specs.Prelude.{slice_get, Contains}
-use Rattle.std.specs.List.{flat_map}
-use Rattle.std.proofs.lemmas.List.{append-nil, take-append-le, length-map}
+use Rattle.std.proofs.Common.{◌≡◌, ◌≤◌, ◌<◌, ℕ, ◌+◌, List, [], ◌∷◌, ◌++◌, Some, map, take, length, refl, sym, ap, ◌∙◌, subst, arith, append_assoc}
+use Rattle.std.specs.Prelude.{slice_get}
+use Rattle.std.proofs.lemmas.List.{append-nil, take-append-le}
 use Rattle.std.proofs.lemmas.List.Elements.{Contains-append_left}
 use Rattle.std.proofs.lemmas.Grind.{flat_map-append}
-use Rattle.pc_common.specs.Chain.{Leads, Chain}
-use Rattle.pc_common.proofs.Chains.{chain_more}
+use Rattle.pc_common.specs.Chain.{Leads}
 use Rattle.pc_ground.specs.declared.literal.Literal.{Literal}
 use Rattle.pc_ground.specs.declared.literal.Literal.TheVariants.{Node, Edge, NoNode, NoEdge}
 use Rattle.pc_ground.specs.declared.row.Row.{Row}
@@ -16,9 +14,9 @@ use Rattle.pc_ground.specs.Literals.{Joins, IsPresent, as_node, as_start, as_end
 use Rattle.pc_ground.specs.Refutes.{subtree_at, asserted, literal_of, literals_of}
 use Rattle.pc_ground.specs.Walks.{stride, Walk, literals_of_kind, literals_of_row}
 use Rattle.pc_ground.proofs.FlatRows.{root_of, row_subtree, subtree_within, subtree_row, subtree_size, length_rows, literal_by_row}
-use Rattle.pc_ground.proofs.Walks.{walk_side, walk_turn, walk_done, walk_within}
+use Rattle.pc_ground.proofs.Walks.{walk_side, walk_turn, walk_within}
 use Rattle.pc_ground.proofs.StageWalks.{some_same}
-use Rattle.order_graph.specs.Clashes.{IsCycle, IsDeniedPath, IsClash}
+use Rattle.order_graph.specs.Clashes.{IsCycle, IsClash}
 use Rattle.order_graph.specs.State.{Graph}
 use Rattle.order_graph.specs.declared.clash.Clash.{Clash}
 use Rattle.order_graph.specs.declared.clash.Clash.TheVariants.{Cycle, Path, Absent}

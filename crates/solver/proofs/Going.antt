@@ -1,12 +1,11 @@
 -- What a search keeps: after a split, after a side is entered, and after a side's clash.
-use Rattle.std.proofs.Common.{◌≡◌, ◌≤◌, ◌<◌, ℕ, zero, suc, ◌+◌, ◌-◌, List, [], ◌∷◌, ◌++◌, Option, Some, None, map, take, drop, reverse, length, get_or, refl, sym, ap, ◌∙◌, subst, arith, append_assoc, length-append}
-use Rattle.std.specs.Prelude.{slice_get, slice_index, Contains}
+use Rattle.std.proofs.Common.{◌≡◌, ◌≤◌, ◌<◌, ℕ, zero, suc, ◌+◌, List, [], ◌∷◌, ◌++◌, Option, Some, take, drop, reverse, length, refl, sym, ap, ◌∙◌, subst, arith, length-append}
+use Rattle.std.specs.Prelude.{slice_index, Contains}
 use Rattle.std.proofs.lemmas.List.{append-nil, take-append-le, length-map, length-take, get_or_append_left, reverse-append}
 use Rattle.std.specs.Option.{option_map}
 use Rattle.std.specs.List.{take-map}
 use Rattle.pc_common.specs.World.{Node}
-use Rattle.pc_ground.specs.declared.literal.Literal.{Literal}
-use Rattle.pc_ground.specs.Tree.{Tree, always, never, leaf, both, either, size_of}
+use Rattle.pc_ground.specs.Tree.{Tree, either, size_of}
 use Rattle.pc_ground.specs.Refutes.{Step, split, Branch, subtree_at, asserted, literals_of, Closes, with_side, IsPartial}
 use Rattle.pc_ground.proofs.FlatRows.{children_either, subtree_size, size_pos}
 use Rattle.order_graph.specs.State.{Graph, IsCut}
@@ -16,8 +15,8 @@ use Rattle.solver.specs.Opens.{positions, waiting, IsLater, AreLater, opens, IsK
 use Rattle.solver.specs.declared.asserted.Asserted.{Asserted}
 use Rattle.solver.specs.declared.later.Later.{Later}
 use Rattle.solver.proofs.Running.{runs_split, runs_close, reached_at}
-use Rattle.solver.proofs.Naming.{subtree_renamed, asserted_renamed, size_renamed, literals_renamed}
-use Rattle.solver.proofs.Entering.{literals_more, positions_append}
+use Rattle.solver.proofs.Naming.{subtree_renamed, asserted_renamed, size_renamed}
+use Rattle.solver.proofs.Entering.{literals_more}
 
 -- reading and taking before an end that is put behind
 take_front : {X : Type 0} (k : ℕ) (xs ys : List X) → k ≤ length xs → take k (xs ++ ys) ≡ take k xs
@@ -114,7 +113,7 @@ split_kept nodes t g h aps ls ms ss us l p a b kept on at same_literals same_nod
     let moved : IsPartial T (ss ++ split p ∷ []) ((ps ++ reached t (p + 1)) ∷ waiting t ps (l ∷ reverse ls)) =
     subst (λ w. P (ps ++ reached t (p + 1)) (take l.count ps ++ reached t l.side) w) behind
     (subst (λ v. P (ps ++ reached t (p + 1)) v (waiting t ps (reverse ls))) right
-      (subst (λ u. P u (with_side ps y (p + 1 + size_of x)) (waiting t ps (reverse ls))) left next)) in
+    (subst (λ u. P u (with_side ps y (p + 1 + size_of x)) (waiting t ps (reverse ls))) left next)) in
     let Q : List (Step Node) → List Later → Type 0 = λ u w. IsPartial T u ((ps ++ reached t (p + 1)) ∷ waiting t ps w) in record {
       stand = same_literals ∙ kept.stand;
       all_nodes = same_nodes ∙ kept.all_nodes;

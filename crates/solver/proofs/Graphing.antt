@@ -1,6 +1,6 @@
 -- The graph of a list of literals, node by node and edge by edge.
-use Rattle.std.proofs.Common.{◌≡◌, ◌≤◌, ◌<◌, ◌⊎◌, inl, inr, ℕ, ◌+◌, Bool, true, false, ◌&&◌, List, [], ◌∷◌, ◌++◌, Option, Some, None, map, take, length, refl, sym, ap, ◌∙◌, subst, arith, eqb, eqb-true, get_or}
-use Rattle.std.specs.Prelude.{Contains, All, ◌↔◌, slice_get, if◌then◌else◌}
+use Rattle.std.proofs.Common.{◌≡◌, ◌≤◌, ◌<◌, ◌⊎◌, inl, inr, ℕ, ◌+◌, Bool, true, ◌&&◌, List, [], ◌∷◌, ◌++◌, Some, map, take, length, refl, sym, ap, ◌∙◌, subst, arith, eqb, eqb-true}
+use Rattle.std.specs.Prelude.{Contains, All, ◌↔◌, slice_get}
 use Rattle.std.specs.List.{list_any}
 use Rattle.std.proofs.lemmas.Bool.{cases_lt}
 use Rattle.std.proofs.lemmas.List.{take_more, take_all}
@@ -44,7 +44,7 @@ present_more nodes ls k old new (inl (is, e)) are = λ a. (from a, to a)
         let P : List Node → Type 0 = λ xs. Contains xs a in
         elim (cases_lt h.0 k) [
           | inl before ↦ subst P (sym e) (contains_from_in a (old ++ node_at nodes k ∷ []) (in_front a old (node_at nodes k ∷ [])
-            (in_from_contains a old ((are a).1 (h.0, before, h.2, h.3)))))
+              (in_from_contains a old ((are a).1 (h.0, before, h.2, h.3)))))
           | inr past ↦
               let same : h.0 ≡ k = omega (arith, h.1, past) in
               subst P (sym e) (contains_from_in a (old ++ node_at nodes k ∷ []) (in_back a old (node_at nodes k ∷ []) (inl (ap (node_at nodes) (sym same) ∙ h.3))))
@@ -123,7 +123,7 @@ edge_noted eq law ks new l a b is e j k =
     let P : ℕ → ℕ → ℕ × ℕ = λ x y. (x, y) in
     let to_edge : (a, b) ≡ (j, k) → l ≡ an_edge j k = λ s. is ∙ ap (λ x. an_edge x b) (ap (λ p. p.0) s) ∙ ap (an_edge j) (ap (λ p. p.1) s) in
     let from_edge : l ≡ an_edge j k → (a, b) ≡ (j, k) = λ s.
-        (let f = sym is ∙ s in ap (λ x. P x b) (edge_first a b j k f) ∙ ap (P j) (edge_second a b j k f)) in (
+    (let f = sym is ∙ s in ap (λ x. P x b) (edge_first a b j k f) ∙ ap (P j) (edge_second a b j k f)) in (
       (λ c. elim (h.0 c) [ inl x ↦ inl x | inr x ↦ inr (to_edge x) ]),
       (λ c. elim c [ inl x ↦ h.1 (inl x) | inr x ↦ h.1 (inr (from_edge x)) ]),
     )
@@ -167,7 +167,7 @@ edges_shown nodes ls pairs es e are a b =
           let Q : Node → Node → Type 0 = λ x y. Contains es (x, y) in
           let here : Q (node_at nodes h.0) (node_at nodes h.1) =
           (let R : List Edge → Type 0 = λ xs. Contains xs (f (h.0, h.1)) in
-            subst R (sym e) (contains_from_in (f (h.0, h.1)) (map f pairs) (in_map f (h.0, h.1) pairs (in_from_contains (h.0, h.1) pairs ((are h.0 h.1).1 h.2))))) in
+          subst R (sym e) (contains_from_in (f (h.0, h.1)) (map f pairs) (in_map f (h.0, h.1) pairs (in_from_contains (h.0, h.1) pairs ((are h.0 h.1).1 h.2))))) in
           subst (λ y. Q a y) h.4 (subst (λ x. Q x (node_at nodes h.1)) h.3 here)),
     )
 

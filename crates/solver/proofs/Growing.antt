@@ -1,7 +1,6 @@
 -- What every open branch has: the root, positions of the tree alone, and with an And both of its children.
-use Rattle.std.proofs.Common.{◌≡◌, ◌⊎◌, inl, inr, ℕ, ◌+◌, List, [], ◌∷◌, ◌++◌, Option, Some, None, refl, sym, ap, ◌∙◌, subst, arith}
-use Rattle.std.specs.Prelude.{Contains, All}
-use Rattle.pc_common.proofs.Elements.{In, in_from_contains, contains_from_in, in_front, in_back, in_either}
+use Rattle.std.proofs.Common.{◌≡◌, inl, inr, ℕ, ◌+◌, List, [], ◌∷◌, Some, refl, sym, ◌∙◌, subst}
+use Rattle.pc_common.proofs.Elements.{In, in_front, in_back, in_either}
 use Rattle.pc_ground.specs.Tree.{Tree, always, never, leaf, both, either, size_of}
 use Rattle.pc_ground.specs.Refutes.{Step, split, cycle, path, absent, false_step, Branch, subtree_at, asserted, with_side, Runs, IsPartial}
 use Rattle.pc_ground.proofs.FlatRows.{children_both, children_either}

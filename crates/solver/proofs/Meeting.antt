@@ -1,11 +1,10 @@
 -- A branch on which nothing is left to choose meets its tree.
-use Rattle.std.proofs.Common.{◌≡◌, ◌⊎◌, inl, inr, ℕ, ◌+◌, List, [], ◌∷◌, ◌++◌, Option, Some, None, refl, sym, ap, ◌∙◌, subst, arith}
+use Rattle.std.proofs.Common.{◌≡◌, inl, inr, ℕ, ◌+◌, List, Some, refl, sym, ap, subst}
 use Rattle.std.specs.Prelude.{Contains}
-use Rattle.pc_common.specs.Chain.{Chain}
 use Rattle.pc_common.proofs.Elements.{In, in_from_contains, contains_from_in, in_flat}
 use Rattle.pc_ground.specs.declared.literal.Literal.{Literal}
 use Rattle.pc_ground.specs.Tree.{Tree, always, never, leaf, both, either, size_of}
-use Rattle.pc_ground.specs.Literals.{Joins, IsPresent, Holds, AreMet}
+use Rattle.pc_ground.specs.Literals.{AreMet}
 use Rattle.pc_ground.specs.Refutes.{Branch, subtree_at, literal_of, literals_of}
 use Rattle.pc_ground.proofs.FlatRows.{children_both, children_either}
 use Rattle.solver.specs.Met.{IsMet}

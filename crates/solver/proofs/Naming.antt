@@ -1,7 +1,6 @@
 -- What stays the same where the nodes of a tree are renamed: its rows' form, its positions, and where its literals stand.
 use Rattle.std.proofs.Common.{◌≡◌, ℕ, zero, suc, ◌+◌, ◌-◌, Bool, true, false, List, [], ◌∷◌, ◌++◌, Option, Some, None, map, refl, sym, ap, ◌∙◌, arith, append_assoc}
 use Rattle.std.specs.Prelude.{nat_lt, if◌then◌else◌}
-use Rattle.std.specs.List.{flat_map}
 use Rattle.std.specs.Option.{option_map}
 use Rattle.std.proofs.lemmas.List.{append-nil}
 use Rattle.pc_ground.specs.declared.literal.Literal.{Literal}
@@ -168,12 +167,12 @@ tree_back {M} {N} f (both a b) (r ∷ rs) rest e =
     let right = tree_back f b left.1 rest left.4 in
     let sizes : 1 + (size_of a + size_of b) ≡ size_of (both left.0 right.0) =
     (let P : Tree N → Tree N → ℕ = λ x y. 1 + (size_of x + size_of y) in
-      ap (λ x. P x b) (sym left.3) ∙ ap (λ y. P (renamed_tree f left.0) y) (sym right.3) ∙ size_renamed f (both left.0 right.0)) in (
+    ap (λ x. P x b) (sym left.3) ∙ ap (λ y. P (renamed_tree f left.0) y) (sym right.3) ∙ size_renamed f (both left.0 right.0)) in (
       both left.0 right.0,
       right.1,
       ap (λ x. x ∷ rs) (same_row r And (size_of (both left.0 right.0)) (back_and f r.kind kind) (skip ∙ sizes))
-      ∙ ap (λ xs. record { kind = And; skip = size_of (both left.0 right.0) } ∷ xs)
-        (left.2 ∙ ap (λ xs. rows_of left.0 ++ xs) right.2 ∙ sym (append_assoc (rows_of left.0) (rows_of right.0) right.1)),
+          ∙ ap (λ xs. record { kind = And; skip = size_of (both left.0 right.0) } ∷ xs)
+          (left.2 ∙ ap (λ xs. rows_of left.0 ++ xs) right.2 ∙ sym (append_assoc (rows_of left.0) (rows_of right.0) right.1)),
       ap (λ x. both x (renamed_tree f right.0)) left.3 ∙ ap (both a) right.3,
       right.4,
     )
@@ -186,12 +185,12 @@ tree_back {M} {N} f (either a b) (r ∷ rs) rest e =
     let right = tree_back f b left.1 rest left.4 in
     let sizes : 1 + (size_of a + size_of b) ≡ size_of (either left.0 right.0) =
     (let P : Tree N → Tree N → ℕ = λ x y. 1 + (size_of x + size_of y) in
-      ap (λ x. P x b) (sym left.3) ∙ ap (λ y. P (renamed_tree f left.0) y) (sym right.3) ∙ size_renamed f (either left.0 right.0)) in (
+    ap (λ x. P x b) (sym left.3) ∙ ap (λ y. P (renamed_tree f left.0) y) (sym right.3) ∙ size_renamed f (either left.0 right.0)) in (
       either left.0 right.0,
       right.1,
       ap (λ x. x ∷ rs) (same_row r Or (size_of (either left.0 right.0)) (back_or f r.kind kind) (skip ∙ sizes))
-      ∙ ap (λ xs. record { kind = Or; skip = size_of (either left.0 right.0) } ∷ xs)
-        (left.2 ∙ ap (λ xs. rows_of left.0 ++ xs) right.2 ∙ sym (append_assoc (rows_of left.0) (rows_of right.0) right.1)),
+          ∙ ap (λ xs. record { kind = Or; skip = size_of (either left.0 right.0) } ∷ xs)
+          (left.2 ∙ ap (λ xs. rows_of left.0 ++ xs) right.2 ∙ sym (append_assoc (rows_of left.0) (rows_of right.0) right.1)),
       ap (λ x. either x (renamed_tree f right.0)) left.3 ∙ ap (either a) right.3,
       right.4,
     )

@@ -1,24 +1,20 @@
 -- Numbers for nodes, and lists that are copied one by one.
-use Rattle.std.proofs.Common.{◌≡◌, ◌<◌, ◌⊎◌, inl, inr, ℕ, ◌+◌, List, [], ◌∷◌, ◌++◌, Option, Some, None, map, take, length, get_or, refl, sym, ap, ◌∙◌, subst, arith}
-use Rattle.std.specs.Prelude.{slice_get, Contains, All}
+use Rattle.std.proofs.Common.{◌≡◌, inl, inr, ℕ, ◌+◌, List, [], ◌∷◌, ◌++◌, Option, Some, map, take, refl, sym, ap, ◌∙◌, subst}
+use Rattle.std.specs.Prelude.{slice_get, Contains}
 use Rattle.std.specs.Option.{unwrap_or}
 use Rattle.std.proofs.lemmas.List.{take_more, map_push}
-use Rattle.std.proofs.lemmas.List.Elements.{Contains-append_left, Contains-append_right}
 use Rattle.std.proofs.lemmas.Option.{slice_get_within, get_or_from_slice_get, slice_get-get_or}
 use Rattle.pc_common.specs.World.{Node}
 use Rattle.pc_common.proofs.Elements.{In, in_from_contains, contains_from_in, in_either, in_front, in_back}
 use Rattle.pc_ground.specs.declared.literal.Literal.{Literal}
 use Rattle.pc_ground.specs.declared.literal.Literal.TheVariants.{Node as a_node, Edge, NoNode, NoEdge}
 use Rattle.pc_ground.specs.declared.row.Row.{Row}
-use Rattle.pc_ground.specs.declared.row.RowKind.{RowKind}
-use Rattle.pc_ground.specs.declared.row.RowKind.TheVariants.{True, False, Lit, And, Or}
 use Rattle.pc_ground.specs.Tree.{Tree, always, never, leaf, both, either}
 use Rattle.pc_ground.specs.Rows.{rows_of}
-use Rattle.pc_ground.specs.Numbers.{nodes_of_literal, nodes_of_tree, numbered, IsNumberOf}
+use Rattle.pc_ground.specs.Numbers.{nodes_of_literal, nodes_of_tree, numbered}
 use Rattle.pc_ground.proofs.FirstSeen.{numbered_has}
-use Rattle.pc_ground.proofs.FlatRows.{subtree_row, row_subtree, root_of}
 use Rattle.solver.specs.Named.{node_at}
-use Rattle.solver.specs.Known.{IsKnown, IsLiteralKnown, IsKindKnown, IsRowKnown}
+use Rattle.solver.specs.Known.{IsKnown, IsLiteralKnown, IsRowKnown}
 
 pub number_named : (nodes : List Node) (k : ℕ) (a : Node) → slice_get nodes k ≡ Some a → node_at nodes k ≡ a
 unfolding node_at

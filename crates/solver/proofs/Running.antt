@@ -1,10 +1,10 @@
 -- The steps of a refutation so far, with a split or a leaf put behind them.
-use Rattle.std.proofs.Common.{◌≡◌, ℕ, ◌+◌, ◌-◌, List, [], ◌∷◌, ◌++◌, Option, Some, None, map, length, refl, sym, ap, ◌∙◌, subst, arith}
+use Rattle.std.proofs.Common.{◌≡◌, ℕ, ◌+◌, ◌-◌, List, [], ◌∷◌, ◌++◌, Some, length, refl, sym, ap, ◌∙◌, subst, arith}
 use Rattle.std.specs.Prelude.{Contains, fold}
 use Rattle.pc_common.specs.World.{Node}
 use Rattle.pc_ground.specs.declared.literal.Literal.{Literal}
-use Rattle.pc_ground.specs.Tree.{Tree, always, never, leaf, both, either, size_of}
-use Rattle.pc_ground.specs.Refutes.{Step, split, cycle, path, absent, false_step, Branch, subtree_at, asserted, literals_of, Closes, IsSplit, with_side, Runs, IsPartial}
+use Rattle.pc_ground.specs.Tree.{Tree, either, size_of}
+use Rattle.pc_ground.specs.Refutes.{Step, split, cycle, path, absent, false_step, Branch, subtree_at, asserted, literals_of, Closes, with_side, Runs, IsPartial}
 use Rattle.refutation.specs.Steps.{open_after, open_branches}
 use Rattle.solver.specs.Places.{reached, reached_in}
 

@@ -1,12 +1,12 @@
 -- From what a search keeps to what it hands out.
-use Rattle.std.proofs.Common.{◌≡◌, ◌≤◌, ◌<◌, ◌⊎◌, inl, inr, ℕ, zero, suc, ◌+◌, ◌-◌, ◌^◌, List, [], ◌∷◌, ◌++◌, Option, Some, None, map, take, reverse, length, refl, sym, ap, ◌∙◌, subst, arith, get_or}
-use Rattle.std.specs.Prelude.{Contains, All, ◌↔◌, slice_get, IsTrue, Bool, true, false, not, ◌==◌, nat_lt, if◌then◌else◌}
+use Rattle.std.proofs.Common.{◌≡◌, ◌<◌, inl, inr, ℕ, zero, suc, ◌+◌, ◌-◌, ◌^◌, List, [], ◌∷◌, Option, Some, None, map, reverse, length, refl, sym, ap, ◌∙◌, subst, arith, get_or}
+use Rattle.std.specs.Prelude.{Contains, All, slice_get, Bool, false, ◌==◌, nat_lt}
 use Rattle.std.specs.Option.{option_map}
 use Rattle.std.proofs.lemmas.List.{append-nil}
 use Rattle.std.proofs.lemmas.List.Elements.{All-contains}
-use Rattle.std.proofs.lemmas.Option.{slice_get-get_or, slice_get_within, get_or_from_slice_get}
-use Rattle.pc_common.specs.World.{Node, Edge}
-use Rattle.pc_common.proofs.Elements.{In, in_from_contains, contains_from_in, in_map, in_front, in_back, true_or_false}
+use Rattle.std.proofs.lemmas.Option.{slice_get-get_or, get_or_from_slice_get}
+use Rattle.pc_common.specs.World.{Node}
+use Rattle.pc_common.proofs.Elements.{In, contains_from_in, in_map, in_front, in_back, true_or_false}
 use Rattle.pc_ground.specs.declared.literal.Literal.{Literal}
 use Rattle.pc_ground.specs.declared.row.Row.{Row}
 use Rattle.pc_ground.specs.declared.node_key.NodeKey.{NodeKey}
@@ -15,7 +15,7 @@ use Rattle.pc_ground.specs.Rows.{rows_of}
 use Rattle.pc_ground.specs.Numbers.{AreDistinct}
 use Rattle.pc_ground.specs.Tree.{Tree, always, never, leaf, both, either, size_of}
 use Rattle.pc_ground.specs.Literals.{IsConsistent}
-use Rattle.pc_ground.specs.Refutes.{Step, false_step, Branch, subtree_at, literals_of, asserted, a_falsity, IsPartial, IsRefutation}
+use Rattle.pc_ground.specs.Refutes.{Step, false_step, Branch, subtree_at, literals_of, a_falsity, IsPartial, IsRefutation}
 use Rattle.pc_ground.proofs.FlatRows.{subtree_size, size_pos, kind_of}
 use Rattle.pc_ground.proofs.Bools.{not_both}
 use Rattle.pc_ground.proofs.Refuted.{refutation_sound}
@@ -84,9 +84,9 @@ positions_inside nodes rows g here ls ss flat kept =
     let t = spelled rows in
     let grown = kept_grown nodes t g here ls ss kept in
     all_by_in (λ (a : Asserted). a.position < length rows) here (λ a i.
-        let there = grown.inside a.position (in_map (λ (x : Asserted). x.position) a here i) in
-        let size = subtree_size t a.position there.0 there.1 in
-        omega (arith, size, size_pos there.0, length_spelled rows flat))
+    let there = grown.inside a.position (in_map (λ (x : Asserted). x.position) a here i) in
+    let size = subtree_size t a.position there.0 there.1 in
+    omega (arith, size, size_pos there.0, length_spelled rows flat))
 
 -- on a branch with no candidate the whole tree is true
 pub kept_met : (nodes : List Node) (t : Tree ℕ) (g : Graph) (here : List Asserted) (ls : List Later) (ss : List (Step Node)) → IsKept nodes t g here ls ss []
@@ -95,7 +95,7 @@ kept_met nodes t g here ls ss kept consistent chosen none =
     let P : List (Literal ℕ) → Type 0 = IsConsistent in
     let Q : List (Literal ℕ) → Type 0 = λ xs. IsMet xs t in
     subst Q (sym kept.stand) (met_whole t (positions here) (kept_grown nodes t g here ls ss kept)
-      (consistent_are_met (literals_of t (positions here)) (subst P kept.stand consistent)) chosen none)
+    (consistent_are_met (literals_of t (positions here)) (subst P kept.stand consistent)) chosen none)
 
 rows_below : (n : ℕ) (t : Tree ℕ) → ((r : Row ℕ) → In r (rows_of t) → IsRowBelow n r) → AreBelow n t
 rows_below n always f = tt

@@ -1,22 +1,21 @@
 -- A consistent list of literals over numbers gives a graph over the nodes, whose world makes a tree true that the literals meet.
-use Rattle.std.proofs.Common.{◌≡◌, ◌≤◌, ◌<◌, ◌⊎◌, inl, inr, ℕ, ◌+◌, Bool, true, false, ◌&&◌, ◌||◌, List, [], ◌∷◌, ◌++◌, Option, Some, None, map, length, refl, sym, ap, ◌∙◌, subst, arith}
-use Rattle.std.specs.Prelude.{Contains, All, ◌↔◌, IsTrue, not, slice_get}
+use Rattle.std.proofs.Common.{◌≡◌, ◌<◌, inl, inr, ℕ, Bool, true, false, ◌&&◌, List, [], ◌∷◌, Some, map, length, refl, sym, ap, ◌∙◌, subst}
+use Rattle.std.specs.Prelude.{Contains, All, IsTrue, not}
 use Rattle.std.proofs.lemmas.List.Elements.{All-contains}
 use Rattle.std.proofs.lemmas.Option.{slice_get-get_or}
 use Rattle.pc_common.specs.World.{Node, Edge, World, IsWorld, has_node, has_edge, same_node}
 use Rattle.pc_common.specs.Chain.{Leads, Chain, Acyclic}
 use Rattle.pc_common.specs.Generated.{IsListed, HasEnds, IsGenerated}
-use Rattle.pc_common.proofs.Elements.{true_or_false, or_first, or_later}
+use Rattle.pc_common.proofs.Elements.{or_first, or_later}
 use Rattle.pc_common.proofs.Nodes.{has_node_is, has_edge_is}
 use Rattle.pc_common.proofs.GeneratedWorlds.{generates, node_tells}
 use Rattle.pc_ground.specs.declared.literal.Literal.{Literal}
 use Rattle.pc_ground.specs.declared.literal.Literal.TheVariants.{Node as a_node, Edge as an_edge, NoNode, NoEdge}
-use Rattle.pc_ground.specs.Keys.{renamed}
-use Rattle.pc_ground.specs.Numbers.{IsNumberOf, AreDistinct}
+use Rattle.pc_ground.specs.Numbers.{AreDistinct}
 use Rattle.pc_ground.specs.Tree.{Tree, always, never, leaf, both, either, tree_true}
-use Rattle.pc_ground.specs.Literals.{Joins, IsPresent, as_node, as_start, as_end, IsConsistent, Holds}
+use Rattle.pc_ground.specs.Literals.{Joins, IsPresent, as_start, as_end, IsConsistent}
 use Rattle.order_graph.specs.Ways.{IsBelow}
-use Rattle.solver.specs.Named.{named, node_at, renamed_tree}
+use Rattle.solver.specs.Named.{named, node_at}
 use Rattle.solver.specs.Met.{IsMet}
 use Rattle.solver.specs.Shown.{ArePresent, AreEdges}
 use Rattle.solver.proofs.Numbering.{number_named}
@@ -113,18 +112,18 @@ met_true nodes ls ns es w s g (leaf (an_edge a b)) below h =
     ((g.order_is (node_at nodes a) (node_at nodes b)).1 (map (node_at nodes) h.0, chain_on nodes ls ns es s a h.0 b h.1))
 met_true nodes ls ns es w s g (leaf (NoNode a)) below h =
     not_true (has_node w (node_at nodes a)) (λ yes.
-        let P : List Node → Type 0 = λ xs. Contains xs (node_at nodes a) in
-        let k = (s.present (node_at nodes a)).0 (subst P g.nodes_are ((has_node_is w (node_at nodes a)).0 yes)) in
-        let same : k.0 ≡ a = one_number nodes s.distinct k.0 a k.1 below k.3 in
-        let Q : ℕ → Type 0 = IsPresent ls in
-        h (subst Q same k.2))
+    let P : List Node → Type 0 = λ xs. Contains xs (node_at nodes a) in
+    let k = (s.present (node_at nodes a)).0 (subst P g.nodes_are ((has_node_is w (node_at nodes a)).0 yes)) in
+    let same : k.0 ≡ a = one_number nodes s.distinct k.0 a k.1 below k.3 in
+    let Q : ℕ → Type 0 = IsPresent ls in
+    h (subst Q same k.2))
 met_true nodes ls ns es w s g (leaf (NoEdge a b)) below h =
     not_true (has_edge w (node_at nodes a) (node_at nodes b)) (λ yes.
-        let chain = (g.order_is (node_at nodes a) (node_at nodes b)).0 ((has_edge_is w (node_at nodes a) (node_at nodes b)).0 yes) in
-        let back = chain_back nodes ls ns es s a below.0 (node_at nodes a) chain.0 (node_at nodes b) refl chain.1 in
-        let same : back.0 ≡ b = one_number nodes s.distinct back.0 b back.1 below.1 back.2 in
-        let Q : ℕ → Type 0 = λ k. Chain (Joins ls) a k in
-        h (subst Q same back.3))
+    let chain = (g.order_is (node_at nodes a) (node_at nodes b)).0 ((has_edge_is w (node_at nodes a) (node_at nodes b)).0 yes) in
+    let back = chain_back nodes ls ns es s a below.0 (node_at nodes a) chain.0 (node_at nodes b) refl chain.1 in
+    let same : back.0 ≡ b = one_number nodes s.distinct back.0 b back.1 below.1 back.2 in
+    let Q : ℕ → Type 0 = λ k. Chain (Joins ls) a k in
+    h (subst Q same back.3))
 met_true nodes ls ns es w s g (both a b) below h =
     and_both (tree_true w (named nodes a)) (tree_true w (named nodes b)) (met_true nodes ls ns es w s g a below.0 h.0) (met_true nodes ls ns es w s g b below.1 h.1)
 met_true nodes ls ns es w s g (either a b) below (inl h) = or_first (tree_true w (named nodes a)) (tree_true w (named nodes b)) (met_true nodes ls ns es w s g a below.0 h)

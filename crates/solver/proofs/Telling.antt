@@ -1,9 +1,7 @@
 -- Flags for the truth of subtrees, and for the positions of a branch.
-use Rattle.std.proofs.Common.{◌≡◌, ◌≢◌, ◌≤◌, ◌<◌, ◌⊎◌, inl, inr, ℕ, ◌+◌, ◌-◌, Bool, true, false, ◌&&◌, ◌||◌, List, [], ◌∷◌, ◌++◌, Option, Some, None, map, take, length, refl, sym, ap, ◌∙◌, subst, arith, get_or, eq-eqb, eqb-true, set}
-use Rattle.std.specs.Prelude.{slice_get, slice_index_or, ◌↔◌, ◌==◌, IsTrue, replicate, All, Contains}
-use Rattle.std.specs.List.{list_any}
-use Rattle.std.proofs.lemmas.List.{get_or-set_same, get_or-set_other, get_or-replicate, get_or_past, length-set, length-replicate}
-use Rattle.std.proofs.lemmas.List.Folds.{list_any-append}
+use Rattle.std.proofs.Common.{◌≡◌, ◌<◌, inl, inr, ℕ, ◌+◌, Bool, true, false, ◌&&◌, ◌||◌, List, [], Some, None, length, refl, sym, ap, ◌∙◌, subst, arith, set}
+use Rattle.std.specs.Prelude.{slice_get, ◌↔◌, IsTrue, replicate, All, Contains}
+use Rattle.std.proofs.lemmas.List.{get_or-set_same, get_or-set_other, get_or-replicate, get_or_past, length-replicate}
 use Rattle.std.proofs.lemmas.Bool.{cases_lt}
 use Rattle.pc_common.proofs.Elements.{and_first, and_second, true_or_false, or_first, or_later, or_second}
 use Rattle.pc_ground.specs.declared.literal.Literal.{Literal}
@@ -13,8 +11,8 @@ use Rattle.pc_ground.specs.declared.row.RowKind.TheVariants.{True, False, Lit, A
 use Rattle.pc_common.specs.Chain.{Chain}
 use Rattle.pc_ground.specs.Literals.{Joins, IsPresent, Holds}
 use Rattle.pc_ground.specs.Tree.{Tree, always, never, leaf, both, either, size_of}
-use Rattle.pc_ground.specs.Refutes.{Branch, subtree_at}
-use Rattle.pc_ground.proofs.FlatRows.{kind_of, root_of, size_pos, subtree_size, subtree_past, children_both, children_either}
+use Rattle.pc_ground.specs.Refutes.{subtree_at}
+use Rattle.pc_ground.proofs.FlatRows.{kind_of, size_pos, subtree_size, subtree_past, children_both, children_either}
 use Rattle.pc_ground.proofs.StageWalks.{some_same}
 use Rattle.solver.specs.Spelled.{spelled, IsSpelled}
 use Rattle.solver.specs.Met.{IsMet}
@@ -25,9 +23,7 @@ use Rattle.order_graph.specs.Ways.{IsBelow}
 use Rattle.std.proofs.lemmas.Option.{slice_get_within, get_or_from_slice_get}
 use Rattle.std.proofs.lemmas.List.Elements.{All-contains}
 use Rattle.solver.specs.Weights.{is_on}
-use Rattle.solver.specs.Opens.{positions}
-use Rattle.solver.specs.declared.asserted.Asserted.{Asserted}
-use Rattle.solver.proofs.Entering.{row_root, length_spelled, positions_push}
+use Rattle.solver.proofs.Entering.{row_root, length_spelled}
 
 pub children_inside : (rows : List (Row ℕ)) (p right : ℕ) → IsSpelled rows → HasChildren (spelled rows) p right → (p + 1 < length rows) × (right < length rows)
 children_inside rows p right flat (of_both a b e) =

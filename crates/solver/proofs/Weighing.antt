@@ -1,10 +1,9 @@
 -- The weight of open branches falls with each split, and with each branch that is closed.
-use Rattle.std.proofs.Common.{◌≡◌, ◌≤◌, ◌<◌, ◌⊎◌, inl, inr, ℕ, zero, suc, ◌+◌, ◌-◌, ◌*◌, ◌^◌, Bool, true, false, ◌||◌, List, [], ◌∷◌, ◌++◌, Option, Some, None, refl, sym, ap, ◌∙◌, subst, arith, eq-eqb, eqb-true}
-use Rattle.std.specs.Prelude.{Contains, if◌then◌else◌, nat_lt, sum_by, ◌==◌}
-use Rattle.std.specs.List.{list_any}
+use Rattle.std.proofs.Common.{◌≡◌, ◌≤◌, ◌<◌, inl, inr, ℕ, zero, suc, ◌+◌, ◌-◌, ◌*◌, ◌^◌, Bool, true, false, ◌||◌, List, ◌∷◌, Option, Some, refl, sym, ap, subst, arith, eq-eqb, eqb-true}
+use Rattle.std.specs.Prelude.{if◌then◌else◌, nat_lt, ◌==◌}
 use Rattle.std.proofs.Math.Nat.{pow-le-pow_right, pow-suc, one-le-pow}
 use Rattle.std.proofs.lemmas.List.Sums.{sum_by-cons}
-use Rattle.std.proofs.lemmas.Bool.{ltb-true, ltb-false, lt-ltb}
+use Rattle.std.proofs.lemmas.Bool.{ltb-false}
 use Rattle.pc_common.proofs.Elements.{In, in_front, in_back, any_holds, holds_any, true_or_false, or_first, or_later, or_second}
 use Rattle.pc_ground.specs.Tree.{Tree, always, never, leaf, both, either, size_of}
 use Rattle.pc_ground.specs.Refutes.{Branch, subtree_at, asserted, with_side}
@@ -153,10 +152,10 @@ weight_split {N} t ps opens p a b e no_left no_right =
     let on_right = on_from_in right (p + 1 + size_of a) (in_back (p + 1 + size_of a) ps (asserted b (p + 1 + size_of a)) (asserted_root b (p + 1 + size_of a))) in
     let less_left = undecided_less t 0 p a b ps left (λ q i. in_front q ps (asserted a (p + 1)) i) e
     (moved p (0 + p) (size_of a) ps left (omega arith)
-      (record { before = before; after = or_first (is_on left (p + 1)) (is_on left (p + 1 + size_of a)) on_left })) in
+    (record { before = before; after = or_first (is_on left (p + 1)) (is_on left (p + 1 + size_of a)) on_left })) in
     let less_right = undecided_less t 0 p a b ps right (λ q i. in_front q ps (asserted b (p + 1 + size_of a)) i) e
     (moved p (0 + p) (size_of a) ps right (omega arith)
-      (record { before = before; after = or_later (is_on right (p + 1)) (is_on right (p + 1 + size_of a)) on_right })) in
+    (record { before = before; after = or_later (is_on right (p + 1)) (is_on right (p + 1 + size_of a)) on_right })) in
     let powers = powers_less (undecided t 0 ps) (undecided t 0 left) (undecided t 0 right) less_left less_right in
     omega (arith, powers, weight_cons t ps opens, weight_cons t left (right ∷ opens), weight_cons t right opens)
   where

@@ -1,5 +1,5 @@
 -- Lists of flags, one for each position.
-use Rattle.std.specs.Prelude.{ℕ, Bool, true, false, List, [], ◌∷◌, ◌≡◌, ◌+◌, ◌≤◌, ◌↔◌, Some, slice_index_or}
+use Rattle.std.specs.Prelude.{ℕ, Bool, true, false, List, ◌≡◌, ◌+◌, ◌≤◌, ◌↔◌, Some, slice_index_or}
 use Rattle.pc_ground.specs.declared.literal.Literal.{Literal}
 use Rattle.pc_ground.specs.Tree.{Tree, both, either, size_of}
 use Rattle.pc_ground.specs.Refutes.{subtree_at}

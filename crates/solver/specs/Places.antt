@@ -1,6 +1,6 @@
 -- Positions of a tree on a branch.
 use Rattle.std.specs.Prelude.{ℕ, ◌≡◌, ◌+◌, ◌⊎◌, List, [], ◌∷◌, ◌++◌, Option, Some, None, Contains}
-use Rattle.pc_ground.specs.Tree.{Tree, always, never, leaf, both, either, size_of}
+use Rattle.pc_ground.specs.Tree.{Tree, either, size_of}
 use Rattle.pc_ground.specs.Refutes.{Branch, subtree_at, asserted, literals_of}
 use Rattle.solver.specs.Met.{IsMet}
 

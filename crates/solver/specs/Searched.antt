@@ -7,7 +7,6 @@ use Rattle.pc_ground.specs.Keys.{key_node}
 use Rattle.pc_ground.specs.Numbers.{AreDistinct}
 use Rattle.pc_ground.specs.Tree.{Tree, never}
 use Rattle.pc_ground.specs.Refutes.{Step, Branch, subtree_at, literals_of, IsPartial}
-use Rattle.pc_ground.specs.declared.literal.Literal.{Literal}
 use Rattle.order_graph.specs.State.{Graph}
 use Rattle.solver.specs.Spelled.{spelled, IsSpelled}
 use Rattle.solver.specs.Named.{named}

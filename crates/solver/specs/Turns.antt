@@ -4,10 +4,9 @@ use Rattle.pc_common.specs.World.{Node}
 use Rattle.pc_ground.specs.declared.row.Row.{Row}
 use Rattle.pc_ground.specs.Tree.{Tree}
 use Rattle.pc_ground.specs.Refutes.{Step}
-use Rattle.solver.specs.Searched.{Searched, number_tree, searched_tree, IsSearching}
+use Rattle.solver.specs.Searched.{number_tree, searched_tree, IsSearching}
 use Rattle.solver.specs.Answers.{IsAnswer}
 use Rattle.solver.specs.Weights.{weight}
-use Rattle.solver.specs.Descents.{IsLonger}
 use Rattle.solver.specs.Named.{named}
 use Rattle.solver.specs.Spelled.{spelled}
 use Rattle.solver.specs.declared.search.Turn.{Turn}

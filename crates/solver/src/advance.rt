@@ -50,6 +50,8 @@ pub(crate) fn advance<L: Ledger>(
     let count = asserted.len();
     later.push(Later { count, mark, side })?;
     refutation.push_split(p as u64)?;
-    let is_open = descend(alloc, keys, rows, left, graph, asserted, later, refutation, steps)?;
+    let is_open = descend(
+        alloc, keys, rows, left, graph, asserted, later, refutation, steps,
+    )?;
     Ok(is_open)
 }

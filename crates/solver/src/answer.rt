@@ -26,7 +26,12 @@ pub enum Answer {
 }
 
 /// Puts the node of number `k` last where it is present.
-fn note_present(keys: &[NodeKey], graph: &OrderGraph, k: usize, nodes: &mut Nodes) -> Result<(), Memory>
+fn note_present(
+    keys: &[NodeKey],
+    graph: &OrderGraph,
+    k: usize,
+    nodes: &mut Nodes,
+) -> Result<(), Memory>
     requires all { graph.now.nodes ≡ length keys.now }
     requires few { length keys.now ≤ 262144 }
     requires inside { k < length keys.now }

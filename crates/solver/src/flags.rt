@@ -8,7 +8,11 @@ use pc_common::Memory;
 use std::alloc::Global;
 
 /// Which of the first `count` positions are on the branch.
-pub(crate) fn branch_flags(alloc: Global, count: usize, asserted: &[Asserted]) -> Result<Vec<bool>, Memory>
+pub(crate) fn branch_flags(
+    alloc: Global,
+    count: usize,
+    asserted: &[Asserted],
+) -> Result<Vec<bool>, Memory>
     requires { All (λ a. a.position < count) asserted.now }
     ensures all { IfOk result (λ flags. length flags.items ≡ count) }
     ensures flags { IfOk result (λ flags. (p : ℕ) → flag flags.items p ≡ is_on (positions asserted.now) p) }

@@ -57,7 +57,11 @@ fn number_row(numbering: &Numbering, row: Row<NodeKey>) -> Row<u32>
 }
 
 /// The rows of the tree over the numbers of its nodes.
-pub(crate) fn number_rows(alloc: Global, tree: &Flat, numbering: &Numbering) -> Result<Vec<Row<u32>>, Memory>
+pub(crate) fn number_rows(
+    alloc: Global,
+    tree: &Flat,
+    numbering: &Numbering,
+) -> Result<Vec<Row<u32>>, Memory>
     requires known { (p : ℕ) (r : PlainRow PlainNode) → slice_get tree.now p ≡ Some r → IsRowKnown numbering.now r }
     ensures is { IfOk result (λ rows. named_rows numbering.now rows.items ≡ tree.now) }
     ensures below { IfOk result (λ rows. All (IsRowBelow (length numbering.now)) rows.items) }

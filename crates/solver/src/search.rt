@@ -133,7 +133,15 @@ fn start<L: Ledger>(
     let mut asserted = Vec::new(alloc);
     let mut later = Vec::new(alloc);
     let is_open = descend(
-        alloc, &keys, &rows, 0, &mut graph, &mut asserted, &mut later, &mut refutation, steps,
+        alloc,
+        &keys,
+        &rows,
+        0,
+        &mut graph,
+        &mut asserted,
+        &mut later,
+        &mut refutation,
+        steps,
     )?;
     if !is_open {
         return Ok(Turn::Done(Answer::Unobservable(refutation)));
@@ -197,7 +205,15 @@ impl Search {
             candidates,
         } = self;
         let is_open = advance(
-            alloc, &keys, &rows, &candidates, &mut graph, &mut asserted, &mut later, &mut refutation, steps,
+            alloc,
+            &keys,
+            &rows,
+            &candidates,
+            &mut graph,
+            &mut asserted,
+            &mut later,
+            &mut refutation,
+            steps,
         )?;
         if !is_open {
             return Ok(Turn::Done(Answer::Unobservable(refutation)));

@@ -51,7 +51,11 @@ fn is_true_at(rows: &[Row<u32>], truths: &[bool], graph: &OrderGraph, p: usize) 
 
 /// Which subtrees are true in the world that the graph's literals generate: one loop, from the last
 /// position to the root.
-pub(crate) fn truths(alloc: Global, rows: &[Row<u32>], graph: &OrderGraph) -> Result<Vec<bool>, Memory>
+pub(crate) fn truths(
+    alloc: Global,
+    rows: &[Row<u32>],
+    graph: &OrderGraph,
+) -> Result<Vec<bool>, Memory>
     requires tree { IsSpelled rows.now }
     requires below { All (IsRowBelow graph.now.nodes) rows.now }
     ensures all { IfOk result (λ flags. length flags.items ≡ length rows.now) }

@@ -1,12 +1,10 @@
-use Rattle.std.proofs.Common.{◌≡◌, ◌≤◌, ◌<◌, ◌+◌, ◌++◌, ℕ, List, [], length, map, refl, sym, ap, ◌∙◌, subst, arith}
+use Rattle.std.proofs.Common.{[], length, map, refl, ap, arith}
 use Rattle.std.proofs.lemmas.List.Elements.{All-contains}
 use Rattle.pc_ground.specs.Keys.{key_node}
 use Rattle.pc_ground.specs.Refutes.{split}
 use Rattle.solver.specs.Spelled.{spelled}
-use Rattle.solver.specs.Places.{reached, IsCandidate}
-use Rattle.solver.specs.Opens.{positions, opens, IsKept}
-use Rattle.solver.specs.Weights.{weight}
-use Rattle.solver.specs.Descents.{HasDescended}
+use Rattle.solver.specs.Places.{IsCandidate}
+use Rattle.solver.specs.Opens.{positions}
 use Rattle.solver.proofs.Descending.{one_open, candidates_ors, more_longer, advanced, descended_less}
 use Rattle.solver.proofs.advance.advance.Goals as goal
 
@@ -22,10 +20,10 @@ descend-requires-clause-kept g c =
     let t = spelled c.args.rows.now in
     let here = c.args.asserted.now.items in
     (advanced (map key_node c.args.keys.now) t c.args.graph.now c.mark-mark.new.self c.choose.new.graph here c.choose.new.asserted.items c.args.later.now.items
-      c.push.new.self.items c.args.refutation.now c.push_split.new.self _ c.in_ok-p.p c.children-left.result c.requires.kept
-      (All-contains (IsCandidate t (positions here)) c.args.candidates.now c.in_ok-p.p c.requires.candidates c.in_ok-p.ensures.found)
-      c.mark-mark.ensures.graph c.in_ok-p.ensures.graph c.in_ok-p.ensures.asserted c.children-left.ensures.places
-      (omega (arith, c.len-count.ensures, ap length c.in_ok-p.ensures.asserted)) c.mark-mark.ensures.place refl c.in_ok-push.ensures.items c.in_ok-push_split.ensures).0
+    c.push.new.self.items c.args.refutation.now c.push_split.new.self _ c.in_ok-p.p c.children-left.result c.requires.kept
+    (All-contains (IsCandidate t (positions here)) c.args.candidates.now c.in_ok-p.p c.requires.candidates c.in_ok-p.ensures.found)
+    c.mark-mark.ensures.graph c.in_ok-p.ensures.graph c.in_ok-p.ensures.asserted c.children-left.ensures.places
+    (omega (arith, c.len-count.ensures, ap length c.in_ok-p.ensures.asserted)) c.mark-mark.ensures.place refl c.in_ok-push.ensures.items c.in_ok-push_split.ensures).0
 
 pub returns-clause-descended : goal.returns-clause-descended
 returns-clause-descended g c =

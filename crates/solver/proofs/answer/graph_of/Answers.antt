@@ -1,7 +1,7 @@
 use Rattle.std.proofs.Common.{map, ap, ◌∙◌, length}
 use Rattle.pc_ground.specs.Keys.{key_node}
 use Rattle.solver.specs.Shown.{named_pair}
-use Rattle.graph_text.specs.Graphs.{graph_edges, key_edge}
+use Rattle.graph_text.specs.Graphs.{key_edge}
 use Rattle.solver.proofs.Graphing.{edges_shown, pairs_from}
 use Rattle.solver.proofs.answer.graph_of.Goals as goal
 

@@ -1,4 +1,4 @@
-use Rattle.std.proofs.Common.{◌≡◌, inl, inr, map, ap, ◌∙◌, refl, List, [], ◌∷◌, ◌++◌}
+use Rattle.std.proofs.Common.{inl, inr, map, ap, ◌∙◌, refl, [], ◌∷◌, ◌++◌}
 use Rattle.std.proofs.lemmas.List.{map_push}
 use Rattle.pc_ground.specs.Keys.{key_node}
 use Rattle.pc_ground.proofs.Bools.{not_both}

@@ -1,4 +1,4 @@
-use Rattle.std.proofs.Common.{◌≡◌, ap, sym, ◌∙◌, subst, arith, List, Bool, ℕ}
+use Rattle.std.proofs.Common.{subst, arith, List, ℕ}
 use Rattle.pc_ground.specs.declared.literal.Literal.{Literal}
 use Rattle.solver.specs.Spelled.{spelled}
 use Rattle.solver.specs.Flags.{AreTruths}

@@ -1,4 +1,4 @@
-use Rattle.std.proofs.Common.{◌≡◌, [], List}
+use Rattle.std.proofs.Common.{◌≡◌, []}
 use Rattle.std.specs.Prelude.{All}
 use Rattle.solver.specs.Spelled.{spelled}
 use Rattle.solver.specs.Places.{IsCandidate}

@@ -1,4 +1,4 @@
-use Rattle.std.proofs.Common.{◌≡◌, refl}
+use Rattle.std.proofs.Common.{refl}
 use Rattle.solver.proofs.Telling.{or_children}
 use Rattle.solver.proofs.Choosing.{or_chosen, other_chosen}
 use Rattle.solver.proofs.candidates.is_candidate.Goals as goal

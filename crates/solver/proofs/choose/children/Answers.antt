@@ -1,4 +1,4 @@
-use Rattle.std.proofs.Common.{◌≡◌, ◌+◌, ◌<◌, arith}
+use Rattle.std.proofs.Common.{arith}
 use Rattle.solver.proofs.Telling.{or_places, or_inside, or_right_inside}
 use Rattle.solver.proofs.Entering.{length_spelled}
 use Rattle.solver.proofs.choose.children.Goals as goal
@@ -11,8 +11,12 @@ overflow_add-left c = omega (arith, c.requires.small)
 
 pub overflow_add-result : goal.overflow_add-result
 overflow_add-result c =
-    omega (arith, or_right_inside c.args.rows.now c.args.p c.row_at.result c.requires.tree c.requires.is_or c.row_at.ensures.row, c.row_at.ensures.bound,
-      length_spelled c.args.rows.now c.requires.tree)
+    omega (
+      arith,
+      or_right_inside c.args.rows.now c.args.p c.row_at.result c.requires.tree c.requires.is_or c.row_at.ensures.row,
+      c.row_at.ensures.bound,
+      length_spelled c.args.rows.now c.requires.tree,
+    )
 
 pub returns-clause-places : goal.returns-clause-places
 returns-clause-places c = or_places c.args.rows.now c.args.p c.row_at.result c.requires.tree c.requires.is_or c.row_at.ensures.row

@@ -1,4 +1,4 @@
-use Rattle.std.proofs.Common.{◌≡◌, ◌+◌, ◌<◌, arith}
+use Rattle.std.proofs.Common.{arith}
 use Rattle.solver.proofs.Telling.{literal_at}
 use Rattle.solver.proofs.Entering.{length_spelled}
 use Rattle.solver.proofs.choose.is_closed.Goals as goal

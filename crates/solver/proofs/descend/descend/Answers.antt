@@ -1,12 +1,12 @@
-use Rattle.std.proofs.Common.{◌≡◌, ◌≤◌, ◌<◌, ◌+◌, ◌++◌, ℕ, List, [], length, map, refl, sym, ap, ◌∙◌, subst, arith}
-use Rattle.std.specs.Prelude.{Option, Some, None}
+use Rattle.std.proofs.Common.{◌++◌, length, map, ap, subst, arith}
+use Rattle.std.specs.Prelude.{Option}
 use Rattle.std.proofs.lemmas.List.{nil_from_length}
 use Rattle.pc_ground.specs.Keys.{key_node}
 use Rattle.order_graph.specs.declared.clash.Clash.{Clash}
 use Rattle.solver.specs.Spelled.{spelled}
 use Rattle.solver.specs.Places.{reached}
 use Rattle.solver.specs.Leaves.{clash_step}
-use Rattle.solver.specs.Opens.{positions, opens, HasEntered}
+use Rattle.solver.specs.Opens.{positions, HasEntered}
 use Rattle.solver.specs.Weights.{weight}
 use Rattle.solver.proofs.Closing.{clash_closes}
 use Rattle.solver.proofs.Going.{closed_kept, closed_all, entered_kept}

@@ -1,10 +1,6 @@
-use Rattle.std.proofs.Common.{◌≡◌, ◌≤◌, ◌<◌, ◌+◌, ◌-◌, ℕ, List, [], ◌++◌, length, refl, sym, ap, ◌∙◌, subst, arith, rules, Fits, w64, take}
-use Rattle.std.specs.Prelude.{slice_get, Option, Some, None}
-use Rattle.std.proofs.lemmas.List.{append-nil}
-use Rattle.pc_ground.specs.declared.row.Row.{Row}
-use Rattle.pc_ground.specs.Refutes.{literals_of}
-use Rattle.pc_ground.specs.Walks.{Walk, stride}
-use Rattle.pc_ground.proofs.Walks.{walk_done}
+use Rattle.std.proofs.Common.{◌+◌, ℕ, ◌++◌, refl, sym, ap, ◌∙◌, subst, arith}
+use Rattle.std.specs.Prelude.{Option}
+use Rattle.pc_ground.specs.Walks.{Walk}
 use Rattle.order_graph.specs.declared.clash.Clash.{Clash}
 use Rattle.solver.specs.Spelled.{spelled}
 use Rattle.solver.specs.Places.{reached}

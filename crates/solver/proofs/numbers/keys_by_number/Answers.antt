@@ -1,4 +1,3 @@
-use Rattle.std.proofs.Common.{◌≡◌, ap, ◌∙◌, arith}
 use Rattle.pc_ground.specs.Keys.{key_node}
 use Rattle.solver.proofs.Numbering.{map_one_more}
 use Rattle.solver.proofs.numbers.keys_by_number.Goals as goal

@@ -1,5 +1,5 @@
-use Rattle.std.proofs.Common.{◌≡◌, ap, sym, ◌∙◌, arith, length, List, subst, ℕ}
-use Rattle.std.specs.Prelude.{All, Some, Option}
+use Rattle.std.proofs.Common.{ap, sym, ◌∙◌, length, List, subst, ℕ}
+use Rattle.std.specs.Prelude.{All, Some}
 use Rattle.std.proofs.lemmas.List.Elements.{All-push}
 use Rattle.pc_ground.specs.declared.row.Row.{Row}
 use Rattle.pc_ground.specs.Keys.{renamed_row}

@@ -1,4 +1,4 @@
-use Rattle.std.proofs.Common.{◌≡◌, ◌≤◌, ◌<◌, ◌+◌, ◌^◌, map, ap, sym, ◌∙◌, subst, length, arith, List, [], ℕ, refl, eqb-true}
+use Rattle.std.proofs.Common.{◌≡◌, ◌<◌, ◌^◌, map, sym, ◌∙◌, subst, length, arith, List, [], ℕ, refl, eqb-true}
 use Rattle.std.specs.Prelude.{All}
 use Rattle.std.proofs.lemmas.List.{nil_from_length, length-map}
 use Rattle.pc_ground.specs.declared.node_key.NodeKey.{NodeKey}

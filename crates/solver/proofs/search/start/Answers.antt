@@ -1,12 +1,10 @@
-use Rattle.std.proofs.Common.{◌≡◌, ◌<◌, ap, sym, ◌∙◌, subst, map, List, [], ◌∷◌, ◌++◌, Bool, true, false, ℕ, length}
+use Rattle.std.proofs.Common.{◌≡◌, ap, sym, ◌∙◌, subst, map, List, [], ◌∷◌, ◌++◌, Bool, ℕ, length}
 use Rattle.std.specs.Prelude.{slice_get, Some, All}
 use Rattle.std.proofs.lemmas.List.{length-map}
-use Rattle.pc_common.specs.World.{Node}
 use Rattle.pc_ground.specs.declared.node_key.NodeKey.{NodeKey}
 use Rattle.pc_ground.specs.declared.row.Row.{Row}
 use Rattle.pc_ground.specs.Keys.{key_node}
-use Rattle.pc_ground.specs.Tree.{size_of}
-use Rattle.pc_ground.specs.Refutes.{Step, false_step, IsPartial}
+use Rattle.pc_ground.specs.Refutes.{false_step, IsPartial}
 use Rattle.pc_ground.proofs.FlatRows.{size_pos}
 use Rattle.pc_ground.proofs.Refuted.{refutation_sound}
 use Rattle.solver.specs.Named.{named}
@@ -31,7 +29,7 @@ descend-requires g c =
     let keys = c.args.keys.items in
     let rows = c.args.rows.items in
     let K : List NodeKey → List (Row ℕ) → Type 0 = λ ks rs.
-        IsKept (map key_node ks) (spelled rs) c.args.graph c.new-asserted.result.items c.new-later.result.items c.args.refutation (reached (spelled rs) 0) in
+    IsKept (map key_node ks) (spelled rs) c.args.graph c.new-asserted.result.items c.new-later.result.items c.args.refutation (reached (spelled rs) 0) in
     let kept : K keys rows = first_kept (map key_node keys) (spelled rows) c.args.graph c.new-asserted.result.items c.new-later.result.items c.args.refutation
     (c.requires.nodes ∙ sym (length-map keys key_node)) c.requires.literals c.requires.marks c.new-asserted.ensures.items c.new-later.ensures.items c.requires.steps in
     let F : List (Row ℕ) → Type 0 = IsSpelled in
@@ -60,7 +58,7 @@ settle-requires g c =
     c.descend.new.later.items c.descend.new.refutation in
     let descended = subst H c.if-not-is_open.false c.in_ok-is_open.ensures.descended in
     let P : List NodeKey → List (Row ℕ) → Type 0 = λ ks rs.
-        IsKept (map key_node ks) (spelled rs) c.descend.new.graph c.descend.new.asserted.items c.descend.new.later.items c.descend.new.refutation [] in
+    IsKept (map key_node ks) (spelled rs) c.descend.new.graph c.descend.new.asserted.items c.descend.new.later.items c.descend.new.refutation [] in
     let R : List (Row ℕ) → Type 0 = λ xs. slice_get xs 0 ≡ Some c.row_at-root.result in
     let at = subst R c.deref.ensures.value c.row_at-root.ensures.row in record {
       tree = c.requires.tree;

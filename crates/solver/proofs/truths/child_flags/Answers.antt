@@ -1,8 +1,7 @@
-use Rattle.std.proofs.Common.{◌≡◌, ◌+◌, ◌<◌, refl, sym, ap, ◌∙◌, arith}
+use Rattle.std.proofs.Common.{refl, sym, ap, arith}
 use Rattle.solver.specs.Flags.{flag}
 use Rattle.solver.proofs.Telling.{children_inside, right_is}
 use Rattle.solver.proofs.truths.child_flags.Goals as goal
-
 
 pub row_at-requires : goal.row_at-requires
 row_at-requires c = (children_inside c.args.rows.now c.args.p c.requires.inner.0 c.requires.tree c.requires.inner.1).0

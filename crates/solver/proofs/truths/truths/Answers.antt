@@ -1,4 +1,4 @@
-use Rattle.std.proofs.Common.{◌≡◌, ◌-◌, length, arith, ap, ◌∙◌, false}
+use Rattle.std.proofs.Common.{◌-◌, length, arith}
 use Rattle.std.proofs.lemmas.List.{length-replicate}
 use Rattle.solver.proofs.Telling.{truths_none}
 use Rattle.solver.proofs.truths.truths.Goals as goal

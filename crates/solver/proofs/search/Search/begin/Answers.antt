@@ -1,4 +1,4 @@
-use Rattle.std.proofs.Common.{◌≡◌, ap, sym, ◌∙◌, subst, map}
+use Rattle.std.proofs.Common.{ap, sym, ◌∙◌, subst, map}
 use Rattle.pc_common.specs.World.{Node}
 use Rattle.pc_ground.specs.Tree.{Tree}
 use Rattle.pc_ground.specs.Folded.{IsFolded}

@@ -1,5 +1,4 @@
-use Rattle.std.proofs.Common.{◌≡◌, map, subst, List, [], Bool, false, true, ℕ}
-use Rattle.pc_common.specs.World.{Node}
+use Rattle.std.proofs.Common.{map, subst, List, [], Bool, ℕ}
 use Rattle.pc_ground.specs.declared.node_key.NodeKey.{NodeKey}
 use Rattle.pc_ground.specs.declared.row.Row.{Row}
 use Rattle.pc_ground.specs.Keys.{key_node}
