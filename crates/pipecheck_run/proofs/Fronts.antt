@@ -9,7 +9,6 @@ use Rattle.pc_syntax.specs.declared.model.StageItem.{StageItem}
 use Rattle.pc_syntax.specs.Written.{stage_numbers, WrittenModel}
 use Rattle.pc_syntax.specs.Observable.{IsNodeOf}
 use Rattle.pc_ground.specs.declared.front.Front.{Front}
-use Rattle.pc_ground.specs.declared.node_key.NodeKey.{NodeKey}
 use Rattle.pc_ground.specs.Keys.{key_node}
 use Rattle.pc_ground.specs.Tree.{Tree}
 use Rattle.pc_ground.specs.Numbers.{nodes_of_tree, numbered}
@@ -24,9 +23,8 @@ use Rattle.pc_ground.proofs.FirstSeen.{numbered_lists}
 use Rattle.pc_ground.proofs.FlatRows.{rows_injective}
 use Rattle.pc_front.specs.ModelFront.{stage_said}
 use Rattle.pc_front.specs.Front.{IsFrontOf}
-use Rattle.graph_text.specs.declared.graph.Graph.{Graph}
-use Rattle.graph_text.specs.Graphs.{key_edge, graph_nodes, graph_edges, IsKeyIn, IsEdgeIn}
-use Rattle.solver.specs.Answers.{IsWitness, IsAnswer}
+use Rattle.graph_text.specs.Graphs.{key_edge, graph_nodes}
+use Rattle.solver.specs.Answers.{IsAnswer}
 use Rattle.solver.specs.declared.answer.Answer.{Answer as Found}
 use Rattle.solver.specs.declared.answer.Answer.TheVariants.{Observable as a_graph, Unobservable as a_refutation}
 use Rattle.pipecheck_run.specs.Verdicts.{IsWritable}

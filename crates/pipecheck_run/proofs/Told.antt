@@ -1,7 +1,7 @@
 -- The status that is told is that of the answer, unless the writing failed.
-use Rattle.std.proofs.Common.{◌≡◌, ◌≢◌, ℕ, ◌⊎◌, inl, inr, refl, sym, ◌∙◌}
+use Rattle.std.proofs.Common.{◌≡◌, ◌≢◌, ◌⊎◌, inl, inr, refl, sym, ◌∙◌}
 use Rattle.pc_common.specs.declared.status.Status.{Status}
-use Rattle.pc_common.specs.declared.status.Status.TheVariants.{Observable, Unobservable, Usage, WriteFault}
+use Rattle.pc_common.specs.declared.status.Status.TheVariants.{Usage, WriteFault}
 use Rattle.pipecheck_run.specs.declared.answer.Answer.{Answer}
 use Rattle.pipecheck_run.specs.declared.answer.Answer.TheVariants.{Usage as a_usage, ReadFault as a_read_fault, Memory as a_memory, Refused as a_refusal, Decided as a_verdict}
 use Rattle.pipecheck_run.specs.Answered.{answer_text, answer_status}

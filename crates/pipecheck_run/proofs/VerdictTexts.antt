@@ -1,11 +1,9 @@
 -- The text of a verdict is that of its certificate.
-use Rattle.std.proofs.Common.{◌≡◌, ℕ, List, [], ◌∷◌, ◌++◌, map, refl, sym, ◌∙◌, ap, subst, append_assoc}
-use Rattle.std.specs.Prelude.{codes, Contains, All}
-use Rattle.std.specs.List.{flat_map}
+use Rattle.std.proofs.Common.{◌≡◌, ℕ, List, [], ◌∷◌, ◌++◌, map, sym, ◌∙◌, ap, subst}
+use Rattle.std.specs.Prelude.{codes, Contains}
 use Rattle.pc_common.specs.Case.{Case, Expectation}
 use Rattle.pc_common.specs.World.{Node}
-use Rattle.pc_common.specs.Lines.{Names, Line as Line', Verdict as Kind, observable, unobservable, end, line_text, lines_text, verdict_text as verdict_words, second_text}
-use Rattle.pc_common.proofs.Elements.{contains_from_in}
+use Rattle.pc_common.specs.Lines.{Names, Line as Line', Verdict as Kind, observable, unobservable, end, lines_text, verdict_text as verdict_words, second_text}
 use Rattle.pc_case.specs.Kept.{IsKept}
 use Rattle.pc_syntax.specs.Written.{stage_numbers, WrittenModel}
 use Rattle.pc_syntax.specs.Observable.{IsNodeOf}
@@ -15,17 +13,16 @@ use Rattle.pc_ground.specs.declared.front.Front.{Front}
 use Rattle.pc_ground.specs.GroundTree.{ground_tree}
 use Rattle.pc_ground.specs.NodeForm.{names_of}
 use Rattle.pc_ground.specs.Stages.{plain_stage}
-use Rattle.pc_ground.specs.Refutes.{Step}
 use Rattle.pc_ground.proofs.UnfoldedTruth.{ground_tree_true}
 use Rattle.pc_front.specs.Front.{IsFrontOf}
-use Rattle.refutation.specs.Steps.{step_line, step_text}
+use Rattle.refutation.specs.Steps.{step_line}
 use Rattle.graph_text.specs.Graphs.{graph_nodes, graph_edges, graph_lines}
 use Rattle.solver.specs.Answers.{IsAnswer}
 use Rattle.solver.specs.declared.answer.Answer.{Answer as Found}
 use Rattle.solver.specs.declared.answer.Answer.TheVariants.{Observable as a_graph, Unobservable as a_refutation}
 use Rattle.pipecheck_run.specs.declared.verdict.Verdict.{Verdict}
 use Rattle.pipecheck_run.specs.Certificates.{names_by, certificate_lines}
-use Rattle.pipecheck_run.specs.Verdicts.{IsVerdict, kind_of, status_of, body_text, verdict_text}
+use Rattle.pipecheck_run.specs.Verdicts.{IsVerdict, status_of, verdict_text}
 use Rattle.pipecheck_run.specs.Command.{IsCheck}
 use Rattle.pipecheck_run.specs.Language.{Contents, Says}
 use Rattle.pipecheck_run.specs.Output.{Answers, seen, unseen}

@@ -1,5 +1,5 @@
 -- What is decided of a model and a case, before it is written, and its text.
-use Rattle.std.specs.Prelude.{◌≡◌, ◌++◌, ℕ, List, codes, All}
+use Rattle.std.specs.Prelude.{◌++◌, ℕ, List, codes, All}
 use Rattle.std.specs.List.{flat_map}
 use Rattle.pc_common.specs.Case.{Case}
 use Rattle.pc_common.specs.Lines.{Names, Verdict as Kind, observable, unobservable, verdict_text as verdict_words, second_text, lines_text}

@@ -74,7 +74,10 @@ pub(crate) fn write_verdict<K: Sink>(out: &mut K, verdict: &Verdict) -> Result<(
 {
     let names = NodeText::of(&verdict.front);
     write_all(out, verdict_line(&verdict.found))?;
-    write_all(out, second_line(&verdict.found, verdict.front.case.expect()))?;
+    write_all(
+        out,
+        second_line(&verdict.found, verdict.front.case.expect()),
+    )?;
     write_body(out, &names, &verdict.found)?;
     write_all(out, b"end\n")
 }

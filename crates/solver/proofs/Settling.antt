@@ -25,7 +25,7 @@ use Rattle.pc_ground.specs.declared.row.RowKind.TheVariants.{False}
 use Rattle.graph_text.specs.Graphs.{graph_nodes, graph_edges}
 use Rattle.graph_text.specs.declared.graph.Graph.{Graph as PlainGraph}
 use Rattle.order_graph.specs.State.{Graph, IsGraph}
-use Rattle.order_graph.proofs.Clashing.{consistent_are_met}
+use Rattle.order_graph.proofs.Generated.{consistent_generate}
 use Rattle.solver.specs.Spelled.{spelled, IsSpelled}
 use Rattle.solver.specs.Named.{named, named_rows, node_at, renamed_tree}
 use Rattle.solver.specs.Below.{IsRowBelow}
@@ -95,7 +95,7 @@ kept_met nodes t g here ls ss kept consistent chosen none =
     let P : List (Literal ℕ) → Type 0 = IsConsistent in
     let Q : List (Literal ℕ) → Type 0 = λ xs. IsMet xs t in
     subst Q (sym kept.stand) (met_whole t (positions here) (kept_grown nodes t g here ls ss kept)
-    (consistent_are_met (literals_of t (positions here)) (subst P kept.stand consistent)) chosen none)
+    (consistent_generate (literals_of t (positions here)) (subst P kept.stand consistent)).met chosen none)
 
 rows_below : (n : ℕ) (t : Tree ℕ) → ((r : Row ℕ) → In r (rows_of t) → IsRowBelow n r) → AreBelow n t
 rows_below n always f = tt
