@@ -1,10 +1,10 @@
 ghost use Rattle.std.specs.Prelude.{◌≡◌, ◌^◌, ◌<◌, length, IfSome};
 ghost use Rattle.pc_syntax.specs.Written.{written_model};
 ghost use Rattle.uspec_parser.specs.Syntax.{DerivesModel};
-ghost use Rattle.pipecheck_run.specs.ModelFront.{IsFront};
+ghost use Rattle.pc_front.specs.ModelFront.{IsModelFront};
 
+use pc_front::{ModelFront, read_model};
 use pc_syntax::ModelFile;
-use pipecheck_run::{ModelFront, read_model};
 use std::alloc::Global;
 use uspec_lexer::{Tokens, tokens};
 use uspec_parser::parse_model;
@@ -22,7 +22,7 @@ fn parsed(alloc: Global, tokens: &Tokens<'_>) -> Option<ModelFile>
 /// The stages and the closed axioms of the bytes, or None where these have a fault or memory was refused.
 fn front(alloc: Global, bytes: &[u8]) -> Option<ModelFront>
     requires { length bytes.now < 2 ^ 32 }
-    ensures { IfSome result (λ front. IsFront bytes.now front) }
+    ensures { IfSome result (λ front. IsModelFront bytes.now front) }
 {
     match read_model(alloc, bytes) {
         Ok(front) => Some(front),

@@ -5,22 +5,19 @@ use Rattle.pc_common.specs.declared.fault.InputFault.{InputFault}
 use Rattle.pc_common.specs.declared.status.Status.{Status}
 use Rattle.pc_syntax.specs.Written.{WrittenModel}
 use Rattle.pc_syntax.specs.Observable.{Observable}
-use Rattle.uspec_lexer.specs.Token.{Token}
-use Rattle.uspec_lexer.proofs.Spelling.{spells-unique}
-use Rattle.edge_model.specs.EdgeModel.{ReadsModel}
-use Rattle.edge_model.proofs.LineLists.{one_model}
 use Rattle.litmus_reader.specs.declared.fault.CaseFault.TheVariants.{Memory as no_room}
+use Rattle.litmus_reader.specs.Answer.{CaseOf}
 use Rattle.litmus_reader.proofs.Exclusive.{one_case, no_fault}
+use Rattle.pc_front.specs.Front.{SaysModel, told_fault, IsFirstFault as IsFaultOf, in_model, in_test}
+use Rattle.pc_front.proofs.OneModel.{one_whole_model, no_whole_fault}
 use Rattle.pipecheck_run.specs.Command.{IsCheck}
-use Rattle.pipecheck_run.specs.Language.{Contents, IsRead, IsTooLarge, IsFirstFault, large_model, large_test, no_model, no_test, SaysModel, SaysTest, told_fault, Says}
+use Rattle.pipecheck_run.specs.Language.{Contents, IsRead, IsTooLarge, IsFirstFault, large_model, large_test, in_bytes, Says}
 use Rattle.pipecheck_run.specs.Output.{Answers, usage, refused, seen, unseen}
 use Rattle.pipecheck_run.specs.Headline.{IsTrueOf, IsDue}
-use Rattle.pipecheck_run.proofs.Texts.{graph_observable, cycle_unobservable}
+use Rattle.pipecheck_run.proofs.Texts.{graph_observable, tree_unobservable}
 
 one_said_model : (bytes : List ℕ) (m n : WrittenModel) → SaysModel bytes m → SaysModel bytes n → m ≡ n
-one_said_model bytes m n x y =
-    let P : List Token → Type 0 = λ ts. ReadsModel ts n in
-    one_model x.0 m n x.2 (subst P (spells-unique y.1 x.1) y.2)
+one_said_model bytes m n x y = one_whole_model bytes m n x.model y.model
 
 value_of : List ℕ → Option (List ℕ) → List ℕ
 value_of d None = d
@@ -50,7 +47,7 @@ one_said : (holds : Contents) (model test : List ℕ) (m n : WrittenModel) (c d 
     → Says holds model test m c → Says holds model test n d → (m ≡ n) × (c ≡ d)
 one_said holds model test m n c d x y =
     let P : List ℕ → Type 0 = λ b. SaysModel b n in
-    let Q : List ℕ → Type 0 = λ b. SaysTest b d in (
+    let Q : List ℕ → Type 0 = λ b. CaseOf b d in (
       one_said_model x.model_bytes m n x.says_model
           (subst P (one_held holds model y.model_bytes x.model_bytes y.model_read.held x.model_read.held) y.says_model),
       one_case x.test_bytes c d x.says_test
@@ -66,18 +63,23 @@ never_both holds name bytes r l =
 pub untold : (f : InputFault) → told_fault no_room ≡ Some f → ⊥
 untold f told = cc
 
+-- the bytes of two files that say something have no fault
+pub no_fault_of : (mb tb : List ℕ) (m : WrittenModel) (c : Case) (f : InputFault) → SaysModel mb m → CaseOf tb c → IsFaultOf mb tb f → ⊥
+no_fault_of mb tb m c _ says said (in_model {kind} {at} is) = no_whole_fault mb m says.model says.no_fault kind at is
+no_fault_of mb tb m c f says said (in_test other is) =
+    no_fault tb c is.found said (λ memory. untold f (sym (ap told_fault memory) ∙ is.told)) is.first
+
 -- what says something has no fault
 no_fault_said : (holds : Contents) (model test : List ℕ) (m : WrittenModel) (c : Case) (f : InputFault)
     → Says holds model test m c → IsFirstFault holds model test f → ⊥
 no_fault_said holds model test m c _ says (large_model l) = never_both holds model says.model_bytes says.model_read l
 no_fault_said holds model test m c _ says (large_test r l) = never_both holds test says.test_bytes says.test_read l
-no_fault_said holds model test m c _ says (no_model {mb = mb} {tb = tb} rm rt none) =
+no_fault_said holds model test m c f says (in_bytes {mb = mb} {tb = tb} rm rt is) =
     let P : List ℕ → Type 0 = λ b. SaysModel b m in
-    none m (subst P (one_held holds model says.model_bytes mb says.model_read.held rm.held) says.says_model)
-no_fault_said holds model test m c _ says (no_test {mb = mb} {tb = tb} {fault = f} rm rt said is) =
-    let P : List ℕ → Type 0 = λ b. SaysTest b c in
-    no_fault tb c is.found (subst P (one_held holds test says.test_bytes tb says.test_read.held rt.held) says.says_test)
-    (λ memory. untold f (sym (ap told_fault memory) ∙ is.told)) is.first
+    let Q : List ℕ → Type 0 = λ b. CaseOf b c in
+    no_fault_of mb tb m c f
+    (subst P (one_held holds model says.model_bytes mb says.model_read.held rm.held) says.says_model)
+    (subst Q (one_held holds test says.test_bytes tb says.test_read.held rt.held) says.says_test) is
 
 -- what was said under these names is what is said under those
 moved : (words : List (List ℕ)) (holds : Contents) (model test model2 test2 : List ℕ) (m : WrittenModel) (c : Case)
@@ -112,7 +114,7 @@ answer_true {words} {holds} {text = text} (seen {model = model2} {test = test2} 
     (λ e. same_outcome words holds model2 test2 model test n m d c check2 says2 check says (graph_observable n d text graph), λ e. cc)
 answer_true {words} {holds} {text = text} (unseen {model = model2} {test = test2} {m = n} {c = d} check2 says2 cycle) model test m c check says = (
   λ e. cc,
-  λ e o. cycle_unobservable n d text says2.says_model.2.1 cycle
+  λ e o. tree_unobservable n d text cycle
       (same_outcome words holds model test model2 test2 m n c d check says check2 says2 o),
 )
 
@@ -132,7 +134,7 @@ answer_due {words} {holds} {text = text} (seen {model = model2} {test = test2} {
 )
 answer_due {words} {holds} {text = text} (unseen {model = model2} {test = test2} {m = n} {c = d} check2 says2 cycle) = (
   λ model test m c check says. (
-    λ o. absurd (cycle_unobservable n d text says2.says_model.2.1 cycle
+    λ o. absurd (tree_unobservable n d text cycle
         (same_outcome words holds model test model2 test2 m n c d check says check2 says2 o)),
     λ none. refl,
   ),

@@ -1,15 +1,14 @@
 -- The status that is told is that of the answer, unless the writing failed.
-use Rattle.std.proofs.Common.{◌≡◌, ◌≢◌, ℕ, ◌⊎◌, inl, inr, Option, Some, None, refl, sym, ◌∙◌, Vec, Global}
+use Rattle.std.proofs.Common.{◌≡◌, ◌≢◌, ◌⊎◌, inl, inr, refl, sym, ◌∙◌}
 use Rattle.pc_common.specs.declared.status.Status.{Status}
-use Rattle.pc_common.specs.declared.status.Status.TheVariants.{Observable, Unobservable, Usage, WriteFault}
+use Rattle.pc_common.specs.declared.status.Status.TheVariants.{Usage, WriteFault}
 use Rattle.pipecheck_run.specs.declared.answer.Answer.{Answer}
 use Rattle.pipecheck_run.specs.declared.answer.Answer.TheVariants.{Usage as a_usage, ReadFault as a_read_fault, Memory as a_memory, Refused as a_refusal, Decided as a_verdict}
 use Rattle.pipecheck_run.specs.Answered.{answer_text, answer_status}
 use Rattle.pipecheck_run.specs.Output.{usage_text}
-
-abbrev status_by : Option (Vec ℕ Global) → Status
-status_by None = Observable
-status_by (Some found) = Unobservable
+use Rattle.solver.specs.declared.answer.Answer.{Answer as Found}
+use Rattle.solver.specs.declared.answer.Answer.TheVariants.{Observable as a_graph, Unobservable as a_refutation}
+use Rattle.pipecheck_run.specs.Verdicts.{status_of}
 
 pub told_as_kept : {told kept : Status} → (told ≡ kept) ⊎ (told ≡ WriteFault) → told ≢ WriteFault → kept ≡ told
 told_as_kept (inl e) no_fault = sym e
@@ -29,8 +28,8 @@ usage_said a_usage e = refl
 usage_said a_read_fault e = cc
 usage_said a_memory e = cc
 usage_said (a_refusal r) e = cc
-usage_said (a_verdict v) e = absurd (never_usage v.cycle e)
+usage_said (a_verdict v) e = absurd (never_usage v.found e)
   where
-    never_usage : (found : Option (Vec ℕ Global)) → status_by found ≡ Usage → ⊥
-    never_usage None e = cc
-    never_usage (Some cycle) e = cc
+    never_usage : (found : Found) → status_of found ≡ Usage → ⊥
+    never_usage (a_graph g) e = cc
+    never_usage (a_refutation r) e = cc

@@ -1,5 +1,5 @@
 -- What the code's answer says, before it is written.
-use Rattle.std.specs.Prelude.{◌≡◌, ◌++◌, ◌⊎◌, ℕ, List, [], codes}
+use Rattle.std.specs.Prelude.{◌≡◌, ◌++◌, ℕ, List, [], codes}
 use Rattle.std.specs.Fmt.{decimal}
 use Rattle.pc_common.specs.declared.status.Status.{Status}
 use Rattle.pc_common.specs.declared.status.Status.TheVariants.{Usage, Refused, ReadFault, Memory}
@@ -8,14 +8,18 @@ use Rattle.pipecheck_run.specs.declared.answer.Answer.{Answer}
 use Rattle.pipecheck_run.specs.declared.answer.Answer.TheVariants.{Usage as a_usage, ReadFault as a_read_fault, Memory as a_memory, Refused as a_refusal, Decided as a_verdict}
 use Rattle.pipecheck_run.specs.Words.{fault_word}
 use Rattle.pipecheck_run.specs.Output.{usage_text, file_word}
-use Rattle.pipecheck_run.specs.Verdicts.{verdict_text, status_of, IsVerdict}
+use Rattle.pipecheck_run.specs.Verdicts.{verdict_text, status_of, IsVerdict, IsWritable}
 use Rattle.pc_common.specs.LineColumn.{line_of, column_of}
 use Rattle.pc_common.specs.Case.{Case}
 use Rattle.pc_syntax.specs.Written.{WrittenModel}
 use Rattle.pc_common.specs.declared.fault.Which.{Which}
+use Rattle.pc_common.specs.declared.fault.Which.TheVariants.{Model, Test}
 use Rattle.pc_common.specs.declared.reading.ReadEnd.{ReadEnd}
 use Rattle.pc_common.specs.declared.reading.ReadEnd.TheVariants.{ReadFault as an_outside_fault, TooLarge as past_limit, Memory as no_memory}
-use Rattle.pipecheck_run.specs.Language.{SaysModel, SaysTest, no_edge_model, IsTestFault, too_large}
+use Rattle.pipecheck_run.specs.Language.{too_large}
+use Rattle.litmus_reader.specs.Answer.{CaseOf}
+use Rattle.pc_ground.specs.NodeForm.{names_of}
+use Rattle.pc_front.specs.Front.{SaysModel, IsFirstFault as IsFaultOf}
 
 abbrev pub refusal_text : Refusal → List ℕ
 refusal_text r =
@@ -35,23 +39,39 @@ answer_status a_usage = Usage
 answer_status a_read_fault = ReadFault
 answer_status a_memory = Memory
 answer_status (a_refusal r) = Refused
-answer_status (a_verdict v) = status_of v
+answer_status (a_verdict v) = status_of v.found
 
 -- the line and the column are those of the fault's place in these bytes
 abbrev pub IsPlaced : List ℕ → Refusal → Type 0
 IsPlaced bytes r = (r.line ≡ line_of bytes r.fault.place.offset) × (r.column ≡ column_of bytes r.fault.place.offset)
 
+-- the bytes of the file that a fault is in
+abbrev pub bytes_of : Which → List ℕ → List ℕ → List ℕ
+bytes_of Model model test = model
+bytes_of Test model test = test
+
 -- what is decided of the bytes of two files that were read
 abbrev pub Decides : List ℕ → List ℕ → Answer → Type 0
-Decides model test (a_refusal r) =
-    ((r.fault ≡ no_edge_model) × IsPlaced model r × ((m : WrittenModel) → SaysModel model m → ⊥))
-    ⊎ (IsTestFault test r.fault × IsPlaced test r × ((m : WrittenModel) × SaysModel model m))
-Decides model test (a_verdict v) = (m : WrittenModel) × (c : Case) × SaysModel model m × SaysTest test c × IsVerdict m c v
-Decides model test _ = ⊥
+Decides model test (a_refusal r) = IsFaultOf model test r.fault × IsPlaced (bytes_of r.fault.file model test) r
+Decides model test (a_verdict v) = (m : WrittenModel) × (c : Case) × SaysModel model m × CaseOf test c × IsVerdict m c v
+Decides model test a_usage = ⊥
+Decides model test a_read_fault = ⊥
+Decides model test a_memory = ⊥
+
+-- each node of a verdict is of its front
+abbrev pub CanBeWritten : Answer → Type 0
+CanBeWritten (a_verdict v) = IsWritable (names_of v.front) v.found
+CanBeWritten (a_refusal r) = Unit {0}
+CanBeWritten a_usage = Unit {0}
+CanBeWritten a_read_fault = Unit {0}
+CanBeWritten a_memory = Unit {0}
 
 -- the answer where a file could not be read whole
 abbrev pub IsEnded : Which → ReadEnd → Answer → Type 0
 IsEnded file an_outside_fault a = a ≡ a_read_fault
 IsEnded file no_memory a = a ≡ a_memory
 IsEnded file past_limit (a_refusal r) = (r.fault ≡ too_large file) × (r.line ≡ 1) × (r.column ≡ 1)
-IsEnded file past_limit _ = ⊥
+IsEnded file past_limit (a_verdict v) = ⊥
+IsEnded file past_limit a_usage = ⊥
+IsEnded file past_limit a_read_fault = ⊥
+IsEnded file past_limit a_memory = ⊥

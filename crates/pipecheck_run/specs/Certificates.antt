@@ -1,46 +1,38 @@
--- The two certificates: a graph whose world satisfies, and a cycle of edges that the axioms assert.
+-- The two certificates: a graph whose world satisfies the model, and a refutation of its ground tree.
 use Rattle.std.specs.Prelude.{◌≡◌, ℕ, List, [], ◌∷◌, ◌++◌, map, IsTrue}
 use Rattle.pc_common.specs.Case.{Case, Expectation}
 use Rattle.pc_common.specs.World.{Node, Edge, World}
-use Rattle.pc_common.specs.Chain.{Leads}
-use Rattle.pc_common.specs.Generated.{IsListed, HasEnds, IsGenerated}
-use Rattle.pc_common.specs.Lines.{Names, Line, observable, unobservable, verdict, second, node, edge, cycle, end, lines_text}
+use Rattle.pc_common.specs.Generated.{HasEnds, IsGenerated}
+use Rattle.pc_common.specs.Lines.{Names, Line, Verdict, observable, unobservable, verdict, second, end, lines_text}
 use Rattle.pc_syntax.specs.Written.{stage_numbers, WrittenModel}
 use Rattle.pc_syntax.specs.Observable.{IsWorldOf, satisfies}
-use Rattle.pipecheck_run.specs.Asserted.{asserted_edges}
+use Rattle.pc_ground.specs.GroundTree.{ground_tree}
+use Rattle.pc_ground.specs.Refutes.{Step, IsRefutation}
+use Rattle.pc_front.specs.ModelFront.{stage_said}
+use Rattle.graph_text.specs.Graphs.{graph_lines}
+use Rattle.refutation.specs.Steps.{step_line}
 
 -- what nodes are written by
-abbrev pub names_of : WrittenModel → Case → Names
-names_of m c = record { ops = c.ops; stages = map (λ s. (s.number, s.name.name)) m.stages }
+abbrev pub names_by : WrittenModel → Case → Names
+names_by m c = record { ops = c.ops; stages = map stage_said m.stages }
 
-abbrev pub edge_line : Edge → Line
-edge_line e = edge e.0 e.1
-
-abbrev pub graph_lines : Expectation → List Node → List Edge → List Line
-graph_lines expected nodes edges =
-    verdict observable ∷ second observable expected ∷ map node nodes ++ map edge_line edges ++ end ∷ []
-
-abbrev pub cycle_lines : Expectation → List Node → List Line
-cycle_lines expected nodes = verdict unobservable ∷ second unobservable expected ∷ cycle nodes ∷ end ∷ []
+-- the verdict, how it compares with what the test states, a body, and the last line
+abbrev pub certificate_lines : Verdict → Expectation → List Line → List Line
+certificate_lines v expected body = verdict v ∷ second v expected ∷ (body ++ end ∷ [])
 
 -- the text is that of a graph whose world satisfies
 pub record IsGraphText (m : WrittenModel) (c : Case) (text : List ℕ) : Type 0 where
   pub nodes : List Node
   pub edges : List Edge
-  pub text_is : text ≡ lines_text (names_of m c) (graph_lines c.expectation nodes edges)
+  pub text_is : text ≡ lines_text (names_by m c) (certificate_lines observable c.expectation (graph_lines nodes edges))
   pub ends : HasEnds nodes edges
   pub world : World Node
   pub generated : IsGenerated nodes edges world
   pub of_both : IsWorldOf (stage_numbers m.stages) c.ops world
   pub satisfied : IsTrue (satisfies m c world)
 
--- each node has an asserted edge to the next, and the last to the first
-abbrev pub IsAssertedCycle : List Edge → List Node → Type 0
-IsAssertedCycle edges [] = ⊥
-IsAssertedCycle edges (a ∷ via) = Leads (IsListed edges) a via a
-
--- the text is that of a cycle that the axioms assert
-pub record IsCycleText (m : WrittenModel) (c : Case) (text : List ℕ) : Type 0 where
-  pub nodes : List Node
-  pub text_is : text ≡ lines_text (names_of m c) (cycle_lines c.expectation nodes)
-  pub asserted : IsAssertedCycle (asserted_edges m c) nodes
+-- the text is that of a refutation of the ground tree
+pub record IsTreeText (m : WrittenModel) (c : Case) (text : List ℕ) : Type 0 where
+  pub steps : List (Step Node)
+  pub text_is : text ≡ lines_text (names_by m c) (certificate_lines unobservable c.expectation (map step_line steps))
+  pub refutes : IsRefutation (ground_tree m c) steps

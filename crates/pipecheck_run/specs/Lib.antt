@@ -1,13 +1,9 @@
-pub mod Asserted
 pub mod Words
 pub mod Command
 pub mod Language
 pub mod Certificates
 pub mod Output
-pub mod Graphs
-pub mod Scopes
 pub mod Verdicts
-pub mod Writing
 pub mod Answered
 pub mod Headline
 pub mod Laws

@@ -12,7 +12,7 @@ use Rattle.pc_common.specs.LineColumn.{line_of, column_of}
 use Rattle.pipecheck_run.specs.Words.{fault_word}
 use Rattle.pipecheck_run.specs.Command.{IsCheck, IsNoCommand}
 use Rattle.pipecheck_run.specs.Language.{Contents, IsFirstFault, Says}
-use Rattle.pipecheck_run.specs.Certificates.{IsGraphText, IsCycleText}
+use Rattle.pipecheck_run.specs.Certificates.{IsGraphText, IsTreeText}
 
 abbrev pub usage_text : List ℕ
 usage_text = codes "pipecheck: bad command line\n"
@@ -39,4 +39,4 @@ pub data Answers (words : List (List ℕ)) (holds : Contents) : Status → List 
   seen : {model test text : List ℕ} {m : WrittenModel} {c : Case} → IsCheck words model test → Says holds model test m c
       → IsGraphText m c text → Answers words holds Observable text
   unseen : {model test text : List ℕ} {m : WrittenModel} {c : Case} → IsCheck words model test → Says holds model test m c
-      → IsCycleText m c text → Answers words holds Unobservable text
+      → IsTreeText m c text → Answers words holds Unobservable text

@@ -1,41 +1,46 @@
--- What is decided of a model and a case, before it is written.
-use Rattle.std.specs.Prelude.{◌≡◌, ◌++◌, ℕ, List, map, codes, MatchOption, None, Some}
+-- What is decided of a model and a case, before it is written, and its text.
+use Rattle.std.specs.Prelude.{◌++◌, ℕ, List, codes, All}
 use Rattle.std.specs.List.{flat_map}
 use Rattle.pc_common.specs.Case.{Case}
-use Rattle.pc_common.specs.Lines.{Verdict as Kind, observable, unobservable, verdict, second, node, edge, line_text, nodes_text}
-use Rattle.pc_syntax.specs.Written.{WrittenModel, written_model}
-use Rattle.edge_graph.specs.Joins.{IsAcyclic, IsCycle}
-use Rattle.pipecheck_run.specs.declared.verdict.Verdict.{Verdict}
-use Rattle.pipecheck_run.specs.Asserted.{asserted_edges}
+use Rattle.pc_common.specs.Lines.{Names, Verdict as Kind, observable, unobservable, verdict_text as verdict_words, second_text, lines_text}
 use Rattle.pc_common.specs.declared.status.Status.{Status}
 use Rattle.pc_common.specs.declared.status.Status.TheVariants.{Observable, Unobservable}
-use Rattle.pipecheck_run.specs.Writing.{names_by}
-use Rattle.pipecheck_run.specs.Graphs.{key_node, node_at, IsGraphOf}
+use Rattle.pc_syntax.specs.Written.{WrittenModel}
+use Rattle.pc_ground.specs.GroundTree.{ground_tree}
+use Rattle.pc_ground.specs.NodeForm.{names_of}
+use Rattle.pc_front.specs.Front.{IsFrontOf}
+use Rattle.refutation.specs.Steps.{step_text, IsStepIn}
+use Rattle.graph_text.specs.Graphs.{graph_nodes, graph_edges, graph_lines, IsKeyIn, IsEdgeIn}
+use Rattle.solver.specs.Answers.{IsAnswer}
+use Rattle.solver.specs.declared.answer.Answer.{Answer as Found}
+use Rattle.solver.specs.declared.answer.Answer.TheVariants.{Observable as a_graph, Unobservable as a_refutation}
+use Rattle.pipecheck_run.specs.declared.verdict.Verdict.{Verdict}
 
--- the graph is that of all asserted edges, and it has an order or this cycle
+-- the front is that of the model and the case, and what is found is of their ground tree
 pub record IsVerdict (m : WrittenModel) (c : Case) (v : Verdict) : Type 0 where
-  pub model_is : written_model v.model ≡ m
-  pub case_is : v.case ≡ c
-  pub graph : IsGraphOf (asserted_edges m c) v.graph.nodes.keys v.graph.edges.keys
-  pub decided : MatchOption v.cycle (IsAcyclic v.graph.edges.keys) (λ cycle. IsCycle v.graph.edges.keys cycle.items)
+  pub front_of : IsFrontOf m c v.front
+  pub found : IsAnswer v.front.numbering (ground_tree m c) v.found
 
--- the first two lines of a verdict, its body, and the last line
-abbrev pub verdict_of : Verdict → Kind
-verdict_of v = elim (v.cycle) [ None ↦ observable | Some cycle ↦ unobservable ]
+abbrev pub kind_of : Found → Kind
+kind_of (a_graph g) = observable
+kind_of (a_refutation r) = unobservable
 
-abbrev pub body_text : Verdict → List ℕ
-body_text v =
-    let names = names_by v.case v.model.stages in
-    elim (v.cycle) [
-      | None ↦ flat_map (λ key. line_text names (node (key_node key))) v.graph.nodes.keys
-          ++ flat_map (λ e. line_text names (edge (node_at v.graph.nodes.keys e.0) (node_at v.graph.nodes.keys e.1))) v.graph.edges.keys
-      | Some cycle ↦ codes "cycle" ++ (nodes_text names (map (node_at v.graph.nodes.keys) cycle.items) ++ codes "\n")
-    ]
+abbrev pub status_of : Found → Status
+status_of (a_graph g) = Observable
+status_of (a_refutation r) = Unobservable
+
+-- each node is one of these names'
+abbrev pub IsWritable : Names → Found → Type 0
+IsWritable names (a_graph g) = All (IsKeyIn names) g.nodes × All (IsEdgeIn names) g.edges
+IsWritable names (a_refutation r) = All (IsStepIn names) r
+
+-- what stands between the second line and the last one
+abbrev pub body_text : Names → Found → List ℕ
+body_text names (a_graph g) = lines_text names (graph_lines (graph_nodes g) (graph_edges g))
+body_text names (a_refutation r) = flat_map (step_text names) r
 
 abbrev pub verdict_text : Verdict → List ℕ
 verdict_text v =
-    let names = names_by v.case v.model.stages in
-    line_text names (verdict (verdict_of v)) ++ (line_text names (second (verdict_of v) v.case.expectation) ++ (body_text v ++ codes "end\n"))
-
-abbrev pub status_of : Verdict → Status
-status_of v = elim (v.cycle) [ None ↦ Observable | Some cycle ↦ Unobservable ]
+    let kind = kind_of v.found in
+    (verdict_words kind ++ codes "\n") ++ ((second_text kind v.front.case.expectation ++ codes "\n")
+    ++ (body_text (names_of v.front) v.found ++ codes "end\n"))

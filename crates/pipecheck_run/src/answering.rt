@@ -1,7 +1,7 @@
 ghost use Rattle.std.specs.Prelude.{◌≡◌, ◌≤◌, ◌+◌, ◌++◌, length};
 ghost use Rattle.std.specs.List.{flat_map};
 ghost use Rattle.pc_common.specs.Writes.{Writes};
-ghost use Rattle.pipecheck_run.specs.Answered.{refusal_text, answer_text, answer_status};
+ghost use Rattle.pipecheck_run.specs.Answered.{refusal_text, answer_text, answer_status, CanBeWritten};
 
 use super::answer::{Answer, Refusal};
 use super::report::write_verdict;
@@ -9,6 +9,7 @@ use super::words::{fault_word, file_word};
 use arrayvec::ArrayVec;
 use itoa::Buffer;
 use pc_common::{Failed, Sink, Status, write_all};
+use solver::Answer as Found;
 
 /// No line of a refusal has more bytes.
 const LINE: usize = 96;
@@ -64,6 +65,7 @@ fn write_refusal<K: Sink>(out: &mut K, refusal: &Refusal) -> Result<(), Failed>
 
 /// Writes the text of an answer. Takes no memory.
 pub(crate) fn write_answer<K: Sink>(out: &mut K, answer: &Answer) -> Result<(), Failed>
+    requires { CanBeWritten answer.now }
     ensures { Writes K.told K.faults K.taken out.old out.new result (answer_text answer.now) }
 {
     match answer {
@@ -83,9 +85,9 @@ pub(crate) fn status(answer: &Answer) -> Status
         Answer::ReadFault => Status::ReadFault,
         Answer::Memory => Status::Memory,
         Answer::Refused(_) => Status::Refused,
-        Answer::Decided(verdict) => match verdict.cycle {
-            None => Status::Observable,
-            Some(_) => Status::Unobservable,
+        Answer::Decided(verdict) => match verdict.found {
+            Found::Observable(_) => Status::Observable,
+            Found::Unobservable(_) => Status::Unobservable,
         },
     }
 }

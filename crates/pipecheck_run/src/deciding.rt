@@ -4,17 +4,26 @@ ghost use Rattle.pc_common.specs.Faults.{Rose};
 ghost use Rattle.pc_common.specs.Reads.{Reads};
 ghost use Rattle.pc_common.specs.declared.status.Status.TheVariants.{Usage as SUsage, ReadFault as SReadFault, Memory as SMemory};
 ghost use Rattle.pipecheck_run.specs.Command.{IsCheck, IsNoCommand};
-ghost use Rattle.pipecheck_run.specs.Language.{Comes, fault_at, start};
+ghost use Rattle.pc_common.specs.World.{Node as PlainNode};
+ghost use Rattle.pc_ground.specs.Tree.{Tree};
+ghost use Rattle.pc_ground.specs.Rows.{rows_of};
+ghost use Rattle.pc_front.specs.Front.{fault_at};
+ghost use Rattle.solver.specs.Answers.{IsAnswer};
+ghost use Rattle.pipecheck_run.specs.Language.{Comes, start};
 ghost use Rattle.pipecheck_run.specs.Output.{Answers};
-ghost use Rattle.pipecheck_run.specs.Answered.{IsPlaced, Decides, IsEnded, answer_text, answer_status};
+ghost use Rattle.pipecheck_run.specs.Answered.{IsPlaced, bytes_of as bytes_in, Decides, IsEnded, CanBeWritten, answer_text, answer_status};
 
 use super::answer::{Answer, Refusal};
 use super::command::{Check, command};
-use super::language::{edge_model_of, test_fault};
-use super::solving::solve;
-use litmus_reader::read_case;
+use super::verdict::Verdict;
 use pc_common::{FaultKind, Files, InputFault, Memory, Place, ReadEnd, Which, line_col, read_all};
+use pc_front::{FrontEnd, front};
+use pc_ground::Front;
+use solver::{Answer as Found, solve};
 use std::alloc::Global;
+use std::marker::Brand;
+use std::sync::ledger::{Blank, Ledger};
+use undo_trail::Steps;
 
 /// How many bytes a model or a test may have.
 const FILE_LIMIT: usize = 1_048_576;
@@ -30,14 +39,18 @@ fn at_start(file: Which, kind: FaultKind) -> InputFault
     }
 }
 
-/// A fault with its line and column in the bytes of its file.
+/// A fault with its line and column in the bytes of its file. A place past their end is told as their end.
+#[tactic(auto, using(crate::proofs::Placed::line_min, crate::proofs::Placed::column_min))]
 fn refusal(fault: InputFault, bytes: &[u8]) -> Refusal
-    requires short { length bytes.now < 4294967295 }
-    requires within { fault.place.offset ≤ length bytes.now }
+    requires { length bytes.now < 4294967295 }
     ensures fault { result.fault ≡ fault }
     ensures placed { IsPlaced bytes.now result }
 {
-    let (line, column) = line_col(bytes, fault.place);
+    let end = bytes.len() as u32;
+    let place = Place {
+        offset: fault.place.offset.min(end),
+    };
+    let (line, column) = line_col(bytes, place);
     Refusal {
         fault,
         line,
@@ -45,27 +58,56 @@ fn refusal(fault: InputFault, bytes: &[u8]) -> Refusal
     }
 }
 
+/// The bytes of one of the two files.
+fn bytes_of<'a>(file: Which, model: &'a [u8], test: &'a [u8]) -> &'a [u8]
+    ensures { result.now ≡ bytes_in file model.now test.now }
+{
+    match file {
+        Which::Model => model,
+        Which::Test => test,
+    }
+}
+
+/// What the search finds of a front. The ledger is of this call alone: nobody reads its count of steps.
+fn search<L: Ledger>(alloc: Global, front: &Front, blank: Blank) -> Result<Found, Memory>
+    requires name { blank.name ≡ L.name }
+    requires parts { blank.parts ≡ L.parts }
+    requires whole { 0 < L.parts }
+    ensures { IfOk result (λ found. (t : Tree PlainNode) → front.now.tree ≡ rows_of t → IsAnswer front.now.numbering t found) }
+{
+    let mut steps: Steps<L> = Steps::open(blank);
+    solve(alloc, &front.tree, &front.numbering, &mut steps)
+}
+
+/// The verdict on a front.
+fn verdict_on(alloc: Global, front: Front) -> Result<Verdict, Memory>
+    ensures front { IfOk result (λ v. v.front ≡ front) }
+    ensures found { IfOk result (λ v. (t : Tree PlainNode) → front.tree ≡ rows_of t → IsAnswer front.numbering t v.found) }
+{
+    let found = search::<Brand>(alloc, &front, Blank::new(1))?;
+    Ok(Verdict { front, found })
+}
+
 /// Decides the answer from the bytes of the model and the test.
 fn decide(alloc: Global, model: &[u8], test: &[u8]) -> Result<Answer, Memory>
     requires model_short { length model.now ≤ 1048576 }
     requires test_short { length test.now ≤ 1048576 }
-    ensures { IfOk result (Decides model.now test.now) }
+    ensures decides { IfOk result (Decides model.now test.now) }
+    ensures writable { IfOk result CanBeWritten }
 {
-    let Some(written) = edge_model_of(alloc, model)? else {
-        let fault = at_start(Which::Model, FaultKind::Syntax);
-        return Ok(Answer::Refused(refusal(fault, model)));
-    };
-    let case = match read_case(alloc, test) {
-        Ok(case) => case,
-        Err(fault) => return Ok(Answer::Refused(refusal(test_fault(fault)?, test))),
-    };
-    let verdict = solve(alloc, written, case)?;
-    Ok(Answer::Decided(verdict))
+    match front(alloc, model, test) {
+        Ok(front) => Ok(Answer::Decided(verdict_on(alloc, front)?)),
+        Err(FrontEnd::Refused(fault)) => {
+            Ok(Answer::Refused(refusal(fault, bytes_of(fault.file, model, test))))
+        }
+        Err(FrontEnd::Memory) => Err(Memory),
+    }
 }
 
 /// The answer where a file could not be read whole.
 fn ended(file: Which, end: ReadEnd) -> Answer
-    ensures { IsEnded file end result }
+    ensures ended { IsEnded file end result }
+    ensures writable { CanBeWritten result }
 {
     match end {
         ReadEnd::ReadFault => Answer::ReadFault,
@@ -85,6 +127,7 @@ fn check_files<F: Files>(alloc: Global, check: Check<'_>, files: &mut F) -> Answ
     ensures calm { IsTrue (F.calm files.old) → answer_status result ≡ SReadFault → Comes (F.holds files.old) check.entry.model.now check.entry.test.now }
     ensures comes { IsTrue (F.calm files.old) → Comes (F.holds files.old) check.entry.model.now check.entry.test.now
         → (answer_status result ≡ SReadFault) ⊎ (answer_status result ≡ SMemory) }
+    ensures writable { CanBeWritten result }
     ensures answered { IsTrue (F.told files.old) → answer_status result ≢ SReadFault → answer_status result ≢ SMemory
         → (words : List (List ℕ)) → IsCheck words check.entry.model.now check.entry.test.now
         → Answers words (F.holds files.old) (answer_status result) (answer_text result) }
@@ -112,6 +155,7 @@ pub(crate) fn answer_to<F: Files>(alloc: Global, words: &[String], files: &mut F
         → answer_status result ≡ SReadFault → Comes (F.holds files.old) model test }
     ensures comes { IsTrue (F.calm files.old) → (model test : List ℕ) → IsCheck (map string_bytes words.now) model test → Comes (F.holds files.old) model test
         → (answer_status result ≡ SReadFault) ⊎ (answer_status result ≡ SMemory) }
+    ensures writable { CanBeWritten result }
     ensures answered { IsTrue (F.told files.old) → answer_status result ≢ SReadFault → answer_status result ≢ SMemory
         → Answers (map string_bytes words.now) (F.holds files.old) (answer_status result) (answer_text result) }
 {

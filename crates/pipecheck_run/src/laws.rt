@@ -7,7 +7,7 @@ pub fn one_first_fault()
     ensures { (holds : Contents) → HasOneFirstFault holds }
 {}
 
-/// Beside a model of the language, a test says a case or the two files have a first fault.
+/// Two files that are read say a model and a case, or have a first fault.
 pub fn case_or_first_fault()
     ensures { (holds : Contents) → HasCaseOrFault holds }
 {}

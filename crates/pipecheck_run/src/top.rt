@@ -7,7 +7,7 @@ ghost use Rattle.pc_common.specs.declared.status.Status.TheVariants.{Usage as SU
 ghost use Rattle.pipecheck_run.specs.Command.{IsCheck, IsNoCommand};
 ghost use Rattle.pipecheck_run.specs.Language.{Comes};
 ghost use Rattle.pipecheck_run.specs.Output.{Answers, usage_text};
-ghost use Rattle.pipecheck_run.specs.Answered.{answer_text, answer_status};
+ghost use Rattle.pipecheck_run.specs.Answered.{answer_text, answer_status, CanBeWritten};
 ghost use Rattle.pipecheck_run.specs.Headline.{IsTrueOf, IsDue};
 
 use super::answer::Answer;
@@ -18,6 +18,7 @@ use std::alloc::Global;
 
 /// Writes the text of an answer, where it has one, and answers the status.
 fn tell<K: Sink>(out: &mut K, answer: &Answer) -> Status
+    requires { CanBeWritten answer.now }
     ensures same_told { K.told out.new ≡ K.told out.old }
     ensures count { K.faults out.old ≤ K.faults out.new }
     ensures kept { (result ≡ answer_status answer.now) ⊎ (result ≡ SWriteFault) }

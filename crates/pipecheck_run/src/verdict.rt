@@ -1,13 +1,9 @@
-use super::graph::EdgeGraph;
-use pc_case::Case;
-use pc_syntax::ModelFile;
+use pc_ground::Front;
+use solver::Answer as Found;
 
-/// What is found of a model and a case: the graph of all edges that the axioms assert, and a cycle of
-/// its nodes by their numbers where it has one.
+/// What is found of a model and a test: their front, and a graph that shows the outcome or a refutation.
 #[derive(Drop)]
 pub(crate) struct Verdict {
-    pub(crate) model: ModelFile,
-    pub(crate) case: Case,
-    pub(crate) graph: EdgeGraph,
-    pub(crate) cycle: Option<Vec<u32>>,
+    pub(crate) front: Front,
+    pub(crate) found: Found,
 }

@@ -7,7 +7,7 @@ use Rattle.pipecheck_run.proofs.deciding.check_files.Goals as goal
 pub returns-in-Err-clause-answered : goal.returns-in-Err-clause-answered
 returns-in-Err-clause-answered g c = λ told no_fault memory words check.
     ended_answers words (g.F.Files.holds c.args.files.now) c.args.check.model.now c.args.check.test.now Model c.in-Err.end c.ended.result
-    c.ended.ensures no_fault memory check
+    c.ended.ensures.ended no_fault memory check
     (λ e. let l = c.in-Err.ensures.too_large (ap (λ x. Err x) e) told in
     (large_model (large_of (g.F.Files.holds c.args.files.now) c.args.check.model.now c.in-Err.end l), (l.0, l.1)))
 
@@ -19,7 +19,7 @@ returns-in-Err-read_all-clause-answered g c = λ told no_fault memory words chec
       within = (let h = first.within in omega arith);
     } in
     ended_answers words (g.F.Files.holds c.args.files.now) c.args.check.model.now c.args.check.test.now Test c.in-Err-read_all.end c.ended-in-Err-read_all.result
-    c.ended-in-Err-read_all.ensures no_fault memory check
+    c.ended-in-Err-read_all.ensures.ended no_fault memory check
     (λ e. let l = rw first.keeps.same_held at (c.in-Err-read_all.ensures.too_large (ap (λ x. Err x) e) (rw first.keeps.same_told told)) in
     (large_test read (large_of (g.F.Files.holds c.args.files.now) c.args.check.test.now c.in-Err-read_all.end l), (l.0, l.1)))
 
@@ -36,4 +36,4 @@ returns-in-Ok-decide-clause-answered g c = λ told no_fault memory words check.
       within = (let h = second.within in omega arith);
     } in
     decided_answers words (g.F.Files.holds c.args.files.now) c.args.check.model.now c.args.check.test.now _ _ c.in-Ok-decide.answer check
-    model_read test_read (rw (c.deref.ensures.value, c.deref-2.ensures.value) at c.in-Ok-decide.ensures)
+    model_read test_read (rw (c.deref.ensures.value, c.deref-2.ensures.value) at c.in-Ok-decide.ensures.decides)

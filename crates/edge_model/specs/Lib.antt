@@ -1,2 +1,0 @@
-pub mod EdgeTokens
-pub mod EdgeModel

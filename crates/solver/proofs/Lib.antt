@@ -1,0 +1,16 @@
+pub mod Spelling
+pub mod Naming
+pub mod Running
+pub mod Growing
+pub mod Meeting
+pub mod Weighing
+pub mod Entering
+pub mod Telling
+pub mod Choosing
+pub mod Going
+pub mod Closing
+pub mod Descending
+pub mod Numbering
+pub mod Showing
+pub mod Graphing
+pub mod Settling

@@ -1,0 +1,15 @@
+pub mod Spelled
+pub mod Named
+pub mod Below
+pub mod Met
+pub mod Places
+pub mod Opens
+pub mod Weights
+pub mod Flags
+pub mod Leaves
+pub mod Descents
+pub mod Known
+pub mod Shown
+pub mod Searched
+pub mod Answers
+pub mod Turns

@@ -1,0 +1,71 @@
+-- The branches that a search has open, and what the search keeps of them.
+use Rattle.std.specs.Prelude.{ℕ, ◌≡◌, ◌<◌, ◌≤◌, ◌+◌, List, [], ◌∷◌, ◌++◌, Option, Some, None, length, map, take, reverse, slice_index}
+use Rattle.pc_common.specs.World.{Node}
+use Rattle.pc_ground.specs.declared.row.Row.{Row}
+use Rattle.pc_ground.specs.Tree.{Tree, size_of}
+use Rattle.pc_ground.specs.Refutes.{Step, Branch, literals_of, IsPartial}
+use Rattle.pc_ground.specs.Walks.{literals_of_kind}
+use Rattle.order_graph.specs.State.{Graph}
+use Rattle.order_graph.specs.Clashes.{IsClash}
+use Rattle.order_graph.specs.declared.clash.Clash.{Clash}
+use Rattle.solver.specs.Named.{named}
+use Rattle.solver.specs.Places.{reached}
+use Rattle.solver.specs.declared.asserted.Asserted.{Asserted}
+use Rattle.solver.specs.declared.later.Later.{Later}
+
+abbrev pub positions : List Asserted → Branch
+positions xs = map (λ a. a.position) xs
+
+-- the branches that wait, the next one first: each has a first part of the branch before it, and a side
+abbrev pub waiting : {N : Type 0} → Tree N → Branch → List Later → List Branch
+waiting t ps [] = []
+waiting t ps (l ∷ ls) = (take l.count ps ++ reached t l.side) ∷ waiting t (take l.count ps) ls
+
+-- a waiting branch has a first part of this branch, and a mark of that part's literals
+pub record IsLater (t : Tree ℕ) (ps : Branch) (marks : List ℕ) (l : Later) : Type 0 where
+  pub count : l.count ≤ length ps
+  pub live : l.mark < length marks
+  pub literals : slice_index marks l.mark ≡ length (literals_of t (take l.count ps))
+  pub side : l.side < size_of t
+
+abbrev pub AreLater : Tree ℕ → Branch → List ℕ → List Later → Type 0
+AreLater t ps marks [] = Unit {0}
+AreLater t ps marks (l ∷ ls) = IsLater t ps marks l × AreLater t (take l.count ps) (take (l.mark + 1) marks) ls
+
+-- all open branches, where the first one has these positions
+abbrev pub opens : {N : Type 0} → Tree N → Branch → List Asserted → List Later → List Branch
+opens t ps asserted later = ps ∷ waiting t (positions asserted) (reverse later)
+
+-- what is kept between the steps; the first open branch has the asserted positions and those of `more`
+pub record IsKept (nodes : List Node) (t : Tree ℕ) (graph : Graph) (asserted : List Asserted) (later : List Later) (steps : List (Step Node)) (more : Branch) : Type 0 where
+  pub stand : graph.literals ≡ literals_of t (positions asserted)
+  pub all_nodes : graph.nodes ≡ length nodes
+  pub marks : length graph.marks ≤ length steps
+  pub waits : AreLater t (positions asserted) graph.marks (reverse later)
+  pub partial : IsPartial (named nodes t) steps (opens t (positions asserted ++ more) asserted later)
+
+-- literals were put behind those there were
+pub record IsFurther (old new : Graph) : Type 0 where
+  pub same_nodes : new.nodes ≡ old.nodes
+  pub same_marks : new.marks ≡ old.marks
+  pub literals : take (length old.literals) new.literals ≡ old.literals
+
+-- what came of asserting the side at a position: it is all asserted, or its literals clash with those before
+abbrev pub HasEntered : Tree ℕ → ℕ → List Asserted → Graph → List Asserted → Option Clash → Type 0
+HasEntered t part old graph new None = (positions new ≡ positions old ++ reached t part) × (graph.literals ≡ literals_of t (positions new))
+HasEntered t part old graph new (Some k) = IsClash (literals_of t (positions old ++ reached t part)) k
+
+-- what came of asserting one row: its literal is the last one, or it clashes with those before
+abbrev pub HasEnteredRow : Row ℕ → ℕ → Graph → List Asserted → Graph → List Asserted → Option Clash → Type 0
+HasEnteredRow r p old before graph new None = (new ≡ before ++ record { position = p } ∷ []) × (graph.literals ≡ old.literals ++ literals_of_kind r.kind)
+HasEnteredRow r p old before graph new (Some k) = (new ≡ before) × IsClash (old.literals ++ literals_of_kind r.kind) k
+
+pub record IsSame (old new : Graph) : Type 0 where
+  pub same_nodes : new.nodes ≡ old.nodes
+  pub same_literals : new.literals ≡ old.literals
+  pub same_marks : new.marks ≡ old.marks
+
+-- the mark is the last one, and of the literals that there are
+pub record IsMarked (g : Graph) (mark : ℕ) : Type 0 where
+  pub last : mark + 1 ≡ length g.marks
+  pub literals : slice_index g.marks mark ≡ length g.literals

@@ -1,0 +1,12 @@
+use order_graph::Mark;
+
+/// A branch that waits: the right side of a split, which begins with what the first open branch had before.
+#[derive(Clone, Copy)]
+pub(crate) struct Later {
+    /// How many positions were asserted before the split.
+    pub(crate) count: usize,
+    /// The graph's mark for their literals.
+    pub(crate) mark: Mark,
+    /// Where the right side's root stands.
+    pub(crate) side: usize,
+}

@@ -1,0 +1,223 @@
+ghost use Rattle.std.specs.Prelude.{◌≡◌, ◌<◌, ◌≤◌, ◌+◌, ◌^◌, ℕ, [], ◌∷◌, All, IfOk, Some, length, map};
+ghost use Rattle.pc_common.specs.World.{Node as PlainNode};
+ghost use Rattle.pc_ground.specs.Keys.{key_node};
+ghost use Rattle.pc_ground.specs.Tree.{Tree, never};
+ghost use Rattle.pc_ground.specs.Rows.{rows_of};
+ghost use Rattle.pc_ground.specs.Folded.{IsFolded};
+ghost use Rattle.pc_ground.specs.Numbers.{numbered, AreDistinct};
+ghost use Rattle.pc_ground.specs.Refutes.{subtree_at, IsPartial};
+ghost use Rattle.solver.specs.Spelled.{spelled, IsSpelled};
+ghost use Rattle.solver.specs.Named.{named};
+ghost use Rattle.solver.specs.Below.{IsRowBelow};
+ghost use Rattle.solver.specs.Opens.{positions, IsKept};
+ghost use Rattle.solver.specs.Weights.{weight};
+ghost use Rattle.solver.specs.Descents.{HasMore};
+ghost use Rattle.solver.specs.Searched.{IsSearching, branches_of};
+ghost use Rattle.solver.specs.Turns.{IsTurn, IsTurnOf, GoesOn, turn_weight};
+
+use super::advance::advance;
+use super::answer::{Answer, graph_of};
+use super::asserted::Asserted;
+use super::candidates::candidates;
+use super::descend::descend;
+use super::later::Later;
+use super::numbers::{keys_by_number, number_rows};
+use super::rows::row_at;
+use order_graph::OrderGraph;
+use pc_common::Memory;
+use pc_ground::{Flat, NodeKey, Numbering, Row, RowKind};
+use refutation::{Refutation, Step};
+use std::alloc::Global;
+use std::marker::Model;
+use std::sync::ledger::Ledger;
+use undo_trail::Steps;
+
+/// A search for a world that satisfies a tree, between two of its turns.
+#[derive(Drop)]
+pub struct Search {
+    alloc: Global,
+    keys: Vec<NodeKey>,
+    rows: Vec<Row<u32>>,
+    graph: OrderGraph,
+    asserted: Vec<Asserted>,
+    later: Vec<Later>,
+    refutation: Refutation,
+    candidates: Vec<usize>,
+}
+
+impl Model for Search {
+    ghost use Rattle.std.specs.Prelude.{map};
+    ghost use Rattle.pc_ground.specs.Keys.{key_node};
+    ghost use Rattle.solver.specs.Searched.{Searched, IsSearch, branches_of};
+
+    ghost Value = { Searched };
+
+    ghost view = { λ s. record { nodes = map key_node s.keys.items; rows = s.rows.items; graph = s.graph; steps = s.refutation; branches = branches_of s.rows.items s.asserted.items s.later.items } };
+
+    ghost invariant = { λ s. IsSearch s.keys.items s.rows.items s.graph s.asserted.items s.later.items s.refutation s.candidates.items };
+}
+
+/// What a turn hands out.
+#[derive(Drop)]
+pub enum Turn {
+    /// The search goes on.
+    More(Search),
+    Done(Answer),
+}
+
+/// Hands out what stands after a descent: a branch is open. With no candidate on it all is true in the
+/// graph's world.
+pub(crate) fn settle(
+    alloc: Global,
+    keys: Vec<NodeKey>,
+    rows: Vec<Row<u32>>,
+    graph: OrderGraph,
+    asserted: Vec<Asserted>,
+    later: Vec<Later>,
+    refutation: Refutation,
+) -> Result<Turn, Memory>
+    requires tree { IsSpelled rows.items }
+    requires few { length keys.items ≤ 262144 }
+    requires distinct { AreDistinct (map key_node keys.items) }
+    requires below { All (IsRowBelow (length keys.items)) rows.items }
+    requires no_false { (p : ℕ) → subtree_at (spelled rows.items) p ≡ Some never → ⊥ }
+    requires kept { IsKept (map key_node keys.items) (spelled rows.items) graph asserted.items later.items refutation [] }
+    ensures turn { IfOk result (IsTurn (map key_node keys.items) rows.items) }
+    ensures weight { IfOk result (λ turn. turn_weight turn ≤ 1 + weight (spelled rows.items) (branches_of rows.items asserted.items later.items)) }
+    ensures steps { IfOk result (GoesOn (λ old new. new ≡ old) refutation) }
+{
+    let _asserted_so_far = graph.len();
+    let found = candidates(alloc, &rows, &graph, &asserted)?;
+    let _root = row_at(&rows, 0);
+    if found.is_empty() {
+        let graph = graph_of(alloc, &keys, &graph)?;
+        return Ok(Turn::Done(Answer::Observable(graph)));
+    }
+    Ok(Turn::More(Search {
+        alloc,
+        keys,
+        rows,
+        graph,
+        asserted,
+        later,
+        refutation,
+        candidates: found,
+    }))
+}
+
+/// Enters the root: what is handed out first.
+fn start<L: Ledger>(
+    alloc: Global,
+    keys: Vec<NodeKey>,
+    rows: Vec<Row<u32>>,
+    mut graph: OrderGraph,
+    mut refutation: Refutation,
+    steps: &mut Steps<L>,
+) -> Result<Turn, Memory>
+    requires tree { IsSpelled rows.items }
+    requires few { length keys.items ≤ 262144 }
+    requires distinct { AreDistinct (map key_node keys.items) }
+    requires below { All (IsRowBelow (length keys.items)) rows.items }
+    requires folded { IsFolded (spelled rows.items) }
+    requires nodes { graph.nodes ≡ length keys.items }
+    requires literals { graph.literals ≡ [] }
+    requires marks { graph.marks ≡ [] }
+    requires steps { refutation ≡ [] }
+    ensures { IfOk result (IsTurn (map key_node keys.items) rows.items) }
+{
+    let root = row_at(&rows, 0);
+    if let RowKind::False = root.kind {
+        refutation.close_leaf(Step::False)?;
+        return Ok(Turn::Done(Answer::Unobservable(refutation)));
+    }
+    let mut asserted = Vec::new(alloc);
+    let mut later = Vec::new(alloc);
+    let is_open = descend(
+        alloc,
+        &keys,
+        &rows,
+        0,
+        &mut graph,
+        &mut asserted,
+        &mut later,
+        &mut refutation,
+        steps,
+    )?;
+    if !is_open {
+        return Ok(Turn::Done(Answer::Unobservable(refutation)));
+    }
+    settle(alloc, keys, rows, graph, asserted, later, refutation)
+}
+
+impl Search {
+    /// Begins the search over this tree, whose nodes the numbering lists. A constant stands in the tree only
+    /// where it is the whole tree.
+    pub fn begin<L: Ledger>(
+        alloc: Global,
+        tree: &Flat,
+        numbering: &Numbering,
+        steps: &mut Steps<L>,
+    ) -> Result<Turn, Memory>
+        requires numbered { (t : Tree PlainNode) → tree.now ≡ rows_of t → numbering.now ≡ numbered t }
+        requires folded { (t : Tree PlainNode) → tree.now ≡ rows_of t → IsFolded t }
+        ensures { IfOk result (λ turn. (t : Tree PlainNode) → tree.now ≡ rows_of t → IsTurnOf numbering.now t turn) }
+    {
+        let _positions = tree.len();
+        let count = numbering.len();
+        let keys = keys_by_number(alloc, numbering)?;
+        let rows = number_rows(alloc, tree, numbering)?;
+        let graph = OrderGraph::new(alloc, count)?;
+        let turn = start(alloc, keys, rows, graph, Refutation::new(alloc), steps)?;
+        Ok(turn)
+    }
+
+    /// What is asserted on the first open branch. Takes no memory.
+    pub fn graph(&self) -> &OrderGraph
+        ensures graph { result.now ≡ self.now.graph }
+        ensures searching { IsSearching self.now }
+    {
+        &self.graph
+    }
+
+    /// The steps so far. Takes no memory.
+    pub fn refutation(&self) -> &Refutation
+        ensures steps { result.now ≡ self.now.steps }
+        ensures searching { IsSearching self.now }
+    {
+        &self.refutation
+    }
+
+    /// Splits one Or, and closes branches until one is open or none is left. Where memory is refused,
+    /// nothing is left of the search.
+    pub fn turn<L: Ledger>(self, steps: &mut Steps<L>) -> Result<Turn, Memory>
+        ensures turn { IfOk result (IsTurn self.nodes self.rows) }
+        ensures weight { IfOk result (λ turn. turn_weight turn < 1 + weight (spelled self.rows) self.branches) }
+        ensures steps { IfOk result (GoesOn HasMore self.steps) }
+    {
+        let Search {
+            alloc,
+            keys,
+            rows,
+            mut graph,
+            mut asserted,
+            mut later,
+            mut refutation,
+            candidates,
+        } = self;
+        let is_open = advance(
+            alloc,
+            &keys,
+            &rows,
+            &candidates,
+            &mut graph,
+            &mut asserted,
+            &mut later,
+            &mut refutation,
+            steps,
+        )?;
+        if !is_open {
+            return Ok(Turn::Done(Answer::Unobservable(refutation)));
+        }
+        settle(alloc, keys, rows, graph, asserted, later, refutation)
+    }
+}
