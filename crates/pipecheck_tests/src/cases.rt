@@ -168,27 +168,41 @@ fn are_named(case: &Case) -> bool {
         .all(|(g, n, place)| case.find(OpId { g: *g, n: *n }) == *place)
 }
 
-/// Whether the micro-ops are the locked write, the read and the fence.
-fn are_ops(case: &Case) -> bool {
-    if case.ops() != 3 {
+fn is_kind(case: &Case, k: usize, access: Access, types: usize) -> bool {
+    if k >= case.ops() {
         return false;
     }
-    let (write, read, fence) = (case.op(0), case.op(1), case.op(2));
-    let has_types = write.types.len() == 1 && read.types.len() == 0 && fence.types.len() == 1;
-    let is_access = write.access == Access::Write && read.access == Access::Read;
-    let is_fence = fence.access == Access::Fence && fence.memop.is_none();
-    let is_place = fence.core == 2 && fence.thread == 9 && read.core == 0;
-    has_types && is_access && is_fence && is_place
+    let op = case.op(k);
+    op.access == access && op.types.len() == types
+}
+
+fn is_at(case: &Case, k: usize, core: u8, thread: u64) -> bool {
+    if k >= case.ops() {
+        return false;
+    }
+    let op = case.op(k);
+    op.core == core && op.thread == thread
+}
+
+/// Whether the micro-ops are the locked write, the read and the fence.
+fn are_ops(case: &Case) -> bool {
+    is_kind(case, 0, Access::Write, 1)
+        && is_kind(case, 1, Access::Read, 0)
+        && is_kind(case, 2, Access::Fence, 1)
+        && is_at(case, 1, 0, 0)
+        && is_at(case, 2, 2, 9)
+}
+
+fn is_mixed(case: &Case) -> bool {
+    let is_whole = case.ops() == 3 && case.cores() == 3 && case.expect() == Expect::Forbidden;
+    is_whole && are_ops(case) && are_values(case) && are_ends(case) && are_named(case)
 }
 
 #[test]
 fn lines_in_any_order_make_one_case(rt: HostRuntime) -> Result<(), Fail> {
     assert!(rt; MIXED.len() < 400);
     let case = read_case(rt.alloc(), MIXED)?;
-    let is_whole = case.cores() == 3 && case.expect() == Expect::Forbidden;
-    assert!(rt;
-        is_whole && are_ops(&case) && are_values(&case) && are_ends(&case) && are_named(&case)
-    );
+    assert!(rt; is_mixed(&case));
     Ok(())
 }
 
@@ -196,14 +210,15 @@ const WORDS: &[u8] =
     b"Litmus \"\". Microop 0 0 0 0 (Read Microop VA (VA 1 2) (PA 3 4) (Data 5)). Relationship Fence 0 0 -> 0 0.";
 
 fn has_names(case: &Case) -> bool {
-    case.ops() == 1 && case.op(0).types.len() == 2 && case.depends(b"Fence", 0, 0)
+    let is_whole = case.ops() == 1 && case.expect() == Expect::Unstated;
+    is_whole && is_kind(case, 0, Access::Read, 2) && case.depends(b"Fence", 0, 0)
 }
 
 #[test]
 fn no_word_is_reserved(rt: HostRuntime) -> Result<(), Fail> {
     assert!(rt; WORDS.len() < 400);
     let case = read_case(rt.alloc(), WORDS)?;
-    assert!(rt; has_names(&case) && case.expect() == Expect::Unstated);
+    assert!(rt; has_names(&case));
     Ok(())
 }
 

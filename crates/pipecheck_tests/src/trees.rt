@@ -1,11 +1,8 @@
 //! Ground trees as rows in preorder, and the numbers of their nodes.
 use super::texts::{put, put_number};
-use grounder::ground;
-use litmus_reader::read_case;
-use normal_form::{normalise, number};
-use pc_common::Memory;
-use pc_front::read_model;
-use pc_ground::{Flat, Literal, NodeKey, Numbering, RowKind};
+use pc_common::{FaultKind, InputFault, Memory, Place, Which};
+use pc_front::{FrontEnd, front};
+use pc_ground::{Flat, Front, Literal, NodeKey, Numbering, RowKind};
 use std::alloc::Global;
 use std::test::Fail;
 
@@ -157,11 +154,11 @@ fn show_nodes(out: &mut Vec<u8>, nodes: &Numbering) -> Result<(), Memory> {
     Ok(())
 }
 
-fn are_shown(alloc: Global, tree: &Flat, rows: &str, nodes: &str) -> Result<bool, Memory> {
+fn are_shown(alloc: Global, front: &Front, rows: &str, nodes: &str) -> Result<bool, Memory> {
     let mut out = Vec::new(alloc);
-    show_tree(&mut out, tree)?;
+    show_tree(&mut out, &front.tree)?;
     put(&mut out, b"\n")?;
-    show_nodes(&mut out, &number(alloc, tree)?)?;
+    show_nodes(&mut out, &front.numbering)?;
     let mut want = Vec::new(alloc);
     for piece in [rows, "\n", nodes] {
         put(&mut want, piece.as_bytes())?;
@@ -169,23 +166,12 @@ fn are_shown(alloc: Global, tree: &Flat, rows: &str, nodes: &str) -> Result<bool
     Ok(out.as_slice() == want.as_slice())
 }
 
-/// The ground tree; None where a file is refused.
-fn tree_of(alloc: Global, model: &[u8], test: &[u8]) -> Result<Option<Flat>, Memory> {
+fn front_of(alloc: Global, model: &str, test: &str) -> Result<Front, FrontEnd> {
+    let (model, test) = (model.as_bytes(), test.as_bytes());
     if model.len() > 1_048_576 || test.len() > 1_048_576 {
-        return Ok(None);
+        return Err(FrontEnd::Memory);
     }
-    let (Ok(model), Ok(case)) = (read_model(alloc, model), read_case(alloc, test)) else {
-        return Ok(None);
-    };
-    let ground = ground(alloc, &case, model.axioms.as_slice())?;
-    Ok(Some(normalise(alloc, &ground)?))
-}
-
-fn is_tree(alloc: Global, tree: &Option<Flat>, rows: &str, nodes: &str) -> Result<bool, Memory> {
-    match tree {
-        Some(tree) => are_shown(alloc, tree, rows, nodes),
-        None => Ok(false),
-    }
+    front(alloc, model, test)
 }
 
 #[test]
@@ -193,8 +179,62 @@ fn a_model_and_a_test_make_the_ground_tree_with_its_node_numbers(
     rt: HostRuntime,
 ) -> Result<(), Fail> {
     for (model, test, rows, nodes) in ROWS {
-        let tree = tree_of(rt.alloc(), model.as_bytes(), test.as_bytes())?;
-        assert!(rt; is_tree(rt.alloc(), &tree, rows, nodes)?, "{rows}");
+        let front = front_of(rt.alloc(), model, test)?;
+        assert!(rt; are_shown(rt.alloc(), &front, rows, nodes)?, "{rows}");
     }
     Ok(())
+}
+
+/// A model and a test, and the file and the place of the first fault of both.
+const FAULTS: &[(&'static str, &'static str, Which, u32, FaultKind)] = &[
+    (
+        "Axiom \"a: True.",
+        EMPTY,
+        Which::Model,
+        6,
+        FaultKind::Lexical,
+    ),
+    (
+        "Axiom \"a\": True",
+        EMPTY,
+        Which::Model,
+        15,
+        FaultKind::Syntax,
+    ),
+    (
+        "Axiom \"n\": NodeExists (i, S).",
+        EMPTY,
+        Which::Model,
+        23,
+        FaultKind::Unbound,
+    ),
+    // the model's fault is named before the test's
+    (
+        "Axiom \"a\": True",
+        "Litmus",
+        Which::Model,
+        15,
+        FaultKind::Syntax,
+    ),
+    ("", "Litmus", Which::Test, 6, FaultKind::Syntax),
+    (
+        "",
+        "Litmus \"d\".\nMicroop 0 64 0 0 (Fence).\n",
+        Which::Test,
+        22,
+        FaultKind::CoreNumber { number: 64 },
+    ),
+];
+
+#[test]
+fn a_fault_of_the_model_is_named_before_one_of_the_test(rt: HostRuntime) {
+    for (model, test, file, offset, kind) in FAULTS {
+        let fault = InputFault {
+            file: *file,
+            place: Place { offset: *offset },
+            kind: *kind,
+        };
+        let end = front_of(rt.alloc(), model, test).err();
+        assert!(rt; end == Some(FrontEnd::Refused(fault)), "{model} {test}");
+    }
 }
