@@ -1,4 +1,14 @@
-//! The search for a world that satisfies a ground tree, or for a refutation.
+//! The search for a world that satisfies a ground tree: a graph that generates one, or a refutation.
+//!
+//! The search goes over the tree's rows with numbers in the place of nodes. On the first open branch it
+//! keeps the asserted positions, and their literals in an `OrderGraph`, which stay consistent. A split of
+//! an asserted Or puts its left side on that branch and lets its right side wait with a mark of the graph;
+//! a clash closes the branch by a leaf, and the next one that waits is entered. With every asserted Or true
+//! or split, all of the tree is true in the world that the literals generate. No call nests as deep as the
+//! tree, and no table is copied for a branch.
+//!
+//! `solve` runs a `Search` from its first turn to its last. Between two turns the steps so far with the
+//! open branches are a partial refutation, and the graph's literals are those of the first open branch.
 #![tactic(auto)]
 
 mod advance;
