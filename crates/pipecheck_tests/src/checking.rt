@@ -63,7 +63,7 @@ end
 ";
 
 /// The words of a command, apart by spaces.
-fn words(alloc: Global, command: &str) -> Result<Vec<String>, Memory> {
+pub(crate) fn words(alloc: Global, command: &str) -> Result<Vec<String>, Memory> {
     let mut words = Vec::new(alloc);
     for word in command.split(' ') {
         if !word.is_empty() {
@@ -102,7 +102,7 @@ fn files(alloc: Global, contents: &[(&str, &str)], fails: &[u64]) -> Result<MemF
 }
 
 /// The same, with files of its own.
-fn ends_over(
+pub(crate) fn ends_over(
     alloc: Global,
     words: &[String],
     contents: &[(&str, &str)],

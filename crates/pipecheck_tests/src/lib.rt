@@ -32,3 +32,5 @@ mod shown_closed;
 mod texts;
 #[cfg(test)]
 mod trees;
+#[cfg(test)]
+mod verdicts;
