@@ -43,7 +43,7 @@ unfolding name_at
 one_test_name words model test model2 test2 x y = ap (name_at 2) (sym x ∙ y)
 
 -- the two names say one model and one case
-one_said : (holds : Contents) (model test : List ℕ) (m n : WrittenModel) (c d : Case)
+pub one_said : (holds : Contents) (model test : List ℕ) (m n : WrittenModel) (c d : Case)
     → Says holds model test m c → Says holds model test n d → (m ≡ n) × (c ≡ d)
 one_said holds model test m n c d x y =
     let P : List ℕ → Type 0 = λ b. SaysModel b n in
@@ -70,7 +70,7 @@ no_fault_of mb tb m c f says said (in_test other is) =
     no_fault tb c is.found said (λ memory. untold f (sym (ap told_fault memory) ∙ is.told)) is.first
 
 -- what says something has no fault
-no_fault_said : (holds : Contents) (model test : List ℕ) (m : WrittenModel) (c : Case) (f : InputFault)
+pub no_fault_said : (holds : Contents) (model test : List ℕ) (m : WrittenModel) (c : Case) (f : InputFault)
     → Says holds model test m c → IsFirstFault holds model test f → ⊥
 no_fault_said holds model test m c _ says (large_model l) = never_both holds model says.model_bytes says.model_read l
 no_fault_said holds model test m c _ says (large_test r l) = never_both holds test says.test_bytes says.test_read l

@@ -1,6 +1,6 @@
 // Laws of the definitions in specs/. Each function does nothing: its contract is the law.
 ghost use Rattle.pipecheck_run.specs.Language.{Contents};
-ghost use Rattle.pipecheck_run.specs.Laws.{HasOneFirstFault, HasCaseOrFault};
+ghost use Rattle.pipecheck_run.specs.Laws.{HasOneFirstFault, HasCaseOrFault, HasOneCase, HasNoFaultBeside};
 
 /// Two files have one first fault at most.
 pub fn one_first_fault()
@@ -10,4 +10,14 @@ pub fn one_first_fault()
 /// Two files that are read say a model and a case, or have a first fault.
 pub fn case_or_first_fault()
     ensures { (holds : Contents) → HasCaseOrFault holds }
+{}
+
+/// Two files say one model and one case at most.
+pub fn one_model_and_case()
+    ensures { (holds : Contents) → HasOneCase holds }
+{}
+
+/// Two files that say a model and a case have no first fault.
+pub fn no_first_fault()
+    ensures { (holds : Contents) → HasNoFaultBeside holds }
 {}

@@ -1,0 +1,5 @@
+use Rattle.pipecheck_run.proofs.Headline.{no_fault_said}
+use Rattle.pipecheck_run.proofs.laws.no_first_fault.Goals as goal
+
+pub returns : goal.returns
+returns c = no_fault_said

@@ -1,0 +1,5 @@
+use Rattle.pipecheck_run.proofs.Headline.{one_said}
+use Rattle.pipecheck_run.proofs.laws.one_model_and_case.Goals as goal
+
+pub returns : goal.returns
+returns c = one_said
