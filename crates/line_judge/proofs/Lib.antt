@@ -1,0 +1,4 @@
+pub mod Cuts
+pub mod Refusals
+pub mod Judgings
+pub mod Feedings

@@ -1,0 +1,19 @@
+//! A text is judged line by line while it comes in pieces, however it is cut.
+//!
+//! A [`Judge`] says of each line whether what it saw so far may go on to a whole text. A [`Feed`] cuts the
+//! pieces into lines, hands them to its judge, and answers at the end: the text is whole, or its first line
+//! that is refused has this number, or it is longer than the limit. Which pieces the text came in changes
+//! nothing. It takes memory for one line that goes over a cut, and for what the judge takes.
+//!
+//! `specs/Texts.antt` says what lines, a whole text and a refused line are.
+#![tactic(auto)]
+
+mod feed;
+mod judge;
+mod judged;
+mod laws;
+mod line;
+
+pub use feed::{Feed, Finished};
+pub use judge::Judge;
+pub use laws::{a_text_has_one_answer, no_text_is_whole_and_refused, one_line_is_refused};
