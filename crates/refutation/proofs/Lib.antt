@@ -1,1 +1,5 @@
-pub mod Putting
+mod LineWords
+mod NodeWalk
+mod Putting
+mod StepReading
+mod StepWalk

@@ -15,16 +15,24 @@ plain_step (Path nodes) = path (map key_node nodes)
 plain_step (Absent a) = absent (key_node a)
 plain_step False = false_step
 
--- the step closes a branch, and names as many nodes as its line asks for
+-- the step has as many nodes as its line asks for: a cycle one at least, a path two at least
+abbrev pub HasItsNodes : PlainStep Node → Type 0
+HasItsNodes (split p) = Unit {0}
+HasItsNodes (cycle []) = ⊥
+HasItsNodes (cycle (a ∷ more)) = Unit {0}
+HasItsNodes (path []) = ⊥
+HasItsNodes (path (a ∷ [])) = ⊥
+HasItsNodes (path (a ∷ b ∷ more)) = Unit {0}
+HasItsNodes (absent a) = Unit {0}
+HasItsNodes false_step = Unit {0}
+
+-- the step closes a branch, and has as many nodes as its line asks for
 abbrev pub IsLeaf : PlainStep Node → Type 0
 IsLeaf (split p) = ⊥
-IsLeaf (cycle []) = ⊥
-IsLeaf (cycle (a ∷ more)) = Unit {0}
-IsLeaf (path []) = ⊥
-IsLeaf (path (a ∷ [])) = ⊥
-IsLeaf (path (a ∷ b ∷ more)) = Unit {0}
-IsLeaf (absent a) = Unit {0}
-IsLeaf false_step = Unit {0}
+IsLeaf (cycle nodes) = HasItsNodes (cycle nodes)
+IsLeaf (path nodes) = HasItsNodes (path nodes)
+IsLeaf (absent a) = HasItsNodes (absent a)
+IsLeaf false_step = HasItsNodes false_step
 
 -- how many branches are open behind a step, where so many were before it
 abbrev pub open_after : ℕ → PlainStep Node → ℕ

@@ -6,9 +6,17 @@
 #![tactic(auto)]
 
 mod list;
+mod node_row;
+mod nodes;
+mod reading;
 mod step;
+mod step_head;
+mod words;
 mod writing;
 
 pub use list::Refutation;
+pub use node_row::NodeRow;
+pub use reading::read_line;
 pub use step::{Nodes, Step};
+pub use step_head::StepHead;
 pub use writing::write_refutation;

@@ -1,0 +1,91 @@
+-- Lines that are cut at their spaces.
+use Rattle.std.proofs.Common.{◌≡◌, ℕ, ◌+◌, ◌-◌, ◌<◌, ◌≤◌, length, get_or, take, drop, Bool, true, false, ◌||◌, ◌==◌, List, [], ◌∷◌, ◌++◌, refl, sym, ◌∙◌, ap, subst}
+use Rattle.std.specs.Prelude.{All}
+use Rattle.std.specs.List.{list_any, list_all, join_with_byte}
+use Rattle.std.proofs.lemmas.Bool.{ne_eqb}
+use Rattle.std.proofs.lemmas.List.{append-nil, drop_more, take_all, take-append-drop}
+use Rattle.std.proofs.lemmas.List.Elements.{All-head, All-tail, All-weaker}
+use Rattle.std.proofs.lemmas.List.Splits.{join_with_byte-slice_split}
+use Rattle.pc_ground.specs.NodeForm.{IsNodeForm}
+use Rattle.pc_ground.specs.NodeWords.{Lacks}
+use Rattle.pc_ground.specs.Stages.{is_letter, is_name_byte, is_name}
+use Rattle.pc_ground.proofs.Bools.{and_first, and_second, or_none, not_both}
+use Rattle.pc_ground.proofs.Cuts.{decimal_lacks, form_grouped, all_left}
+use Rattle.refutation.specs.Words.{spaced, words}
+
+lacks_head : (m c : ℕ) (cs : List ℕ) → Lacks m (c ∷ cs) → (c == m) ≡ false
+lacks_head m c cs h = or_left (c == m) (list_any (λ d. d == m) cs) h
+  where
+    or_left : (a b : Bool) → (a || b) ≡ false → a ≡ false
+    or_left true b e = cc
+    or_left false b e = refl
+
+lacks_tail : (m c : ℕ) (cs : List ℕ) → Lacks m (c ∷ cs) → Lacks m cs
+lacks_tail m c cs h = or_none (c == m) (list_any (λ d. d == m) cs) h
+
+lacks_both : (m : ℕ) (xs ys : List ℕ) → Lacks m xs → Lacks m ys → Lacks m (xs ++ ys)
+lacks_both m [] ys h k = k
+lacks_both m (x ∷ xs) ys h k = rw (lacks_head m x xs h) (lacks_both m xs ys (lacks_tail m x xs h) k)
+
+-- the last word, and the first of several
+pub words_last : (xs : List ℕ) → Lacks 32 xs → words xs ≡ xs ∷ []
+words_last [] h = refl
+words_last (x ∷ xs) h = rw (lacks_head 32 x xs h, words_last xs (lacks_tail 32 x xs h))
+
+pub words_more : (xs ys : List ℕ) → Lacks 32 xs → words (xs ++ 32 ∷ ys) ≡ xs ∷ words ys
+words_more [] ys h = refl
+words_more (x ∷ xs) ys h = rw (lacks_head 32 x xs h, words_more xs ys (lacks_tail 32 x xs h))
+
+pub words_spaced : (w : List ℕ) (ws : List (List ℕ)) → Lacks 32 w → All (Lacks 32) ws → words (w ++ spaced ws) ≡ w ∷ ws
+words_spaced w [] h all = ap words (append-nil w) ∙ words_last w h
+words_spaced w (v ∷ vs) h all =
+    words_more w (v ++ spaced vs) h ∙ ap (λ r. w ∷ r) (words_spaced v vs (All-head (Lacks 32) v vs all) (All-tail (Lacks 32) v vs all))
+
+joined : (w : List ℕ) (ws : List (List ℕ)) → join_with_byte 32 (w ∷ ws) ≡ w ++ spaced ws
+joined w [] = sym (append-nil w)
+joined w (v ∷ vs) = ap (λ r. w ++ 32 ∷ r) (joined v vs)
+
+-- a line is its words, joined by one space each
+pub line_spaced : (line w : List ℕ) (ws : List (List ℕ)) → words line ≡ w ∷ ws → line ≡ w ++ spaced ws
+line_spaced line w ws e = sym (join_with_byte-slice_split 32 line) ∙ ap (join_with_byte 32) e ∙ joined w ws
+
+pub line_alone : (line w : List ℕ) → words line ≡ w ∷ [] → line ≡ w
+line_alone line w e = line_spaced line w [] e ∙ append-nil w
+
+letter_lacks : (c : ℕ) (cs : List ℕ) → is_letter c ≡ true → Lacks 32 cs → Lacks 32 (c ∷ cs)
+letter_lacks c cs is h = rw (ne_eqb c 32 (λ same. not_both (is_letter c) is (ap is_letter same))) h
+
+bytes_lack : (cs : List ℕ) → list_all is_name_byte cs ≡ true → Lacks 32 cs
+bytes_lack [] h = refl
+bytes_lack (c ∷ cs) h =
+    let first = and_first (is_name_byte c) (list_all is_name_byte cs) h in
+    let differs : (c ≡ 32 → ⊥) = λ same. not_both (is_name_byte c) first (ap is_name_byte same) in
+    rw (ne_eqb c 32 differs) (bytes_lack cs (and_second (is_name_byte c) (list_all is_name_byte cs) h))
+
+name_lacks : (name : List ℕ) → is_name name ≡ true → Lacks 32 name
+name_lacks [] h = cc
+name_lacks (c ∷ cs) h =
+    letter_lacks c cs (and_first (is_letter c) (list_all is_name_byte cs) h) (bytes_lack cs (and_second (is_letter c) (list_all is_name_byte cs) h))
+
+-- no node's text has a space
+pub form_lacks : (word : List ℕ) → IsNodeForm word → Lacks 32 word
+form_lacks word f =
+    let P : List ℕ → Type 0 = λ xs. Lacks 32 xs in
+    subst P (sym (f.is ∙ form_grouped f.g f.n f.core f.stage))
+    (lacks_both 32 f.g (46 ∷ (f.n ++ 64 ∷ (f.core ++ 58 ∷ f.stage))) (decimal_lacks 32 f.g refl f.g_number)
+    (lacks_both 32 f.n (64 ∷ (f.core ++ 58 ∷ f.stage)) (decimal_lacks 32 f.n refl f.n_number)
+    (lacks_both 32 f.core (58 ∷ f.stage) (decimal_lacks 32 f.core refl f.core_number) (name_lacks f.stage f.stage_name))))
+
+pub forms_lack : (ws : List (List ℕ)) → All IsNodeForm ws → All (Lacks 32) ws
+forms_lack ws all = All-weaker IsNodeForm (Lacks 32) form_lacks ws all
+
+-- a line that is cut at its first space, and one that has none
+pub words_cut : (line : List ℕ) (at : ℕ) → at < length line → get_or line at 0 ≡ 32 → Lacks 32 (take at line)
+    → words line ≡ take at line ∷ words (take (length line - (at + 1)) (drop (at + 1) line))
+words_cut line at inside is h =
+    let split : line ≡ take at line ++ 32 ∷ drop (at + 1) line =
+    sym (take-append-drop at line) ∙ ap (λ r. take at line ++ r) (drop_more line at 0 inside ∙ ap (λ c. c ∷ drop (at + 1) line) is) in
+    ap words split ∙ words_more (take at line) (drop (at + 1) line) h ∙ ap (λ r. take at line ∷ words r) (sym (all_left (at + 1) line))
+
+pub words_uncut : (line : List ℕ) (at : ℕ) → length line ≤ at → Lacks 32 (take at line) → words line ≡ line ∷ []
+words_uncut line at past h = words_last line (let P : List ℕ → Type 0 = λ xs. Lacks 32 xs in subst P (take_all at line past) h)

@@ -1,0 +1,15 @@
+-- All words but those that are left were read.
+use Rattle.std.proofs.Common.{◌≡◌, ◌+◌, [], length}
+use Rattle.std.specs.Option.{option_map_or}
+use Rattle.refutation.specs.Words.{words}
+use Rattle.refutation.proofs.NodeWalk.{SoFar}
+use Rattle.refutation.proofs.nodes.read_nodes.Given as goal
+
+abbrev pub invariant-loop-left : goal.invariant-loop-left
+invariant-loop-left l = record {
+  so_far : SoFar l.names (words l.text) (option_map_or (λ r. words r.now) l.left []) l.foreign l.row.nodes;
+  spare : l.row.spare ≡ l.fn.row.spare;
+}
+
+abbrev pub decreases-loop-left : goal.decreases-loop-left
+decreases-loop-left l = option_map_or (λ r. length r.now + 1) l.left 0

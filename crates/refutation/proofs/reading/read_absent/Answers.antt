@@ -1,0 +1,28 @@
+use Rattle.std.proofs.Common.{◌∷◌, sym}
+use Rattle.std.specs.Prelude.{Result, codes}
+use Rattle.pc_ground.specs.declared.line_fault.LineFault.{LineFault}
+use Rattle.refutation.specs.StepWords.{ReadsWords}
+use Rattle.refutation.specs.Words.{words}
+use Rattle.refutation.specs.declared.step_head.StepHead.{StepHead}
+use Rattle.refutation.proofs.StepWalk.{handed_on, two_at, one_at, absent_alone, absent_fault, absent_read}
+use Rattle.refutation.proofs.reading.read_absent.Goals as goal
+
+pub returns-then-is_some-clause-read : goal.returns-then-is_some-clause-read
+returns-then-is_some-clause-read c =
+    absent_alone (words c.args.rest.now)
+    (two_at c.args.rest.now c.first_word.result.0.now c.first_word.result.1 c.first_word.ensures.words (sym c.if-is_some.ensures))
+
+pub returns-in_err-read_nodes-clause-read : goal.returns-in_err-read_nodes-clause-read
+returns-in_err-read_nodes-clause-read c =
+    let P : Result StepHead LineFault → Type 0 = λ r. ReadsWords c.args.names.now (codes "absent" ∷ words c.args.rest.now) c.read_nodes.new.row.nodes r in
+    handed_on P c.from_residual.result c.in_err-read_nodes.field-0.0 c.from_residual.ensures.1
+    (absent_fault c.args.names.now (words c.args.rest.now) c.first_word.result.0.now c.read_nodes.new.row.nodes c.read_nodes.new.row.nodes
+    c.in_err-read_nodes.field-0.0
+    (one_at c.args.rest.now c.first_word.result.0.now c.first_word.result.1 c.first_word.ensures.words (sym c.if-is_some.ensures))
+    c.in_err-read_nodes.ensures.read)
+
+pub returns-clause-read : goal.returns-clause-read
+returns-clause-read c =
+    absent_read c.args.names.now (words c.args.rest.now) c.first_word.result.0.now c.read_nodes.new.row.nodes
+    (one_at c.args.rest.now c.first_word.result.0.now c.first_word.result.1 c.first_word.ensures.words (sym c.if-is_some.ensures))
+    c.in_ok-read_nodes.ensures.read

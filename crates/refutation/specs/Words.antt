@@ -1,0 +1,15 @@
+-- The words of a line, which stand between its spaces.
+use Rattle.std.specs.Prelude.{ℕ, List, ◌++◌, ◌==◌, codes}
+use Rattle.std.specs.List.{flat_map, slice_split, count_by}
+
+-- each word after a space
+abbrev pub spaced : List (List ℕ) → List ℕ
+spaced ws = flat_map (λ w. codes " " ++ w) ws
+
+-- how many bytes of the line are spaces
+abbrev pub spaces : List ℕ → ℕ
+spaces line = count_by (λ c. c == 32) line
+
+-- what stands between the spaces, so that two spaces in a row have an empty word between them
+abbrev pub words : List ℕ → List (List ℕ)
+words line = slice_split (λ c. c == 32) line

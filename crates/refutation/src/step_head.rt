@@ -1,0 +1,14 @@
+/// What a step line says, its nodes aside.
+#[derive(Clone, Copy, Debug, PartialEq, Eq)]
+pub enum StepHead {
+    /// `split P`, with the position P.
+    Split(u64),
+    /// `cycle NODE ..`.
+    Cycle,
+    /// `path NODE NODE ..`.
+    Path,
+    /// `absent NODE`.
+    Absent,
+    /// `false`.
+    False,
+}
