@@ -1,1 +1,5 @@
 pub mod Graphs
+pub mod GraphTexts
+pub mod OpenGraphs
+pub mod GraphReading
+pub mod FirstLines

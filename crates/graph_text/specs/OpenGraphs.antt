@@ -1,0 +1,52 @@
+-- The lines of a graph one after another: which may stand next, and what a graph is with one line more.
+use Rattle.std.specs.Prelude.{ℕ, ◌≡◌, ◌↔◌, ◌++◌, List, [], ◌∷◌, map, Contains}
+use Rattle.pc_common.specs.World.{Node, Edge}
+use Rattle.pc_common.specs.Lines.{Names, Line, verdict, second, node, edge, split, cycle, path, absent, false_step, end, line_words}
+use Rattle.pc_common.specs.Generated.{HasEnds}
+use Rattle.pc_ground.specs.Keys.{key_node}
+use Rattle.pc_ground.specs.declared.node_key.NodeKey.{NodeKey}
+use Rattle.graph_text.specs.Graphs.{graph_lines}
+use Rattle.graph_text.specs.GraphTexts.{IsGraphLineIn}
+
+-- a graph over plain nodes
+pub record PlainGraph : Type 0 where
+  pub nodes : List Node
+  pub edges : List Edge
+
+-- the graph of no line
+abbrev pub empty_graph : PlainGraph
+empty_graph = record { nodes = []; edges = [] }
+
+-- the line may stand next: a node line where there is no edge yet, an edge line where both ends are listed
+abbrev pub Follows : PlainGraph → Line → Type 0
+Follows g (verdict v) = ⊥
+Follows g (second v e) = ⊥
+Follows g (node a) = g.edges ≡ []
+Follows g (edge a b) = Contains g.nodes a × Contains g.nodes b
+Follows g (split p) = ⊥
+Follows g (cycle nodes) = ⊥
+Follows g (path nodes) = ⊥
+Follows g (absent a) = ⊥
+Follows g false_step = ⊥
+Follows g end = ⊥
+
+-- the line may stand next, and with it last the old graph's lines are the new one's
+pub record IsWithLine (old new : PlainGraph) (line : Line) : Type 0 where
+  pub follows : Follows old line
+  pub lines : graph_lines new.nodes new.edges ≡ graph_lines old.nodes old.edges ++ line ∷ []
+
+-- the text is a line of these names that may stand next, and the new graph has it last
+pub record Takes (names : Names) (text : List ℕ) (old new : PlainGraph) : Type 0 where
+  pub line : Line
+  pub of_names : IsGraphLineIn names line
+  pub text_is : text ≡ line_words names line
+  pub put : IsWithLine old new line
+
+-- no line of these names that may stand next has this text
+abbrev pub Refuses : Names → List ℕ → PlainGraph → Type 0
+Refuses names text g = (line : Line) → IsGraphLineIn names line → Follows g line → text ≡ line_words names line → ⊥
+
+-- the keys are those of the nodes listed, and each edge joins two of these
+pub record IsOpen (keys : List NodeKey) (nodes : List Node) (edges : List Edge) : Type 0 where
+  pub listed : (a : Node) → Contains (map key_node keys) a ↔ Contains nodes a
+  pub ends : HasEnds nodes edges
