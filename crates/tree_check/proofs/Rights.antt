@@ -1,0 +1,91 @@
+-- The right child of an Or, by the rows.
+use Rattle.std.proofs.Common.{◌≡◌, ◌<◌, ℕ, ◌+◌, List, Some, length, refl, sym, ◌∙◌, ap, arith}
+use Rattle.std.specs.Prelude.{slice_get}
+use Rattle.pc_common.specs.World.{Node}
+use Rattle.pc_ground.specs.declared.node_key.NodeKey.{NodeKey}
+use Rattle.pc_ground.specs.declared.row.RowKind.{RowKind}
+use Rattle.pc_ground.specs.declared.row.RowKind.TheVariants.{True, False, Lit, And, Or}
+use Rattle.pc_ground.specs.declared.row.Row.{Row}
+use Rattle.pc_ground.specs.Keys.{key_node, renamed_kind, row_node}
+use Rattle.pc_ground.specs.Tree.{Tree, always, never, leaf, both, either, size_of}
+use Rattle.pc_ground.specs.Rows.{rows_of, IsFlat}
+use Rattle.pc_ground.specs.Refutes.{subtree_at}
+use Rattle.pc_ground.proofs.FlatRows.{root_of, kind_of, subtree_row, subtree_size, length_rows, children_either, or_subtree, size_pos}
+use Rattle.pc_ground.proofs.StageWalks.{some_same}
+
+pub root_inside : (rows : List (Row Node)) → IsFlat rows → 0 < length rows
+root_inside rows (t, flat) = omega (arith, ap length flat, length_rows t, size_pos t)
+
+-- the kind of a row of keys is that of the row of nodes
+or_from : (k : RowKind NodeKey) → renamed_kind key_node k ≡ Or → k ≡ Or
+or_from True e = cc
+or_from False e = cc
+or_from (Lit l) e = cc
+or_from And e = cc
+or_from Or e = refl
+
+false_from : (k : RowKind NodeKey) → renamed_kind key_node k ≡ False → k ≡ False
+false_from True e = cc
+false_from False e = refl
+false_from (Lit l) e = cc
+false_from And e = cc
+false_from Or e = cc
+
+row_kind : (t : Tree Node) (p : ℕ) (s : Tree Node) (r : Row NodeKey) → subtree_at t p ≡ Some s → slice_get (rows_of t) p ≡ Some (row_node r)
+    → renamed_kind key_node r.kind ≡ kind_of s
+row_kind t p s r at here =
+    let same : row_node r ≡ root_of s = some_same (sym here ∙ subtree_row t p s at) in
+    ap (λ (x : Row Node). x.kind) same
+
+-- there is an Or at p
+pub is_or : (t : Tree Node) (p : ℕ) (a b : Tree Node) (r : Row NodeKey) → subtree_at t p ≡ Some (either a b) → slice_get (rows_of t) p ≡ Some (row_node r) → r.kind ≡ Or
+is_or t p a b r at here = or_from r.kind (row_kind t p (either a b) r at here)
+
+-- the tree is False where its first row is
+pub never_row : (t : Tree Node) (r : Row NodeKey) → slice_get (rows_of t) 0 ≡ Some (row_node r) → t ≡ never → r.kind ≡ False
+never_row t r here e = false_from r.kind (row_kind t 0 t r refl here ∙ ap kind_of e)
+
+pub row_never : (t : Tree Node) (r : Row NodeKey) → slice_get (rows_of t) 0 ≡ Some (row_node r) → r.kind ≡ False → t ≡ never
+row_never t r here e = kind_never t (sym (row_kind t 0 t r refl here) ∙ ap (renamed_kind key_node) e)
+  where
+    kind_never : (t : Tree Node) → kind_of t ≡ False → t ≡ never
+    kind_never always e = cc
+    kind_never never e = refl
+    kind_never (leaf l) e = cc
+    kind_never (both a b) e = cc
+    kind_never (either a b) e = cc
+
+-- the children of an Or at p, whose left one has the row q
+pub record HasSides (t : Tree Node) (p : ℕ) (skip : ℕ) : Type 0 where
+  pub left : Tree Node
+  pub right : Tree Node
+  pub at : subtree_at t p ≡ Some (either left right)
+  pub skips : skip ≡ size_of left
+  pub within : p + 1 + size_of left < size_of t
+
+pub has_sides : (t : Tree Node) (p : ℕ) (r q : Row NodeKey) → slice_get (rows_of t) p ≡ Some (row_node r) → r.kind ≡ Or → slice_get (rows_of t) (p + 1) ≡ Some (row_node q)
+    → HasSides t p q.skip
+has_sides t p r q here is there =
+    let o = or_subtree t p (row_node r) here (ap (renamed_kind key_node) is) in
+    let a = o.0 in
+    let b = o.1 in
+    let below = children_either t p a b o.2 in
+    let same : row_node q ≡ root_of a = some_same (sym there ∙ o.3) in record {
+      left = a;
+      right = b;
+      at = o.2;
+      skips = ap (λ (x : Row Node). x.skip) same;
+      within = omega (arith, subtree_size t (p + 1 + size_of a) b below.1, size_pos b);
+    }
+
+pub left_inside : (rows : List (Row Node)) (p : ℕ) (r : Row NodeKey) → IsFlat rows → slice_get rows p ≡ Some (row_node r) → r.kind ≡ Or → p + 1 < length rows
+left_inside rows p r (t, flat) here is =
+    let o = or_subtree t p (row_node r) (ap (λ xs. slice_get xs p) (sym flat) ∙ here) (ap (renamed_kind key_node) is) in
+    let below = children_either t p o.0 o.1 o.2 in
+    omega (arith, subtree_size t (p + 1) o.0 below.0, size_pos o.0, ap length flat, length_rows t)
+
+pub right_inside : (rows : List (Row Node)) (p : ℕ) (r q : Row NodeKey) → IsFlat rows → slice_get rows p ≡ Some (row_node r) → r.kind ≡ Or
+    → slice_get rows (p + 1) ≡ Some (row_node q) → p + 1 + q.skip < length rows
+right_inside rows p r q (t, flat) here is there =
+    let s = has_sides t p r q (ap (λ xs. slice_get xs p) (sym flat) ∙ here) is (ap (λ xs. slice_get xs (p + 1)) (sym flat) ∙ there) in
+    omega (arith, s.within, s.skips, ap length flat, length_rows t)

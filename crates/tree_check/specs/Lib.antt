@@ -1,0 +1,4 @@
+pub mod Facts
+pub mod Opened
+pub mod Leaves
+pub mod Laws

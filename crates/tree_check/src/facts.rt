@@ -1,0 +1,63 @@
+ghost use Rattle.std.specs.Prelude.{◌≡◌, ◌↔◌, [], ◌∷◌, IsTrue, OnOk, Contains, length, take};
+ghost use Rattle.tree_check.specs.Facts.{known, HasAdded};
+
+use super::fact::Fact;
+use indexmap::IndexSet;
+use pc_common::Memory;
+use std::alloc::Global;
+use std::marker::Model;
+
+/// A set of facts, in the order in which they came, that is cut back like a stack.
+#[derive(Drop)]
+pub(crate) struct Facts {
+    set: IndexSet<Fact>,
+}
+
+impl Model for Facts {
+    ghost use Rattle.std.specs.Prelude.{List, map};
+    ghost use Rattle.tree_check.specs.Facts.{Known, known};
+
+    ghost Value = { List Known };
+
+    ghost view = { λ s. map known s.set.keys };
+}
+
+impl Facts {
+    /// No facts. Takes no memory.
+    pub(crate) fn new(alloc: Global) -> Facts
+        ensures { result ≡ [] }
+    {
+        Facts {
+            set: IndexSet::new(alloc),
+        }
+    }
+
+    /// How many facts there are. Takes no memory.
+    pub(crate) fn len(&self) -> usize
+        ensures { result ≡ length self.now }
+    {
+        self.set.len()
+    }
+
+    /// Whether this is one of the facts. One look-up; takes no memory.
+    pub(crate) fn has(&self, fact: Fact) -> bool
+        ensures { IsTrue result ↔ Contains self.now (known fact) }
+    {
+        self.set.contains(&fact)
+    }
+
+    /// Adds a fact behind the others, where it is none of them.
+    pub(crate) fn add(&mut self, fact: Fact) -> Result<(), Memory>
+        ensures { OnOk result (HasAdded self.old (known fact ∷ []) self.new) }
+    {
+        self.set.insert(fact)?;
+        Ok(())
+    }
+
+    /// Keeps the first `count` facts. Takes no memory.
+    pub(crate) fn truncate(&mut self, count: usize)
+        ensures { self.new ≡ take count self.old }
+    {
+        self.set.truncate(count);
+    }
+}

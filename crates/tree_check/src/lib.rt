@@ -1,0 +1,23 @@
+//! A checker of refutations of a ground tree, step by step.
+//!
+//! `Branches` keeps the branches that the steps so far leave open. A step puts the two sides of an asserted
+//! Or in the first branch's place, or closes that branch by a leaf; the answer says whether the step's
+//! condition holds there. It stands on the definition of a refutation and on nothing of the search.
+//!
+//! Its memory is that of the tree, and one entry for each branch that waits, however many steps there are.
+#![tactic(auto)]
+
+mod branches;
+mod children;
+mod closing;
+mod entering;
+mod fact;
+mod facts;
+mod later;
+mod laws;
+mod leaf;
+mod root;
+
+pub use branches::Branches;
+pub use laws::{one_list_is_left, runs_are_joined};
+pub use leaf::Leaf;
