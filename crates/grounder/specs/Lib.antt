@@ -1,4 +1,3 @@
-pub mod Slots
 pub mod Members
 pub mod Said
 pub mod Folded

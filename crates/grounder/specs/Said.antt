@@ -4,14 +4,12 @@ use Rattle.pc_common.specs.Case.{Case}
 use Rattle.pc_syntax.specs.declared.term.Sort.{Sort}
 use Rattle.pc_syntax.specs.declared.bound.Bound.{Bound}
 use Rattle.pc_syntax.specs.Truth.{Meaning, range_of}
-use Rattle.pc_syntax.specs.Closed.{PlainClosed, meaning_of}
+use Rattle.pc_syntax.specs.Closed.{PlainClosed}
 use Rattle.pc_ground.specs.PlainGround.{PlainGround, simplified}
 use Rattle.pc_ground.specs.Unfolded.{closed_unfolded}
+use Rattle.static_preds.specs.Values.{meanings}
 use Rattle.grounder.specs.declared.connective.Connective.{Connective}
 use Rattle.grounder.specs.Members.{unfolded_all}
-
-abbrev pub meanings : List Bound → List Meaning
-meanings slots = map meaning_of slots
 
 abbrev pub said : Case → List Bound → PlainClosed → PlainGround
 said c slots p = simplified (closed_unfolded c (meanings slots) p)

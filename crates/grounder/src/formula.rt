@@ -1,22 +1,20 @@
-ghost use Rattle.std.specs.Prelude.{◌≡◌, ℕ, ◌<◌, length, IfOk};
+ghost use Rattle.std.specs.Prelude.{◌≡◌, ◌<◌, length, IfOk};
 ghost use Rattle.pc_syntax.specs.Closed.{plain_closed, closed_bind};
 ghost use Rattle.pc_syntax.specs.IsClosed.{IsClosed, with_sort};
-ghost use Rattle.pc_syntax.specs.Truth.{range_of};
 ghost use Rattle.pc_ground.specs.PlainGround.{plain_ground, simplified};
 ghost use Rattle.pc_ground.specs.Unfolded.{decided};
 ghost use Rattle.static_preds.specs.Values.{scope_of};
-ghost use Rattle.grounder.specs.Slots.{AreInRange, IsInRange, bound_at};
+ghost use Rattle.static_preds.specs.Slots.{AreInRange};
 ghost use Rattle.grounder.specs.Members.{joined};
 ghost use Rattle.grounder.specs.Said.{said, said_over};
 
 use super::atoms::{ground_edges, ground_nodes};
 use super::connective::Connective;
-use super::slots::{bind_next, copy_of, with_values};
 use pc_case::Case;
 use pc_common::Memory;
 use pc_ground::Ground;
-use pc_syntax::{Bound, ClosedArgs, ClosedFormula, Env, Sort};
-use static_preds::holds;
+use pc_syntax::{ClosedArgs, ClosedFormula, Env, Sort};
+use static_preds::{bind_next, copy_of, holds, range_len, value_in_range, with_values};
 use std::alloc::Global;
 
 /// Grounds a formula whose slots stand for what `env` says. What a constant on the left decides is not
@@ -88,28 +86,6 @@ fn ground_rest(
     }
     let right = ground_formula(alloc, case, env, right)?;
     connective.join(alloc, left, right)
-}
-
-/// How many values a quantifier ranges over: at most 64.
-#[tactic(auto, using(crate::proofs::Ranges::op_count, crate::proofs::Ranges::core_count, crate::proofs::Ranges::few_cores))]
-fn range_len(case: &Case, sort: Sort) -> u8
-    ensures count { result ≡ length (range_of case.now sort) }
-    ensures values { (k : ℕ) → k < result → IsInRange case.now (bound_at sort k) }
-{
-    match sort {
-        Sort::Microop => case.ops() as u8,
-        Sort::Core => case.cores() as u8,
-    }
-}
-
-/// The `k`-th value of a range, from 0.
-fn value_in_range(sort: Sort, k: u8) -> Bound
-    ensures { result ≡ bound_at sort k }
-{
-    match sort {
-        Sort::Microop => Bound::Op(k),
-        Sort::Core => Bound::Core(k),
-    }
 }
 
 /// The members of a quantifier, in the order of its range, joined from the last one. No member behind

@@ -10,7 +10,6 @@ mod connective;
 mod formula;
 mod grounding;
 mod laws;
-mod slots;
 
 pub use grounding::ground;
 pub use laws::a_constant_is_the_whole;

@@ -1,22 +1,19 @@
 -- What stands at a place of the arguments that fit a predicate.
-use Rattle.std.proofs.Common.{◌≡◌, ℕ, zero, suc, ◌<◌, List, [], ◌∷◌, Option, Some, length, get_or, slice_get, refl, ap, subst, ◌∙◌, arith}
-use Rattle.std.specs.Prelude.{unwrap_or}
+use Rattle.std.proofs.Common.{◌≡◌, ℕ, zero, suc, ◌<◌, List, [], ◌∷◌, Some, get_or, slice_get, refl, ap, subst, ◌∙◌}
 use Rattle.std.specs.Option.{option_map, option_and_then}
-use Rattle.std.proofs.lemmas.List.{length-map}
-use Rattle.std.proofs.lemmas.Option.{slice_get-map, slice_get_within, slice_get-get_or}
+use Rattle.std.proofs.lemmas.Option.{slice_get-map}
 use Rattle.pc_syntax.specs.declared.term.Sort.{Sort}
 use Rattle.pc_syntax.specs.declared.term.Sort.TheVariants.{Microop}
 use Rattle.pc_syntax.specs.declared.bound.Bound.{Bound}
-use Rattle.pc_syntax.specs.declared.bound.Bound.TheVariants.{Op as bound_op}
 use Rattle.pc_syntax.specs.declared.pred.Takes.{Takes}
 use Rattle.pc_syntax.specs.declared.pred.Takes.TheVariants.{Op as takes_op}
 use Rattle.pc_syntax.specs.declared.closed_term.ClosedArg.{ClosedArg}
 use Rattle.pc_syntax.specs.declared.closed_term.ClosedArg.TheVariants.{Slot}
 use Rattle.pc_syntax.specs.Arguments.{Argument, op_at, core_at, plain_name, place_of, place_in}
 use Rattle.pc_syntax.specs.IsClosed.{IsBound, FitsArg, FitArgs}
-use Rattle.pc_syntax.specs.Truth.{Meaning, a_core}
-use Rattle.pc_syntax.specs.Closed.{meaning_of, argument_at}
-use Rattle.static_preds.specs.Values.{value_of, values_of, sort_bound, scope_of, AreOpsBelow}
+use Rattle.pc_syntax.specs.Truth.{Meaning, an_op, a_core, op_of}
+use Rattle.pc_syntax.specs.Closed.{argument_at, value_at}
+use Rattle.static_preds.specs.Values.{meanings, value_of, values_of, AreOpsBelow}
 
 -- there is one where one is taken, of the kind that is taken
 pub fits_at : (scope : List Sort) (ts : List Takes) (args : List ClosedArg) (k : ℕ) (t : Takes) (d : ClosedArg)
@@ -37,27 +34,16 @@ slot_given scope ts args k slot d h taken is =
     let at = fits_at scope ts args k takes_op d h taken in
     (at.0 ∙ ap Some is, subst (λ (a : ClosedArg). FitsArg scope takes_op a) is at.1)
 
-pub slot_within : (slots : List Bound) (slot : ℕ) (sort : Sort) → IsBound (scope_of slots) slot sort → slot < length slots
-slot_within slots slot sort h =
-    omega (arith, slice_get_within (scope_of slots) slot sort h, length-map slots sort_bound)
-
--- what the slot stands for has the sort
-pub slot_sort : (slots : List Bound) (slot : ℕ) (sort : Sort) (d : Bound) → IsBound (scope_of slots) slot sort
-    → sort_bound (get_or slots slot d) ≡ sort
-slot_sort slots slot sort d h =
-    let is = slice_get-map sort_bound slots slot ∙ ap (option_map sort_bound) (slice_get-get_or slots slot d (slot_within slots slot sort h)) in
-    cc
+place_of_meaning : (m : Meaning) → place_of (argument_at m) ≡ op_of (Some m)
+place_of_meaning (an_op i) = refl
+place_of_meaning (a_core k) = refl
 
 -- the place of the micro-op that a slot stands for
-pub place_is : (slots : List Bound) (args : List ClosedArg) (k slot i : ℕ) (d : Bound)
-    → slice_get args k ≡ Some (Slot slot) → slot < length slots → get_or slots slot d ≡ bound_op i
-    → place_in (values_of slots args) k ≡ Some i
-place_is slots args k slot i d arg within is =
-    ap (option_and_then place_of)
-    (slice_get-map (value_of slots) args k
-    ∙ ap (option_map (value_of slots)) arg
-    ∙ ap (λ (m : Option Meaning). Some (argument_at (unwrap_or m (a_core 0))))
-    (slice_get-map meaning_of slots slot ∙ ap (option_map meaning_of) (slice_get-get_or slots slot d within ∙ ap Some is)))
+pub place_is : (slots : List Bound) (args : List ClosedArg) (k slot i : ℕ) → slice_get args k ≡ Some (Slot slot)
+    → op_of (Some (value_at (meanings slots) slot)) ≡ Some i → place_in (values_of slots args) k ≡ Some i
+place_is slots args k slot i arg is =
+    ap (option_and_then place_of) (slice_get-map (value_of slots) args k ∙ ap (option_map (value_of slots)) arg)
+    ∙ place_of_meaning (value_at (meanings slots) slot) ∙ is
 
 pub place_below : (n : ℕ) (values : List Argument) (k i : ℕ) → AreOpsBelow n values → place_in values k ≡ Some i → i < n
 place_below n [] k i h e = cc

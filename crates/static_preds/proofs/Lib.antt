@@ -1,2 +1,6 @@
 pub mod SlotsBelow
 pub mod GivenLaws
+pub mod Walked
+pub mod SlotLaws
+pub mod Ranges
+pub mod Terms

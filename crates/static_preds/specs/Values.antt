@@ -1,4 +1,4 @@
--- What the arguments of a predicate stand for, where the slots stand for these micro-ops and cores.
+-- What slots and the arguments of a predicate stand for, where the slots stand for these micro-ops and cores.
 use Rattle.std.specs.Prelude.{ℕ, ◌<◌, List, [], ◌∷◌, map}
 use Rattle.pc_common.specs.Case.{Touch, number}
 use Rattle.pc_case.specs.declared.op.Memop.{Memop}
@@ -9,11 +9,16 @@ use Rattle.pc_syntax.specs.declared.bound.Bound.{Bound}
 use Rattle.pc_syntax.specs.declared.bound.Bound.TheVariants.{Op, Core}
 use Rattle.pc_syntax.specs.declared.closed_term.ClosedArg.{ClosedArg}
 use Rattle.pc_syntax.specs.Arguments.{Argument, op_at, core_at, plain_name}
+use Rattle.pc_syntax.specs.Truth.{Meaning}
 use Rattle.pc_syntax.specs.Closed.{meaning_of, closed_argument}
+
+-- the values of the slots, as the truth of a closed formula takes them
+abbrev pub meanings : List Bound → List Meaning
+meanings slots = map meaning_of slots
 
 -- a slot's micro-op or core, a core's number, or a plain name
 abbrev pub value_of : List Bound → ClosedArg → Argument
-value_of slots arg = closed_argument (map meaning_of slots) arg
+value_of slots arg = closed_argument (meanings slots) arg
 
 abbrev pub values_of : List Bound → List ClosedArg → List Argument
 values_of slots args = map (value_of slots) args

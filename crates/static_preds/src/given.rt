@@ -7,8 +7,9 @@ ghost use Rattle.pc_syntax.specs.Predicates.{takes_of};
 ghost use Rattle.static_preds.specs.Given.{IsGiven};
 ghost use Rattle.static_preds.specs.Values.{values_of, touch_at, touches_at};
 
+use super::slots::{core_in_slot, op_in_slot};
 use pc_case::{Case, Memop, Op};
-use pc_syntax::{Bound, ClosedArg, Env, Pred};
+use pc_syntax::{ClosedArg, Env, Pred};
 
 /// The arguments of a predicate in a case, each at its place, from 0.
 #[derive(Clone, Copy)]
@@ -29,10 +30,7 @@ impl<'a> Given<'a> {
         ensures below { result < length self.now.case.now.ops }
     {
         match &self.args[k] {
-            ClosedArg::Slot(slot) => match self.env.as_slice()[*slot as usize] {
-                Bound::Op(place) => place as usize,
-                Bound::Core(_) => unreachable!(),
-            },
+            ClosedArg::Slot(slot) => op_in_slot(self.env, *slot) as usize,
             ClosedArg::Core(_) | ClosedArg::Plain(_) => unreachable!(),
         }
     }
@@ -43,14 +41,7 @@ impl<'a> Given<'a> {
         requires taken { slice_get (takes_of self.now.pred) k ≡ Some takes_core }
         ensures { core_in (values_of self.now.env.now.items self.now.args.now) k ≡ Some result }
     {
-        match &self.args[k] {
-            ClosedArg::Slot(slot) => match self.env.as_slice()[*slot as usize] {
-                Bound::Core(core) => core,
-                Bound::Op(_) => unreachable!(),
-            },
-            ClosedArg::Core(core) => *core,
-            ClosedArg::Plain(_) => unreachable!(),
-        }
+        core_in_slot(self.env, &self.args[k])
     }
 
     /// The plain name at place `k`.

@@ -1,11 +1,21 @@
-//! The static predicates: what a model may ask of a test without a word about its order.
+//! What a closed formula asks of a test without a word about its order.
 //!
 //! `holds` takes a case, a predicate, its closed arguments and what their slots stand for, and answers
 //! the predicate's row in the table of `pc_syntax`. What is asked of addresses or values is false of a
-//! fence, which has neither. Nothing here takes memory or refuses.
+//! fence, which has neither.
+//!
+//! Walks over closed formulas share the rest: what a slot stands for, the slots inside a quantifier or a
+//! binding, the values that a quantifier ranges over, and the node that a term names. Nothing here takes
+//! memory or refuses.
 #![tactic(auto)]
 
 mod given;
+mod node;
+mod range;
+mod slots;
 mod table;
 
+pub use node::node_key;
+pub use range::{range_len, value_in_range};
+pub use slots::{bind_next, copy_of, core_in_slot, op_in_slot, with_values};
 pub use table::holds;

@@ -2,7 +2,8 @@ use Rattle.std.proofs.Common.{ap, sym, ◌∙◌, arith}
 use Rattle.pc_ground.specs.Keys.{literal_node}
 use Rattle.pc_ground.specs.PlainGround.{ground_literal, ground_conjoined}
 use Rattle.static_preds.specs.Values.{scope_of}
-use Rattle.grounder.proofs.Walked.{last_ones, edge_fits}
+use Rattle.static_preds.proofs.Walked.{edge_fits}
+use Rattle.grounder.proofs.LastOnes.{last_ones}
 use Rattle.grounder.proofs.atoms.ground_edges.Goals as goal
 
 pub edge_literal-edge-requires-clause-from : goal.edge_literal-edge-requires-clause-from

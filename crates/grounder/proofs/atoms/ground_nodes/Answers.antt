@@ -3,7 +3,8 @@ use Rattle.pc_ground.specs.declared.literal.Literal.TheVariants.{Node as a_node}
 use Rattle.pc_ground.specs.Keys.{key_node}
 use Rattle.pc_ground.specs.PlainGround.{ground_literal, ground_conjoined}
 use Rattle.static_preds.specs.Values.{scope_of}
-use Rattle.grounder.proofs.Walked.{last_ones, node_fits}
+use Rattle.static_preds.proofs.Walked.{node_fits}
+use Rattle.grounder.proofs.LastOnes.{last_ones}
 use Rattle.grounder.proofs.atoms.ground_nodes.Goals as goal
 
 pub node_key-node-requires-clause-fits : goal.node_key-node-requires-clause-fits

@@ -6,17 +6,16 @@ use Rattle.pc_syntax.specs.declared.term.Sort.{Sort}
 use Rattle.pc_syntax.specs.declared.bound.Bound.{Bound}
 use Rattle.pc_syntax.specs.Truth.{range_of}
 use Rattle.pc_syntax.specs.Closed.{PlainClosed, plain_closed, meaning_of}
-use Rattle.pc_syntax.specs.IsClosed.{with_sort}
 use Rattle.pc_ground.specs.PlainGround.{PlainGround, plain_ground}
 use Rattle.pc_ground.specs.Unfolded.{closed_unfolded}
-use Rattle.static_preds.specs.Values.{sort_bound, scope_of}
 use Rattle.static_preds.proofs.SlotsBelow.{slots_below}
-use Rattle.grounder.specs.Slots.{bound_at}
+use Rattle.static_preds.specs.Slots.{bound_at}
 use Rattle.grounder.specs.Members.{joined_all}
-use Rattle.grounder.specs.Said.{meanings, said, said_at}
+use Rattle.static_preds.specs.Values.{meanings}
+use Rattle.grounder.specs.Said.{said, said_at}
 use Rattle.grounder.proofs.Joining.{simplified-all}
-use Rattle.grounder.proofs.SlotLaws.{slot_more}
-use Rattle.grounder.proofs.Ranges.{next_value, sort_of_value}
+use Rattle.static_preds.proofs.SlotLaws.{slot_more}
+use Rattle.static_preds.proofs.Ranges.{next_value, scope_inside}
 use Rattle.grounder.proofs.formula.+walk.Goals as goal
 
 -- what the values not walked yet say: the next member, and the others
@@ -27,12 +26,6 @@ walked c slots inside sort p k v g within value bound is =
     let here : said c inside p ≡ said_at c slots p (meaning_of v) = rw (bound, map-append meaning_of slots (v ∷ [])) refl in
     ap (map (said_at c slots p)) (next_value c sort k within) ∙
     ap (λ h. h ∷ map (said_at c slots p) (drop (k + 1) (range_of c sort))) (sym (is ∙ here ∙ ap (λ b. said_at c slots p (meaning_of b)) value))
-
--- the sorts of the slots inside a quantifier
-scope_inside : (slots inside : List Bound) (sort : Sort) (k : ℕ) (v : Bound) → inside ≡ slots ++ v ∷ [] → v ≡ bound_at sort k
-    → scope_of inside ≡ with_sort (scope_of slots) sort
-scope_inside slots inside sort k v bound value =
-    rw (bound, map-append sort_bound slots (v ∷ [])) (ap (λ s. scope_of slots ++ s ∷ []) (ap sort_bound value ∙ sort_of_value sort k))
 
 pub ground_formula-holds-requires-clause-below : goal.ground_formula-holds-requires-clause-below
 ground_formula-holds-requires-clause-below t c = slots_below (length c.args.case.now.ops) c.args.env.now.items c.in-Static.args c.requires.range.ops

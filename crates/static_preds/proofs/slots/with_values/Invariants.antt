@@ -4,9 +4,9 @@ use Rattle.pc_common.specs.Case.{Case}
 use Rattle.pc_syntax.specs.Closed.{closed_value}
 use Rattle.pc_syntax.specs.IsClosed.{with_sorts}
 use Rattle.static_preds.specs.Values.{scope_of}
-use Rattle.grounder.specs.Slots.{AreInRange}
-use Rattle.grounder.specs.Said.{meanings}
-use Rattle.grounder.proofs.slots.with_values.Given as goal
+use Rattle.static_preds.specs.Slots.{AreInRange}
+use Rattle.static_preds.specs.Values.{meanings}
+use Rattle.static_preds.proofs.slots.with_values.Given as goal
 
 abbrev pub invariant-loop-k : goal.invariant-loop-k
 invariant-loop-k l =

@@ -1,5 +1,5 @@
 -- The next member of a list that is walked, and what lists of atoms and arguments say of one member.
-use Rattle.std.proofs.Common.{◌≡◌, ℕ, zero, suc, ◌+◌, ◌-◌, List, [], ◌∷◌, ◌++◌, Some, length, map, take, drop, slice_get, ap, ◌∙◌, subst, append_assoc, arith, add-one}
+use Rattle.std.proofs.Common.{◌≡◌, ℕ, zero, suc, ◌+◌, List, [], ◌∷◌, ◌++◌, Some, map, take, drop, slice_get, ap, ◌∙◌, subst, append_assoc, arith, add-one}
 use Rattle.std.proofs.lemmas.List.{map-append}
 use Rattle.pc_syntax.specs.declared.term.Sort.{Sort}
 use Rattle.pc_syntax.specs.declared.closed_term.ClosedArg.{ClosedArg}
@@ -15,14 +15,6 @@ drop-next (y ∷ xs) (suc k) x h = drop-next xs k x h
 -- the rest of a list begins with its next member
 pub drop_at : {A : Type 0} (xs : List A) (k j : ℕ) (x : A) → slice_get xs k ≡ Some x → k + 1 ≡ j → drop k xs ≡ x ∷ drop j xs
 drop_at xs k j x h e = let next : suc k ≡ j = omega arith in drop-next xs k x h ∙ ap (λ n. x ∷ drop n xs) next
-
--- the last k + 1 members are the one before the last k, and these
-pub last_ones : {A : Type 0} (xs : List A) (k i : ℕ) (x : A) → slice_get xs i ≡ Some x → i + (k + 1) ≡ length xs
-    → drop (length xs - (k + 1)) xs ≡ x ∷ drop (length xs - k) xs
-last_ones xs k i x h e =
-    let here : i ≡ length xs - (k + 1) = omega arith in
-    let next : i + 1 ≡ length xs - k = omega arith in
-    rw (← here) (drop_at xs i (length xs - k) x h next)
 
 take-next : {A : Type 0} (xs : List A) (k : ℕ) (x : A) → slice_get xs k ≡ Some x → take (suc k) xs ≡ take k xs ++ x ∷ []
 take-next [] k x h = cc

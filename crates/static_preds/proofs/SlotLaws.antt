@@ -3,7 +3,7 @@ use Rattle.std.proofs.Common.{◌≡◌, ℕ, zero, suc, ◌<◌, List, [], ◌�
 use Rattle.pc_common.specs.Case.{Case}
 use Rattle.pc_syntax.specs.declared.bound.Bound.{Bound}
 use Rattle.pc_syntax.specs.declared.bound.Bound.TheVariants.{Op, Core}
-use Rattle.grounder.specs.Slots.{AreInRange, IsInRange}
+use Rattle.static_preds.specs.Slots.{AreInRange, IsInRange}
 
 pub no_slots : (c : Case) → AreInRange c []
 no_slots c = record { ops = λ k i h. cc; cores = λ k n h. cc }

@@ -2,10 +2,10 @@ use Rattle.std.proofs.Common.{arith}
 use Rattle.pc_syntax.specs.Closed.{meaning_of, closed_value}
 use Rattle.pc_syntax.specs.IsClosed.{sort_of}
 use Rattle.static_preds.specs.Values.{sort_bound, scope_of}
-use Rattle.grounder.specs.Said.{meanings}
-use Rattle.grounder.proofs.Walked.{mapped_more}
-use Rattle.grounder.proofs.SlotLaws.{slot_more}
-use Rattle.grounder.proofs.slots.with_values.Goals as goal
+use Rattle.static_preds.specs.Values.{meanings}
+use Rattle.static_preds.proofs.Walked.{mapped_more}
+use Rattle.static_preds.proofs.SlotLaws.{slot_more}
+use Rattle.static_preds.proofs.slots.with_values.Goals as goal
 
 pub loop-k-preserved : goal.loop-k-preserved
 loop-k-preserved c =

@@ -5,14 +5,13 @@ ghost use Rattle.pc_syntax.specs.Closed.{meaning_of, value_at, closed_value};
 ghost use Rattle.pc_syntax.specs.declared.pred.Takes.TheVariants.{Core as takes_core};
 ghost use Rattle.pc_syntax.specs.Truth.{op_of, core_of};
 ghost use Rattle.pc_syntax.specs.IsClosed.{IsBound, FitsArg, HasValue, HaveValues, sort_of, with_sorts};
-ghost use Rattle.static_preds.specs.Values.{sort_bound, scope_of};
-ghost use Rattle.grounder.specs.Slots.{AreInRange, IsInRange};
-ghost use Rattle.grounder.specs.Said.{meanings};
+ghost use Rattle.static_preds.specs.Values.{meanings, sort_bound, scope_of};
+ghost use Rattle.static_preds.specs.Slots.{AreInRange, IsInRange};
 
 use pc_syntax::{Bound, ClosedArg, ClosedArgs, Env};
 
 /// The micro-op that a slot stands for, by its place in test order.
-pub(crate) fn op_in_slot(env: &Env, slot: u8) -> u8
+pub fn op_in_slot(env: &Env, slot: u8) -> u8
     requires { IsBound (scope_of env.now.items) slot Microop }
     ensures value { op_of (Some (value_at (meanings env.now.items) slot)) ≡ Some result }
     ensures range { (c : PlainCase) → AreInRange c env.now.items → result < length c.ops }
@@ -24,7 +23,7 @@ pub(crate) fn op_in_slot(env: &Env, slot: u8) -> u8
 }
 
 /// The core that an argument stands for: 0 to 63.
-pub(crate) fn core_in_slot(env: &Env, arg: &ClosedArg) -> u8
+pub fn core_in_slot(env: &Env, arg: &ClosedArg) -> u8
     requires { FitsArg (scope_of env.now.items) takes_core arg.now }
     ensures value { core_of (Some (closed_value (meanings env.now.items) arg.now)) ≡ Some result }
     ensures range { (c : PlainCase) → AreInRange c env.now.items → result < 64 }
@@ -54,7 +53,7 @@ fn value_of(env: &Env, arg: &ClosedArg) -> Bound
 }
 
 /// The same slots, in room of their own.
-pub(crate) fn copy_of(env: &Env) -> Env
+pub fn copy_of(env: &Env) -> Env
     ensures { result.items ≡ env.now.items }
 {
     let mut inside = Env::new();
@@ -65,7 +64,7 @@ pub(crate) fn copy_of(env: &Env) -> Env
 }
 
 /// Binds a quantifier's variable to its next value: `inside` begins with the slots outside.
-pub(crate) fn bind_next(env: &Env, inside: &mut Env, value: Bound)
+pub fn bind_next(env: &Env, inside: &mut Env, value: Bound)
     requires room { length env.now.items < 32 }
     requires begins { take (length env.now.items) inside.old.items ≡ env.now.items }
     ensures items { inside.new.items ≡ env.now.items ++ value ∷ [] }
@@ -77,7 +76,7 @@ pub(crate) fn bind_next(env: &Env, inside: &mut Env, value: Bound)
 
 /// The slots inside a binding: the values of the arguments take the next ones, in their order.
 #[tactic(auto, using(crate::proofs::Walked::value_there, crate::proofs::SlotLaws::slot_more))]
-pub(crate) fn with_values(env: &Env, args: &ClosedArgs) -> Env
+pub fn with_values(env: &Env, args: &ClosedArgs) -> Env
     requires values { HaveValues (scope_of env.now.items) args.now }
     requires room { length env.now.items + length args.now ≤ 32 }
     ensures meanings { meanings result.items ≡ meanings env.now.items ++ map (closed_value (meanings env.now.items)) args.now }
