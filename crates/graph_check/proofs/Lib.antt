@@ -1,0 +1,6 @@
+mod BitWords
+mod Closing
+mod Numbers
+mod Entering
+mod Walking
+mod Telling

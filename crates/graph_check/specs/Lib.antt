@@ -1,0 +1,4 @@
+pub mod Shown
+pub mod Bits
+pub mod Rows
+pub mod Orders
