@@ -1,0 +1,149 @@
+-- What may stand next in a certificate, by what stands so far.
+use Rattle.std.proofs.Common.{◌≡◌, inl, List, [], ◌∷◌, ◌++◌, map, refl, sym, subst}
+use Rattle.std.specs.Prelude.{All, Contains, IsTrue}
+use Rattle.std.proofs.lemmas.List.Elements.{All-contains, Contains-append_right}
+use Rattle.pc_common.specs.World.{Node, Edge, World}
+use Rattle.pc_common.specs.Generated.{HasEnds, IsGenerated}
+use Rattle.pc_common.proofs.Elements.{contains_from_in}
+use Rattle.pc_common.specs.Lines.{Line, Verdict, observable, unobservable, node, edge, end}
+use Rattle.pc_syntax.specs.Observable.{IsWorldOf}
+use Rattle.pc_ground.specs.NodeForm.{IsNodeIn}
+use Rattle.pc_ground.specs.Stages.{numbers_of}
+use Rattle.pc_ground.specs.Refutes.{Step, Branch, Runs, IsPartial, asserted}
+use Rattle.graph_text.specs.Graphs.{graph_lines}
+use Rattle.refutation.specs.Steps.{step_line}
+use Rattle.cert_check.specs.Certificates.{Question, header, IsGraphCertificate, IsTreeCertificate, IsCertificate, BeginsWell}
+use Rattle.cert_check.proofs.Lasts.{snoc_same, snoc_some, last_map}
+use Rattle.cert_check.proofs.GraphLines.{LastOfGraph, a_node, an_edge, last_line, graph_same, NextOfGraph, next_node, next_edge, next_of_graph}
+use Rattle.cert_check.proofs.StepLines.{next_of_steps, steps_same}
+use Rattle.tree_check.proofs.Running.{runs_cut, runs_one}
+use Rattle.cert_check.proofs.Beginnings.{BodyBegins, no_body, graph_body, tree_body, whole_graph, whole_tree, body_begins, graph_ends, steps_end}
+
+-- some world that the graph generates is of both files and satisfies
+abbrev pub HasWorld : Question → List Node → List Edge → Type 0
+HasWorld q nodes edges =
+    (world : World Node) × IsGenerated nodes edges world × IsWorldOf (numbers_of q.names.stages) q.names.ops world × IsTrue (q.satisfied world)
+
+unequal : observable ≡ unobservable → ⊥
+unequal e = cc
+
+-- a certificate's graph is the one whose lines it has
+pub graph_shown : (q : Question) (nodes : List Node) (edges : List Edge) (l : Line)
+    → IsGraphCertificate q (header q observable ++ (graph_lines nodes edges ++ l ∷ [])) → (l ≡ end) × HasWorld q nodes edges
+graph_shown q nodes edges l graph =
+    let is = graph.lines_are in
+    let bodies : graph_lines nodes edges ++ l ∷ [] ≡ graph_lines graph.nodes graph.edges ++ end ∷ [] = cc in
+    let parts = snoc_same (graph_lines nodes edges) (graph_lines graph.nodes graph.edges) l end bodies in
+    let same = graph_same nodes graph.nodes edges graph.edges parts.0 in
+    let P : List Node → Type 0 = λ ns. IsGenerated ns graph.edges graph.world in
+    let Q : List Edge → Type 0 = λ es. IsGenerated nodes es graph.world in
+    (parts.1, (graph.world, subst Q (sym same.1) (subst P (sym same.0) graph.generated), graph.of_both, graph.satisfied))
+
+pub tree_shown : (q : Question) (steps : List (Step Node)) (l : Line)
+    → IsTreeCertificate q (header q unobservable ++ (map step_line steps ++ l ∷ [])) → (l ≡ end) × IsPartial q.tree steps []
+tree_shown q steps l tree =
+    let is = tree.lines_are in
+    let bodies : map step_line steps ++ l ∷ [] ≡ map step_line tree.steps ++ end ∷ [] = cc in
+    let parts = snoc_same (map step_line steps) (map step_line tree.steps) l end bodies in
+    let P : List (Step Node) → Type 0 = λ ss. IsPartial q.tree ss [] in
+    (parts.1, subst P (sym (steps_same steps tree.steps parts.0)) tree.refutes)
+
+-- the line behind a graph's lines
+pub data GraphNext (q : Question) (nodes : List Node) (edges : List Edge) (l : Line) : Type 0 where
+  node_next : (a : Node) → l ≡ node a → edges ≡ [] → IsNodeIn q.names a → GraphNext q nodes edges l
+  edge_next : (a b : Node) → l ≡ edge a b → Contains nodes a → Contains nodes b → GraphNext q nodes edges l
+  graph_end : l ≡ end → HasWorld q nodes edges → GraphNext q nodes edges l
+
+pub next_in_graph : (q : Question) (nodes : List Node) (edges : List Edge) (l : Line)
+    → BeginsWell q (header q observable ++ (graph_lines nodes edges ++ l ∷ [])) → GraphNext q nodes edges l
+next_in_graph q nodes edges l begins = go (body_begins q observable q.expectation (graph_lines nodes edges ++ l ∷ []) refl begins)
+  where
+    next : (ns : List Node) (es : List Edge) → All (IsNodeIn q.names) ns → HasEnds ns es → NextOfGraph nodes edges ns es l → GraphNext q nodes edges l
+    next ns es of_names ends (next_node a at none more no_edges) =
+        let P : List Node → Type 0 = λ ms. Contains ms a in
+        node_next a at none (All-contains (IsNodeIn q.names) ns a of_names (subst P (sym more) (Contains-append_right nodes (a ∷ []) a (contains_from_in a (a ∷ []) (inl refl)))))
+    next ns es of_names ends (next_edge a b at same more) =
+        let P : List Edge → Type 0 = λ fs. Contains fs (a, b) in
+        let both = ends a b (subst P (sym more) (Contains-append_right edges ((a, b) ∷ []) (a, b) (contains_from_in (a, b) ((a, b) ∷ []) (inl refl)))) in
+        let Q : Node → List Node → Type 0 = λ x ms. Contains ms x in
+        edge_next a b at (subst (Q a) same both.0) (subst (Q b) same both.1)
+
+    go : BodyBegins q observable (graph_lines nodes edges ++ l ∷ []) → GraphNext q nodes edges l
+    go (no_body none) = absurd (snoc_some (graph_lines nodes edges) l none)
+    go (graph_body seen ns es of_names ends is) = next ns es of_names ends (next_of_graph nodes edges ns es l (sym is))
+    go (tree_body other steps opens run is) = absurd (unequal other)
+    go (whole_graph seen graph) = (let r = graph_shown q nodes edges l graph in graph_end r.0 r.1)
+    go (whole_tree other tree) = absurd (unequal other)
+
+-- the line behind the lines of steps
+pub data TreeNext (q : Question) (opens : List Branch) (l : Line) : Type 0 where
+  step_next : (s : Step Node) (next : List Branch) → l ≡ step_line s → Runs q.tree (s ∷ []) opens next → TreeNext q opens l
+  tree_end : l ≡ end → opens ≡ [] → TreeNext q opens l
+
+pub next_in_tree : (q : Question) (steps : List (Step Node)) (opens : List Branch) (l : Line) → IsPartial q.tree steps opens
+    → BeginsWell q (header q unobservable ++ (map step_line steps ++ l ∷ [])) → TreeNext q opens l
+next_in_tree q steps opens l run begins = go (body_begins q unobservable q.expectation (map step_line steps ++ l ∷ []) refl begins)
+  where
+    go : BodyBegins q unobservable (map step_line steps ++ l ∷ []) → TreeNext q opens l
+    go (no_body none) = absurd (snoc_some (map step_line steps) l none)
+    go (graph_body other ns es of_names ends is) = absurd (unequal (sym other))
+    go (tree_body unseen rs rest further is) =
+        let m = next_of_steps steps rs l (sym is) in
+        let P : List (Step Node) → Type 0 = λ us. IsPartial q.tree us rest in
+        let parts = runs_cut q.tree steps (m.0 ∷ []) (asserted q.tree 0 ∷ []) rest (subst P m.1 further) in
+        let same = runs_one q.tree steps (asserted q.tree 0 ∷ []) parts.0 opens parts.1 run in
+        let Q : List Branch → Type 0 = λ bs. Runs q.tree (m.0 ∷ []) bs rest in
+        step_next m.0 rest m.2 (subst Q same parts.2)
+    go (whole_graph other graph) = absurd (unequal (sym other))
+    go (whole_tree unseen tree) =
+        let r = tree_shown q steps l tree in
+        tree_end r.0 (runs_one q.tree steps (asserted q.tree 0 ∷ []) opens [] run r.1)
+
+-- no line stands behind a whole certificate
+no_graph_more : (q : Question) (nodes : List Node) (edges : List Edge) (l : Line)
+    → BeginsWell q (header q observable ++ ((graph_lines nodes edges ++ end ∷ []) ++ l ∷ [])) → ⊥
+no_graph_more q nodes edges l begins = go (body_begins q observable q.expectation ((graph_lines nodes edges ++ end ∷ []) ++ l ∷ []) refl begins)
+  where
+    before : (ns : List Node) (es : List Edge) → LastOfGraph ns es (graph_lines nodes edges ++ end ∷ []) l → ⊥
+    before ns es (a_node ms a is none front at) = graph_ends ms [] (graph_lines nodes edges) (sym front)
+    before ns es (an_edge fs f is front at) = graph_ends ns fs (graph_lines nodes edges) (sym front)
+
+    go : BodyBegins q observable ((graph_lines nodes edges ++ end ∷ []) ++ l ∷ []) → ⊥
+    go (no_body none) = snoc_some (graph_lines nodes edges ++ end ∷ []) l none
+    go (graph_body seen ns es of_names ends is) = before ns es (last_line ns es (graph_lines nodes edges ++ end ∷ []) l (sym is))
+    go (tree_body other steps opens run is) = unequal other
+    go (whole_graph seen graph) =
+        let is = graph.lines_are in
+        let bodies : (graph_lines nodes edges ++ end ∷ []) ++ l ∷ [] ≡ graph_lines graph.nodes graph.edges ++ end ∷ [] = cc in
+        let parts = snoc_same (graph_lines nodes edges ++ end ∷ []) (graph_lines graph.nodes graph.edges) l end bodies in
+        graph_ends graph.nodes graph.edges (graph_lines nodes edges) (sym parts.0)
+    go (whole_tree other tree) = unequal other
+
+no_tree_more : (q : Question) (steps : List (Step Node)) (l : Line)
+    → BeginsWell q (header q unobservable ++ ((map step_line steps ++ end ∷ []) ++ l ∷ [])) → ⊥
+no_tree_more q steps l begins = go (body_begins q unobservable q.expectation ((map step_line steps ++ end ∷ []) ++ l ∷ []) refl begins)
+  where
+    go : BodyBegins q unobservable ((map step_line steps ++ end ∷ []) ++ l ∷ []) → ⊥
+    go (no_body none) = snoc_some (map step_line steps ++ end ∷ []) l none
+    go (graph_body other ns es of_names ends is) = unequal (sym other)
+    go (tree_body unseen rs opens run is) =
+        let m = next_of_steps_any rs (map step_line steps ++ end ∷ []) l (sym is) in
+        steps_end m.0 (map step_line steps) m.1
+      where
+        next_of_steps_any : (rs : List (Step Node)) (before : List Line) (last : Line) → map step_line rs ≡ before ++ last ∷ []
+            → (ss : List (Step Node)) × (map step_line ss ≡ before)
+        next_of_steps_any rs before last e = (let m = last_map step_line rs before last e in (m.0, m.3))
+    go (whole_graph other graph) = unequal (sym other)
+    go (whole_tree unseen tree) =
+        let is = tree.lines_are in
+        let bodies : (map step_line steps ++ end ∷ []) ++ l ∷ [] ≡ map step_line tree.steps ++ end ∷ [] = cc in
+        let parts = snoc_same (map step_line steps ++ end ∷ []) (map step_line tree.steps) l end bodies in
+        steps_end tree.steps (map step_line steps) (sym parts.0)
+
+pub no_more : (q : Question) (v : Verdict) (ls : List Line) (l : Line) → IsCertificate q v ls → BeginsWell q (ls ++ l ∷ []) → ⊥
+no_more q observable ls l graph begins =
+    let P : List Line → Type 0 = λ xs. BeginsWell q (xs ++ l ∷ []) in
+    no_graph_more q graph.nodes graph.edges l (subst P graph.lines_are begins)
+no_more q unobservable ls l tree begins =
+    let P : List Line → Type 0 = λ xs. BeginsWell q (xs ++ l ∷ []) in
+    no_tree_more q tree.steps l (subst P tree.lines_are begins)

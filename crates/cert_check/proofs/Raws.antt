@@ -1,0 +1,117 @@
+-- A text of lines as bytes is a text of a certificate's lines.
+use Rattle.std.proofs.Common.{◌≡◌, ◌≢◌, inl, ℕ, suc, arith, ◌==◌, ◌||◌, Bool, true, false, List, [], ◌∷◌, ◌++◌, map, length, refl, sym, ◌∙◌, ap, subst, eq-eqb}
+use Rattle.std.specs.Prelude.{codes}
+use Rattle.std.specs.List.{All, list_any}
+use Rattle.std.proofs.lemmas.List.{append-nil}
+use Rattle.std.proofs.lemmas.List.Elements.{All-nil, All-cons, All-contains}
+use Rattle.pc_common.proofs.Elements.{contains_from_in}
+use Rattle.pc_common.specs.Lines.{Names, Line, Verdict, line_words, lines_text}
+use Rattle.pc_ground.specs.NodeWords.{Lacks}
+use Rattle.pc_ground.specs.NodeForm.{AreReadable}
+use Rattle.line_judge.specs.Texts.{IsLine, joined, IsMadeOf, BeginsWell as FirstLines, IsRefusedAt as IsRefusedLine}
+use Rattle.cert_check.specs.Certificates.{Question, BeginsWell, whole}
+use Rattle.cert_check.specs.Proper.{IsProper, IsAsked}
+use Rattle.cert_check.specs.RawLines.{RawBegins, RawWhole}
+use Rattle.cert_check.specs.Verified.{IsCertificateText, FirstLinesBegin, IsRefusedAt}
+use Rattle.cert_check.proofs.Firsts.{begins_first}
+use Rattle.cert_check.proofs.Bytes.{words_lack}
+use Rattle.cert_check.proofs.Propers.{begins_proper}
+
+line_from_lacks : (bs : List ℕ) → Lacks 10 bs → IsLine bs
+line_from_lacks [] h = All-nil (λ b. b ≢ 10)
+line_from_lacks (b ∷ bs) h =
+    All-cons (λ c. c ≢ 10) b bs (λ same. absurd (first (b == 10) (list_any (λ c. c == 10) bs) h (eq-eqb b 10 same)))
+    (line_from_lacks bs (rest (b == 10) (list_any (λ c. c == 10) bs) h))
+  where
+    first : (x y : Bool) → (x || y) ≡ false → x ≡ true → ⊥
+    first true y e t = cc
+    first false y e t = cc
+
+    rest : (x y : Bool) → (x || y) ≡ false → y ≡ false
+    rest true y e = cc
+    rest false y e = e
+
+-- the lines one after another are the lines' text
+pub joined_text : (names : Names) (ls : List Line) → joined (map (line_words names) ls) ≡ lines_text names ls
+joined_text names [] = refl
+joined_text names (l ∷ ls) = ap (λ (t : List ℕ). (line_words names l ++ codes "\n") ++ t) (joined_text names ls)
+
+raw_lines : (names : Names) → AreReadable names → (ls : List Line) → All (IsProper names) ls → All IsLine (map (line_words names) ls)
+raw_lines names readable [] all = All-nil IsLine
+raw_lines names readable (l ∷ ls) all =
+    All-cons IsLine (line_words names l) (map (line_words names) ls)
+    (line_from_lacks (line_words names l) (words_lack names readable l (All-contains (IsProper names) (l ∷ ls) l all (contains_from_in l (l ∷ ls) (inl refl)))))
+    (raw_lines names readable ls (λ k d inside. all (suc k) d (omega (arith, inside))))
+
+length_map : {X Y : Type 0} (f : X → Y) (xs : List X) → length (map f xs) ≡ length xs
+length_map f [] = refl
+length_map f (x ∷ xs) = ap suc (length_map f xs)
+
+-- a first part of lines as bytes
+map_front : {X Y : Type 0} (f : X → Y) (xs : List X) (ys zs : List Y) → ys ++ zs ≡ map f xs
+    → (us : List X) × (vs : List X) × (xs ≡ us ++ vs) × (ys ≡ map f us)
+map_front f xs [] zs e = ([], xs, refl, refl)
+map_front f [] (y ∷ ys) zs e = cc
+map_front {X} {Y} f (x ∷ xs) (y ∷ ys) zs e =
+    let heads : y ≡ f x = cc in
+    let tails : ys ++ zs ≡ map f xs = cc in
+    let r = map_front f xs ys zs tails in
+    (x ∷ r.0, r.1, ap (λ (t : List X). x ∷ t) r.2, ap (λ (h : Y). h ∷ ys) heads ∙ ap (λ (t : List Y). f x ∷ t) r.3)
+
+-- lines that begin well with some more begin well by themselves
+pub record RawExact (q : Question) (raws : List (List ℕ)) : Type 0 where
+  pub lines : List Line
+  pub are : raws ≡ map (line_words q.names) lines
+  pub begins : BeginsWell q lines
+
+pub raw_exact : (q : Question) (raws : List (List ℕ)) → RawBegins q raws → RawExact q raws
+raw_exact q raws b =
+    let r = map_front (line_words q.names) b.lines raws b.more b.are in
+    let P : List Line → Type 0 = λ ls. BeginsWell q ls in
+    record { lines = r.0; are = r.3; begins = begins_first q r.0 r.1 (subst P r.2 b.begins) }
+
+module _ (q : Question) (asked : IsAsked q) where
+  pub to_certificate : (text : List ℕ) (made : IsMadeOf (RawWhole q) text) → IsCertificateText q made.accepted.verdict text
+  to_certificate text made =
+      let w = made.accepted in
+      record {
+        lines = w.lines;
+        text_is = made.text_is ∙ ap joined w.are ∙ joined_text q.names w.lines;
+        certificate = w.certificate;
+      }
+
+  pub from_certificate : (text : List ℕ) (v : Verdict) → IsCertificateText q v text → IsMadeOf (RawWhole q) text
+  from_certificate text v c = record {
+    lines = map (line_words q.names) c.lines;
+    are_lines = raw_lines q.names asked.readable c.lines (begins_proper q asked c.lines (whole v c.certificate));
+    text_is = c.text_is ∙ sym (joined_text q.names c.lines);
+    accepted = record { verdict = v; lines = c.lines; are = refl; certificate = c.certificate };
+  }
+
+  to_first : (text : List ℕ) (n : ℕ) → FirstLines (RawBegins q) text n → FirstLinesBegin q text n
+  to_first text n f =
+      let b = raw_exact q f.lines f.begin in record {
+        lines = b.lines;
+        rest = f.rest;
+        count = sym (length_map (line_words q.names) b.lines) ∙ ap length (sym b.are) ∙ f.count;
+        text_is = f.text_is ∙ ap (λ (t : List ℕ). t ++ f.rest) (ap joined b.are ∙ joined_text q.names b.lines);
+        begins = b.begins;
+      }
+
+  from_first : (text : List ℕ) (n : ℕ) → FirstLinesBegin q text n → FirstLines (RawBegins q) text n
+  from_first text n f = record {
+    lines = map (line_words q.names) f.lines;
+    rest = f.rest;
+    count = length_map (line_words q.names) f.lines ∙ f.count;
+    are_lines = raw_lines q.names asked.readable f.lines (begins_proper q asked f.lines f.begins);
+    text_is = f.text_is ∙ ap (λ (t : List ℕ). t ++ f.rest) (sym (joined_text q.names f.lines));
+    begin = record { more = []; lines = f.lines; are = append-nil (map (line_words q.names) f.lines); begins = f.begins };
+  }
+
+  -- the refused line of the text as bytes is that of the text
+  pub to_refused : (text : List ℕ) (n : ℕ) → IsRefusedLine (RawBegins q) (RawWhole q) text n → IsRefusedAt q text n
+  to_refused text n r = record {
+    none = λ v c. r.no_whole (from_certificate text v c);
+    before = λ k less. to_first text k (r.before k less);
+    here = λ f. r.here (from_first text n f);
+  }

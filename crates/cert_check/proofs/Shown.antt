@@ -1,0 +1,55 @@
+-- What a shown graph is to a question, and what a front's question keeps.
+use Rattle.std.proofs.Common.{◌≡◌, ◌<◌, Bool, true, false, List, map, length, sym, ◌∙◌, ap, subst, arith}
+use Rattle.std.specs.Prelude.{All, ◌↔◌}
+use Rattle.pc_common.specs.World.{Node, Edge}
+use Rattle.pc_case.specs.Kept.{IsKept}
+use Rattle.pc_syntax.specs.Observable.{IsNodeOf}
+use Rattle.pc_ground.specs.declared.front.Front.{Front}
+use Rattle.pc_ground.specs.NodeForm.{names_of, IsNodeIn, AreReadable}
+use Rattle.pc_ground.specs.Stages.{plain_stage, plain_axioms, numbers_of}
+use Rattle.pc_ground.specs.GroundTree.{closed_ground_tree}
+use Rattle.pc_ground.specs.Tree.{size_of}
+use Rattle.pc_ground.proofs.TreeNodes.{nodes_are_of}
+use Rattle.pc_ground.proofs.FlatRows.{length_rows}
+use Rattle.graph_text.specs.declared.graph.Graph.{Graph}
+use Rattle.graph_text.specs.Graphs.{graph_nodes, graph_edges}
+use Rattle.graph_text.specs.OpenGraphs.{PlainGraph}
+use Rattle.graph_check.specs.Shown.{IsShown}
+use Rattle.cert_check.specs.Questions.{question_of}
+use Rattle.cert_check.specs.Proper.{IsAsked}
+use Rattle.cert_check.proofs.Nexts.{HasWorld}
+
+shown_world : (front : Front) (g : Graph) → All (IsNodeIn (names_of front)) (graph_nodes g) → IsShown front g → HasWorld (question_of front) (graph_nodes g) (graph_edges g)
+shown_world front g all shown =
+    let P : List Node → Type 0 = λ ns. All (IsNodeOf (numbers_of (map plain_stage front.stages)) front.case.ops) ns in
+    (shown.world, shown.generated, (shown.is_world, subst P (sym shown.generated.nodes_are) all), shown.satisfied)
+
+world_shown : (front : Front) (g : Graph) → HasWorld (question_of front) (graph_nodes g) (graph_edges g) → IsShown front g
+world_shown front g has = record { world = has.0; generated = has.1; is_world = has.2.0; satisfied = has.3 }
+
+pub no_world : (front : Front) (g : Graph) (p : PlainGraph) → graph_nodes g ≡ p.nodes → graph_edges g ≡ p.edges → (b : Bool) → ((b ≡ true) ↔ IsShown front g)
+    → b ≡ false → HasWorld (question_of front) p.nodes p.edges → ⊥
+no_world front g p nodes edges b is not has =
+    let P : List Node → Type 0 = λ ns. HasWorld (question_of front) ns p.edges in
+    let Q : List Edge → Type 0 = λ es. HasWorld (question_of front) (graph_nodes g) es in
+    clash (is.1 (world_shown front g (subst Q (sym edges) (subst P (sym nodes) has)))) not
+  where
+    clash : b ≡ true → b ≡ false → ⊥
+    clash t f = (let e : true ≡ false = sym t ∙ f in cc)
+
+pub some_world : (front : Front) (g : Graph) (p : PlainGraph) → graph_nodes g ≡ p.nodes → graph_edges g ≡ p.edges → (b : Bool) → ((b ≡ true) ↔ IsShown front g)
+    → b ≡ true → All (IsNodeIn (names_of front)) p.nodes → HasWorld (question_of front) p.nodes p.edges
+some_world front g p nodes edges b is true_now all =
+    let P : List Node → Type 0 = λ ns. HasWorld (question_of front) ns p.edges in
+    let Q : List Edge → Type 0 = λ es. HasWorld (question_of front) (graph_nodes g) es in
+    let R : List Node → Type 0 = λ ns. All (IsNodeIn (names_of front)) ns in
+    subst P nodes (subst Q edges (shown_world front g (subst R (sym nodes) all) (is.0 true_now)))
+
+pub asked_of : (front : Front) → AreReadable (names_of front) → IsKept front.case.ops → length front.tree < 9223372036854775808 → IsAsked (question_of front)
+asked_of front readable kept small = record {
+  readable = readable;
+  named = λ a has. nodes_are_of front.case (numbers_of (map plain_stage front.stages)) front.axioms kept front.within a has;
+  small =
+      let rows : length front.tree ≡ size_of (closed_ground_tree front.case (plain_axioms front.axioms)) = ap length front.grounded ∙ length_rows (closed_ground_tree front.case (plain_axioms front.axioms)) in
+      omega arith;
+}

@@ -1,0 +1,133 @@
+-- Which lines have one text: by their first word.
+use Rattle.std.proofs.Common.{◌≡◌, ℕ, List, [], ◌∷◌, ◌++◌, refl, sym, ap, Bool, true, false, ◌==◌}
+use Rattle.std.specs.Prelude.{codes}
+use Rattle.pc_common.specs.World.{Node}
+use Rattle.pc_common.specs.Lines.{Names, Line, Verdict, observable, unobservable, verdict, second, node, edge, split as split_line, cycle as cycle_line, path as path_line, absent as absent_line, false_step as false_line, end, line_words, verdict_text}
+use Rattle.pc_ground.specs.NodeForm.{IsNodeIn, AreReadable}
+use Rattle.pc_ground.specs.Refutes.{Step, split, cycle, path, absent, false_step}
+use Rattle.refutation.specs.Steps.{step_line}
+use Rattle.refutation.specs.Reading.{head_of, nodes_of}
+use Rattle.graph_text.specs.GraphTexts.{IsGraphLineIn}
+use Rattle.cert_check.proofs.Apart.{one_node_line, one_edge_line}
+
+-- first words that differ
+node_end : (xs : List ℕ) → codes "node" ++ xs ≡ codes "end" → ⊥
+node_end xs e = cc
+
+edge_end : (xs : List ℕ) → codes "edge" ++ xs ≡ codes "end" → ⊥
+edge_end xs e = cc
+
+abbrev is_n : List ℕ → Bool
+is_n [] = false
+is_n (c ∷ cs) = c == 110
+
+node_edge : (xs ys : List ℕ) → codes "node" ++ xs ≡ codes "edge" ++ ys → ⊥
+node_edge xs ys e = clash (ap is_n e)
+  where
+    clash : true ≡ false → ⊥
+    clash f = cc
+
+split_end : (xs : List ℕ) → codes "split " ++ xs ≡ codes "end" → ⊥
+split_end xs e = cc
+
+cycle_end : (xs : List ℕ) → codes "cycle" ++ xs ≡ codes "end" → ⊥
+cycle_end xs e = cc
+
+path_end : (xs : List ℕ) → codes "path" ++ xs ≡ codes "end" → ⊥
+path_end xs e = cc
+
+absent_end : (xs : List ℕ) → codes "absent" ++ xs ≡ codes "end" → ⊥
+absent_end xs e = cc
+
+false_end : codes "false" ≡ codes "end" → ⊥
+false_end e = cc
+
+observable_unobservable : codes "observable" ≡ codes "unobservable" → ⊥
+observable_unobservable e = cc
+
+pub one_verdict : (u v : Verdict) → verdict_text u ≡ verdict_text v → u ≡ v
+one_verdict observable observable e = refl
+one_verdict observable unobservable e = absurd (observable_unobservable e)
+one_verdict unobservable observable e = absurd (observable_unobservable (sym e))
+one_verdict unobservable unobservable e = refl
+
+-- no node, edge or step line is the last line
+pub no_end_node : (names : Names) (a : Node) → line_words names (node a) ≡ line_words names end → ⊥
+no_end_node names a e = node_end _ e
+
+pub no_end_edge : (names : Names) (a b : Node) → line_words names (edge a b) ≡ line_words names end → ⊥
+no_end_edge names a b e = edge_end _ e
+
+pub no_end_step : (names : Names) (s : Step Node) → line_words names (step_line s) ≡ line_words names end → ⊥
+no_end_step names (split p) e = split_end _ e
+no_end_step names (cycle nodes) e = cycle_end _ e
+no_end_step names (path nodes) e = path_end _ e
+no_end_step names (absent a) e = absent_end _ e
+no_end_step names false_step e = false_end e
+
+-- a graph's line with the text of a node line, or of an edge line
+pub is_node_line : (names : Names) → AreReadable names → (l : Line) (a : Node) → IsGraphLineIn names l → IsNodeIn names a
+    → line_words names l ≡ line_words names (node a) → node a ≡ l
+is_node_line names readable (verdict v) a h inside e = absurd h
+is_node_line names readable (second v x) a h inside e = absurd h
+is_node_line names readable (node b) a h inside e = ap node (sym (one_node_line names readable b a h inside e))
+is_node_line names readable (edge b c) a h inside e = absurd (node_edge _ _ (sym e))
+is_node_line names readable (split_line p) a h inside e = absurd h
+is_node_line names readable (cycle_line nodes) a h inside e = absurd h
+is_node_line names readable (path_line nodes) a h inside e = absurd h
+is_node_line names readable (absent_line b) a h inside e = absurd h
+is_node_line names readable false_line a h inside e = absurd h
+is_node_line names readable end a h inside e = absurd h
+
+pub is_edge_line : (names : Names) → AreReadable names → (l : Line) (a b : Node) → IsGraphLineIn names l → IsNodeIn names a → IsNodeIn names b
+    → line_words names l ≡ line_words names (edge a b) → edge a b ≡ l
+is_edge_line names readable (verdict v) a b h ha hb e = absurd h
+is_edge_line names readable (second v x) a b h ha hb e = absurd h
+is_edge_line names readable (node c) a b h ha hb e = absurd (node_edge _ _ e)
+is_edge_line names readable (edge c d) a b h ha hb e = sym (one_edge_line names readable c d a b h.0 h.1 ha hb e)
+is_edge_line names readable (split_line p) a b h ha hb e = absurd h
+is_edge_line names readable (cycle_line nodes) a b h ha hb e = absurd h
+is_edge_line names readable (path_line nodes) a b h ha hb e = absurd h
+is_edge_line names readable (absent_line c) a b h ha hb e = absurd h
+is_edge_line names readable false_line a b h ha hb e = absurd h
+is_edge_line names readable end a b h ha hb e = absurd h
+
+pub no_end_graph : (names : Names) (l : Line) → IsGraphLineIn names l → line_words names l ≡ line_words names end → ⊥
+no_end_graph names (verdict v) h e = h
+no_end_graph names (second v x) h e = h
+no_end_graph names (node b) h e = no_end_node names b e
+no_end_graph names (edge b c) h e = no_end_edge names b c e
+no_end_graph names (split_line p) h e = h
+no_end_graph names (cycle_line nodes) h e = h
+no_end_graph names (path_line nodes) h e = h
+no_end_graph names (absent_line b) h e = h
+no_end_graph names false_line h e = h
+no_end_graph names end h e = h
+
+-- a step is told by its head and its nodes
+pub same_step : (r s : Step Node) → head_of r ≡ head_of s → nodes_of r ≡ nodes_of s → r ≡ s
+same_step (split p) (split q) e f = cc
+same_step (split p) (cycle q) e f = cc
+same_step (split p) (path q) e f = cc
+same_step (split p) (absent q) e f = cc
+same_step (split p) false_step e f = cc
+same_step (cycle p) (split q) e f = cc
+same_step (cycle p) (cycle q) e f = ap cycle f
+same_step (cycle p) (path q) e f = cc
+same_step (cycle p) (absent q) e f = cc
+same_step (cycle p) false_step e f = cc
+same_step (path p) (split q) e f = cc
+same_step (path p) (cycle q) e f = cc
+same_step (path p) (path q) e f = ap path f
+same_step (path p) (absent q) e f = cc
+same_step (path p) false_step e f = cc
+same_step (absent p) (split q) e f = cc
+same_step (absent p) (cycle q) e f = cc
+same_step (absent p) (path q) e f = cc
+same_step (absent p) (absent q) e f = cc
+same_step (absent p) false_step e f = cc
+same_step false_step (split q) e f = cc
+same_step false_step (cycle q) e f = cc
+same_step false_step (path q) e f = cc
+same_step false_step (absent q) e f = cc
+same_step false_step false_step e f = refl

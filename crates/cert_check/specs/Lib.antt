@@ -1,0 +1,9 @@
+pub mod Certificates
+pub mod Verdicts
+pub mod Verified
+pub mod Proper
+pub mod Questions
+pub mod Stages
+pub mod Ends
+pub mod RawLines
+pub mod Fed

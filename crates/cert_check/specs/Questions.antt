@@ -1,0 +1,25 @@
+-- The question that a front asks.
+use Rattle.std.specs.Prelude.{◌≡◌}
+use Rattle.pc_common.specs.World.{Node, World}
+use Rattle.pc_syntax.specs.Closed.{closed_satisfies}
+use Rattle.pc_ground.specs.declared.front.Front.{Front}
+use Rattle.pc_ground.specs.NodeForm.{names_of}
+use Rattle.pc_ground.specs.GroundTree.{closed_ground_tree}
+use Rattle.pc_ground.specs.Stages.{plain_axioms}
+use Rattle.cert_check.specs.Certificates.{Question}
+
+-- a certificate of the front's test on its model
+abbrev pub question_of : Front → Question
+question_of front = record {
+  names = names_of front;
+  expectation = front.case.expectation;
+  tree = closed_ground_tree front.case (plain_axioms front.axioms);
+  satisfied = closed_satisfies (plain_axioms front.axioms) front.case;
+}
+
+-- two questions ask one thing
+pub record AskAlike (q r : Question) : Type 0 where
+  pub names : q.names ≡ r.names
+  pub expectation : q.expectation ≡ r.expectation
+  pub tree : q.tree ≡ r.tree
+  pub satisfied : (w : World Node) → q.satisfied w ≡ r.satisfied w

@@ -1,0 +1,68 @@
+-- What each stage of reading a certificate says of the lines so far, and what the next line makes of it.
+use Rattle.std.specs.Prelude.{◌≡◌, ℕ, List, [], ◌∷◌, ◌++◌, map, All, Bool, true, false, Option, Some, None}
+use Rattle.pc_common.specs.World.{Node}
+use Rattle.pc_common.specs.Generated.{HasEnds}
+use Rattle.pc_common.specs.Lines.{Names, Line, observable, unobservable, verdict, line_words}
+use Rattle.pc_ground.specs.NodeForm.{IsNodeIn}
+use Rattle.pc_ground.specs.Tree.{Tree as GroundTree}
+use Rattle.pc_ground.specs.Refutes.{Step, Branch, IsPartial, Runs}
+use Rattle.graph_text.specs.Graphs.{graph_lines}
+use Rattle.graph_text.specs.OpenGraphs.{PlainGraph}
+use Rattle.refutation.specs.Steps.{step_line}
+use Rattle.refutation.specs.Reading.{IsLineOf}
+use Rattle.tree_check.specs.Opened.{Opened, Stands}
+use Rattle.cert_check.specs.Certificates.{Question, header, IsCertificate, BeginsWell}
+use Rattle.cert_check.specs.Verdicts.{plain_verdict}
+use Rattle.cert_check.specs.declared.stage.Stage.{Stage}
+use Rattle.cert_check.specs.declared.stage.Stage.TheVariants.{Start, Said, Graph, Tree, Ended}
+
+-- a header and the lines of this graph
+pub record IsGraphSoFar (q : Question) (g : PlainGraph) (lines : List Line) : Type 0 where
+  pub of_names : All (IsNodeIn q.names) g.nodes
+  pub ends : HasEnds g.nodes g.edges
+  pub lines_are : lines ≡ header q observable ++ graph_lines g.nodes g.edges
+
+-- a header and steps that leave these branches open
+pub record IsTreeSoFar (q : Question) (o : Opened) (lines : List Line) : Type 0 where
+  pub steps : List (Step Node)
+  pub opens : List Branch
+  pub partial : IsPartial q.tree steps opens
+  pub stands : Stands o q.tree opens
+  pub lines_are : lines ≡ header q unobservable ++ map step_line steps
+
+-- the lines so far are those that the stage says
+abbrev pub StandsAt : Question → Stage → List Line → Type 0
+StandsAt q Start lines = lines ≡ []
+StandsAt q (Said v) lines = lines ≡ verdict (plain_verdict v) ∷ []
+StandsAt q (Graph g) lines = IsGraphSoFar q g lines
+StandsAt q (Tree o) lines = IsTreeSoFar q o lines
+StandsAt q (Ended v) lines = IsCertificate q (plain_verdict v) lines
+
+-- the text is a line that may stand next, and no other line that may has this text
+pub record GoesOn (q : Question) (lines : List Line) (text : List ℕ) (next : Stage) : Type 0 where
+  pub line : Line
+  pub text_is : text ≡ line_words q.names line
+  pub only : (other : Line) → text ≡ line_words q.names other → BeginsWell q (lines ++ other ∷ []) → other ≡ line
+  pub stands : StandsAt q next (lines ++ line ∷ [])
+
+-- no line that may stand next has this text
+abbrev pub IsStuck : Question → List Line → List ℕ → Type 0
+IsStuck q lines text = (line : Line) → text ≡ line_words q.names line → BeginsWell q (lines ++ line ∷ []) → ⊥
+
+-- what the next line makes of a stage
+abbrev pub Advances : Question → List Line → List ℕ → Option Stage → Type 0
+Advances q lines text None = IsStuck q lines text
+Advances q lines text (Some next) = GoesOn q lines text next
+
+-- what a step line makes of the open branches: it is that of one step, which leads on; or no step with this line does
+abbrev pub StepsOn : Names → GroundTree Node → List Branch → List ℕ → Opened → Bool → Type 0
+StepsOn names t opens text new true =
+    (s : Step Node) × IsLineOf names text s × ((r : Step Node) → IsLineOf names text r → r ≡ s) × ((next : List Branch) × Runs t (s ∷ []) opens next × Stands new t next)
+StepsOn names t opens text new false = (s : Step Node) (next : List Branch) → IsLineOf names text s → Runs t (s ∷ []) opens next → ⊥
+
+abbrev pub is_ended : Stage → Bool
+is_ended Start = false
+is_ended (Said v) = false
+is_ended (Graph g) = false
+is_ended (Tree o) = false
+is_ended (Ended v) = true

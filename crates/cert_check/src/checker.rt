@@ -1,0 +1,68 @@
+ghost use Rattle.std.specs.Prelude.{◌++◌, [], ℕ, List, IfOk, IsOk};
+ghost use Rattle.cert_check.specs.Certificates.{Question};
+ghost use Rattle.cert_check.specs.Questions.{question_of};
+ghost use Rattle.cert_check.specs.Verified.{Verified};
+ghost use Rattle.cert_check.specs.Fed.{IsFed, IsSettled};
+
+use super::checked::Checked;
+use super::judge::CertificateJudge;
+use super::next::show_asked;
+use line_judge::{Feed, Finished};
+use pc_common::Memory;
+use pc_ground::{Front, NodeText};
+use std::alloc::Global;
+
+/// How many bytes a certificate may have.
+const LIMIT: u64 = 67_108_864;
+
+/// A check of one text against the model and the test of a front. The text comes in pieces, however it is cut,
+/// and each line is judged when it is whole.
+#[derive(Drop)]
+pub struct Checker<'a> {
+    front: &'a Front,
+    feed: Feed<CertificateJudge<'a>>,
+}
+
+impl<'a> Checker<'a> {
+    /// A check of a text of which nothing came yet.
+    pub fn new(alloc: Global, front: &'a Front) -> Result<Checker<'a>, Memory>
+        ensures { IfOk result (λ c. IsFed c (question_of front.now) []) }
+    {
+        let judge = CertificateJudge::new(alloc, front);
+        Ok(Checker {
+            front,
+            feed: Feed::new(alloc, judge, LIMIT),
+        })
+    }
+
+    /// Takes the next piece of the text. It is not copied, but for a line that ends in a later piece. Where the text
+    /// is longer than 67,108,864 bytes, or a line of it is refused, a piece is only counted, which takes no memory.
+    pub fn feed(self, piece: &[u8]) -> Result<Checker<'a>, Memory>
+        ensures took { (q : Question) (text : List ℕ) → IsFed self.entry q text → IfOk result (λ c. IsFed c q (text ++ piece.now)) }
+        ensures settled { (q : Question) (text : List ℕ) → IsFed self.entry q text → IsSettled q text → IsOk result }
+    {
+        Ok(Checker {
+            front: self.front,
+            feed: self.feed.feed(piece)?,
+        })
+    }
+
+    /// What the text is: a certificate of a verdict, or a text that is refused at a line.
+    pub fn finish(self) -> Result<Checked, Memory>
+        ensures { (q : Question) (text : List ℕ) → IsFed self.entry q text → IfOk result (Verified q text) }
+    {
+        show_asked(self.front, &NodeText::of(self.front));
+        match self.feed.finish() {
+            Finished::Whole(judge) => Ok(judge.verdict()),
+            Finished::Refused(line) => Ok(Checked::Refused(line)),
+        }
+    }
+}
+
+/// What a whole text is to the model and the test of a front: a certificate of a verdict, or a text that is refused
+/// at a line. Neither the search nor its graph has a part in it.
+pub fn check_text(alloc: Global, front: &Front, bytes: &[u8]) -> Result<Checked, Memory>
+    ensures { IfOk result (Verified (question_of front.now) bytes.now) }
+{
+    Checker::new(alloc, front)?.feed(bytes)?.finish()
+}

@@ -1,0 +1,21 @@
+//! An independent check of certificates: it judges any text against a model and a test, whoever made it.
+//!
+//! A certificate is a graph whose world makes every axiom true, or a refutation of the ground tree; the lines
+//! are those of docs/certificates.md, and `specs/Certificates.antt` states what each has to be. `Checker` takes
+//! a text in pieces and judges each line when it is whole; `check_text` takes a whole text. The answer is the
+//! verdict, or the first line that no certificate goes on with.
+//!
+//! The check shares neither the search nor its graph: a graph is judged by `graph_check`, which evaluates the
+//! closed axioms, and a refutation by `tree_check`, step by step.
+#![tactic(auto)]
+
+mod checked;
+mod checker;
+mod header;
+mod judge;
+mod next;
+mod stage;
+
+pub use checked::Checked;
+pub use checker::{Checker, check_text};
+pub use header::{Verdict, second_line, verdict_line};
