@@ -1,5 +1,5 @@
 -- What the next line makes of each stage.
-use Rattle.std.proofs.Common.{◌≡◌, inl, ℕ, List, [], ◌∷◌, ◌++◌, map, refl, sym, ◌∙◌, ap, subst, arith}
+use Rattle.std.proofs.Common.{◌≡◌, inl, ℕ, List, [], ◌∷◌, ◌++◌, refl, sym, ◌∙◌, ap, subst, arith}
 use Rattle.std.specs.Prelude.{All, Contains, codes}
 use Rattle.std.proofs.lemmas.List.Elements.{All-contains, All-nil}
 use Rattle.pc_common.specs.World.{Node}
@@ -22,6 +22,7 @@ use Rattle.cert_check.specs.Stages.{IsGraphSoFar, IsTreeSoFar, GoesOn, IsStuck}
 use Rattle.cert_check.specs.declared.header.Verdict.{Verdict}
 use Rattle.cert_check.specs.declared.header.Verdict.TheVariants.{Observable, Unobservable}
 use Rattle.cert_check.specs.declared.stage.Stage.TheVariants.{Said, Graph, Tree, Ended}
+use Rattle.cert_check.proofs.Lasts.{map_snoc}
 use Rattle.cert_check.proofs.Beginnings.{first_line, second_line}
 use Rattle.cert_check.proofs.Nexts.{HasWorld, GraphNext, node_next, edge_next, graph_end, next_in_graph, TreeNext, step_next, tree_end, next_in_tree, no_more}
 use Rattle.cert_check.proofs.StepNodes.{StepHas, runs_have, step_in}
@@ -224,10 +225,6 @@ tree_stuck q asked o lines text so_far no_end none l same begins = go (tree_next
     go : TreeNext q so_far.opens l → ⊥
     go (step_next s next at run) = none s next (line_of_run q asked s so_far.opens next text run (same ∙ ap (line_words q.names) at)) run
     go (tree_end at ended) = no_end (same ∙ ap (line_words q.names) at)
-
-map_snoc : {X Y : Type 0} (f : X → Y) (xs : List X) (x : X) → map f xs ++ f x ∷ [] ≡ map f (xs ++ x ∷ [])
-map_snoc f [] x = refl
-map_snoc {X} {Y} f (y ∷ xs) x = ap (λ (t : List Y). f y ∷ t) (map_snoc f xs x)
 
 pub tree_goes : (q : Question) → IsAsked q → (o new : Opened) (lines : List Line) (text : List ℕ) (so_far : IsTreeSoFar q o lines) → (text ≡ codes "end" → ⊥)
     → (s : Step Node) (next : List Branch) → IsLineOf q.names text s → ((r : Step Node) → IsLineOf q.names text r → r ≡ s) → Runs q.tree (s ∷ []) so_far.opens next

@@ -1,17 +1,17 @@
 -- No two graph lines of a question's names have one text.
 use Rattle.std.proofs.Common.{◌≡◌, ℕ, List, [], ◌∷◌, ◌++◌, sym, ◌∙◌, ap}
+use Rattle.std.proofs.lemmas.List.{append-nil}
 use Rattle.std.specs.Prelude.{codes}
 use Rattle.pc_common.specs.World.{Node}
 use Rattle.pc_common.specs.Lines.{Names, node, edge, node_text, line_words}
 use Rattle.pc_ground.specs.NodeForm.{IsNodeIn, AreReadable}
 use Rattle.pc_ground.proofs.Cuts.{one_cut}
-use Rattle.cert_check.proofs.GraphLines.{append_nil}
 use Rattle.cert_check.proofs.Bytes.{node_lacks, a_space}
 
 one_node_text : (names : Names) (a b : Node) → line_words names (node a) ≡ line_words names (node b) → node_text names a ≡ node_text names b
 one_node_text names a b e =
     let tails : node_text names a ++ [] ≡ node_text names b ++ [] = cc in
-    sym (append_nil (node_text names a)) ∙ tails ∙ append_nil (node_text names b)
+    sym (append-nil (node_text names a)) ∙ tails ∙ append-nil (node_text names b)
 
 pub one_node_line : (names : Names) → AreReadable names → (a b : Node) → IsNodeIn names a → IsNodeIn names b
     → line_words names (node a) ≡ line_words names (node b) → a ≡ b
@@ -24,7 +24,7 @@ same_tails a b c d e = cc
 
 same_words : (a b c d : List ℕ) → a ++ 32 ∷ (b ++ []) ≡ c ++ 32 ∷ (d ++ []) → a ++ 32 ∷ b ≡ c ++ 32 ∷ d
 same_words a b c d e =
-    ap (λ (t : List ℕ). a ++ 32 ∷ t) (sym (append_nil b)) ∙ e ∙ ap (λ (t : List ℕ). c ++ 32 ∷ t) (append_nil d)
+    ap (λ (t : List ℕ). a ++ 32 ∷ t) (sym (append-nil b)) ∙ e ∙ ap (λ (t : List ℕ). c ++ 32 ∷ t) (append-nil d)
 
 pub one_edge_line : (names : Names) → AreReadable names → (a b c d : Node) → IsNodeIn names a → IsNodeIn names b → IsNodeIn names c → IsNodeIn names d
     → line_words names (edge a b) ≡ line_words names (edge c d) → edge a b ≡ edge c d

@@ -57,6 +57,10 @@ second_line q v l ls (in_tree steps opens run is) = cc
 second_line q v l ls (whole observable graph) = (let is = graph.lines_are in cc)
 second_line q v l ls (whole unobservable tree) = (let is = tree.lines_are in cc)
 
+-- the two verdicts differ
+pub unequal : observable ≡ unobservable → ⊥
+unequal e = cc
+
 -- no line of a graph or of a step is the last line of a certificate
 end_no_node : (a : Node) → end ≡ node a → ⊥
 end_no_node a e = cc

@@ -1,5 +1,6 @@
 -- A first part of what begins well begins well.
 use Rattle.std.proofs.Common.{◌≡◌, List, [], ◌∷◌, ◌++◌, map, refl, sym, ◌∙◌, ap, subst, append_assoc, get_or}
+use Rattle.std.proofs.lemmas.List.{append-nil}
 use Rattle.std.specs.Prelude.{All}
 use Rattle.std.proofs.lemmas.List.Elements.{All-contains, Contains-append_left, Contains-get_or}
 use Rattle.pc_common.specs.World.{Node, Edge}
@@ -14,7 +15,7 @@ use Rattle.graph_text.specs.Graphs.{graph_lines}
 use Rattle.refutation.specs.Steps.{step_line}
 use Rattle.cert_check.specs.Certificates.{Question, header, BeginsWell, in_header, in_graph, in_tree}
 use Rattle.cert_check.proofs.Lasts.{snoc_same, snoc_some, last_map}
-use Rattle.cert_check.proofs.GraphLines.{LastOfGraph, a_node, an_edge, last_line, append_nil}
+use Rattle.cert_check.proofs.GraphLines.{LastOfGraph, a_node, an_edge, last_line}
 use Rattle.tree_check.proofs.Running.{runs_cut}
 use Rattle.cert_check.proofs.Beginnings.{BodyBegins, no_body, graph_body, tree_body, whole_graph, whole_tree, body_begins, first_line, second_line}
 
@@ -79,7 +80,7 @@ begins_before q (x ∷ y ∷ body) l begins =
     subst S (sym v.1) (subst R (sym s) before)
 
 pub begins_first : (q : Question) (ls more : List Line) → BeginsWell q (ls ++ more) → BeginsWell q ls
-begins_first q ls [] begins = (let P : List Line → Type 0 = λ xs. BeginsWell q xs in subst P (append_nil ls) begins)
+begins_first q ls [] begins = (let P : List Line → Type 0 = λ xs. BeginsWell q xs in subst P (append-nil ls) begins)
 begins_first q ls (m ∷ more) begins =
     let P : List Line → Type 0 = λ xs. BeginsWell q xs in
     begins_before q ls m (begins_first q (ls ++ m ∷ []) more (subst P (sym (append_assoc ls (m ∷ []) more)) begins))

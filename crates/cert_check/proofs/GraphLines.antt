@@ -1,5 +1,6 @@
 -- The lines of a graph: of no two graphs, and what the last one is.
 use Rattle.std.proofs.Common.{◌≡◌, inl, inr, List, [], ◌∷◌, ◌++◌, map, refl, sym, ◌∙◌, ap}
+use Rattle.std.proofs.lemmas.List.{append-nil}
 use Rattle.pc_common.specs.World.{Node, Edge}
 use Rattle.pc_common.specs.Lines.{Line, node, edge}
 use Rattle.graph_text.specs.Graphs.{graph_lines}
@@ -38,17 +39,13 @@ no_edges : (es : List Edge) → map edge_at es ≡ [] → es ≡ []
 no_edges [] e = refl
 no_edges (x ∷ es) e = cc
 
-pub append_nil : {X : Type 0} (xs : List X) → xs ++ [] ≡ xs
-append_nil [] = refl
-append_nil {X} (x ∷ xs) = ap (λ (t : List X). x ∷ t) (append_nil xs)
-
 pub last_line : (nodes : List Node) (edges : List Edge) (before : List Line) (last : Line)
     → graph_lines nodes edges ≡ before ++ last ∷ [] → LastOfGraph nodes edges before last
 last_line nodes edges before last e =
     elim (last_of (map node nodes) (map edge_at edges) before last e) [
       | inl r ↦
           let m = last_map node nodes before last r.1 in
-          a_node m.0 m.1 m.2 (no_edges edges r.0) (sym m.3 ∙ sym (append_nil (map node m.0))) (sym m.4)
+          a_node m.0 m.1 m.2 (no_edges edges r.0) (sym m.3 ∙ sym (append-nil (map node m.0))) (sym m.4)
       | inr r ↦
           let m = last_map edge_at edges r.0 last r.1 in
           an_edge m.0 m.1 m.2 (r.2 ∙ ap (λ (t : List Line). map node nodes ++ t) (sym m.3)) (sym m.4)

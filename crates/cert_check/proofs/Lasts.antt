@@ -56,3 +56,8 @@ map_same {X} f one (x ∷ xs) (y ∷ ys) e =
     let heads : f x ≡ f y = cc in
     let tails : map f xs ≡ map f ys = cc in
     ap (λ (h : X). h ∷ xs) (one x y heads) ∙ ap (λ (t : List X). y ∷ t) (map_same f one xs ys tails)
+
+-- a map with a last element is that of the first part and the last element's
+pub map_snoc : {X Y : Type 0} (f : X → Y) (xs : List X) (x : X) → map f xs ++ f x ∷ [] ≡ map f (xs ++ x ∷ [])
+map_snoc f [] x = refl
+map_snoc {X} {Y} f (y ∷ xs) x = ap (λ (t : List Y). f y ∷ t) (map_snoc f xs x)

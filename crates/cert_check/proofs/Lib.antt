@@ -5,7 +5,7 @@ mod Beginnings
 mod Nexts
 mod Firsts
 mod Bytes
-mod StepNodes
+pub mod StepNodes
 mod Propers
 mod Raws
 pub mod Alike

@@ -17,15 +17,12 @@ use Rattle.cert_check.proofs.Lasts.{snoc_same, snoc_some, last_map}
 use Rattle.cert_check.proofs.GraphLines.{LastOfGraph, a_node, an_edge, last_line, graph_same, NextOfGraph, next_node, next_edge, next_of_graph}
 use Rattle.cert_check.proofs.StepLines.{next_of_steps, steps_same}
 use Rattle.tree_check.proofs.Running.{runs_cut, runs_one}
-use Rattle.cert_check.proofs.Beginnings.{BodyBegins, no_body, graph_body, tree_body, whole_graph, whole_tree, body_begins, graph_ends, steps_end}
+use Rattle.cert_check.proofs.Beginnings.{unequal, BodyBegins, no_body, graph_body, tree_body, whole_graph, whole_tree, body_begins, graph_ends, steps_end}
 
 -- some world that the graph generates is of both files and satisfies
 abbrev pub HasWorld : Question → List Node → List Edge → Type 0
 HasWorld q nodes edges =
     (world : World Node) × IsGenerated nodes edges world × IsWorldOf (numbers_of q.names.stages) q.names.ops world × IsTrue (q.satisfied world)
-
-unequal : observable ≡ unobservable → ⊥
-unequal e = cc
 
 -- a certificate's graph is the one whose lines it has
 pub graph_shown : (q : Question) (nodes : List Node) (edges : List Edge) (l : Line)

@@ -12,10 +12,10 @@ use Rattle.cert_check.specs.Stages.{StandsAt, GoesOn, IsStuck, is_ended}
 use Rattle.cert_check.specs.RawLines.{RawBegins, RawWhole, RawStands}
 use Rattle.cert_check.specs.declared.stage.Stage.{Stage}
 use Rattle.cert_check.specs.declared.stage.Stage.TheVariants.{Start, Said, Graph, Tree, Ended}
-use Rattle.cert_check.proofs.Lasts.{last_map}
+use Rattle.cert_check.proofs.Lasts.{last_map, map_snoc}
 use Rattle.cert_check.proofs.Firsts.{begins_before}
 use Rattle.cert_check.proofs.Raws.{raw_exact}
-use Rattle.cert_check.proofs.Beginnings.{graph_ends, steps_end}
+use Rattle.cert_check.proofs.Beginnings.{unequal, graph_ends, steps_end}
 
 -- the lines of each stage begin well
 stage_begins : (q : Question) (stage : Stage) (lines : List Line) → StandsAt q stage lines → BeginsWell q lines
@@ -25,10 +25,6 @@ stage_begins q (Said v) lines said =
 stage_begins q (Graph g) lines so_far = in_graph g.nodes g.edges so_far.of_names so_far.ends so_far.lines_are
 stage_begins q (Tree o) lines so_far = in_tree so_far.steps so_far.opens so_far.partial so_far.lines_are
 stage_begins q (Ended v) lines certificate = whole (plain_verdict v) certificate
-
-map_snoc : {X Y : Type 0} (f : X → Y) (xs : List X) (x : X) → map f xs ++ f x ∷ [] ≡ map f (xs ++ x ∷ [])
-map_snoc f [] x = refl
-map_snoc {X} {Y} f (y ∷ xs) x = ap (λ (t : List Y). f y ∷ t) (map_snoc f xs x)
 
 -- lines with these bytes are the known ones and one more
 record OneMore (q : Question) (known : List Line) (text : List ℕ) (others : List Line) : Type 0 where
@@ -72,9 +68,6 @@ raw_stuck q old raws text st stuck b =
     let more = one_more q old raws text st exact.lines exact.are exact.begins in stuck more.last more.text_is more.begins
 
 -- a certificate is read to its last line
-unequal : observable ≡ unobservable → ⊥
-unequal e = cc
-
 graph_whole : (q : Question) (nodes : List Node) (edges : List Edge) (v : PlainVerdict) (lines : List Line) → lines ≡ header q observable ++ graph_lines nodes edges
     → IsCertificate q v lines → ⊥
 graph_whole q nodes edges observable lines is graph =
