@@ -1,82 +1,111 @@
--- What is decided answers the command.
-use Rattle.std.proofs.Common.{◌≡◌, ◌≢◌, ℕ, ◌<◌, List, ◌++◌, Some, length, refl, sym, ◌∙◌, ap, subst}
-use Rattle.std.specs.Prelude.{codes}
-use Rattle.std.specs.Fmt.{decimal}
-use Rattle.pc_common.specs.LineColumn.{line_of, column_of}
-use Rattle.pc_common.specs.declared.fault.InputFault.{InputFault}
-use Rattle.pc_common.specs.declared.fault.Which.{Which}
-use Rattle.pc_common.specs.declared.fault.Which.TheVariants.{Model, Test}
-use Rattle.pc_common.specs.declared.reading.ReadEnd.{ReadEnd}
-use Rattle.pc_common.specs.declared.reading.ReadEnd.TheVariants.{ReadFault as an_outside_fault, TooLarge as past_limit, Memory as no_memory}
-use Rattle.pc_common.specs.declared.status.Status.TheVariants.{Refused, ReadFault, Memory}
-use Rattle.pipecheck_run.specs.declared.answer.Refusal.{Refusal}
+-- What an answer tells of a command's files, it tells of the words; and a verdict answers `check`.
+use Rattle.std.proofs.Common.{◌≡◌, ℕ, Bool, List, inr, refl, sym, subst, arith}
+use Rattle.pc_common.specs.declared.status.Status.TheVariants.{Usage, ReadFault, Memory}
+use Rattle.pc_common.specs.World.{Node}
+use Rattle.pc_ground.specs.declared.front.Front.{Front}
+use Rattle.pc_ground.specs.Tree.{Tree}
+use Rattle.pc_ground.specs.Rows.{rows_of}
+use Rattle.pc_ground.specs.GroundTree.{ground_tree}
+use Rattle.pc_ground.specs.NodeForm.{names_of}
+use Rattle.pc_front.specs.Front.{IsFrontOf}
+use Rattle.solver.specs.Answers.{IsAnswer}
+use Rattle.solver.specs.declared.answer.Answer.{Answer as Found}
+use Rattle.solver.specs.declared.answer.Answer.TheVariants.{Observable as a_graph, Unobservable as a_refutation}
+use Rattle.pipecheck_run.specs.declared.check.verdict.Verdict.{Verdict}
 use Rattle.pipecheck_run.specs.declared.answer.Answer.{Answer}
-use Rattle.pipecheck_run.specs.declared.answer.Answer.TheVariants.{Usage as a_usage, ReadFault as a_read_fault, Memory as a_memory, Refused as a_refusal, Decided as a_verdict}
-use Rattle.pipecheck_run.specs.Command.{IsCheck}
-use Rattle.pipecheck_run.specs.Language.{Contents, IsRead, IsTooLarge, IsFirstFault, in_bytes, too_large, Says}
-use Rattle.pipecheck_run.specs.Output.{Answers, refused, refused_text, file_word, name_of}
-use Rattle.pipecheck_run.specs.Words.{fault_word}
-use Rattle.pipecheck_run.specs.Answered.{refusal_text, answer_text, answer_status, bytes_of, Decides, IsEnded}
-use Rattle.pipecheck_run.proofs.VerdictTexts.{verdict_answers, test_kept}
+use Rattle.pipecheck_run.specs.declared.answer.Answer.TheVariants.{Usage as a_usage, Memory as a_memory, Checked as a_verdict}
+use Rattle.pipecheck_run.specs.Command.{Inputs, Command, check, IsCommand, IsNoCommand}
+use Rattle.pipecheck_run.specs.Inputs.{Contents}
+use Rattle.pipecheck_run.specs.Output.{usage, checked, refused}
+use Rattle.pipecheck_run.specs.Headline.{Lacks}
+use Rattle.pipecheck_run.specs.Decides.{HasFront, EndsAt, AnswersTo, Decides}
+use Rattle.pipecheck_run.specs.check.Verdicts.{IsVerdict, IsWritable, status_of}
+use Rattle.pipecheck_run.proofs.Fronts.{writable}
+use Rattle.pipecheck_run.proofs.OneCommand.{one_command, on_check}
+use Rattle.pipecheck_run.proofs.VerdictTexts.{verdict_certified}
 
-refusal_is : (bytes : List ℕ) (f : InputFault) (r : Refusal) → r.fault ≡ f
-    → r.line ≡ line_of bytes f.place.offset → r.column ≡ column_of bytes f.place.offset → refused_text bytes f ≡ refusal_text r
-refusal_is bytes f r e l c =
-    ap (λ n. text f n (column_of bytes f.place.offset)) (sym l) ∙ ap (λ n. text f r.line n) (sym c) ∙ ap (λ g. text g r.line r.column) (sym e)
-  where
-    text : InputFault → ℕ → ℕ → List ℕ
-    text g line column =
-        codes "refused " ++ file_word g.file ++ codes " " ++ fault_word g.kind ++ codes " at " ++ decimal line ++ codes ":" ++ decimal column ++ codes "\n"
+no_fault_of_memory : Memory ≡ ReadFault → ⊥
+no_fault_of_memory e = cc
 
-refusal_answers : (words : List (List ℕ)) (holds : Contents) (model test bytes : List ℕ) (f : InputFault) (r : Refusal)
-    → IsCheck words model test → IsFirstFault holds model test f → holds (name_of f.file model test) ≡ Some bytes
-    → r.fault ≡ f → r.line ≡ line_of bytes f.place.offset → r.column ≡ column_of bytes f.place.offset
-    → Answers words holds Refused (refusal_text r)
-refusal_answers words holds model test bytes f r check first held e l c =
-    let Q : List ℕ → Type 0 = λ t. Answers words holds Refused t in
-    subst Q (refusal_is bytes f r e l c) (refused check first held)
+no_usage_of_memory : Memory ≡ Usage → ⊥
+no_usage_of_memory e = cc
 
--- a file that could not be read whole
-pub ended_answers : (words : List (List ℕ)) (holds : Contents) (model test : List ℕ) (file : Which) (end : ReadEnd) (a : Answer)
-    → IsEnded file end a → answer_status a ≢ ReadFault → answer_status a ≢ Memory → IsCheck words model test
-    → (end ≡ past_limit → IsFirstFault holds model test (too_large file) × ((bytes : List ℕ) × (holds (name_of file model test) ≡ Some bytes)))
-    → Answers words holds (answer_status a) (answer_text a)
-ended_answers words holds model test file an_outside_fault a is no_fault memory check first = absurd (no_fault (ap answer_status is))
-ended_answers words holds model test file no_memory a is no_fault memory check first = absurd (memory (ap answer_status is))
-ended_answers words holds model test file past_limit (a_refusal r) is no_fault memory check first =
-    let f = first refl in
-    refusal_answers words holds model test f.1.0 (too_large file) r check f.0 f.1.1 is.0 is.1 is.2
-ended_answers words holds model test file past_limit a_usage is no_fault memory check first = absurd is
-ended_answers words holds model test file past_limit a_read_fault is no_fault memory check first = absurd is
-ended_answers words holds model test file past_limit a_memory is no_fault memory check first = absurd is
-ended_answers words holds model test file past_limit (a_verdict v) is no_fault memory check first = absurd is
+no_fault_of : (found : Found) → status_of found ≡ ReadFault → ⊥
+no_fault_of (a_graph g) e = cc
+no_fault_of (a_refutation r) e = cc
 
--- the file that a fault is in holds these bytes
-held_in : (holds : Contents) (model test mb tb : List ℕ) (file : Which) → IsRead holds model mb → IsRead holds test tb
-    → holds (name_of file model test) ≡ Some (bytes_of file mb tb)
-held_in holds model test mb tb Model rm rt = rm.held
-held_in holds model test mb tb Test rm rt = rt.held
+no_usage_of : (found : Found) → status_of found ≡ Usage → ⊥
+no_usage_of (a_graph g) e = cc
+no_usage_of (a_refutation r) e = cc
 
--- both files were read
-pub decided_answers : (words : List (List ℕ)) (holds : Contents) (model test mb tb : List ℕ) (a : Answer)
-    → IsCheck words model test → IsRead holds model mb → IsRead holds test tb → Decides mb tb a
-    → Answers words holds (answer_status a) (answer_text a)
-decided_answers words holds model test mb tb (a_refusal r) check rm rt d =
-    refusal_answers words holds model test (bytes_of r.fault.file mb tb) r.fault r check (in_bytes rm rt d.0)
-    (held_in holds model test mb tb r.fault.file rm rt) refl d.1.0 d.1.1
-decided_answers words holds model test mb tb (a_verdict v) check rm rt (m, c, says_model, says_test, is) =
-    let says : Says holds model test m c = record {
-      model_bytes = mb;
-      test_bytes = tb;
-      model_read = rm;
-      test_read = rt;
-      says_model = says_model;
-      says_test = says_test;
-    } in
-    verdict_answers words holds model test m c v check says (test_kept tb c says_test) is
-decided_answers words holds model test mb tb a_usage check rm rt d = absurd d
-decided_answers words holds model test mb tb a_read_fault check rm rt d = absurd d
-decided_answers words holds model test mb tb a_memory check rm rt d = absurd d
+no_fault_of_usage : Usage ≡ ReadFault → ⊥
+no_fault_of_usage e = cc
 
-pub large_of : (holds : Contents) (name : List ℕ) (end : ReadEnd) → (bytes : List ℕ) × (holds name ≡ Some bytes) × (1048576 < length bytes) → IsTooLarge holds name
-large_of holds name end l = record { bytes = l.0; held = l.1; past = l.2 }
+-- the words are no command, and no file is read
+pub usage_decides : {F : Type 0} {told : F → Bool} {holds : F → Contents} {calm : F → Bool} {faults : F → ℕ} (files : F) (words : List (List ℕ))
+    → IsNoCommand words → Decides told holds calm faults words files files a_usage
+usage_decides files words none = record {
+  keeps = record { same_told = refl; same_held = refl; same_calm = refl; count = omega arith };
+  writable = tt;
+  usage_only = λ e. none;
+  cause = λ e. absurd (no_fault_of_usage e);
+  calm_only = λ c e. absurd (no_fault_of_usage e);
+  calm_due = λ c comes. absurd (none comes.0 comes.1);
+  answers = λ t no_fault memory. usage none;
+}
+
+module _ {F : Type 0} {told : F → Bool} {holds : F → Contents} {calm : F → Bool} {faults : F → ℕ} {old new : F} where
+  -- the words are the command
+  pub command_decides : (words : List (List ℕ)) (command : Command) (a : Answer) → IsCommand words command
+      → AnswersTo told holds calm faults command old new a → Decides told holds calm faults words old new a
+  command_decides words command a is d = record {
+    keeps = d.keeps;
+    writable = d.writable;
+    usage_only = λ e. absurd (d.usage_only e);
+    cause = d.cause;
+    calm_only = λ c e. (command, is, d.calm_only c e);
+    calm_due = λ c comes. d.calm_due c (let P : Command → Type 0 = λ k. Lacks (holds old) k in subst P (one_command words comes.0 command comes.1 is) comes.2);
+    answers = λ t no_fault memory. d.answers t no_fault memory words is;
+  }
+
+  -- what ends the run at the two files answers `check`
+  pub end_answers_check : (i : Inputs) (a : Answer) → EndsAt told holds calm faults i old new a → AnswersTo told holds calm faults (check i) old new a
+  end_answers_check i a d = record {
+    keeps = d.keeps;
+    writable = d.writable;
+    usage_only = d.usage_only;
+    cause = d.cause;
+    calm_only = d.calm_only;
+    calm_due = d.calm_due;
+    answers = λ t no_fault memory words is. refused (on_check words i is) (d.answers t no_fault memory);
+  }
+
+  module _ {i : Inputs} {front : Front} (f : HasFront told holds calm faults i old new front) where
+    pub memory_answers_check : AnswersTo told holds calm faults (check i) old new a_memory
+    memory_answers_check = record {
+      keeps = f.keeps;
+      writable = tt;
+      usage_only = no_usage_of_memory;
+      cause = λ e. absurd (no_fault_of_memory e);
+      calm_only = λ c e. absurd (no_fault_of_memory e);
+      calm_due = λ c lacks. inr refl;
+      answers = λ t no_fault memory. absurd (memory refl);
+    }
+
+    pub verdict_answers_check : (v : Verdict) → v.front ≡ front
+        → ((t : Tree Node) → front.tree ≡ rows_of t → IsAnswer front.numbering t v.found)
+        → AnswersTo told holds calm faults (check i) old new (a_verdict v)
+    verdict_answers_check v same found =
+        let is : IsAnswer front.numbering (ground_tree f.m f.c) v.found = found (ground_tree f.m f.c) f.front_of.tree in
+        let P : Front → Type 0 = λ g. IsFrontOf f.m f.c g in
+        let Q : Front → Type 0 = λ g. IsAnswer g.numbering (ground_tree f.m f.c) v.found in
+        let R : Front → Type 0 = λ g. IsWritable (names_of g) v.found in
+        let verdict : IsVerdict f.m f.c v = record { front_of = subst P (sym same) f.front_of; found = subst Q (sym same) is } in record {
+          keeps = f.keeps;
+          writable = subst R (sym same) (writable f.m f.c front f.front_of f.kept v.found is);
+          usage_only = no_usage_of v.found;
+          cause = λ e. absurd (no_fault_of v.found e);
+          calm_only = λ c e. absurd (no_fault_of v.found e);
+          calm_due = λ c lacks. absurd (f.held c lacks);
+          answers = λ t no_fault memory words on. checked on (f.says t) (verdict_certified f.m f.c v f.kept verdict);
+        }

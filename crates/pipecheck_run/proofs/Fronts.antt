@@ -27,10 +27,10 @@ use Rattle.graph_text.specs.Graphs.{key_edge, graph_nodes}
 use Rattle.solver.specs.Answers.{IsAnswer}
 use Rattle.solver.specs.declared.answer.Answer.{Answer as Found}
 use Rattle.solver.specs.declared.answer.Answer.TheVariants.{Observable as a_graph, Unobservable as a_refutation}
-use Rattle.pipecheck_run.specs.Verdicts.{IsWritable}
-use Rattle.pipecheck_run.proofs.StepNodes.{refutation_in}
+use Rattle.pipecheck_run.specs.check.Verdicts.{IsWritable}
+use Rattle.cert_check.proofs.StepNodes.{refutation_in}
 
-numbers_same : (ss : List StageItem) → numbers_of (map stage_said ss) ≡ stage_numbers ss
+pub numbers_same : (ss : List StageItem) → numbers_of (map stage_said ss) ≡ stage_numbers ss
 numbers_same [] = refl
 numbers_same (s ∷ ss) = ap (λ ns. s.number ∷ ns) (numbers_same ss)
 
@@ -57,23 +57,24 @@ all_images P f xs each k d inside = each (f (get_or xs k d)) (contains_from_in _
 pub all_nodes : (P : Node → Type 0) (xs : List Node) → ((a : Node) → Contains xs a → P a) → All P xs
 all_nodes P xs each k d inside = each (get_or xs k d) (contains_from_in (get_or xs k d) xs (placed xs k d inside))
 
+-- the front's tree is that of the axioms as written
+pub same_tree : (m : WrittenModel) (c : Case) (front : Front) → IsFrontOf m c front → closed_ground_tree front.case (plain_axioms front.axioms) ≡ ground_tree m c
+same_tree m c front is = rows_injective (closed_ground_tree front.case (plain_axioms front.axioms)) (ground_tree m c) (sym front.grounded ∙ is.tree)
+
 module _ (m : WrittenModel) (c : Case) (front : Front) (is : IsFrontOf m c front) (kept : IsKept c.ops) where
   kept_here : IsKept front.case.ops
   kept_here = subst (λ (d : Case). IsKept d.ops) (sym is.case) kept
-
-  same_tree : closed_ground_tree front.case (plain_axioms front.axioms) ≡ ground_tree m c
-  same_tree = rows_injective (closed_ground_tree front.case (plain_axioms front.axioms)) (ground_tree m c) (sym front.grounded ∙ is.tree)
 
   -- each node of the tree is written by the front's names
   tree_node : (a : Node) → Contains (nodes_of_tree (ground_tree m c)) a → IsNodeIn (names_of front) a
   tree_node a in_tree =
       nodes_are_of front.case (numbers_of (map plain_stage front.stages)) front.axioms kept_here front.within a
-      (subst (λ (t : Tree Node). Contains (nodes_of_tree t) a) (sym same_tree) in_tree)
+      (subst (λ (t : Tree Node). Contains (nodes_of_tree t) a) (sym (same_tree m c front is)) in_tree)
 
   numbered_node : (a : Node) → Contains front.numbering a → IsNodeIn (names_of front) a
   numbered_node a in_numbering =
       tree_node a (((numbered_lists (ground_tree m c)).1 a).1
-      (subst (λ (ns : List Node). Contains ns a) (front.counted ∙ ap numbered same_tree) in_numbering))
+      (subst (λ (ns : List Node). Contains ns a) (front.counted ∙ ap numbered (same_tree m c front is)) in_numbering))
 
   numbers_are : numbers_of (map plain_stage front.stages) ≡ stage_numbers m.stages
   numbers_are = ap numbers_of is.stages ∙ numbers_same m.stages

@@ -1,6 +1,6 @@
 -- A list of three by its elements.
 use Rattle.std.proofs.Common.{◌≡◌, ℕ, ◌<◌, ◌≤◌, Bool, true, false, not, List, [], ◌∷◌, map, length, get_or, refl, sym, ◌∙◌, ap, arith, nat_eq}
-use Rattle.std.specs.Cmp.Lexicographic.{pointwise, same_text}
+use Rattle.std.specs.Cmp.Lexicographic.{pointwise, same_text, bytes_decides}
 
 pub three : {X Y : Type 0} (f : X → Y) (xs : List X) (a b d : X) → 3 ≤ length xs → length xs < 4
     → a ≡ get_or xs 0 a → b ≡ get_or xs 1 b → d ≡ get_or xs 2 d → map f xs ≡ f a ∷ f b ∷ f d ∷ []
@@ -18,3 +18,14 @@ same_if_not_other xs ys e = same_text xs ys (go (pointwise nat_eq xs ys) e)
     go : (b : Bool) → false ≡ not b → true ≡ b
     go true e = refl
     go false e = cc
+
+-- and one that says yes
+pub other_text : (xs ys : List ℕ) → true ≡ not (pointwise nat_eq xs ys) → xs ≡ ys → ⊥
+other_text xs ys e same = go (pointwise nat_eq xs ys) e ((bytes_decides xs ys).1 same)
+  where
+    go : (b : Bool) → true ≡ not b → b ≡ true → ⊥
+    go true e s = cc
+    go false e s = cc
+
+pub first_word : {x y : List ℕ} {xs ys : List (List ℕ)} → x ∷ xs ≡ y ∷ ys → x ≡ y
+first_word e = cc

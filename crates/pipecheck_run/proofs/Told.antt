@@ -3,12 +3,15 @@ use Rattle.std.proofs.Common.{◌≡◌, ◌≢◌, ◌⊎◌, inl, inr, refl, s
 use Rattle.pc_common.specs.declared.status.Status.{Status}
 use Rattle.pc_common.specs.declared.status.Status.TheVariants.{Usage, WriteFault}
 use Rattle.pipecheck_run.specs.declared.answer.Answer.{Answer}
-use Rattle.pipecheck_run.specs.declared.answer.Answer.TheVariants.{Usage as a_usage, ReadFault as a_read_fault, Memory as a_memory, Refused as a_refusal, Decided as a_verdict}
+use Rattle.pipecheck_run.specs.declared.answer.Answer.TheVariants.{Usage as a_usage, ReadFault as a_read_fault, Memory as a_memory, Refused as a_refusal, Checked as a_verdict, Verified as a_check}
 use Rattle.pipecheck_run.specs.Answered.{answer_text, answer_status}
 use Rattle.pipecheck_run.specs.Output.{usage_text}
 use Rattle.solver.specs.declared.answer.Answer.{Answer as Found}
 use Rattle.solver.specs.declared.answer.Answer.TheVariants.{Observable as a_graph, Unobservable as a_refutation}
-use Rattle.pipecheck_run.specs.Verdicts.{status_of}
+use Rattle.pipecheck_run.specs.check.Verdicts.{status_of}
+use Rattle.cert_check.specs.declared.checked.Checked.{Checked}
+use Rattle.cert_check.specs.declared.checked.Checked.TheVariants.{Observable as is_seen, Unobservable as is_unseen, Refused as is_refused_at}
+use Rattle.pipecheck_run.specs.verify.Told.{told_status}
 
 pub told_as_kept : {told kept : Status} → (told ≡ kept) ⊎ (told ≡ WriteFault) → told ≢ WriteFault → kept ≡ told
 told_as_kept (inl e) no_fault = sym e
@@ -28,6 +31,12 @@ usage_said a_usage e = refl
 usage_said a_read_fault e = cc
 usage_said a_memory e = cc
 usage_said (a_refusal r) e = cc
+usage_said (a_check found) e = absurd (never_told found e)
+  where
+    never_told : (found : Checked) → told_status found ≡ Usage → ⊥
+    never_told is_seen e = cc
+    never_told is_unseen e = cc
+    never_told (is_refused_at n) e = cc
 usage_said (a_verdict v) e = absurd (never_usage v.found e)
   where
     never_usage : (found : Found) → status_of found ≡ Usage → ⊥

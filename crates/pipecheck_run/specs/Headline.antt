@@ -1,25 +1,60 @@
--- What a status says of the two files, and which status comes.
-use Rattle.std.specs.Prelude.{◌≡◌, ℕ, List}
+-- What a status says of the files, and which status comes.
+use Rattle.std.specs.Prelude.{◌≡◌, ◌⊎◌, ℕ, List, Some, None}
 use Rattle.pc_common.specs.Case.{Case}
 use Rattle.pc_common.specs.declared.fault.InputFault.{InputFault}
 use Rattle.pc_common.specs.declared.status.Status.{Status}
 use Rattle.pc_common.specs.declared.status.Status.TheVariants.{Observable as is_observable, Unobservable as is_unobservable, Refused as is_refused}
 use Rattle.pc_syntax.specs.Written.{WrittenModel}
 use Rattle.pc_syntax.specs.Observable.{Observable}
-use Rattle.pipecheck_run.specs.Command.{IsCheck}
-use Rattle.pipecheck_run.specs.Language.{Contents, IsFirstFault, Says}
+use Rattle.cert_check.specs.declared.checked.Checked.{Checked}
+use Rattle.cert_check.specs.Certificates.{Question}
+use Rattle.cert_check.specs.Verified.{Verified}
+use Rattle.pipecheck_run.specs.Certificates.{question_by}
+use Rattle.pipecheck_run.specs.verify.Told.{told_status}
+use Rattle.pipecheck_run.specs.Command.{Inputs, Command, check, verify, IsCommand, IsOn}
+use Rattle.pipecheck_run.specs.Inputs.{Contents, IsFirstFault, Says, LacksInput}
 
 -- observable only where some choice of nodes with some strict order makes every axiom true of the test, and
--- unobservable only where none does
+-- unobservable only where none does; whatever a third file holds
 abbrev pub IsTrueOf : List (List ℕ) → Contents → Status → Type 0
 IsTrueOf words holds status =
-    (model test : List ℕ) (m : WrittenModel) (c : Case) → IsCheck words model test → Says holds model test m c
+    (i : Inputs) (m : WrittenModel) (c : Case) → IsOn words i → Says holds i m c
     → (status ≡ is_observable → Observable m c) × (status ≡ is_unobservable → Observable m c → ⊥)
 
--- observable wherever some choice does, unobservable wherever none does, and refused wherever there is a fault
-abbrev pub IsDue : List (List ℕ) → Contents → Status → Type 0
-IsDue words holds status =
-    ((model test : List ℕ) (m : WrittenModel) (c : Case) → IsCheck words model test → Says holds model test m c
-    → (Observable m c → status ≡ is_observable) × ((Observable m c → ⊥) → status ≡ is_unobservable))
-    × ((model test : List ℕ) (fault : InputFault) → IsCheck words model test → IsFirstFault holds model test fault
-    → status ≡ is_refused)
+-- the status is that of the one thing that a text is to a question
+pub record IsStatusOf (q : Question) (text : List ℕ) (status : Status) : Type 0 where
+  pub found : Checked
+  pub verified : Verified q text found
+  pub only : (other : Checked) → Verified q text other → other ≡ found
+  pub status_is : status ≡ told_status found
+
+-- the status that is due where the files have no fault; of `check`: observable wherever some choice does, unobservable
+-- wherever none does; of `verify`: that of what the third file holds
+abbrev pub IsDueOf : Contents → Command → Status → Type 0
+IsDueOf holds (check i) status =
+    (m : WrittenModel) (c : Case) → Says holds i m c
+    → (Observable m c → status ≡ is_observable) × ((Observable m c → ⊥) → status ≡ is_unobservable)
+IsDueOf holds (verify i certificate) status =
+    (m : WrittenModel) (c : Case) (bytes : List ℕ) → Says holds i m c → holds certificate ≡ Some bytes
+    → IsStatusOf (question_by m c) bytes status
+
+-- refused wherever there is a fault, and else what is due of the command
+pub record IsDue (words : List (List ℕ)) (holds : Contents) (status : Status) : Type 0 where
+  pub found : (command : Command) → IsCommand words command → IsDueOf holds command status
+  pub fault : (i : Inputs) (fault : InputFault) → IsOn words i → IsFirstFault holds i fault → status ≡ is_refused
+
+-- two files have no fault, and the third is not held
+pub record LacksThird (holds : Contents) (i : Inputs) (certificate : List ℕ) : Type 0 where
+  pub m : WrittenModel
+  pub c : Case
+  pub says : Says holds i m c
+  pub missing : holds certificate ≡ None
+
+-- the order of work of a command comes to a name that is not held
+abbrev pub Lacks : Contents → Command → Type 0
+Lacks holds (check i) = LacksInput holds i
+Lacks holds (verify i certificate) = LacksInput holds i ⊎ LacksThird holds i certificate
+
+-- so it is with the command that the words are
+abbrev pub Comes : List (List ℕ) → Contents → Type 0
+Comes words holds = (command : Command) × IsCommand words command × Lacks holds command

@@ -1,9 +1,12 @@
 pub mod Words
 pub mod Command
-pub mod Language
+pub mod Inputs
 pub mod Certificates
+pub mod check
+pub mod verify
 pub mod Output
-pub mod Verdicts
-pub mod Answered
 pub mod Headline
 pub mod Laws
+pub mod Parsed
+pub mod Answered
+pub mod Decides

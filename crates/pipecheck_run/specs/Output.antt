@@ -3,16 +3,20 @@ use Rattle.std.specs.Prelude.{◌≡◌, ℕ, List, ◌++◌, codes, Some}
 use Rattle.std.specs.Fmt.{decimal}
 use Rattle.pc_common.specs.Case.{Case}
 use Rattle.pc_common.specs.declared.status.Status.{Status}
-use Rattle.pc_common.specs.declared.status.Status.TheVariants.{Observable, Unobservable, Usage, Refused}
+use Rattle.pc_common.specs.declared.status.Status.TheVariants.{Usage, Refused}
 use Rattle.pc_common.specs.declared.fault.Which.{Which}
 use Rattle.pc_common.specs.declared.fault.Which.TheVariants.{Model, Test}
 use Rattle.pc_common.specs.declared.fault.InputFault.{InputFault}
 use Rattle.pc_syntax.specs.Written.{WrittenModel}
 use Rattle.pc_common.specs.LineColumn.{line_of, column_of}
 use Rattle.pipecheck_run.specs.Words.{fault_word}
-use Rattle.pipecheck_run.specs.Command.{IsCheck, IsNoCommand}
-use Rattle.pipecheck_run.specs.Language.{Contents, IsFirstFault, Says}
-use Rattle.pipecheck_run.specs.Certificates.{IsGraphText, IsTreeText}
+use Rattle.pipecheck_run.specs.Command.{Inputs, check, verify, IsCommand, IsNoCommand, IsOn}
+use Rattle.pipecheck_run.specs.Inputs.{Contents, IsFirstFault, Says}
+use Rattle.cert_check.specs.declared.checked.Checked.{Checked}
+use Rattle.cert_check.specs.Verified.{Verified}
+use Rattle.pipecheck_run.specs.Certificates.{question_by}
+use Rattle.pipecheck_run.specs.check.Certified.{IsCertified}
+use Rattle.pipecheck_run.specs.verify.Told.{told_status, told_text}
 
 abbrev pub usage_text : List ℕ
 usage_text = codes "pipecheck: bad command line\n"
@@ -27,16 +31,21 @@ refused_text bytes f =
     codes "refused " ++ file_word f.file ++ codes " " ++ fault_word f.kind ++ codes " at "
     ++ decimal (line_of bytes f.place.offset) ++ codes ":" ++ decimal (column_of bytes f.place.offset) ++ codes "\n"
 
-abbrev pub name_of : Which → List ℕ → List ℕ → List ℕ
-name_of Model model test = model
-name_of Test model test = test
+abbrev pub name_of : Which → Inputs → List ℕ
+name_of Model i = i.model
+name_of Test i = i.test
+
+-- the two files are refused by their first fault
+pub data IsRefusal (holds : Contents) (i : Inputs) : Status → List ℕ → Type 0 where
+  refusal : {bytes : List ℕ} {fault : InputFault} → IsFirstFault holds i fault → holds (name_of fault.file i) ≡ Some bytes
+      → IsRefusal holds i Refused (refused_text bytes fault)
 
 -- the answer to the words, where the names hold these contents, with its text
 pub data Answers (words : List (List ℕ)) (holds : Contents) : Status → List ℕ → Type 0 where
   usage : IsNoCommand words → Answers words holds Usage usage_text
-  refused : {model test bytes : List ℕ} {fault : InputFault} → IsCheck words model test → IsFirstFault holds model test fault
-      → holds (name_of fault.file model test) ≡ Some bytes → Answers words holds Refused (refused_text bytes fault)
-  seen : {model test text : List ℕ} {m : WrittenModel} {c : Case} → IsCheck words model test → Says holds model test m c
-      → IsGraphText m c text → Answers words holds Observable text
-  unseen : {model test text : List ℕ} {m : WrittenModel} {c : Case} → IsCheck words model test → Says holds model test m c
-      → IsTreeText m c text → Answers words holds Unobservable text
+  refused : {i : Inputs} {status : Status} {text : List ℕ} → IsOn words i → IsRefusal holds i status text → Answers words holds status text
+  checked : {i : Inputs} {m : WrittenModel} {c : Case} {status : Status} {text : List ℕ} → IsCommand words (check i)
+      → Says holds i m c → IsCertified m c status text → Answers words holds status text
+  verified : {i : Inputs} {certificate bytes : List ℕ} {m : WrittenModel} {c : Case} {found : Checked} → IsCommand words (verify i certificate)
+      → Says holds i m c → holds certificate ≡ Some bytes → Verified (question_by m c) bytes found
+      → Answers words holds (told_status found) (told_text found)

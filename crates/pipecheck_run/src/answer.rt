@@ -1,13 +1,12 @@
-use super::verdict::Verdict;
-use pc_common::InputFault;
+ghost use Rattle.std.specs.Prelude.{◌≡◌};
+ghost use Rattle.pc_common.specs.Writes.{Writes};
+ghost use Rattle.pipecheck_run.specs.Answered.{answer_text, answer_status, CanBeWritten};
 
-/// A fault of an input file with its line and column, both from 1.
-#[derive(Clone, Copy)]
-pub(crate) struct Refusal {
-    pub(crate) fault: InputFault,
-    pub(crate) line: u32,
-    pub(crate) column: u32,
-}
+use super::check::{Verdict, verdict_status, write_verdict};
+use super::refusal::{Refusal, write_refusal};
+use super::verify::{checked_status, write_checked};
+use cert_check::Checked;
+use pc_common::{Failed, Sink, Status, write_all};
 
 /// What is answered, decided before anything is written.
 #[derive(Drop)]
@@ -20,6 +19,36 @@ pub(crate) enum Answer {
     Memory,
     /// A file has a fault, the first of the two files.
     Refused(Refusal),
-    /// The files say a model and a test, of which this is found.
-    Decided(Verdict),
+    /// The files say a model and a test, of which `check` finds this.
+    Checked(Verdict),
+    /// The files say a model and a test, to which the third file is this.
+    Verified(Checked),
+}
+
+/// Writes the text of an answer. Takes no memory.
+pub(crate) fn write_answer<K: Sink>(out: &mut K, answer: &Answer) -> Result<(), Failed>
+    requires { CanBeWritten answer.now }
+    ensures { Writes K.told K.faults K.taken out.old out.new result (answer_text answer.now) }
+{
+    match answer {
+        Answer::Usage => write_all(out, b"pipecheck: bad command line\n"),
+        Answer::ReadFault | Answer::Memory => write_all(out, b""),
+        Answer::Refused(refusal) => write_refusal(out, refusal),
+        Answer::Checked(verdict) => write_verdict(out, verdict),
+        Answer::Verified(checked) => write_checked(out, *checked),
+    }
+}
+
+/// The status that an answer ends with, where its text is written.
+pub(crate) fn status(answer: &Answer) -> Status
+    ensures { result ≡ answer_status answer.now }
+{
+    match answer {
+        Answer::Usage => Status::Usage,
+        Answer::ReadFault => Status::ReadFault,
+        Answer::Memory => Status::Memory,
+        Answer::Refused(_) => Status::Refused,
+        Answer::Checked(verdict) => verdict_status(verdict),
+        Answer::Verified(checked) => checked_status(*checked),
+    }
 }

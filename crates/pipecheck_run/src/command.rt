@@ -1,26 +1,76 @@
-ghost use Rattle.std.specs.Prelude.{◌≡◌, map, MatchOption};
+ghost use Rattle.std.specs.Prelude.{◌≡◌, ◌∷◌, [], ℕ, List, map, MatchOption, codes};
 ghost use Rattle.std.specs.String.{string_bytes};
-ghost use Rattle.pipecheck_run.specs.Command.{IsCheck, IsNoCommand};
+ghost use Rattle.pipecheck_run.specs.Command.{Inputs as Names, IsCommand, IsNoCommand};
+ghost use Rattle.pipecheck_run.specs.Parsed.{said};
 
-/// A command by its words, without options.
+/// The model and the test of a command, by their names.
 #[derive(Clone, Copy)]
-pub(crate) struct Check<'a> {
+pub(crate) struct Inputs<'a> {
     pub(crate) model: &'a str,
     pub(crate) test: &'a str,
 }
 
-/// The command that the words are, if they are one: `check MODEL TEST`.
-pub(crate) fn command<'a>(words: &'a [String]) -> Option<Check<'a>>
-    ensures { MatchOption result (IsNoCommand (map string_bytes words.now)) (λ c. IsCheck (map string_bytes words.now) c.model.now c.test.now) }
+/// A command by its words, without options.
+#[derive(Clone, Copy)]
+pub(crate) enum Command<'a> {
+    /// `check MODEL TEST`
+    Check(Inputs<'a>),
+    /// `verify MODEL TEST CERT`
+    Verify {
+        inputs: Inputs<'a>,
+        certificate: &'a str,
+    },
+}
+
+/// The names of a model and of a test, where the words are this one and these two.
+fn inputs_behind<'a>(word: &str, words: &'a [String]) -> Option<Inputs<'a>>
+    ensures { MatchOption result
+        ((i : Names) → map string_bytes words.now ≡ word.now ∷ i.model ∷ i.test ∷ [] → ⊥)
+        (λ i. map string_bytes words.now ≡ word.now ∷ i.model.now ∷ i.test.now ∷ []) }
 {
     let [first, model, test] = words else {
         return None;
     };
-    if first.as_str() != "check" {
+    if first.as_str() != word {
         return None;
     }
-    Some(Check {
+    Some(Inputs {
         model: model.as_str(),
         test: test.as_str(),
+    })
+}
+
+/// The names of a model, of a test and of a third file, where the words are this one and these three.
+fn three_behind<'a>(word: &str, words: &'a [String]) -> Option<(Inputs<'a>, &'a str)>
+    ensures { MatchOption result
+        ((i : Names) (third : List ℕ) → map string_bytes words.now ≡ word.now ∷ i.model ∷ i.test ∷ third ∷ [] → ⊥)
+        (λ p. map string_bytes words.now ≡ word.now ∷ p.0.model.now ∷ p.0.test.now ∷ p.1.now ∷ []) }
+{
+    let [first, model, test, third] = words else {
+        return None;
+    };
+    if first.as_str() != word {
+        return None;
+    }
+    let inputs = Inputs {
+        model: model.as_str(),
+        test: test.as_str(),
+    };
+    Some((inputs, third.as_str()))
+}
+
+/// The command that the words are, if they are one.
+pub(crate) fn parse<'a>(words: &'a [String]) -> Option<Command<'a>>
+    ensures { MatchOption result (IsNoCommand (map string_bytes words.now)) (λ c. IsCommand (map string_bytes words.now) (said c)) }
+{
+    if let Some(inputs) = inputs_behind("check", words) {
+        return Some(Command::Check(inputs));
+    }
+    let Some((inputs, certificate)) = three_behind("verify", words) else {
+        return None;
+    };
+    Some(Command::Verify {
+        inputs,
+        certificate,
     })
 }

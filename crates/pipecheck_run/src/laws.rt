@@ -1,6 +1,6 @@
 // Laws of the definitions in specs/. Each function does nothing: its contract is the law.
-ghost use Rattle.pipecheck_run.specs.Language.{Contents};
-ghost use Rattle.pipecheck_run.specs.Laws.{HasOneFirstFault, HasCaseOrFault, HasOneCase, HasNoFaultBeside};
+ghost use Rattle.pipecheck_run.specs.Inputs.{Contents};
+ghost use Rattle.pipecheck_run.specs.Laws.{HasOneFirstFault, HasCaseOrFault, HasOneCase, HasNoFaultBeside, HasOneStatus};
 
 /// Two files have one first fault at most.
 pub fn one_first_fault()
@@ -20,4 +20,9 @@ pub fn one_model_and_case()
 /// Two files that say a model and a case have no first fault.
 pub fn no_first_fault()
     ensures { (holds : Contents) → HasNoFaultBeside holds }
+{}
+
+/// A certificate that `check` writes, `verify` takes, with the same verdict, unless it is too long.
+pub fn written_is_verified()
+    ensures { (holds later : Contents) → HasOneStatus holds later }
 {}

@@ -4,17 +4,43 @@ ghost use Rattle.pc_common.specs.Faults.{Rose};
 ghost use Rattle.pc_common.specs.Reads.{Reads};
 ghost use Rattle.pc_common.specs.Pieces.{IsCutShort};
 ghost use Rattle.pc_common.specs.declared.status.Status.TheVariants.{Usage as SUsage, ReadFault as SReadFault, WriteFault as SWriteFault, Memory as SMemory};
-ghost use Rattle.pipecheck_run.specs.Command.{IsCheck, IsNoCommand};
-ghost use Rattle.pipecheck_run.specs.Language.{Comes};
+ghost use Rattle.pipecheck_run.specs.Command.{IsNoCommand};
+ghost use Rattle.pipecheck_run.specs.Parsed.{said};
 ghost use Rattle.pipecheck_run.specs.Output.{Answers, usage_text};
+ghost use Rattle.pipecheck_run.specs.Headline.{IsTrueOf, IsDue, Comes};
 ghost use Rattle.pipecheck_run.specs.Answered.{answer_text, answer_status, CanBeWritten};
-ghost use Rattle.pipecheck_run.specs.Headline.{IsTrueOf, IsDue};
+ghost use Rattle.pipecheck_run.specs.Decides.{AnswersTo, Decides};
 
-use super::answer::Answer;
-use super::answering::{status, write_answer};
-use super::deciding::answer_to;
+use super::answer::{Answer, status, write_answer};
+use super::check::check;
+use super::command::{Command, parse};
+use super::verify::verify;
 use pc_common::{Failed, Files, Sink, Status};
 use std::alloc::Global;
+
+/// The answer to a command.
+fn answer_to<F: Files>(alloc: Global, command: Command<'_>, files: &mut F) -> Answer
+    ensures { AnswersTo F.told F.holds F.calm F.faults (said command.entry) files.old files.new result }
+{
+    match command {
+        Command::Check(inputs) => check(alloc, inputs, files),
+        Command::Verify {
+            inputs,
+            certificate,
+        } => verify(alloc, inputs, certificate, files),
+    }
+}
+
+/// Decides the answer to the words.
+fn decide<F: Files>(alloc: Global, words: &[String], files: &mut F) -> Answer
+    ensures usage { IsNoCommand (map string_bytes words.now) → answer_status result ≡ SUsage }
+    ensures decides { Decides F.told F.holds F.calm F.faults (map string_bytes words.now) files.old files.new result }
+{
+    match parse(words) {
+        None => Answer::Usage,
+        Some(command) => answer_to(alloc, command, files),
+    }
+}
 
 /// Writes the text of an answer, where it has one, and answers the status.
 fn tell<K: Sink>(out: &mut K, answer: &Answer) -> Status
@@ -40,9 +66,12 @@ fn tell<K: Sink>(out: &mut K, answer: &Answer) -> Status
     }
 }
 
-/// Answers the command `check MODEL TEST`: reads the two named files, at most 1,048,576 bytes each,
+/// Answers a command. `check MODEL TEST` reads the two named files, at most 1,048,576 bytes each,
 /// decides whether the outcome of the test is observable on the model, and writes the verdict with
-/// its certificate, the one fault of the files, or that the words are no command.
+/// its certificate, or the first fault of the files. `verify MODEL TEST CERT` reads the first two so,
+/// and where they have no fault the third, to its end or to one byte past 67,108,864: it writes the
+/// verdict whose certificate the third is, or the line at which it is refused, without a search. Other
+/// words are no command, and that is written.
 ///
 /// The words are those behind the program's name. Nothing is written before the answer is known, and
 /// nothing at all with `ReadFault` or `Memory`. With `WriteFault` the first bytes of the answer's text
@@ -50,10 +79,12 @@ fn tell<K: Sink>(out: &mut K, answer: &Answer) -> Status
 ///
 /// - `usage` to `usage_text`: `Usage` comes exactly on words that are no command, whatever the memory.
 /// - `read_cause` to `read_due`: `ReadFault` comes only where a call of the files failed, and over
-///   calm files exactly where a name that is not held is come to.
+///   calm files exactly where a name that is not held is come to: the model's, then the test's, and
+///   of `verify`, where these two have no fault, the third.
 /// - `write_cause`: `WriteFault` comes only where a call of the sink failed.
 /// - `quiet`, `answers`, `short`: what was written.
-/// - `headline`, `due`: the verdict is true of the bytes of the two files, and it comes.
+/// - `headline`, `due`: the verdict is true of the bytes of the two files, whatever a third holds, and it
+///   comes: from `check` by the outcome, from `verify` by what the third file is.
 pub fn run<F: Files, K: Sink>(alloc: Global, words: &[String], files: &mut F, out: &mut K) -> Status
     ensures files { Reads F.told F.holds F.calm F.faults files.old files.new }
     ensures sink_told { K.told out.new ≡ K.told out.old }
@@ -62,10 +93,9 @@ pub fn run<F: Files, K: Sink>(alloc: Global, words: &[String], files: &mut F, ou
     ensures usage_due { IsNoCommand (map string_bytes words.now) → (result ≡ SUsage) ⊎ (result ≡ SWriteFault) }
     ensures usage_text { IsTrue (K.told out.old) → result ≡ SUsage → K.taken out.new ≡ K.taken out.old ++ usage_text }
     ensures read_cause { result ≡ SReadFault → Rose (F.faults files.old) (F.faults files.new) }
-    ensures read_calm { IsTrue (F.calm files.old) → (model test : List ℕ) → IsCheck (map string_bytes words.now) model test
-        → result ≡ SReadFault → Comes (F.holds files.old) model test }
-    ensures read_due { IsTrue (F.calm files.old) → (model test : List ℕ) → IsCheck (map string_bytes words.now) model test
-        → Comes (F.holds files.old) model test → (result ≡ SReadFault) ⊎ (result ≡ SMemory) }
+    ensures read_calm { IsTrue (F.calm files.old) → result ≡ SReadFault → Comes (map string_bytes words.now) (F.holds files.old) }
+    ensures read_due { IsTrue (F.calm files.old) → Comes (map string_bytes words.now) (F.holds files.old)
+        → (result ≡ SReadFault) ⊎ (result ≡ SMemory) }
     ensures write_cause { result ≡ SWriteFault → Rose (K.faults out.old) (K.faults out.new) }
     ensures quiet { (result ≡ SReadFault) ⊎ (result ≡ SMemory) → out.new ≡ out.old }
     ensures answers { IsTrue (F.told files.old) → result ≢ SReadFault → result ≢ SMemory → result ≢ SWriteFault
@@ -79,6 +109,6 @@ pub fn run<F: Files, K: Sink>(alloc: Global, words: &[String], files: &mut F, ou
         → (Rose (K.faults out.old) (K.faults out.new) → ⊥) → result ≢ SMemory
         → IsDue (map string_bytes words.now) (F.holds files.old) result }
 {
-    let answer = answer_to(alloc, words, files);
+    let answer = decide(alloc, words, files);
     tell(out, &answer)
 }

@@ -1,4 +1,4 @@
-use Rattle.pipecheck_run.proofs.Headline.{no_fault_said}
+use Rattle.pipecheck_run.proofs.OneCase.{no_fault_said}
 use Rattle.pipecheck_run.proofs.laws.no_first_fault.Goals as goal
 
 pub returns : goal.returns

@@ -1,4 +1,4 @@
-use Rattle.pipecheck_run.proofs.Headline.{one_said}
+use Rattle.pipecheck_run.proofs.OneCase.{one_said}
 use Rattle.pipecheck_run.proofs.laws.one_model_and_case.Goals as goal
 
 pub returns : goal.returns

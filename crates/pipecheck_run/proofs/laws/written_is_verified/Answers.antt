@@ -1,0 +1,5 @@
+use Rattle.pipecheck_run.proofs.OneStatus.{one_status}
+use Rattle.pipecheck_run.proofs.laws.written_is_verified.Goals as goal
+
+pub returns : goal.returns
+returns c = one_status

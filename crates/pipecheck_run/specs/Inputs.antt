@@ -1,0 +1,56 @@
+-- What a model's and a test's file say together, and their first fault.
+use Rattle.std.specs.Prelude.{◌≡◌, ◌⊎◌, ℕ, ◌<◌, ◌≤◌, List, Option, Some, None, length}
+use Rattle.pc_common.specs.Case.{Case}
+use Rattle.pc_common.specs.declared.fault.FaultKind.TheVariants.{TooLarge}
+use Rattle.pc_common.specs.declared.place.Place.{Place}
+use Rattle.pc_common.specs.declared.fault.InputFault.{InputFault}
+use Rattle.pc_common.specs.declared.fault.Which.{Which}
+use Rattle.pc_common.specs.declared.fault.Which.TheVariants.{Model, Test}
+use Rattle.pc_syntax.specs.Written.{WrittenModel}
+use Rattle.litmus_reader.specs.Answer.{CaseOf}
+use Rattle.pc_front.specs.Front.{SaysModel, IsFirstFault as IsFaultOf, fault_at}
+use Rattle.pipecheck_run.specs.Command.{Inputs}
+
+-- how many bytes a model or a test may have
+abbrev pub file_limit : ℕ
+file_limit = 1048576
+
+-- what a name holds, by name
+abbrev pub Contents : Type 0
+Contents = List ℕ → Option (List ℕ)
+
+-- the file is held and within the limit
+pub record IsRead (holds : Contents) (name bytes : List ℕ) : Type 0 where
+  pub held : holds name ≡ Some bytes
+  pub within : length bytes ≤ file_limit
+
+pub record IsTooLarge (holds : Contents) (name : List ℕ) : Type 0 where
+  pub bytes : List ℕ
+  pub held : holds name ≡ Some bytes
+  pub past : file_limit < length bytes
+
+abbrev pub start : Place
+start = record { offset = 0 }
+
+abbrev pub too_large : Which → InputFault
+too_large file = fault_at file (TooLarge file_limit) start
+
+-- the first fault: size as the files are read, the model's first; then that of the bytes of the two
+pub data IsFirstFault (holds : Contents) (i : Inputs) : InputFault → Type 0 where
+  large_model : IsTooLarge holds i.model → IsFirstFault holds i (too_large Model)
+  large_test : {mb : List ℕ} → IsRead holds i.model mb → IsTooLarge holds i.test → IsFirstFault holds i (too_large Test)
+  in_bytes : {mb tb : List ℕ} {fault : InputFault} → IsRead holds i.model mb → IsRead holds i.test tb → IsFaultOf mb tb fault
+      → IsFirstFault holds i fault
+
+-- the model and the case that the two files say
+pub record Says (holds : Contents) (i : Inputs) (m : WrittenModel) (c : Case) : Type 0 where
+  pub model_bytes : List ℕ
+  pub test_bytes : List ℕ
+  pub model_read : IsRead holds i.model model_bytes
+  pub test_read : IsRead holds i.test test_bytes
+  pub says_model : SaysModel model_bytes m
+  pub says_test : CaseOf test_bytes c
+
+-- a name that is come to is not held: the model's, or, where the model was read, the test's
+abbrev pub LacksInput : Contents → Inputs → Type 0
+LacksInput holds i = (holds i.model ≡ None) ⊎ (((bytes : List ℕ) × IsRead holds i.model bytes) × (holds i.test ≡ None))

@@ -1,0 +1,3 @@
+-- The command `verify`: what is read of the third file, and the status and the line of what it is found to be.
+pub mod Told
+pub mod Reading
