@@ -9,6 +9,8 @@ mod brackets;
 #[cfg(test)]
 mod cases;
 #[cfg(test)]
+mod certificates;
+#[cfg(test)]
 mod checking;
 #[cfg(test)]
 mod formulas;
@@ -34,3 +36,5 @@ mod texts;
 mod trees;
 #[cfg(test)]
 mod verdicts;
+#[cfg(test)]
+mod verifying;
