@@ -39,7 +39,11 @@ fn is_answered(
 ) -> Result<bool, Memory> {
     let (status, text) = answer(alloc, checked)?;
     let words = words(alloc, WORDS)?;
-    let contents = &[("model", model), ("test", test), ("certificate", certificate)];
+    let contents = &[
+        ("model", model),
+        ("test", test),
+        ("certificate", certificate),
+    ];
     match str::from_utf8(&text) {
         Ok(text) => ends_over(alloc, &words, contents, (&[], &[]), (status, text)),
         Err(_) => Ok(false),
@@ -112,7 +116,13 @@ const ENDS: &[(
     (WORDS, &[], &[], Status::Observable, "verified observable\n"),
     // a name that is missing; a fault of the model is named before the third file is come to
     ("verify model test none", &[], &[], Status::ReadFault, ""),
-    ("verify model none certificate", &[], &[], Status::ReadFault, ""),
+    (
+        "verify model none certificate",
+        &[],
+        &[],
+        Status::ReadFault,
+        "",
+    ),
     (
         "verify bad test none",
         &[],
@@ -126,7 +136,13 @@ const ENDS: &[(
     (WORDS, &[9], &[], Status::ReadFault, ""),
     // the answer is one piece
     (WORDS, &[], &[1], Status::WriteFault, ""),
-    (WORDS, &[], &[2], Status::Observable, "verified observable\n"),
+    (
+        WORDS,
+        &[],
+        &[2],
+        Status::Observable,
+        "verified observable\n",
+    ),
     (
         "verify model test",
         &[1],
