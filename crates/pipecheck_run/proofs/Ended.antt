@@ -19,7 +19,7 @@ use Rattle.litmus_reader.specs.Answer.{CaseOf}
 use Rattle.litmus_reader.proofs.CleanFacts.{ops_kept}
 use Rattle.pipecheck_run.specs.declared.refusal.Refusal.{Refusal}
 use Rattle.pipecheck_run.specs.declared.answer.Answer.{Answer}
-use Rattle.pipecheck_run.specs.declared.answer.Answer.TheVariants.{Usage as a_usage, ReadFault as a_read_fault, Memory as a_memory, Refused as a_refusal, Checked as a_verdict, Verified as a_check}
+use Rattle.pipecheck_run.specs.declared.answer.Answer.TheVariants.{Usage as a_usage, ReadFault as a_read_fault, Memory as a_memory, Refused as a_refusal, Checked as a_verdict, Verified as a_check, Generated as a_report}
 use Rattle.pipecheck_run.specs.Command.{Inputs}
 use Rattle.pipecheck_run.specs.Inputs.{Contents, IsRead, IsTooLarge, IsFirstFault, large_model, large_test, in_bytes, too_large, LacksInput}
 use Rattle.pipecheck_run.specs.Output.{IsRefusal, refusal, refused_text, file_word, name_of}
@@ -46,7 +46,7 @@ refused_no_fault e = cc
 refused_no_usage : Refused ≡ Usage → ⊥
 refused_no_usage e = cc
 
-refusal_is : (bytes : List ℕ) (f : InputFault) (r : Refusal) → r.fault ≡ f
+pub refusal_is : (bytes : List ℕ) (f : InputFault) (r : Refusal) → r.fault ≡ f
     → r.line ≡ line_of bytes f.place.offset → r.column ≡ column_of bytes f.place.offset → refused_text bytes f ≡ refusal_text r
 refusal_is bytes f r e l c =
     ap (λ n. text f n (column_of bytes f.place.offset)) (sym l) ∙ ap (λ n. text f r.line n) (sym c) ∙ ap (λ g. text g r.line r.column) (sym e)
@@ -78,6 +78,7 @@ ended_answers holds i file past_limit a_read_fault is no_fault memory first = ab
 ended_answers holds i file past_limit a_memory is no_fault memory first = absurd is
 ended_answers holds i file past_limit (a_verdict v) is no_fault memory first = absurd is
 ended_answers holds i file past_limit (a_check found) is no_fault memory first = absurd is
+ended_answers holds i file past_limit (a_report r) is no_fault memory first = absurd is
 
 -- the file that a fault is in holds these bytes
 held_in : (holds : Contents) (i : Inputs) (mb tb : List ℕ) (file : Which) → IsRead holds i.model mb → IsRead holds i.test tb
@@ -120,7 +121,7 @@ fault_held holds i f (in_bytes rm rt is) (inl none) = some_none (sym rm.held ∙
 fault_held holds i f (in_bytes rm rt is) (inr (first, none)) = some_none (sym rt.held ∙ none)
 
 -- a test that is read keeps its micro-ops
-test_kept : (bytes : List ℕ) (c : Case) → CaseOf bytes c → IsKept c.ops
+pub test_kept : (bytes : List ℕ) (c : Case) → CaseOf bytes c → IsKept c.ops
 test_kept bytes c said = subst (λ (d : Case). IsKept d.ops) (sym said.is) (ops_kept said.items said.clean)
 
 ended_writable : (file : Which) (end : ReadEnd) (a : Answer) → IsEnded file end a → CanBeWritten a
@@ -132,6 +133,7 @@ ended_writable file past_limit a_read_fault is = absurd is
 ended_writable file past_limit a_memory is = absurd is
 ended_writable file past_limit (a_verdict v) is = absurd is
 ended_writable file past_limit (a_check found) is = absurd is
+ended_writable file past_limit (a_report r) is = absurd is
 
 -- the status of an answer where a file could not be read whole
 ended_status : (file : Which) (end : ReadEnd) (a : Answer) → IsEnded file end a
@@ -144,6 +146,7 @@ ended_status file past_limit a_read_fault is = absurd is
 ended_status file past_limit a_memory is = absurd is
 ended_status file past_limit (a_verdict v) is = absurd is
 ended_status file past_limit (a_check found) is = absurd is
+ended_status file past_limit (a_report r) is = absurd is
 
 module _ {F : Type 0} {told : F → Bool} {holds : F → Contents} {calm : F → Bool} {faults : F → ℕ} {old new : F}
     (calm_told : IsTrue (calm old) → IsTrue (told old)) (keeps : Reads told holds calm faults old new) (i : Inputs) where
@@ -232,5 +235,6 @@ module _ {F : Type 0} {told : F → Bool} {holds : F → Contents} {calm : F →
     }
     front_end_ends (a_verdict v) is = absurd is
     front_end_ends (a_check found) is = absurd is
+    front_end_ends (a_report r) is = absurd is
     front_end_ends a_usage is = absurd is
     front_end_ends a_read_fault is = absurd is

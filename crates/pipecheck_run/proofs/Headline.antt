@@ -3,15 +3,17 @@ use Rattle.std.proofs.Common.{◌≡◌, ℕ, List, Some, refl, subst}
 use Rattle.pc_common.specs.Case.{Case}
 use Rattle.pc_common.specs.declared.fault.InputFault.{InputFault}
 use Rattle.pc_common.specs.declared.status.Status.{Status}
-use Rattle.pc_common.specs.declared.status.Status.TheVariants.{Refused as is_refused}
+use Rattle.pc_common.specs.declared.status.Status.TheVariants.{Refused as is_refused, Done as is_done}
 use Rattle.pc_syntax.specs.Written.{WrittenModel}
-use Rattle.pipecheck_run.specs.Command.{Inputs, Command, check, verify, IsCommand, IsOn}
+use Rattle.pipecheck_run.specs.Command.{Inputs, Command, check, verify, gen, IsCommand, IsOn}
 use Rattle.pipecheck_run.specs.Inputs.{Contents, IsFirstFault, Says}
-use Rattle.pipecheck_run.specs.Output.{Answers, usage, refused, checked, verified, IsRefusal, refusal}
+use Rattle.pipecheck_run.specs.Output.{Answers, usage, refused, checked, verified, IsRefusal, refusal, refused_ring, told_ring}
 use Rattle.pipecheck_run.specs.Headline.{IsTrueOf, IsDueOf, IsDue}
 use Rattle.pipecheck_run.specs.check.Certified.{IsCertified}
-use Rattle.pipecheck_run.proofs.OneCommand.{one_command, one_inputs, on_check, on_verify}
-use Rattle.pipecheck_run.proofs.OneCase.{one_said, one_held, no_fault_said}
+use Rattle.pipecheck_run.proofs.OneCommand.{one_command, one_inputs, on_check, on_verify, off_gen}
+use Rattle.pipecheck_run.proofs.OneCase.{one_said, one_held, no_fault_said, no_fault_of}
+use Rattle.gen_texts.specs.Ring.{ring_model, ring_test}
+use Rattle.pipecheck_run.specs.ring.Texts.{SaysRing, IsRingFault}
 use Rattle.cert_check.specs.declared.checked.Checked.{Checked}
 use Rattle.cert_check.specs.Verified.{Verified}
 use Rattle.pipecheck_run.specs.Certificates.{question_by}
@@ -64,6 +66,18 @@ answer_true {words} (checked {i = j} is says2 certified) i m c on says =
     certified_true (same_certified says2 (moved (on_check words j is) on says) certified)
 answer_true {words} (verified {i = j} {certificate = certificate} {bytes = bytes} {found = what} is says2 held found) i m c on says =
     verified_true m c bytes what (same_verified says2 (moved (on_verify words j certificate is) on says) found)
+answer_true (refused_ring is fault) i m c on says = absurd (off_gen is on)
+answer_true (told_ring is says2 told) i m c on says = absurd (off_gen is on)
+
+-- the two texts of a ring say something, or have a fault
+ring_faultless : {n : ℕ} {m : WrittenModel} {c : Case} {f : InputFault} → SaysRing n m c → IsRingFault n f → ⊥
+ring_faultless {n} {m} {c} {f} says fault = no_fault_of ring_model (ring_test n) m c f says.says_model says.says_test fault
+
+due_of_told : (holds : Contents) {n : ℕ} {m : WrittenModel} {c : Case} → SaysRing n m c → IsDueOf holds (gen n) is_done
+due_of_told holds says = (λ m c other. refl, λ fault is. absurd (ring_faultless says is))
+
+due_of_refused : (holds : Contents) {n : ℕ} {f : InputFault} → IsRingFault n f → IsDueOf holds (gen n) is_refused
+due_of_refused holds is = (λ m c says. absurd (ring_faultless says is), λ fault other. refl)
 
 due_of_check : {holds : Contents} {i : Inputs} {m : WrittenModel} {c : Case} {status : Status} {text : List ℕ}
     → Says holds i m c → IsCertified m c status text → IsDueOf holds (check i) status
@@ -85,6 +99,7 @@ due_of_faulty : {holds : Contents} {i : Inputs} {f : InputFault} {words : List (
     → IsOn words i → IsFirstFault holds i f → (command : Command) → IsCommand words command → IsDueOf holds command status
 due_of_faulty {words = words} status on fault (check j) is = λ m c says. absurd (faulty on fault (on_check words j is) says)
 due_of_faulty {words = words} status on fault (verify j certificate) is = λ m c bytes says held. absurd (faulty on fault (on_verify words j certificate is) says)
+due_of_faulty {words = words} status on fault (gen n) is = absurd (off_gen is on)
 
 pub answer_due : {words : List (List ℕ)} {holds : Contents} {status : Status} {text : List ℕ}
     → Answers words holds status text → IsDue words holds status
@@ -106,4 +121,14 @@ answer_due {words} {holds} {status} (verified {i = i} {certificate = certificate
       let P : Command → Type 0 = λ k. IsDueOf holds k status in
       subst P (one_command words (verify i certificate) command is is2) (due_of_verify says held found);
   fault = λ j f on fault. absurd (faulty on fault (on_verify words i certificate is) says);
+}
+answer_due {words} {holds} {status} (refused_ring {n = n} is fault) = record {
+  found = λ command is2.
+      let P : Command → Type 0 = λ k. IsDueOf holds k is_refused in subst P (one_command words (gen n) command is is2) (due_of_refused holds fault);
+  fault = λ j f on fault2. absurd (off_gen is on);
+}
+answer_due {words} {holds} {status} (told_ring {n = n} is says told) = record {
+  found = λ command is2.
+      let P : Command → Type 0 = λ k. IsDueOf holds k is_done in subst P (one_command words (gen n) command is is2) (due_of_told holds says);
+  fault = λ j f on fault. absurd (off_gen is on);
 }

@@ -15,3 +15,9 @@ pub mod Decided
 pub mod DecidedVerify
 pub mod Told
 pub mod Fed
+pub mod RingSizes
+pub mod RingCounts
+pub mod RingLines
+pub mod RingTold
+pub mod RingAnswers
+pub mod RingWords

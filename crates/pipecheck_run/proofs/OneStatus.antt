@@ -8,12 +8,12 @@ use Rattle.cert_check.specs.declared.checked.Checked.{Checked}
 use Rattle.cert_check.specs.declared.checked.Checked.TheVariants.{Observable, Unobservable}
 use Rattle.pipecheck_run.specs.Command.{Inputs, check, verify, IsCommand}
 use Rattle.pipecheck_run.specs.Inputs.{Contents, Says, IsRead}
-use Rattle.pipecheck_run.specs.Output.{Answers, usage, refused, checked, verified, IsRefusal, refusal}
+use Rattle.pipecheck_run.specs.Output.{Answers, usage, refused, checked, verified, refused_ring, told_ring, IsRefusal, refusal}
 use Rattle.pipecheck_run.specs.Laws.{HasOneStatus}
 use Rattle.pipecheck_run.specs.Certificates.{question_by}
 use Rattle.pipecheck_run.specs.check.Certified.{IsCertified, seen, unseen}
 use Rattle.pipecheck_run.specs.verify.Told.{told_status}
-use Rattle.pipecheck_run.proofs.OneCommand.{on_check, on_verify, one_form, one_certificate}
+use Rattle.pipecheck_run.proofs.OneCommand.{on_check, on_verify, off_gen, one_form, one_certificate}
 use Rattle.pipecheck_run.proofs.OneCase.{one_held}
 use Rattle.pipecheck_run.proofs.Headline.{moved, refusal_faulty, same_certified}
 use Rattle.pipecheck_run.proofs.Verified.{one_found}
@@ -57,6 +57,10 @@ module _ (holds later : Contents) (i : Inputs) (certificate : List ℕ) (words a
       → Answers again later second line → second ≡ status
   same_status (usage none) short held b = absurd (none (check i) is)
   same_status (verified is2 says held2 found) short held b = absurd (one_form is is2)
+  same_status (refused_ring is2 fault) short held b = absurd (off_gen is2 (on_check words i is))
+  same_status (told_ring is2 says told) short held b = absurd (off_gen is2 (on_check words i is))
+  same_status a short held (refused_ring is2 fault) = absurd (off_gen is2 (on_verify again i certificate on))
+  same_status a short held (told_ring is2 says told) = absurd (off_gen is2 (on_verify again i certificate on))
   same_status a short held (usage none) = absurd (none (verify i certificate) on)
   same_status a short held (checked is2 says found) = absurd (one_form is2 on)
   same_status (refused {i = j} x r) short held (refused {i = k} y s) = same_refusal r s

@@ -1,6 +1,13 @@
--- A list of three by its elements.
+-- A list of two or of three by its elements.
 use Rattle.std.proofs.Common.{◌≡◌, ℕ, ◌<◌, ◌≤◌, Bool, true, false, not, List, [], ◌∷◌, map, length, get_or, refl, sym, ◌∙◌, ap, arith, nat_eq}
 use Rattle.std.specs.Cmp.Lexicographic.{pointwise, same_text, bytes_decides}
+
+pub two : {X Y : Type 0} (f : X → Y) (xs : List X) (a b : X) → 2 ≤ length xs → length xs < 3
+    → a ≡ get_or xs 0 a → b ≡ get_or xs 1 b → map f xs ≡ f a ∷ f b ∷ []
+two f [] a b many few ea eb = absurd (omega arith)
+two f (x ∷ []) a b many few ea eb = absurd (omega arith)
+two f (x ∷ y ∷ []) a b many few ea eb = ap (λ e. f e ∷ f y ∷ []) (sym ea) ∙ ap (λ e. f a ∷ f e ∷ []) (sym eb)
+two f (x ∷ y ∷ z ∷ zs) a b many few ea eb = absurd (omega arith)
 
 pub three : {X Y : Type 0} (f : X → Y) (xs : List X) (a b d : X) → 3 ≤ length xs → length xs < 4
     → a ≡ get_or xs 0 a → b ≡ get_or xs 1 b → d ≡ get_or xs 2 d → map f xs ≡ f a ∷ f b ∷ f d ∷ []

@@ -3,7 +3,7 @@ use Rattle.std.proofs.Common.{◌≡◌, ◌≢◌, ◌⊎◌, inl, inr, refl, s
 use Rattle.pc_common.specs.declared.status.Status.{Status}
 use Rattle.pc_common.specs.declared.status.Status.TheVariants.{Usage, WriteFault}
 use Rattle.pipecheck_run.specs.declared.answer.Answer.{Answer}
-use Rattle.pipecheck_run.specs.declared.answer.Answer.TheVariants.{Usage as a_usage, ReadFault as a_read_fault, Memory as a_memory, Refused as a_refusal, Checked as a_verdict, Verified as a_check}
+use Rattle.pipecheck_run.specs.declared.answer.Answer.TheVariants.{Usage as a_usage, ReadFault as a_read_fault, Memory as a_memory, Refused as a_refusal, Checked as a_verdict, Verified as a_check, Generated as a_report}
 use Rattle.pipecheck_run.specs.Answered.{answer_text, answer_status}
 use Rattle.pipecheck_run.specs.Output.{usage_text}
 use Rattle.solver.specs.declared.answer.Answer.{Answer as Found}
@@ -31,6 +31,7 @@ usage_said a_usage e = refl
 usage_said a_read_fault e = cc
 usage_said a_memory e = cc
 usage_said (a_refusal r) e = cc
+usage_said (a_report r) e = cc
 usage_said (a_check found) e = absurd (never_told found e)
   where
     never_told : (found : Checked) → told_status found ≡ Usage → ⊥

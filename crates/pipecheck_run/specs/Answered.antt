@@ -2,10 +2,10 @@
 use Rattle.std.specs.Prelude.{◌≡◌, ◌++◌, ⊤, ℕ, List, [], Result, Ok, Err, codes}
 use Rattle.std.specs.Fmt.{decimal}
 use Rattle.pc_common.specs.declared.status.Status.{Status}
-use Rattle.pc_common.specs.declared.status.Status.TheVariants.{Usage, Refused, ReadFault, Memory}
+use Rattle.pc_common.specs.declared.status.Status.TheVariants.{Done, Usage, Refused, ReadFault, Memory}
 use Rattle.pipecheck_run.specs.declared.refusal.Refusal.{Refusal}
 use Rattle.pipecheck_run.specs.declared.answer.Answer.{Answer}
-use Rattle.pipecheck_run.specs.declared.answer.Answer.TheVariants.{Usage as a_usage, ReadFault as a_read_fault, Memory as a_memory, Refused as a_refusal, Checked as a_verdict, Verified as a_check}
+use Rattle.pipecheck_run.specs.declared.answer.Answer.TheVariants.{Usage as a_usage, ReadFault as a_read_fault, Memory as a_memory, Refused as a_refusal, Checked as a_verdict, Verified as a_check, Generated as a_report}
 use Rattle.cert_check.specs.declared.checked.Checked.{Checked}
 use Rattle.pipecheck_run.specs.declared.verify.reading.CheckEnd.{CheckEnd}
 use Rattle.pipecheck_run.specs.declared.verify.reading.CheckEnd.TheVariants.{ReadFault as a_failed_call, Memory as a_refused_room}
@@ -13,6 +13,7 @@ use Rattle.pipecheck_run.specs.Words.{fault_word}
 use Rattle.pipecheck_run.specs.Output.{usage_text, file_word}
 use Rattle.pipecheck_run.specs.check.Verdicts.{verdict_text, status_of, IsWritable}
 use Rattle.pipecheck_run.specs.verify.Told.{told_status, told_text}
+use Rattle.pipecheck_run.specs.ring.Reports.{report_text}
 use Rattle.pc_common.specs.LineColumn.{line_of, column_of}
 use Rattle.pc_common.specs.declared.fault.Which.{Which}
 use Rattle.pc_common.specs.declared.fault.Which.TheVariants.{Model, Test}
@@ -35,6 +36,7 @@ answer_text a_memory = []
 answer_text (a_refusal r) = refusal_text r
 answer_text (a_verdict v) = verdict_text v
 answer_text (a_check found) = told_text found
+answer_text (a_report r) = report_text r
 
 abbrev pub answer_status : Answer → Status
 answer_status a_usage = Usage
@@ -43,6 +45,7 @@ answer_status a_memory = Memory
 answer_status (a_refusal r) = Refused
 answer_status (a_verdict v) = status_of v.found
 answer_status (a_check found) = told_status found
+answer_status (a_report r) = Done
 
 -- the line and the column are those of the fault's place in these bytes
 abbrev pub IsPlaced : List ℕ → Refusal → Type 0
@@ -59,6 +62,7 @@ IsFrontEnd model test (a_refusal r) = IsFaultOf model test r.fault × IsPlaced (
 IsFrontEnd model test a_memory = ⊤
 IsFrontEnd model test (a_verdict v) = ⊥
 IsFrontEnd model test (a_check found) = ⊥
+IsFrontEnd model test (a_report r) = ⊥
 IsFrontEnd model test a_usage = ⊥
 IsFrontEnd model test a_read_fault = ⊥
 
@@ -66,6 +70,7 @@ IsFrontEnd model test a_read_fault = ⊥
 abbrev pub CanBeWritten : Answer → Type 0
 CanBeWritten (a_verdict v) = IsWritable (names_of v.front) v.found
 CanBeWritten (a_check found) = ⊤
+CanBeWritten (a_report r) = ⊤
 CanBeWritten (a_refusal r) = ⊤
 CanBeWritten a_usage = ⊤
 CanBeWritten a_read_fault = ⊤
@@ -78,6 +83,7 @@ IsEnded file no_memory a = a ≡ a_memory
 IsEnded file past_limit (a_refusal r) = (r.fault ≡ too_large file) × (r.line ≡ 1) × (r.column ≡ 1)
 IsEnded file past_limit (a_verdict v) = ⊥
 IsEnded file past_limit (a_check found) = ⊥
+IsEnded file past_limit (a_report r) = ⊥
 IsEnded file past_limit a_usage = ⊥
 IsEnded file past_limit a_read_fault = ⊥
 IsEnded file past_limit a_memory = ⊥

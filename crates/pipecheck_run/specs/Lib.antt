@@ -4,6 +4,7 @@ pub mod Inputs
 pub mod Certificates
 pub mod check
 pub mod verify
+pub mod ring
 pub mod Output
 pub mod Headline
 pub mod Laws

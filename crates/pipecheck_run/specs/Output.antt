@@ -2,21 +2,24 @@
 use Rattle.std.specs.Prelude.{◌≡◌, ℕ, List, ◌++◌, codes, Some}
 use Rattle.std.specs.Fmt.{decimal}
 use Rattle.pc_common.specs.Case.{Case}
+use Rattle.pc_common.specs.Lines.{Verdict}
 use Rattle.pc_common.specs.declared.status.Status.{Status}
-use Rattle.pc_common.specs.declared.status.Status.TheVariants.{Usage, Refused}
+use Rattle.pc_common.specs.declared.status.Status.TheVariants.{Done, Usage, Refused}
 use Rattle.pc_common.specs.declared.fault.Which.{Which}
 use Rattle.pc_common.specs.declared.fault.Which.TheVariants.{Model, Test}
 use Rattle.pc_common.specs.declared.fault.InputFault.{InputFault}
 use Rattle.pc_syntax.specs.Written.{WrittenModel}
 use Rattle.pc_common.specs.LineColumn.{line_of, column_of}
 use Rattle.pipecheck_run.specs.Words.{fault_word}
-use Rattle.pipecheck_run.specs.Command.{Inputs, check, verify, IsCommand, IsNoCommand, IsOn}
+use Rattle.pipecheck_run.specs.Command.{Inputs, check, verify, IsCommand, IsNoCommand, IsOn, gen}
 use Rattle.pipecheck_run.specs.Inputs.{Contents, IsFirstFault, Says}
 use Rattle.cert_check.specs.declared.checked.Checked.{Checked}
 use Rattle.cert_check.specs.Verified.{Verified}
 use Rattle.pipecheck_run.specs.Certificates.{question_by}
 use Rattle.pipecheck_run.specs.check.Certified.{IsCertified}
 use Rattle.pipecheck_run.specs.verify.Told.{told_status, told_text}
+use Rattle.pipecheck_run.specs.ring.Texts.{ring_bytes, SaysRing, IsRingFault, ring_text}
+use Rattle.pipecheck_run.specs.ring.Counted.{IsTold}
 
 abbrev pub usage_text : List ℕ
 usage_text = codes "pipecheck: bad command line\n"
@@ -49,3 +52,7 @@ pub data Answers (words : List (List ℕ)) (holds : Contents) : Status → List 
   verified : {i : Inputs} {certificate bytes : List ℕ} {m : WrittenModel} {c : Case} {found : Checked} → IsCommand words (verify i certificate)
       → Says holds i m c → holds certificate ≡ Some bytes → Verified (question_by m c) bytes found
       → Answers words holds (told_status found) (told_text found)
+  refused_ring : {n : ℕ} {fault : InputFault} → IsCommand words (gen n) → IsRingFault n fault
+      → Answers words holds Refused (refused_text (ring_bytes n fault.file) fault)
+  told_ring : {n nodes splits leaves : ℕ} {m : WrittenModel} {c : Case} {v : Verdict} → IsCommand words (gen n) → SaysRing n m c
+      → IsTold m c v nodes splits leaves → Answers words holds Done (ring_text n v nodes splits leaves)

@@ -4,6 +4,7 @@ ghost use Rattle.pipecheck_run.specs.Answered.{answer_text, answer_status, CanBe
 
 use super::check::{Verdict, verdict_status, write_verdict};
 use super::refusal::{Refusal, write_refusal};
+use super::ring::{Report, write_report};
 use super::verify::{checked_status, write_checked};
 use cert_check::Checked;
 use pc_common::{Failed, Sink, Status, write_all};
@@ -23,6 +24,8 @@ pub(crate) enum Answer {
     Checked(Verdict),
     /// The files say a model and a test, to which the third file is this.
     Verified(Checked),
+    /// `gen` finds this of the texts that it makes.
+    Generated(Report),
 }
 
 /// Writes the text of an answer. Takes no memory.
@@ -36,6 +39,7 @@ pub(crate) fn write_answer<K: Sink>(out: &mut K, answer: &Answer) -> Result<(), 
         Answer::Refused(refusal) => write_refusal(out, refusal),
         Answer::Checked(verdict) => write_verdict(out, verdict),
         Answer::Verified(checked) => write_checked(out, *checked),
+        Answer::Generated(report) => write_report(out, report),
     }
 }
 
@@ -50,5 +54,6 @@ pub(crate) fn status(answer: &Answer) -> Status
         Answer::Refused(_) => Status::Refused,
         Answer::Checked(verdict) => verdict_status(verdict),
         Answer::Verified(checked) => checked_status(*checked),
+        Answer::Generated(_) => Status::Done,
     }
 }

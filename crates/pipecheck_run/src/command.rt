@@ -3,6 +3,8 @@ ghost use Rattle.std.specs.String.{string_bytes};
 ghost use Rattle.pipecheck_run.specs.Command.{Inputs as Names, IsCommand, IsNoCommand};
 ghost use Rattle.pipecheck_run.specs.Parsed.{said};
 
+use super::ring::cores_behind;
+
 /// The model and the test of a command, by their names.
 #[derive(Clone, Copy)]
 pub(crate) struct Inputs<'a> {
@@ -20,6 +22,8 @@ pub(crate) enum Command<'a> {
         inputs: Inputs<'a>,
         certificate: &'a str,
     },
+    /// `gen N`, with N from 2 to 16
+    Gen(u8),
 }
 
 /// The names of a model and of a test, where the words are this one and these two.
@@ -66,11 +70,12 @@ pub(crate) fn parse<'a>(words: &'a [String]) -> Option<Command<'a>>
     if let Some(inputs) = inputs_behind("check", words) {
         return Some(Command::Check(inputs));
     }
-    let Some((inputs, certificate)) = three_behind("verify", words) else {
-        return None;
-    };
-    Some(Command::Verify {
-        inputs,
-        certificate,
-    })
+    if let Some((inputs, certificate)) = three_behind("verify", words) {
+        return Some(Command::Verify {
+            inputs,
+            certificate,
+        });
+    }
+    let n = cores_behind(words)?;
+    Some(Command::Gen(n))
 }

@@ -52,7 +52,7 @@ fn bytes_of<'a>(file: Which, model: &'a [u8], test: &'a [u8]) -> &'a [u8]
 }
 
 /// The front of the bytes of the two files, or the answer where they say none.
-fn front_of(alloc: Global, model: &[u8], test: &[u8]) -> Result<Front, Answer>
+pub(crate) fn front_of(alloc: Global, model: &[u8], test: &[u8]) -> Result<Front, Answer>
     requires model_short { length model.now ≤ 1048576 }
     requires test_short { length test.now ≤ 1048576 }
     ensures { MatchResult result (SayFront model.now test.now) (IsFrontEnd model.now test.now) }

@@ -1,7 +1,8 @@
 //! The top call: from the words of a command and the bytes of its files to the bytes of the answer.
 //!
 //! Each command has a module of its own: `check` searches for a certificate of the test on the model, and `verify` judges
-//! one that a third file holds. What both do with the model and the test stands in `inputs`.
+//! one that a third file holds. What both do with the model and the test stands in `inputs`. `ring` is the command `gen`,
+//! which searches in texts of its own.
 #![tactic(auto)]
 
 mod answer;
@@ -11,6 +12,7 @@ mod inputs;
 mod laws;
 mod line;
 mod refusal;
+mod ring;
 mod top;
 mod verify;
 mod words;

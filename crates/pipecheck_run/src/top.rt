@@ -1,10 +1,10 @@
-ghost use Rattle.std.specs.Prelude.{◌≡◌, ◌≢◌, ◌≤◌, ◌++◌, ◌⊎◌, ℕ, List, map, IsTrue};
+ghost use Rattle.std.specs.Prelude.{◌≡◌, ◌≢◌, ◌≤◌, ◌++◌, ◌⊎◌, ℕ, List, None, map, IsTrue};
 ghost use Rattle.std.specs.String.{string_bytes};
 ghost use Rattle.pc_common.specs.Faults.{Rose};
 ghost use Rattle.pc_common.specs.Reads.{Reads};
 ghost use Rattle.pc_common.specs.Pieces.{IsCutShort};
 ghost use Rattle.pc_common.specs.declared.status.Status.TheVariants.{Usage as SUsage, ReadFault as SReadFault, WriteFault as SWriteFault, Memory as SMemory};
-ghost use Rattle.pipecheck_run.specs.Command.{IsNoCommand};
+ghost use Rattle.pipecheck_run.specs.Command.{IsNoCommand, IsIdle, IsWithin, inputs_of};
 ghost use Rattle.pipecheck_run.specs.Parsed.{said};
 ghost use Rattle.pipecheck_run.specs.Output.{Answers, usage_text};
 ghost use Rattle.pipecheck_run.specs.Headline.{IsTrueOf, IsDue, Comes};
@@ -14,13 +14,16 @@ ghost use Rattle.pipecheck_run.specs.Decides.{AnswersTo, Decides};
 use super::answer::{Answer, status, write_answer};
 use super::check::check;
 use super::command::{Command, parse};
+use super::ring::generate;
 use super::verify::verify;
 use pc_common::{Failed, Files, Sink, Status};
 use std::alloc::Global;
 
-/// The answer to a command.
+/// The answer to a command. No file is touched by one that reads none.
 fn answer_to<F: Files>(alloc: Global, command: Command<'_>, files: &mut F) -> Answer
-    ensures { AnswersTo F.told F.holds F.calm F.faults (said command.entry) files.old files.new result }
+    requires { IsWithin (said command) }
+    ensures answers { AnswersTo F.told F.holds F.calm F.faults (said command.entry) files.old files.new result }
+    ensures idle { inputs_of (said command.entry) ≡ None → files.new ≡ files.old }
 {
     match command {
         Command::Check(inputs) => check(alloc, inputs, files),
@@ -28,6 +31,7 @@ fn answer_to<F: Files>(alloc: Global, command: Command<'_>, files: &mut F) -> An
             inputs,
             certificate,
         } => verify(alloc, inputs, certificate, files),
+        Command::Gen(n) => generate(alloc, n),
     }
 }
 
@@ -35,6 +39,7 @@ fn answer_to<F: Files>(alloc: Global, command: Command<'_>, files: &mut F) -> An
 fn decide<F: Files>(alloc: Global, words: &[String], files: &mut F) -> Answer
     ensures usage { IsNoCommand (map string_bytes words.now) → answer_status result ≡ SUsage }
     ensures decides { Decides F.told F.holds F.calm F.faults (map string_bytes words.now) files.old files.new result }
+    ensures idle { IsIdle (map string_bytes words.now) → files.new ≡ files.old }
 {
     match parse(words) {
         None => Answer::Usage,
@@ -70,13 +75,16 @@ fn tell<K: Sink>(out: &mut K, answer: &Answer) -> Status
 /// decides whether the outcome of the test is observable on the model, and writes the verdict with
 /// its certificate, or the first fault of the files. `verify MODEL TEST CERT` reads the first two so,
 /// and where they have no fault the third, to its end or to one byte past 67,108,864: it writes the
-/// verdict whose certificate the third is, or the line at which it is refused, without a search. Other
-/// words are no command, and that is written.
+/// verdict whose certificate the third is, or the line at which it is refused, without a search. `gen N`,
+/// with N from 2 to 16 in decimal, makes the two texts of the ring of N cores, searches as `check` does,
+/// and writes N, the verdict, and how many nodes, splits and leaves there are, or the first fault of the
+/// two texts. Other words are no command, and that is written.
 ///
 /// The words are those behind the program's name. Nothing is written before the answer is known, and
 /// nothing at all with `ReadFault` or `Memory`. With `WriteFault` the first bytes of the answer's text
 /// went out.
 ///
+/// - `idle`: `gen`, and words that are no command, touch no file.
 /// - `usage` to `usage_text`: `Usage` comes exactly on words that are no command, whatever the memory.
 /// - `read_cause` to `read_due`: `ReadFault` comes only where a call of the files failed, and over
 ///   calm files exactly where a name that is not held is come to: the model's, then the test's, and
@@ -84,9 +92,11 @@ fn tell<K: Sink>(out: &mut K, answer: &Answer) -> Status
 /// - `write_cause`: `WriteFault` comes only where a call of the sink failed.
 /// - `quiet`, `answers`, `short`: what was written.
 /// - `headline`, `due`: the verdict is true of the bytes of the two files, whatever a third holds, and it
-///   comes: from `check` by the outcome, from `verify` by what the third file is.
+///   comes: from `check` by the outcome, from `verify` by what the third file is. From `gen` `Done` comes,
+///   or `Refused` where its two texts have a fault.
 pub fn run<F: Files, K: Sink>(alloc: Global, words: &[String], files: &mut F, out: &mut K) -> Status
     ensures files { Reads F.told F.holds F.calm F.faults files.old files.new }
+    ensures idle { IsIdle (map string_bytes words.now) → files.new ≡ files.old }
     ensures sink_told { K.told out.new ≡ K.told out.old }
     ensures sink_count { K.faults out.old ≤ K.faults out.new }
     ensures usage { result ≡ SUsage → IsNoCommand (map string_bytes words.now) }

@@ -12,8 +12,7 @@ use crate::inputs::read_inputs;
 use pc_common::{Files, Memory};
 pub(crate) use report::write_verdict;
 use std::alloc::Global;
-use verdict::verdict_on;
-pub(crate) use verdict::{Verdict, verdict_status};
+pub(crate) use verdict::{Verdict, verdict_on, verdict_status};
 
 /// Reads the two files and searches: the verdict on them, or what ended the run before.
 pub(crate) fn check<F: Files>(alloc: Global, inputs: Inputs<'_>, files: &mut F) -> Answer
