@@ -15,6 +15,8 @@ mod checking;
 #[cfg(test)]
 mod formulas;
 #[cfg(test)]
+mod generating;
+#[cfg(test)]
 mod macros;
 #[cfg(test)]
 mod models;
