@@ -9,13 +9,9 @@ mod brackets;
 #[cfg(test)]
 mod cases;
 #[cfg(test)]
-mod certificates;
-#[cfg(test)]
 mod checking;
 #[cfg(test)]
 mod formulas;
-#[cfg(test)]
-mod generating;
 #[cfg(test)]
 mod macros;
 #[cfg(test)]
@@ -38,5 +34,3 @@ mod texts;
 mod trees;
 #[cfg(test)]
 mod verdicts;
-#[cfg(test)]
-mod verifying;

@@ -12,12 +12,12 @@ const SOME_OP: &str = "StageName 0 \"S\".
 Axiom \"x\": exists microop \"i\", True.
 ";
 
-pub(crate) const ORDERED: &str = "StageName 0 \"S\".
+const ORDERED: &str = "StageName 0 \"S\".
 Axiom \"PO\": forall microops \"i\", forall microops \"j\",
   ProgramOrder i j => AddEdge ((i, S), (j, S), \"po\").
 ";
 
-pub(crate) const TWO: &str = "Litmus \"t\".
+const TWO: &str = "Litmus \"t\".
 Microop 0 0 0 0 (Write (VA 0 0) (PA 0 0) (Data 1)).
 Microop 1 0 0 0 (Write (VA 0 0) (PA 0 0) (Data 2)).
 Permitted.
@@ -30,7 +30,7 @@ Axiom \"rev\": forall microops \"i\", forall microops \"j\",
   ProgramOrder i j => AddEdge ((j, S), (i, S), \"rev\").
 ";
 
-pub(crate) const TWO_FORBIDDEN: &str = "Litmus \"t\".
+const TWO_FORBIDDEN: &str = "Litmus \"t\".
 Microop 0 0 0 0 (Write (VA 0 0) (PA 0 0) (Data 1)).
 Microop 1 0 0 0 (Write (VA 0 0) (PA 0 0) (Data 2)).
 Forbidden.
@@ -48,7 +48,7 @@ const CAPTURED: &str = "DefineMacro \"other\" \"a\": exists microop \"w\", ~Same
 Axiom \"x\": forall microops \"w\", ExpandMacro other w.
 ";
 
-pub(crate) const EITHER_ORDER: &str = "StageName 0 \"S\".
+const EITHER_ORDER: &str = "StageName 0 \"S\".
 StageName 1 \"T\".
 Axiom \"either\": forall microops \"i\", forall microops \"j\", ProgramOrder i j =>
   AddEdge ((i, S), (j, S), \"\") \\/ AddEdge ((j, S), (i, S), \"\").
@@ -93,7 +93,7 @@ Microop 3 1 1 0 (Read (VA 0 0) (PA 0 0) (Data 0)).
 Forbidden.
 ";
 
-pub(crate) const STORE_BUFFER: &str = "StageName 0 \"Exec\".
+const STORE_BUFFER: &str = "StageName 0 \"Exec\".
 StageName 1 \"Mem\".
 Axiom \"path\": forall microops \"i\", IsAnyWrite i =>
   AddEdge ((i, Exec), (i, Mem), \"path\").
@@ -111,7 +111,7 @@ Axiom \"read\": forall microops \"i\", IsAnyRead i =>
     AddEdge ((v, Mem), (w, Mem), \"co\") \\/ AddEdge ((i, Exec), (v, Mem), \"fr\").
 ";
 
-pub(crate) const STORE_BUFFERING: &str = "Litmus \"sb\".
+const STORE_BUFFERING: &str = "Litmus \"sb\".
 Microop 0 0 0 0 (Write (VA 0 0) (PA 0 0) (Data 1)).
 Microop 1 0 0 0 (Read (VA 1 0) (PA 1 0) (Data 0)).
 Microop 2 1 1 0 (Write (VA 1 0) (PA 1 0) (Data 1)).
@@ -156,7 +156,7 @@ Axiom \"l\": forall microops \"i\", True /\\ IsAnyWrite i => AddEdges [].
 ";
 
 /// A model and a test, and how a check of them ends.
-pub(crate) const VERDICTS: &[(&'static str, &'static str, Status, &'static str)] = &[
+const VERDICTS: &[(&'static str, &'static str, Status, &'static str)] = &[
     (
         NOTHING,
         EMPTY,
