@@ -1,0 +1,145 @@
+//! Certificates judged by the checker, whole and in pieces.
+ghost use Rattle.std.specs.Prelude.{◌<◌};
+
+use super::examples::{EITHER_ORDER, ORDERED, STORE_BUFFER, STORE_BUFFERING, TWO, TWO_FORBIDDEN};
+use cert_check::{Checked, Checker, check_text};
+use pc_common::Memory;
+use pc_front::front;
+use pc_ground::Front;
+use std::alloc::Global;
+use std::test::Fail;
+
+/// A model and a test, a text, and what the text is to them.
+pub(crate) type Row = (&'static str, &'static str, &'static str, Checked);
+
+pub(crate) const REFUTED: &str = "unobservable
+test forbidden: ok
+split 1
+path 0.0@0:S 1.0@0:S
+path 1.0@0:S 0.0@0:S 0.0@0:T
+end
+";
+
+pub(crate) const JUDGED: &[Row] = &[
+    (EITHER_ORDER, TWO_FORBIDDEN, REFUTED, Checked::Unobservable),
+    // the last line comes with a branch open
+    (
+        EITHER_ORDER,
+        TWO_FORBIDDEN,
+        "unobservable\ntest forbidden: ok\nsplit 1\npath 0.0@0:S 1.0@0:S\nend\n",
+        Checked::Refused(5),
+    ),
+    // that edge is asserted on the other branch alone
+    (
+        EITHER_ORDER,
+        TWO_FORBIDDEN,
+        "unobservable\ntest forbidden: ok\nsplit 1\npath 0.0@0:S 1.0@0:S\npath 0.0@0:S 1.0@0:S\nend\n",
+        Checked::Refused(5),
+    ),
+    // the text goes on after its end
+    (
+        EITHER_ORDER,
+        TWO_FORBIDDEN,
+        "unobservable\ntest forbidden: ok\nsplit 1\npath 0.0@0:S 1.0@0:S\npath 1.0@0:S 0.0@0:S 0.0@0:T\nend\nend\n",
+        Checked::Refused(7),
+    ),
+    (EITHER_ORDER, TWO_FORBIDDEN, "", Checked::Refused(1)),
+    // a node of no micro-op, and two spaces
+    (
+        EITHER_ORDER,
+        TWO_FORBIDDEN,
+        "unobservable\ntest forbidden: ok\nsplit 1\nabsent 9.0@0:S\npath 1.0@0:S 0.0@0:S 0.0@0:T\nend\n",
+        Checked::Refused(4),
+    ),
+    (
+        EITHER_ORDER,
+        TWO_FORBIDDEN,
+        "unobservable\ntest forbidden: ok\nsplit 1\npath  0.0@0:S 1.0@0:S\npath 1.0@0:S 0.0@0:S 0.0@0:T\nend\n",
+        Checked::Refused(4),
+    ),
+    // a leading zero, and no position of the tree
+    (
+        EITHER_ORDER,
+        TWO_FORBIDDEN,
+        "unobservable\ntest forbidden: ok\nsplit 01\npath 0.0@0:S 1.0@0:S\npath 1.0@0:S 0.0@0:S 0.0@0:T\nend\n",
+        Checked::Refused(3),
+    ),
+    (
+        EITHER_ORDER,
+        TWO_FORBIDDEN,
+        "unobservable\ntest forbidden: ok\nsplit 99\npath 0.0@0:S 1.0@0:S\npath 1.0@0:S 0.0@0:S 0.0@0:T\nend\n",
+        Checked::Refused(3),
+    ),
+    // the second line of the other expectation
+    (
+        EITHER_ORDER,
+        TWO_FORBIDDEN,
+        "unobservable\ntest permitted: stricter\nsplit 1\n",
+        Checked::Refused(2),
+    ),
+    // without the edge an axiom is false
+    (
+        ORDERED,
+        TWO,
+        "observable\ntest permitted: ok\nnode 0.0@0:S\nnode 1.0@0:S\nend\n",
+        Checked::Refused(5),
+    ),
+    // an end on no node line, a node line behind an edge line, and a cycle
+    (
+        ORDERED,
+        TWO,
+        "observable\ntest permitted: ok\nnode 0.0@0:S\nedge 0.0@0:S 1.0@0:S\nend\n",
+        Checked::Refused(4),
+    ),
+    (
+        ORDERED,
+        TWO,
+        "observable\ntest permitted: ok\nnode 0.0@0:S\nnode 1.0@0:S\nedge 0.0@0:S 1.0@0:S\nnode 0.0@0:S\nend\n",
+        Checked::Refused(6),
+    ),
+    (
+        ORDERED,
+        TWO,
+        "observable\ntest permitted: ok\nnode 0.0@0:S\nnode 1.0@0:S\nedge 0.0@0:S 1.0@0:S\nedge 1.0@0:S 0.0@0:S\nend\n",
+        Checked::Refused(7),
+    ),
+    // edges in another order, and one of them twice
+    (
+        STORE_BUFFER,
+        STORE_BUFFERING,
+        "observable\ntest forbidden: BUG\nnode 0.0@0:Exec\nnode 0.0@0:Mem\nnode 2.0@1:Exec\nnode 2.0@1:Mem\nnode 1.0@0:Exec\nnode 3.0@1:Exec\nedge 3.0@1:Exec 0.0@0:Mem\nedge 3.0@1:Exec 0.0@0:Mem\nedge 1.0@0:Exec 2.0@1:Mem\nedge 2.0@1:Exec 3.0@1:Exec\nedge 0.0@0:Exec 1.0@0:Exec\nedge 2.0@1:Exec 2.0@1:Mem\nedge 0.0@0:Exec 0.0@0:Mem\nend\n",
+        Checked::Observable,
+    ),
+];
+
+/// What the text is, fed in pieces of so many bytes.
+fn in_pieces(alloc: Global, front: &Front, text: &[u8], size: usize) -> Result<Checked, Memory>
+    requires { 0 < size }
+{
+    let mut checker = Checker::new(alloc, front)?;
+    for piece in text.chunks(size) {
+        checker = checker.feed(piece)?;
+    }
+    checker.finish()
+}
+
+/// Whether the text is this, whole and however it is cut.
+fn is_checked(alloc: Global, (model, test, text, checked): Row) -> bool {
+    if model.len() > 10_000 || test.len() > 10_000 {
+        return false;
+    }
+    let Ok(front) = front(alloc, model.as_bytes(), test.as_bytes()) else {
+        return false;
+    };
+    check_text(alloc, &front, text.as_bytes()) == Ok(checked)
+        && in_pieces(alloc, &front, text.as_bytes(), 1) == Ok(checked)
+        && in_pieces(alloc, &front, text.as_bytes(), 2) == Ok(checked)
+        && in_pieces(alloc, &front, text.as_bytes(), 7) == Ok(checked)
+}
+
+#[test]
+fn a_text_is_the_same_however_it_is_cut(rt: HostRuntime) {
+    for row in JUDGED {
+        assert!(rt; is_checked(rt.alloc(), *row), "{}", row.2);
+    }
+}
