@@ -2,10 +2,10 @@ ghost use Rattle.std.specs.Prelude.{◌≡◌, IfOk};
 ghost use Rattle.ll_grammar.specs.Steps.{IsStep};
 ghost use Rattle.litmus_reader.specs.Terminals.{is_name as is_name_spec};
 ghost use Rattle.litmus_reader.specs.Phrases.{rules, follow, rules_predictable, rules_texts, behind, deep};
-ghost use Rattle.litmus_reader.specs.declared.phrase.Phrase.TheVariants.{Items as items, Access as access};
 
-use super::terminal::Terminal;
-use ll_grammar::{Grammar, Step, Symbol, push_body};
+use self::Phrase::*;
+use super::terminal::Terminal::{self, *};
+use ll_grammar::{Grammar, Step, Symbol, push};
 use std::alloc::AllocError;
 
 /// The parts of a test.
@@ -27,20 +27,14 @@ pub(crate) enum Phrase {
     Value,
 }
 
+/// What waits on the recogniser's stack.
+type Waiting = Symbol<Terminal, Phrase>;
+
 /// Whether a token of this class is a name.
 fn is_name(terminal: Terminal) -> bool
     ensures { result ≡ is_name_spec terminal }
 {
-    !matches!(
-        terminal,
-        Terminal::Number
-            | Terminal::Text
-            | Terminal::Open
-            | Terminal::Close
-            | Terminal::Dot
-            | Terminal::Arrow
-            | Terminal::Other
-    )
+    !matches!(terminal, Number | Text | Open | Close | Dot | Arrow | Other)
 }
 
 impl Grammar<Terminal> for Phrase {
@@ -53,7 +47,7 @@ impl Grammar<Terminal> for Phrase {
     ghost has_texts = { rules_texts };
 
     fn may_end(self) -> bool {
-        matches!(self, Phrase::Items | Phrase::Types)
+        matches!(self, Items | Types)
     }
 
     fn push(
@@ -62,139 +56,90 @@ impl Grammar<Terminal> for Phrase {
         stack: &mut Vec<Symbol<Terminal, Phrase>>,
     ) -> Result<Step, AllocError> {
         match self {
-            Phrase::Test => match class {
-                Terminal::Litmus => push_body(
-                    stack,
-                    &[
-                        Symbol::Class(Terminal::Text),
-                        Symbol::Class(Terminal::Dot),
-                        Symbol::Part(Phrase::Items),
-                    ],
-                ),
-                _ => Ok(Step::Absent),
-            },
-            Phrase::Items => push_item(class, stack),
-            Phrase::Access => push_access(class, stack),
-            Phrase::Types => {
-                if is_name(class) {
-                    push_body(stack, &[Symbol::Part(Phrase::Types)])
-                } else {
-                    Ok(Step::Absent)
-                }
-            }
-            Phrase::AnyName => {
-                if is_name(class) {
-                    push_body(stack, &[])
-                } else {
-                    Ok(Step::Absent)
-                }
-            }
-            Phrase::VirtualPage => match class {
-                Terminal::Open => push_body(
-                    stack,
-                    &[
-                        Symbol::Class(Terminal::Va),
-                        Symbol::Class(Terminal::Number),
-                        Symbol::Class(Terminal::Number),
-                        Symbol::Class(Terminal::Close),
-                    ],
-                ),
-                _ => Ok(Step::Absent),
-            },
-            Phrase::PhysicalPage => match class {
-                Terminal::Open => push_body(
-                    stack,
-                    &[
-                        Symbol::Class(Terminal::Pa),
-                        Symbol::Class(Terminal::Number),
-                        Symbol::Class(Terminal::Number),
-                        Symbol::Class(Terminal::Close),
-                    ],
-                ),
-                _ => Ok(Step::Absent),
-            },
-            Phrase::Value => match class {
-                Terminal::Open => push_body(
-                    stack,
-                    &[
-                        Symbol::Class(Terminal::Data),
-                        Symbol::Class(Terminal::Number),
-                        Symbol::Class(Terminal::Close),
-                    ],
-                ),
-                _ => Ok(Step::Absent),
-            },
+            Test => push_test(class, stack),
+            Items => push_items(class, stack),
+            Access => push_access(class, stack),
+            Types => push_types(class, stack),
+            AnyName => push_any_name(class, stack),
+            VirtualPage => push_virtual_page(class, stack),
+            PhysicalPage => push_physical_page(class, stack),
+            Value => push_value(class, stack),
         }
     }
 }
 
-fn push_item(class: Terminal, stack: &mut Vec<Symbol<Terminal, Phrase>>) -> Result<Step, AllocError>
-    ensures { IfOk result (λ step.
-        IsStep (behind items class) (deep items class) stack.old.items step stack.new.items) }
+fn push_test(class: Terminal, stack: &mut Vec<Waiting>) -> Result<Step, AllocError>
+    ensures { IfOk result (λ step. IsStep (behind Phrase.Test class) (deep Phrase.Test class) stack.old.items step stack.new.items) }
 {
     match class {
-        Terminal::Microop => push_body(
-            stack,
-            &[
-                Symbol::Class(Terminal::Number),
-                Symbol::Class(Terminal::Number),
-                Symbol::Class(Terminal::Number),
-                Symbol::Class(Terminal::Number),
-                Symbol::Class(Terminal::Open),
-                Symbol::Part(Phrase::Access),
-                Symbol::Class(Terminal::Close),
-                Symbol::Class(Terminal::Dot),
-                Symbol::Part(Phrase::Items),
-            ],
-        ),
-        Terminal::Relationship => push_body(
-            stack,
-            &[
-                Symbol::Part(Phrase::AnyName),
-                Symbol::Class(Terminal::Number),
-                Symbol::Class(Terminal::Number),
-                Symbol::Class(Terminal::Arrow),
-                Symbol::Class(Terminal::Number),
-                Symbol::Class(Terminal::Number),
-                Symbol::Class(Terminal::Dot),
-                Symbol::Part(Phrase::Items),
-            ],
-        ),
-        Terminal::Init | Terminal::Final => push_body(
-            stack,
-            &[
-                Symbol::Part(Phrase::PhysicalPage),
-                Symbol::Class(Terminal::Number),
-                Symbol::Class(Terminal::Dot),
-                Symbol::Part(Phrase::Items),
-            ],
-        ),
-        Terminal::Permitted | Terminal::Forbidden => push_body(
-            stack,
-            &[Symbol::Class(Terminal::Dot), Symbol::Part(Phrase::Items)],
-        ),
+        Litmus => push!(stack; Text Dot [Items]),
         _ => Ok(Step::Absent),
     }
 }
 
-fn push_access(
-    class: Terminal,
-    stack: &mut Vec<Symbol<Terminal, Phrase>>,
-) -> Result<Step, AllocError>
-    ensures { IfOk result (λ step.
-        IsStep (behind access class) (deep access class) stack.old.items step stack.new.items) }
+fn push_items(class: Terminal, stack: &mut Vec<Waiting>) -> Result<Step, AllocError>
+    ensures { IfOk result (λ step. IsStep (behind Phrase.Items class) (deep Phrase.Items class) stack.old.items step stack.new.items) }
 {
     match class {
-        Terminal::Read | Terminal::Write => push_body(
-            stack,
-            &[
-                Symbol::Part(Phrase::Types),
-                Symbol::Part(Phrase::VirtualPage),
-                Symbol::Part(Phrase::PhysicalPage),
-                Symbol::Part(Phrase::Value),
-            ],
-        ),
-        Terminal::Fence => push_body(stack, &[Symbol::Part(Phrase::Types)]),
+        Microop => push!(stack; Number Number Number Number Open [Access] Close Dot [Items]),
+        Relationship => push!(stack; [AnyName] Number Number Arrow Number Number Dot [Items]),
+        Init | Final => push!(stack; [PhysicalPage] Number Dot [Items]),
+        Permitted | Forbidden => push!(stack; Dot [Items]),
+        _ => Ok(Step::Absent),
+    }
+}
+
+fn push_access(class: Terminal, stack: &mut Vec<Waiting>) -> Result<Step, AllocError>
+    ensures { IfOk result (λ step. IsStep (behind Phrase.Access class) (deep Phrase.Access class) stack.old.items step stack.new.items) }
+{
+    match class {
+        Read | Write => push!(stack; [Types] [VirtualPage] [PhysicalPage] [Value]),
+        Fence => push!(stack; [Types]),
+        _ => Ok(Step::Absent),
+    }
+}
+
+fn push_types(class: Terminal, stack: &mut Vec<Waiting>) -> Result<Step, AllocError>
+    ensures { IfOk result (λ step. IsStep (behind Phrase.Types class) (deep Phrase.Types class) stack.old.items step stack.new.items) }
+{
+    match class {
+        name if is_name(name) => push!(stack; [Types]),
+        _ => Ok(Step::Absent),
+    }
+}
+
+fn push_any_name(class: Terminal, stack: &mut Vec<Waiting>) -> Result<Step, AllocError>
+    ensures { IfOk result (λ step. IsStep (behind Phrase.AnyName class) (deep Phrase.AnyName class) stack.old.items step stack.new.items) }
+{
+    match class {
+        name if is_name(name) => push!(stack;),
+        _ => Ok(Step::Absent),
+    }
+}
+
+fn push_virtual_page(class: Terminal, stack: &mut Vec<Waiting>) -> Result<Step, AllocError>
+    ensures { IfOk result (λ step. IsStep (behind Phrase.VirtualPage class) (deep Phrase.VirtualPage class) stack.old.items step stack.new.items) }
+{
+    match class {
+        Open => push!(stack; Va Number Number Close),
+        _ => Ok(Step::Absent),
+    }
+}
+
+fn push_physical_page(class: Terminal, stack: &mut Vec<Waiting>) -> Result<Step, AllocError>
+    ensures { IfOk result (λ step. IsStep (behind Phrase.PhysicalPage class) (deep Phrase.PhysicalPage class) stack.old.items step stack.new.items) }
+{
+    match class {
+        Open => push!(stack; Pa Number Number Close),
+        _ => Ok(Step::Absent),
+    }
+}
+
+fn push_value(class: Terminal, stack: &mut Vec<Waiting>) -> Result<Step, AllocError>
+    ensures { IfOk result (λ step. IsStep (behind Phrase.Value class) (deep Phrase.Value class) stack.old.items step stack.new.items) }
+{
+    match class {
+        Open => push!(stack; Data Number Close),
         _ => Ok(Step::Absent),
     }
 }

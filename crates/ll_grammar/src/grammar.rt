@@ -41,7 +41,7 @@ pub trait Grammar<C: TokenClass>: Copy + 'static {
     ghost follow: { Self → C → Bool };
 
     /// Where the part begins with a token of this class, puts what stands behind the token on the
-    /// stack, the next symbol on top; [`push_body`] does so for a body in the order of reading.
+    /// stack, the next symbol on top; [`push!`] does so for a body in the order of reading.
     /// Where it does not, leaves the stack as it was. `Deep` is for a token with which the part
     /// begins: any other is `Absent` at every depth. `Err` is for want of memory alone.
     fn push(self, class: C, stack: &mut Vec<Symbol<C, Self>>) -> Result<Step, AllocError>
@@ -72,4 +72,24 @@ pub fn push_body<C: Copy, N: Copy>(
         stack.push(body[at])?;
     }
     Ok(Step::Pushed)
+}
+
+/// [`push_body`] of a body that is written as it is read: a class by its name, a part in brackets, as in
+/// `push!(stack; Number Quoted Dot [Items])`.
+#[macro_export]
+macro_rules! push {
+    ($stack:expr; $($symbol:tt)*) => {
+        $crate::push_body($stack, &[$($crate::symbol!($symbol)),*])
+    };
+}
+
+/// One place of a body, as [`push!`] takes it.
+#[macro_export]
+macro_rules! symbol {
+    ([$part:expr]) => {
+        $crate::Symbol::Part($part)
+    };
+    ($class:ident) => {
+        $crate::Symbol::Class($class)
+    };
 }

@@ -1,11 +1,12 @@
-ghost use Rattle.std.specs.Prelude.{◌≡◌, ◌∷◌, [], ◌++◌, reverse, IfOk, OnOk};
+ghost use Rattle.std.specs.Prelude.{◌≡◌, IfOk};
 ghost use Rattle.uspec_parser.specs.Levels.{level_of};
 ghost use Rattle.ll_grammar.specs.Steps.{IsStep};
 ghost use Rattle.uspec_parser.specs.Phrases.{behind, deep, rules as rules_spec, follow as follow_spec, is_predictable, has_texts as texts_spec};
 
+use self::Phrase::*;
 use super::level::{Level, MOST_OPEN};
-use super::terminal::Terminal;
-use ll_grammar::{Grammar, Step, Symbol, push_body};
+use super::terminal::Terminal::{self, *};
+use ll_grammar::{Grammar, Step, Symbol, push};
 use std::alloc::AllocError;
 
 /// The phrases of the model language: the parts of its grammar.
@@ -50,15 +51,10 @@ impl Grammar<Terminal> for Phrase {
     ghost has_texts = { texts_spec };
 
     fn may_end(self) -> bool {
-        match self {
-            Phrase::Items
-            | Phrase::Parameters
-            | Phrase::More(_)
-            | Phrase::Arguments
-            | Phrase::Labels
-            | Phrase::SecondLabel => true,
-            _ => false,
-        }
+        matches!(
+            self,
+            Items | Parameters | More(_) | Arguments | Labels | SecondLabel
+        )
     }
 
     fn push(
@@ -67,61 +63,41 @@ impl Grammar<Terminal> for Phrase {
         stack: &mut Vec<Symbol<Terminal, Phrase>>,
     ) -> Result<Step, AllocError> {
         match self {
-            Phrase::Items => push_items(class, stack),
-            Phrase::Parameters => push_parameters(class, stack),
-            Phrase::Label => push_label(class, stack),
-            Phrase::Operand(level, opened) => push_operand(level, opened, class, stack),
-            Phrase::More(level) => push_more(level, class, stack),
-            Phrase::Arguments => push_arguments(class, stack),
-            Phrase::Argument => push_argument(class, stack),
-            Phrase::Node => push_node(class, stack),
-            Phrase::Location => push_location(class, stack),
-            Phrase::Edge => push_edge(class, stack),
-            Phrase::Labels => push_labels(class, stack),
-            Phrase::SecondLabel => push_second_label(class, stack),
-            Phrase::SortWord => push_sort_word(class, stack),
-            Phrase::Nodes => push_nodes(class, stack),
-            Phrase::MoreNodes => push_more_nodes(class, stack),
-            Phrase::Edges => push_edges(class, stack),
-            Phrase::MoreEdges => push_more_edges(class, stack),
+            Items => push_items(class, stack),
+            Parameters => push_parameters(class, stack),
+            Label => push_label(class, stack),
+            Operand(level, opened) => push_operand(level, opened, class, stack),
+            More(level) => push_more(level, class, stack),
+            Arguments => push_arguments(class, stack),
+            Argument => push_argument(class, stack),
+            Node => push_node(class, stack),
+            Location => push_location(class, stack),
+            Edge => push_edge(class, stack),
+            Labels => push_labels(class, stack),
+            SecondLabel => push_second_label(class, stack),
+            SortWord => push_sort_word(class, stack),
+            Nodes => push_nodes(class, stack),
+            MoreNodes => push_more_nodes(class, stack),
+            Edges => push_edges(class, stack),
+            MoreEdges => push_more_edges(class, stack),
         }
     }
+}
+
+/// A formula within this many openers.
+fn within(opened: u8) -> Phrase
+    ensures { result ≡ Phrase.Operand (level_of opened) opened }
+{
+    Operand(Level::new(opened), opened)
 }
 
 fn push_items(class: Terminal, stack: &mut Vec<Waiting>) -> Result<Step, AllocError>
     ensures { IfOk result (λ step. IsStep (behind Phrase.Items class) (deep Phrase.Items class) stack.old.items step stack.new.items) }
 {
     match class {
-        Terminal::StageName => push_body(
-            stack,
-            &[
-                Symbol::Class(Terminal::Number),
-                Symbol::Class(Terminal::Quoted),
-                Symbol::Class(Terminal::Dot),
-                Symbol::Part(Phrase::Items),
-            ],
-        ),
-        Terminal::Axiom => push_body(
-            stack,
-            &[
-                Symbol::Part(Phrase::Label),
-                Symbol::Class(Terminal::Colon),
-                Symbol::Part(Phrase::Operand(Level::new(0), 0)),
-                Symbol::Class(Terminal::Dot),
-                Symbol::Part(Phrase::Items),
-            ],
-        ),
-        Terminal::DefineMacro => push_body(
-            stack,
-            &[
-                Symbol::Class(Terminal::Quoted),
-                Symbol::Part(Phrase::Parameters),
-                Symbol::Class(Terminal::Colon),
-                Symbol::Part(Phrase::Operand(Level::new(0), 0)),
-                Symbol::Class(Terminal::Dot),
-                Symbol::Part(Phrase::Items),
-            ],
-        ),
+        StageName => push!(stack; Number Quoted Dot [Items]),
+        Axiom => push!(stack; [Label] Colon [within(0)] Dot [Items]),
+        DefineMacro => push!(stack; Quoted [Parameters] Colon [within(0)] Dot [Items]),
         _ => Ok(Step::Absent),
     }
 }
@@ -130,7 +106,7 @@ fn push_parameters(class: Terminal, stack: &mut Vec<Waiting>) -> Result<Step, Al
     ensures { IfOk result (λ step. IsStep (behind Phrase.Parameters class) (deep Phrase.Parameters class) stack.old.items step stack.new.items) }
 {
     match class {
-        Terminal::Quoted => push_body(stack, &[Symbol::Part(Phrase::Parameters)]),
+        Quoted => push!(stack; [Parameters]),
         _ => Ok(Step::Absent),
     }
 }
@@ -139,30 +115,9 @@ fn push_label(class: Terminal, stack: &mut Vec<Waiting>) -> Result<Step, AllocEr
     ensures { IfOk result (λ step. IsStep (behind Phrase.Label class) (deep Phrase.Label class) stack.old.items step stack.new.items) }
 {
     match class {
-        Terminal::Quoted => push_body(stack, &[]),
-        Terminal::Text => push_body(stack, &[]),
+        Quoted | Text => push!(stack;),
         _ => Ok(Step::Absent),
     }
-}
-
-/// A formula within this many openers.
-fn within(opened: u8) -> Waiting
-    ensures { result ≡ Symbol.Part (Phrase.Operand (level_of opened) opened) }
-{
-    Symbol::Part(Phrase::Operand(Level::new(opened), opened))
-}
-
-/// Pushes `body`, and behind it what follows an operand of a list.
-fn push_in_list(
-    stack: &mut Vec<Waiting>,
-    body: &[Waiting],
-    level: Level,
-) -> Result<Step, AllocError>
-    ensures pushed { IfOk result (λ step. step ≡ Step.Pushed) }
-    ensures items { OnOk result (stack.new.items ≡ stack.old.items ++ reverse (body.now ++ Symbol.Part (Phrase.More level) ∷ [])) }
-{
-    stack.push(Symbol::Part(Phrase::More(level)))?;
-    push_body(stack, body)
 }
 
 fn push_operand(
@@ -174,63 +129,16 @@ fn push_operand(
     ensures { IfOk result (λ step. IsStep (behind (Phrase.Operand level opened) class) (deep (Phrase.Operand level opened) class) stack.old.items step stack.new.items) }
 {
     match class {
-        Terminal::OneEdge => push_in_list(stack, &[Symbol::Part(Phrase::Edge)], level),
-        Terminal::EdgeList => push_in_list(
-            stack,
-            &[
-                Symbol::Class(Terminal::OpenBracket),
-                Symbol::Part(Phrase::Edges),
-            ],
-            level,
-        ),
-        Terminal::OneNode => push_in_list(stack, &[Symbol::Part(Phrase::Node)], level),
-        Terminal::NodeList => push_in_list(
-            stack,
-            &[
-                Symbol::Class(Terminal::OpenBracket),
-                Symbol::Part(Phrase::Nodes),
-            ],
-            level,
-        ),
-        Terminal::ExpandMacro => push_in_list(
-            stack,
-            &[
-                Symbol::Class(Terminal::Name),
-                Symbol::Part(Phrase::Arguments),
-            ],
-            level,
-        ),
-        Terminal::Name => push_in_list(stack, &[Symbol::Part(Phrase::Arguments)], level),
-        Terminal::Open => {
-            if opened >= MOST_OPEN {
-                return Ok(Step::Deep);
-            }
-            push_in_list(
-                stack,
-                &[within(opened + 1), Symbol::Class(Terminal::Close)],
-                level,
-            )
-        }
-        Terminal::Not => {
-            if opened >= MOST_OPEN {
-                return Ok(Step::Deep);
-            }
-            push_body(stack, &[Symbol::Part(Phrase::Operand(level, opened + 1))])
-        }
-        Terminal::Forall | Terminal::Exists => {
-            if opened >= MOST_OPEN {
-                return Ok(Step::Deep);
-            }
-            push_body(
-                stack,
-                &[
-                    Symbol::Part(Phrase::SortWord),
-                    Symbol::Class(Terminal::Quoted),
-                    Symbol::Class(Terminal::Comma),
-                    within(opened + 1),
-                ],
-            )
-        }
+        Open | Not | Forall | Exists if opened >= MOST_OPEN => Ok(Step::Deep),
+        OneEdge => push!(stack; [Edge] [More(level)]),
+        EdgeList => push!(stack; OpenBracket [Edges] [More(level)]),
+        OneNode => push!(stack; [Node] [More(level)]),
+        NodeList => push!(stack; OpenBracket [Nodes] [More(level)]),
+        ExpandMacro => push!(stack; Name [Arguments] [More(level)]),
+        Name => push!(stack; [Arguments] [More(level)]),
+        Open => push!(stack; [within(opened + 1)] Close [More(level)]),
+        Not => push!(stack; [Operand(level, opened + 1)]),
+        Forall | Exists => push!(stack; [SortWord] Quoted Comma [within(opened + 1)]),
         _ => Ok(Step::Absent),
     }
 }
@@ -239,33 +147,12 @@ fn push_more(level: Level, class: Terminal, stack: &mut Vec<Waiting>) -> Result<
     ensures { IfOk result (λ step. IsStep (behind (Phrase.More level) class) (deep (Phrase.More level) class) stack.old.items step stack.new.items) }
 {
     match class {
-        Terminal::And => {
-            if level.at_and >= MOST_OPEN {
-                return Ok(Step::Deep);
-            }
-            push_body(
-                stack,
-                &[Symbol::Part(Phrase::Operand(level.behind_and(), level.at_and + 1))],
-            )
-        }
-        Terminal::Or => {
-            if level.at_or >= MOST_OPEN {
-                return Ok(Step::Deep);
-            }
-            push_body(
-                stack,
-                &[Symbol::Part(Phrase::Operand(level.behind_or(), level.at_or + 1))],
-            )
-        }
-        Terminal::Implies => {
-            if level.at_implies >= MOST_OPEN {
-                return Ok(Step::Deep);
-            }
-            push_body(
-                stack,
-                &[Symbol::Part(Phrase::Operand(level.behind_implies(), level.at_implies + 1))],
-            )
-        }
+        And if level.at_and >= MOST_OPEN => Ok(Step::Deep),
+        Or if level.at_or >= MOST_OPEN => Ok(Step::Deep),
+        Implies if level.at_implies >= MOST_OPEN => Ok(Step::Deep),
+        And => push!(stack; [Operand(level.behind_and(), level.at_and + 1)]),
+        Or => push!(stack; [Operand(level.behind_or(), level.at_or + 1)]),
+        Implies => push!(stack; [Operand(level.behind_implies(), level.at_implies + 1)]),
         _ => Ok(Step::Absent),
     }
 }
@@ -274,8 +161,7 @@ fn push_arguments(class: Terminal, stack: &mut Vec<Waiting>) -> Result<Step, All
     ensures { IfOk result (λ step. IsStep (behind Phrase.Arguments class) (deep Phrase.Arguments class) stack.old.items step stack.new.items) }
 {
     match class {
-        Terminal::Name => push_body(stack, &[Symbol::Part(Phrase::Arguments)]),
-        Terminal::Number => push_body(stack, &[Symbol::Part(Phrase::Arguments)]),
+        Name | Number => push!(stack; [Arguments]),
         _ => Ok(Step::Absent),
     }
 }
@@ -284,8 +170,7 @@ fn push_argument(class: Terminal, stack: &mut Vec<Waiting>) -> Result<Step, Allo
     ensures { IfOk result (λ step. IsStep (behind Phrase.Argument class) (deep Phrase.Argument class) stack.old.items step stack.new.items) }
 {
     match class {
-        Terminal::Name => push_body(stack, &[]),
-        Terminal::Number => push_body(stack, &[]),
+        Name | Number => push!(stack;),
         _ => Ok(Step::Absent),
     }
 }
@@ -294,15 +179,7 @@ fn push_node(class: Terminal, stack: &mut Vec<Waiting>) -> Result<Step, AllocErr
     ensures { IfOk result (λ step. IsStep (behind Phrase.Node class) (deep Phrase.Node class) stack.old.items step stack.new.items) }
 {
     match class {
-        Terminal::Open => push_body(
-            stack,
-            &[
-                Symbol::Class(Terminal::Name),
-                Symbol::Class(Terminal::Comma),
-                Symbol::Part(Phrase::Location),
-                Symbol::Class(Terminal::Close),
-            ],
-        ),
+        Open => push!(stack; Name Comma [Location] Close),
         _ => Ok(Step::Absent),
     }
 }
@@ -311,16 +188,8 @@ fn push_location(class: Terminal, stack: &mut Vec<Waiting>) -> Result<Step, Allo
     ensures { IfOk result (λ step. IsStep (behind Phrase.Location class) (deep Phrase.Location class) stack.old.items step stack.new.items) }
 {
     match class {
-        Terminal::Name => push_body(stack, &[]),
-        Terminal::Open => push_body(
-            stack,
-            &[
-                Symbol::Part(Phrase::Argument),
-                Symbol::Class(Terminal::Comma),
-                Symbol::Class(Terminal::Name),
-                Symbol::Class(Terminal::Close),
-            ],
-        ),
+        Name => push!(stack;),
+        Open => push!(stack; [Argument] Comma Name Close),
         _ => Ok(Step::Absent),
     }
 }
@@ -329,16 +198,7 @@ fn push_edge(class: Terminal, stack: &mut Vec<Waiting>) -> Result<Step, AllocErr
     ensures { IfOk result (λ step. IsStep (behind Phrase.Edge class) (deep Phrase.Edge class) stack.old.items step stack.new.items) }
 {
     match class {
-        Terminal::Open => push_body(
-            stack,
-            &[
-                Symbol::Part(Phrase::Node),
-                Symbol::Class(Terminal::Comma),
-                Symbol::Part(Phrase::Node),
-                Symbol::Part(Phrase::Labels),
-                Symbol::Class(Terminal::Close),
-            ],
-        ),
+        Open => push!(stack; [Node] Comma [Node] [Labels] Close),
         _ => Ok(Step::Absent),
     }
 }
@@ -347,13 +207,7 @@ fn push_labels(class: Terminal, stack: &mut Vec<Waiting>) -> Result<Step, AllocE
     ensures { IfOk result (λ step. IsStep (behind Phrase.Labels class) (deep Phrase.Labels class) stack.old.items step stack.new.items) }
 {
     match class {
-        Terminal::Comma => push_body(
-            stack,
-            &[
-                Symbol::Part(Phrase::Label),
-                Symbol::Part(Phrase::SecondLabel),
-            ],
-        ),
+        Comma => push!(stack; [Label] [SecondLabel]),
         _ => Ok(Step::Absent),
     }
 }
@@ -362,7 +216,7 @@ fn push_second_label(class: Terminal, stack: &mut Vec<Waiting>) -> Result<Step, 
     ensures { IfOk result (λ step. IsStep (behind Phrase.SecondLabel class) (deep Phrase.SecondLabel class) stack.old.items step stack.new.items) }
 {
     match class {
-        Terminal::Comma => push_body(stack, &[Symbol::Part(Phrase::Label)]),
+        Comma => push!(stack; [Label]),
         _ => Ok(Step::Absent),
     }
 }
@@ -371,8 +225,7 @@ fn push_sort_word(class: Terminal, stack: &mut Vec<Waiting>) -> Result<Step, All
     ensures { IfOk result (λ step. IsStep (behind Phrase.SortWord class) (deep Phrase.SortWord class) stack.old.items step stack.new.items) }
 {
     match class {
-        Terminal::Microop => push_body(stack, &[]),
-        Terminal::Core => push_body(stack, &[]),
+        Microop | Core => push!(stack;),
         _ => Ok(Step::Absent),
     }
 }
@@ -381,17 +234,8 @@ fn push_nodes(class: Terminal, stack: &mut Vec<Waiting>) -> Result<Step, AllocEr
     ensures { IfOk result (λ step. IsStep (behind Phrase.Nodes class) (deep Phrase.Nodes class) stack.old.items step stack.new.items) }
 {
     match class {
-        Terminal::CloseBracket => push_body(stack, &[]),
-        Terminal::Open => push_body(
-            stack,
-            &[
-                Symbol::Class(Terminal::Name),
-                Symbol::Class(Terminal::Comma),
-                Symbol::Part(Phrase::Location),
-                Symbol::Class(Terminal::Close),
-                Symbol::Part(Phrase::MoreNodes),
-            ],
-        ),
+        CloseBracket => push!(stack;),
+        Open => push!(stack; Name Comma [Location] Close [MoreNodes]),
         _ => Ok(Step::Absent),
     }
 }
@@ -400,8 +244,8 @@ fn push_more_nodes(class: Terminal, stack: &mut Vec<Waiting>) -> Result<Step, Al
     ensures { IfOk result (λ step. IsStep (behind Phrase.MoreNodes class) (deep Phrase.MoreNodes class) stack.old.items step stack.new.items) }
 {
     match class {
-        Terminal::CloseBracket => push_body(stack, &[]),
-        Terminal::Semicolon => push_body(stack, &[Symbol::Part(Phrase::Nodes)]),
+        CloseBracket => push!(stack;),
+        Semicolon => push!(stack; [Nodes]),
         _ => Ok(Step::Absent),
     }
 }
@@ -410,18 +254,8 @@ fn push_edges(class: Terminal, stack: &mut Vec<Waiting>) -> Result<Step, AllocEr
     ensures { IfOk result (λ step. IsStep (behind Phrase.Edges class) (deep Phrase.Edges class) stack.old.items step stack.new.items) }
 {
     match class {
-        Terminal::CloseBracket => push_body(stack, &[]),
-        Terminal::Open => push_body(
-            stack,
-            &[
-                Symbol::Part(Phrase::Node),
-                Symbol::Class(Terminal::Comma),
-                Symbol::Part(Phrase::Node),
-                Symbol::Part(Phrase::Labels),
-                Symbol::Class(Terminal::Close),
-                Symbol::Part(Phrase::MoreEdges),
-            ],
-        ),
+        CloseBracket => push!(stack;),
+        Open => push!(stack; [Node] Comma [Node] [Labels] Close [MoreEdges]),
         _ => Ok(Step::Absent),
     }
 }
@@ -430,8 +264,8 @@ fn push_more_edges(class: Terminal, stack: &mut Vec<Waiting>) -> Result<Step, Al
     ensures { IfOk result (λ step. IsStep (behind Phrase.MoreEdges class) (deep Phrase.MoreEdges class) stack.old.items step stack.new.items) }
 {
     match class {
-        Terminal::CloseBracket => push_body(stack, &[]),
-        Terminal::Semicolon => push_body(stack, &[Symbol::Part(Phrase::Edges)]),
+        CloseBracket => push!(stack;),
+        Semicolon => push!(stack; [Edges]),
         _ => Ok(Step::Absent),
     }
 }
