@@ -1,3 +1,4 @@
+mod Names
 mod Digits
 pub mod Pieces
 pub mod Spelling

@@ -1,11 +1,12 @@
 -- Each text spells tokens or has a lexical fault.
-use Rattle.std.proofs.Common.{◌≡◌, ◌≢◌, ℕ, zero, suc, ◌+◌, ◌-◌, ◌<◌, ◌≤◌, ◌⊎◌, List, [], ◌∷◌, ◌++◌, length, get_or, ap, refl, subst, arith, ⊎_elim, inl, inr}
+use Rattle.std.proofs.Common.{◌≡◌, ◌≢◌, ℕ, zero, suc, ◌+◌, ◌-◌, ◌<◌, ◌≤◌, ◌⊎◌, List, [], ◌∷◌, ◌++◌, length, get_or, Bool, true, false, ap, refl, sym, ◌∙◌, subst, arith, ⊎_elim, inl, inr}
 use Rattle.std.specs.Prelude.{slice_range}
 use Rattle.std.proofs.str.Laws.{order}
 use Rattle.uspec_lexer.specs.Token.{Token, name, number, text, symbol}
-use Rattle.uspec_lexer.specs.Bytes.{IsBlank, IsDigit, IsLetter, IsNameByte, IsTextByte, IsLineByte, IsShortSymbol, IsLongSymbol, number_value}
+use Rattle.uspec_lexer.specs.Bytes.{IsBlank, IsDigit, IsLetter, IsNameByte, is_name_byte, IsTextByte, IsLineByte, IsShortSymbol, IsLongSymbol, number_value}
 use Rattle.uspec_lexer.specs.Piece.{Form, blank, comment, token, IsRun, OpensLine, OpensBlock, ClosesBlock, IsBlockComment, IsText, IsPiece, NoPiece}
 use Rattle.uspec_lexer.specs.Spells.{Piece, Joined, tokens_of, Spells, IsLexicalFault}
+use Rattle.uspec_lexer.proofs.Names.{letter_named}
 use Rattle.uspec_lexer.proofs.Pieces.{no_form, only_number, only_text, only_block, run-unique, piece-rises, piece-within, inside_text}
 use Rattle.uspec_lexer.proofs.Spelling.{joined-push}
 
@@ -38,7 +39,11 @@ digit_or_not : (c : ℕ) → Decided (IsDigit c)
 digit_or_not c = between 0x30 c 0x39
 
 name_byte_or_not : (c : ℕ) → Decided (IsNameByte c)
-name_byte_or_not c = either (letter_or_not c) (either (digit_or_not c) (either (is c 0x5F) (is c 0x27)))
+name_byte_or_not c = by (is_name_byte c) refl
+  where
+    by : (t : Bool) → is_name_byte c ≡ t → Decided (IsNameByte c)
+    by true e = inl e
+    by false e = inr (λ h. (let no : false ≡ true = sym e ∙ h in cc))
 
 text_byte_or_not : (c : ℕ) → Decided (IsTextByte c)
 text_byte_or_not c =
@@ -144,7 +149,7 @@ module _ (bytes : List ℕ) (a : ℕ) (lt : a < length bytes) where
   name_piece : IsLetter (get_or bytes a 0) → SomePiece bytes a
   unfolding SomePiece
   name_piece letter =
-      let run = run_from bytes a IsNameByte name_byte_or_not lt (inl letter) in
+      let run = run_from bytes a IsNameByte name_byte_or_not lt (letter_named (get_or bytes a 0) letter) in
       inl (token name, run.0, (letter, run.1))
 
   symbol_or_none : ¬ IsBlank (get_or bytes a 0) → ¬ IsLetter (get_or bytes a 0) → ¬ IsDigit (get_or bytes a 0) → get_or bytes a 0 ≢ 0x22 → ¬ OpensLine bytes a → ¬ OpensBlock bytes a → SomePiece bytes a

@@ -1,6 +1,8 @@
 -- The classes of bytes, and the value of digits. Bytes are read by place, 0 past a text's end: no class that
 -- a piece begins with holds 0.
-use Rattle.std.specs.Prelude.{◌≡◌, ◌≢◌, ℕ, ◌+◌, ◌-◌, ◌*◌, ◌≤◌, ◌⊎◌, List, fold}
+use Rattle.std.specs.Prelude.{◌≡◌, ◌≢◌, ℕ, ◌+◌, ◌-◌, ◌*◌, ◌≤◌, ◌⊎◌, ◌==◌, Bool, false, ◌&&◌, ◌||◌, IsTrue, List, [], ◌∷◌, fold}
+use Rattle.std.specs.List.{list_all}
+use Rattle.std.specs.Char.{is_ascii_alphabetic, is_ascii_alphanumeric}
 
 -- space, tab, CR, LF
 abbrev pub IsBlank : ℕ → Type 0
@@ -15,8 +17,16 @@ abbrev pub IsLetter : ℕ → Type 0
 IsLetter c = ((0x41 ≤ c) × (c ≤ 0x5A)) ⊎ ((0x61 ≤ c) × (c ≤ 0x7A))
 
 -- a letter, a digit, `_` or `'`
+abbrev pub is_name_byte : ℕ → Bool
+is_name_byte c = is_ascii_alphanumeric c || (c == 0x5F) || (c == 0x27)
+
 abbrev pub IsNameByte : ℕ → Type 0
-IsNameByte c = IsLetter c ⊎ IsDigit c ⊎ (c ≡ 0x5F) ⊎ (c ≡ 0x27)
+IsNameByte c = IsTrue (is_name_byte c)
+
+-- a letter, and then letters, digits, `_` and `'`
+unfoldable pub is_name : List ℕ → Bool
+is_name [] = false
+is_name (c ∷ cs) = is_ascii_alphabetic c && list_all is_name_byte cs
 
 -- printable, and no double quote
 abbrev pub IsTextByte : ℕ → Type 0

@@ -6,3 +6,4 @@ pub mod Span
 pub mod View
 pub mod Scan
 pub mod Fault
+pub mod Laws

@@ -1,5 +1,4 @@
 -- What a token of the code is as plain data.
-use Rattle.std.specs.Prelude.{ℕ}
 use Rattle.uspec_lexer.specs.Token.{Token as PlainToken}
 use Rattle.uspec_lexer.specs.Span.{kind_of}
 use Rattle.uspec_lexer.specs.declared.token.Token.{Token}

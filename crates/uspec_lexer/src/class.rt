@@ -1,6 +1,9 @@
 ghost use Rattle.std.specs.Prelude.{◌≡◌, ◌<◌, ◌↔◌, IsTrue, length, slice_index};
-ghost use Rattle.uspec_lexer.specs.Bytes.{IsBlank, IsLetter, IsTextByte};
-ghost use Rattle.uspec_lexer.specs.Piece.{IsRun};
+ghost use Rattle.std.specs.List.{list_all};
+ghost use Rattle.std.specs.Char.{is_ascii_alphabetic};
+ghost use Rattle.uspec_lexer.specs.Token.{name};
+ghost use Rattle.uspec_lexer.specs.Bytes.{IsBlank, IsLetter, IsTextByte, is_name_byte as name_byte_spec, is_name as name_spec};
+ghost use Rattle.uspec_lexer.specs.Piece.{IsRun, IsPiece, token};
 ghost use Rattle.uspec_lexer.specs.Scan.{IsIn};
 
 /// A class of bytes of which a piece may be a run.
@@ -19,7 +22,7 @@ impl Class {
         ensures { IsTrue result ↔ IsIn self byte }
     {
         match self {
-            Class::NameByte => byte.is_ascii_alphanumeric() || byte == b'_' || byte == b'\'',
+            Class::NameByte => is_name_byte(byte),
             Class::Digit => byte.is_ascii_digit(),
             Class::LineByte => byte != b'\n',
         }
@@ -46,9 +49,36 @@ pub(crate) fn is_blank(byte: u8) -> bool
 }
 
 pub(crate) fn is_letter(byte: u8) -> bool
-    ensures { IsTrue result ↔ IsLetter byte }
+    ensures value { result ≡ is_ascii_alphabetic byte }
+    ensures letter { IsTrue result ↔ IsLetter byte }
 {
     byte.is_ascii_alphabetic()
+}
+
+/// A letter, a digit, `_` or `'`.
+fn is_name_byte(byte: u8) -> bool
+    ensures { result ≡ name_byte_spec byte }
+{
+    byte.is_ascii_alphanumeric() || byte == b'_' || byte == b'\''
+}
+
+fn are_name_bytes(bytes: &[u8]) -> bool
+    ensures { result ≡ list_all name_byte_spec bytes.now }
+{
+    bytes.iter().all(|byte| is_name_byte(*byte))
+}
+
+/// Whether the bytes are a name and nothing more: a letter, and then letters, digits, `_` and `'`.
+/// Takes no memory.
+#[tactic(auto, unfolding(crate::specs::Bytes::is_name))]
+pub fn is_name(bytes: &[u8]) -> bool
+    ensures value { result ≡ name_spec bytes.now }
+    ensures piece { IsTrue result ↔ IsPiece bytes.now (token name) 0 (length bytes.now) }
+{
+    match bytes {
+        [] => false,
+        [first, rest @ ..] => is_letter(*first) && are_name_bytes(rest),
+    }
 }
 
 /// Whether `byte` may stand between a text's quotes.

@@ -15,18 +15,21 @@
 //! are the pieces that are neither blanks nor comments. Where no piece begins, or the one that begins
 //! can't be completed, stands the text's lexical fault.
 //!
-//! `specs/Spells.antt` says this of whole texts, as a relation. Each text spells tokens or has a fault
-//! (`proofs/Totality.antt`), one list or one fault, and never both (`proofs/Spelling.antt`).
+//! `specs/Spells.antt` says this of whole texts, as a relation. The laws in `laws.rt` say that each text
+//! spells tokens or has a fault, one at most of each, and never both.
 #![tactic(auto)]
 
 mod class;
 mod fault;
+mod laws;
 mod lex;
 mod list;
 mod scan;
 mod token;
 
+pub use class::is_name;
 pub use fault::LexFault;
+pub use laws::{no_fault, one_fault, one_list, tokens_or_fault};
 pub use lex::tokens;
 pub use list::Tokens;
-pub use token::{Token, TokenKind};
+pub use token::{FromToken, Token, TokenKind};

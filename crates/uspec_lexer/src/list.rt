@@ -1,10 +1,11 @@
-ghost use Rattle.std.specs.Prelude.{◌≡◌, ◌^◌, ◌+◌, ◌<◌, ◌≤◌, List, length, map, slice_get, All, vec_len};
-ghost use Rattle.uspec_lexer.specs.Token.{Token as PlainToken};
+ghost use Rattle.std.specs.Prelude.{◌≡◌, ◌^◌, ◌+◌, ◌<◌, ◌≤◌, List, length, map, slice_get, All, vec_len, IfOk};
+ghost use Rattle.uspec_lexer.specs.Token.{Token as PlainToken, token_place};
 ghost use Rattle.uspec_lexer.specs.Span.{token_at, IsWithin};
 ghost use Rattle.uspec_lexer.specs.View.{plain};
 
-use super::token::{Token, TokenKind};
-use pc_common::Place;
+use super::token::{FromToken, Token, TokenKind};
+use pc_common::{Memory, Place};
+use std::alloc::Global;
 use std::marker::Model;
 
 /// Where a token stands, without its bytes.
@@ -61,5 +62,31 @@ impl<'a> Tokens<'a> {
             at: Place { offset: span.at },
             piece: &self.bytes[from..from + span.len as usize],
         }
+    }
+
+    /// The place of the token at `k`, or of the end of `bytes` where there are no more than `k` tokens.
+    /// Takes no memory.
+    pub fn place(&self, bytes: &[u8], k: usize) -> Place
+        requires { length bytes.now < 2 ^ 32 }
+        ensures { result.offset ≡ token_place bytes.now self.now k }
+    {
+        if k < self.len() {
+            self.get(k).at
+        } else {
+            Place {
+                offset: bytes.len() as u32,
+            }
+        }
+    }
+
+    /// The terminals that a grammar sees in place of the tokens.
+    pub fn terminals<T: FromToken>(&self, alloc: Global) -> Result<Vec<T>, Memory>
+        ensures { IfOk result (λ terminals. terminals.items ≡ map T.seen self.now) }
+    {
+        let mut terminals = Vec::new(alloc);
+        for k in 0..self.len() {
+            terminals.push(T::from_token(self.get(k)))?;
+        }
+        Ok(terminals)
     }
 }

@@ -1,3 +1,7 @@
+ghost use Rattle.std.specs.Prelude.{◌≡◌};
+ghost use Rattle.uspec_lexer.specs.Token.{Token as PlainToken};
+ghost use Rattle.uspec_lexer.specs.View.{plain};
+
 use pc_common::Place;
 
 /// What a token is.
@@ -19,4 +23,12 @@ pub struct Token<'a> {
     pub kind: TokenKind,
     pub at: Place,
     pub piece: &'a [u8],
+}
+
+/// What a grammar sees of a token: one of its terminals.
+pub trait FromToken: Copy {
+    ghost seen: { PlainToken → Self };
+
+    fn from_token(token: Token<'_>) -> Self
+        ensures { result ≡ seen (plain token.entry) };
 }

@@ -1,0 +1,5 @@
+use Rattle.uspec_lexer.proofs.Spelling.{spells-unique}
+use Rattle.uspec_lexer.proofs.laws.one_list.Goals as goal
+
+pub returns : goal.returns
+returns c = λ ts us s t. spells-unique s t
