@@ -1,13 +1,13 @@
 -- A text has one first fault at most.
-use Rattle.std.proofs.Common.{◌≡◌, ◌≢◌, ℕ, ◌+◌, ◌<◌, ◌≤◌, List, length, slice_get, refl, sym, ap, subst, ◌∙◌, arith}
+use Rattle.std.proofs.Common.{◌≡◌, ◌≢◌, ℕ, ◌+◌, ◌<◌, ◌≤◌, List, length, refl, sym, ap, subst, ◌∙◌, arith}
 use Rattle.pc_common.specs.declared.place.Place.{Place}
 use Rattle.ll_grammar.specs.FirstFault.{IsFaultAt}
 use Rattle.ll_grammar.proofs.Faults.{viable-take}
-use Rattle.uspec_lexer.specs.Token.{Token}
+use Rattle.uspec_lexer.specs.Token.{Token, token_place}
 use Rattle.uspec_lexer.proofs.Spelling.{spells-unique, spells-no_fault, lexical_fault-unique}
 use Rattle.litmus_reader.specs.Syntax.{IsTestOf, IsTest}
 use Rattle.litmus_reader.specs.Content.{IsContentFault}
-use Rattle.litmus_reader.specs.Answer.{Says, token_place, IsSyntaxFault, IsRefusal}
+use Rattle.litmus_reader.specs.Answer.{Says, IsSyntaxFault, IsRefusal}
 use Rattle.litmus_reader.specs.declared.item.Item.{Item}
 use Rattle.litmus_reader.specs.declared.fault.CaseFault.{CaseFault}
 use Rattle.litmus_reader.specs.declared.fault.CaseFault.TheVariants.{Lexical, Syntax, Content, Memory}
@@ -27,8 +27,8 @@ one_syntax_fault bytes p q f g =
     let above = later_syntax f.tokens g.k f.k there f.fault in
     let one : f.k ≡ g.k = omega arith in
     let offset : p.offset ≡ q.offset =
-    f.at ∙ ap (λ (k : ℕ). token_place (length bytes) (slice_get f.tokens k)) one
-    ∙ ap (λ (ts : List Token). token_place (length bytes) (slice_get ts g.k)) (sym tokens) ∙ sym g.at in
+    f.at ∙ ap (λ (k : ℕ). token_place bytes f.tokens k) one
+    ∙ ap (λ (ts : List Token). token_place bytes ts g.k) (sym tokens) ∙ sym g.at in
     λ i. record { offset = offset i }
 
 test_or_syntax : (bytes : List ℕ) (place : Place) (items : List Item) → IsSyntaxFault bytes place → Says bytes items → ⊥

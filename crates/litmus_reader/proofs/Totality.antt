@@ -1,11 +1,11 @@
 -- Each text has a case or a first fault that is no want of memory.
-use Rattle.std.proofs.Common.{◌≢◌, ℕ, ◌⊎◌, ⊎_elim, inl, inr, List, length, slice_get, refl}
+use Rattle.std.proofs.Common.{◌≢◌, ℕ, ◌⊎◌, ⊎_elim, inl, inr, List, refl}
 use Rattle.pc_common.specs.Case.{Case}
-use Rattle.uspec_lexer.specs.Token.{Token}
+use Rattle.uspec_lexer.specs.Token.{Token, token_place}
 use Rattle.uspec_lexer.specs.Spells.{Spells}
 use Rattle.uspec_lexer.proofs.Totality.{spells-or_fault}
 use Rattle.litmus_reader.specs.Items.{case_of}
-use Rattle.litmus_reader.specs.Answer.{Says, CaseOf, token_place, IsRefusal}
+use Rattle.litmus_reader.specs.Answer.{Says, CaseOf, IsRefusal}
 use Rattle.litmus_reader.specs.declared.item.Item.{Item}
 use Rattle.litmus_reader.specs.declared.fault.CaseFault.{CaseFault}
 use Rattle.litmus_reader.specs.declared.fault.CaseFault.TheVariants.{Lexical, Syntax, Content, Memory}
@@ -29,7 +29,7 @@ tokens_settled bytes ts spelled =
     ⊎_elim
     (λ (items, test). items_settled bytes items (record { tokens = ts; spelled = spelled; test = test }))
     (λ (k, fault). inr (
-      Syntax (record { offset = token_place (length bytes) (slice_get ts k) }),
+      Syntax (record { offset = token_place bytes ts k }),
       (λ e. cc),
       record { tokens = ts; spelled = spelled; k = k; fault = fault; at = refl },
     ))

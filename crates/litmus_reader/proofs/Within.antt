@@ -2,13 +2,14 @@
 use Rattle.std.proofs.Common.{◌≡◌, ℕ, ◌+◌, ◌≤◌, List, [], ◌∷◌, ◌++◌, Option, Some, None, codes, length, drop, slice_get, refl, sym, ap, subst, ◌∙◌, inl, inr, arith}
 use Rattle.pc_common.specs.declared.place.Place.{Place}
 use Rattle.pc_common.specs.declared.fault.FaultKind.{FaultKind}
-use Rattle.uspec_lexer.specs.Token.{Token}
+use Rattle.uspec_lexer.specs.Token.{Token, place_or, token_place}
 use Rattle.uspec_lexer.specs.Spells.{Spells}
 use Rattle.uspec_lexer.proofs.Order.{spells-get, token-within}
 use Rattle.litmus_reader.specs.Expected.{Expected, word_at, number_at, Is, Spell}
 use Rattle.litmus_reader.specs.Syntax.{spelled_item, spelled_items, IsTestOf}
 use Rattle.litmus_reader.specs.Content.{IsFaultOf}
-use Rattle.litmus_reader.specs.Answer.{token_place, IsRefusal}
+use Rattle.litmus_reader.specs.Answer.{IsRefusal}
+use Rattle.litmus_reader.specs.Laws.{IsWithin}
 use Rattle.litmus_reader.specs.Reading.{BeginsAt}
 use Rattle.litmus_reader.specs.declared.item.Numeral.{Numeral}
 use Rattle.litmus_reader.specs.declared.item.Item.{Item}
@@ -16,13 +17,6 @@ use Rattle.litmus_reader.specs.declared.item.Item.TheVariants.{Microop as microo
 use Rattle.litmus_reader.specs.declared.fault.CaseFault.{CaseFault}
 use Rattle.litmus_reader.specs.declared.fault.CaseFault.TheVariants.{Lexical, Syntax, Content, Memory}
 use Rattle.litmus_reader.proofs.Places.{stands, spell-behind}
-
--- the place of a fault; want of memory has none and is taken to stand at the start
-abbrev pub place_of : CaseFault → Place
-place_of (Lexical place) = place
-place_of (Syntax place) = place
-place_of (Content kind place) = place
-place_of Memory = record { offset = 0 }
 
 -- one of these tokens stands at the place
 record HasPlace (es : List Expected) (at : Place) : Type 0 where
@@ -67,15 +61,15 @@ test_item (t ∷ x ∷ d ∷ ts) before i after s = item_begins (t ∷ x ∷ d �
 place_within : {bytes : List ℕ} {ts : List Token} (k : ℕ) (t : Token) → Spells bytes ts → slice_get ts k ≡ Some t → t.at ≤ length bytes
 place_within k t spelled at = omega (arith, (token-within (spells-get k spelled at)).1)
 
-syntax_within : {bytes : List ℕ} {ts : List Token} (k : ℕ) → Spells bytes ts → token_place (length bytes) (slice_get ts k) ≤ length bytes
+syntax_within : {bytes : List ℕ} {ts : List Token} (k : ℕ) → Spells bytes ts → token_place bytes ts k ≤ length bytes
 syntax_within {bytes} {ts} k spelled = by (slice_get ts k) refl
   where
-    by : (o : Option Token) → slice_get ts k ≡ o → token_place (length bytes) o ≤ length bytes
+    by : (o : Option Token) → slice_get ts k ≡ o → place_or (length bytes) o ≤ length bytes
     by None e = omega arith
     by (Some t) e = place_within k t spelled e
 
 -- a fault stands within the text
-pub fault_within : (bytes : List ℕ) (fault : CaseFault) → IsRefusal bytes fault → (place_of fault).offset ≤ length bytes
+pub fault_within : (bytes : List ℕ) (fault : CaseFault) → IsRefusal bytes fault → IsWithin bytes fault
 fault_within bytes (Lexical place) f = omega (arith, f.inside)
 fault_within bytes (Syntax place) f = omega (arith, f.at, syntax_within f.k f.spelled)
 fault_within bytes (Content kind place) (items, said, f) =
@@ -83,4 +77,4 @@ fault_within bytes (Content kind place) (items, said, f) =
     let (n, begins) = test_item said.tokens f.before f.item f.after (subst (λ (is : List Item). IsTestOf is said.tokens) f.are said.test) in
     let s = stands (spelled_item f.item) begins h.k h.expected h.here in
     omega (arith, h.stands s.token s.is, place_within (n + h.k) s.token said.spelled s.at)
-fault_within bytes Memory f = omega arith
+fault_within bytes Memory f = tt

@@ -1,10 +1,10 @@
 -- What a test's bytes say: a case, or the first fault. Lexical faults are judged before those of syntax, and these
 -- before those of content.
-use Rattle.std.specs.Prelude.{◌≡◌, ℕ, ⊤, List, Option, Some, None, length, slice_get}
+use Rattle.std.specs.Prelude.{◌≡◌, ℕ, ⊤, List}
 use Rattle.ll_grammar.specs.FirstFault.{IsFaultAt}
 use Rattle.pc_common.specs.Case.{Case}
 use Rattle.pc_common.specs.declared.place.Place.{Place}
-use Rattle.uspec_lexer.specs.Token.{Token}
+use Rattle.uspec_lexer.specs.Token.{Token, token_place}
 use Rattle.uspec_lexer.specs.Spells.{Spells, IsLexicalFault}
 use Rattle.litmus_reader.specs.Syntax.{IsTestOf, IsTest}
 use Rattle.litmus_reader.specs.Items.{case_of}
@@ -26,18 +26,13 @@ pub record CaseOf (bytes : List ℕ) (case : Case) : Type 0 where
   pub clean : IsClean items
   pub is : case ≡ case_of items
 
--- the place of token k, or the length of the text at the end
-abbrev pub token_place : ℕ → Option Token → ℕ
-token_place end None = end
-token_place end (Some t) = t.at
-
 -- the bytes spell tokens, and no test goes on at the one at this place
 pub record IsSyntaxFault (bytes : List ℕ) (place : Place) : Type 0 where
   pub tokens : List Token
   pub spelled : Spells bytes tokens
   pub k : ℕ
   pub fault : IsFaultAt IsTest tokens k
-  pub at : place.offset ≡ token_place (length bytes) (slice_get tokens k)
+  pub at : place.offset ≡ token_place bytes tokens k
 
 -- the first fault of a test; want of memory is tied to nothing
 abbrev pub IsRefusal : List ℕ → CaseFault → Type 0

@@ -1,9 +1,9 @@
 -- What holds of the bytes of every test. Want of memory counts as no fault.
-use Rattle.std.specs.Prelude.{◌≡◌, ◌≢◌, ◌⊎◌, ℕ, List}
+use Rattle.std.specs.Prelude.{◌≡◌, ◌≢◌, ◌⊎◌, ◌≤◌, ⊤, ℕ, List, length}
 use Rattle.pc_common.specs.Case.{Case}
 use Rattle.litmus_reader.specs.Answer.{CaseOf, IsRefusal}
 use Rattle.litmus_reader.specs.declared.fault.CaseFault.{CaseFault}
-use Rattle.litmus_reader.specs.declared.fault.CaseFault.TheVariants.{Memory}
+use Rattle.litmus_reader.specs.declared.fault.CaseFault.TheVariants.{Lexical, Syntax, Content, Memory}
 
 -- a fault of the bytes
 abbrev pub IsFault : List ℕ → CaseFault → Type 0
@@ -21,3 +21,13 @@ HasOneFault bytes = (e f : CaseFault) → IsFault bytes e → IsFault bytes f �
 -- not both
 abbrev pub HasNoFaultBeside : List ℕ → Type 0
 HasNoFaultBeside bytes = (c : Case) (f : CaseFault) → CaseOf bytes c → IsFault bytes f → ⊥
+
+-- the place that the fault names is one of the bytes, or their end
+abbrev pub IsWithin : List ℕ → CaseFault → Type 0
+IsWithin bytes (Lexical place) = place.offset ≤ length bytes
+IsWithin bytes (Syntax place) = place.offset ≤ length bytes
+IsWithin bytes (Content kind place) = place.offset ≤ length bytes
+IsWithin bytes Memory = ⊤
+
+abbrev pub HasFaultsWithin : List ℕ → Type 0
+HasFaultsWithin bytes = (f : CaseFault) → IsFault bytes f → IsWithin bytes f

@@ -55,12 +55,12 @@ follow PhysicalPage Number = true
 follow Value Close = true
 follow _ _ = false
 
-abbrev terminals : List Terminal
+abbrev pub terminals : List Terminal
 terminals =
     Litmus ∷ Microop ∷ Relationship ∷ Init ∷ Final ∷ Permitted ∷ Forbidden ∷ Read ∷ Write ∷ Fence ∷ Va ∷ Pa ∷ Data ∷ Name ∷ Number ∷ Text
     ∷ Open ∷ Close ∷ Dot ∷ Arrow ∷ Other ∷ []
 
-abbrev place : Terminal → ℕ
+abbrev pub place : Terminal → ℕ
 place Litmus = 0
 place Microop = 1
 place Relationship = 2
@@ -83,7 +83,7 @@ place Dot = 18
 place Arrow = 19
 place Other = 20
 
-listed : (c : Terminal) → slice_get terminals (place c) ≡ Some c
+pub listed : (c : Terminal) → slice_get terminals (place c) ≡ Some c
 listed Litmus = refl
 listed Microop = refl
 listed Relationship = refl

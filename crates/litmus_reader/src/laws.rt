@@ -1,5 +1,5 @@
 // Laws of the definitions in specs/. Each function does nothing: its contract is the law.
-ghost use Rattle.litmus_reader.specs.Laws.{HasCaseOrFault, HasOneCase, HasOneFault, HasNoFaultBeside};
+ghost use Rattle.litmus_reader.specs.Laws.{HasCaseOrFault, HasOneCase, HasOneFault, HasNoFaultBeside, HasFaultsWithin};
 
 /// Bytes say a case or have a first fault.
 pub fn case_or_fault(bytes: &[u8])
@@ -19,4 +19,9 @@ pub fn one_fault(bytes: &[u8])
 /// Bytes that say a case have no fault.
 pub fn no_fault(bytes: &[u8])
     ensures { HasNoFaultBeside bytes.now }
+{}
+
+/// A fault of the bytes stands at one of them, or at their end.
+pub fn faults_within(bytes: &[u8])
+    ensures { HasFaultsWithin bytes.now }
 {}

@@ -20,7 +20,8 @@
 //!
 //! `specs/Syntax.antt` has the productions, `specs/Items.antt` the case that the lines make,
 //! `specs/Content.antt` the faults of content and `specs/Answer.antt` the whole. The laws in `laws.rt` say
-//! that a text has a case or a first fault, one at most of each, and not both.
+//! that a text has a case or a first fault, one at most of each, and not both, and that a fault stands
+//! within the text or at its end.
 #![tactic(auto)]
 
 mod fault;
@@ -37,5 +38,5 @@ mod terminal;
 mod values;
 
 pub use fault::CaseFault;
-pub use laws::{case_or_fault, no_fault, one_case, one_fault};
+pub use laws::{case_or_fault, faults_within, no_fault, one_case, one_fault};
 pub use read::read_case;

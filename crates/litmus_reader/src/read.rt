@@ -1,13 +1,12 @@
-ghost use Rattle.std.specs.Prelude.{◌≡◌, ◌<◌, ◌^◌, length, slice_get, IfOk, IfErr};
+ghost use Rattle.std.specs.Prelude.{◌<◌, ◌^◌, length, IfOk, IfErr};
 ghost use Rattle.litmus_reader.specs.Syntax.{IsTest};
-ghost use Rattle.litmus_reader.specs.Answer.{CaseOf, IsRefusal, CaseIn, IsContentRefusal, token_place};
+ghost use Rattle.litmus_reader.specs.Answer.{CaseOf, IsRefusal, CaseIn, IsContentRefusal};
 
 use super::fault::CaseFault;
 use super::kept::Kept;
 use super::reading::item_at;
 use super::syntax::syntax_fault;
 use pc_case::Case;
-use pc_common::Place;
 use std::alloc::Global;
 use uspec_lexer::{Tokens, tokens};
 
@@ -23,23 +22,9 @@ pub fn read_case(alloc: Global, bytes: &[u8]) -> Result<Case, CaseFault>
 {
     let tokens = tokens(alloc, bytes)?;
     if let Some(k) = syntax_fault(alloc, &tokens)? {
-        return Err(CaseFault::Syntax(place_of_token(bytes, &tokens, k)));
+        return Err(CaseFault::Syntax(tokens.place(bytes, k)));
     }
     case_of_test(alloc, &tokens)
-}
-
-/// The place of the token at `k`, or of the end of the bytes.
-fn place_of_token(bytes: &[u8], tokens: &Tokens<'_>, k: usize) -> Place
-    requires { length bytes.now < 2 ^ 32 }
-    ensures { result.offset ≡ token_place (length bytes.now) (slice_get tokens.now k) }
-{
-    if k < tokens.len() {
-        tokens.get(k).at
-    } else {
-        Place {
-            offset: bytes.len() as u32,
-        }
-    }
 }
 
 /// How many tokens stand before the first line: `Litmus`, its text and a dot.

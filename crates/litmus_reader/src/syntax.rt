@@ -1,9 +1,7 @@
-ghost use Rattle.std.specs.Prelude.{◌≡◌, IfOk, map};
+ghost use Rattle.std.specs.Prelude.{◌≡◌, IfOk};
 ghost use Rattle.litmus_reader.specs.Answers.{IsSyntaxAnswer, place_in as place_in_spec};
-ghost use Rattle.litmus_reader.specs.Terminals.{terminal_of as terminal_spec};
 
 use super::phrase::Phrase;
-use super::terminal::{Terminal, terminal_of};
 use ll_grammar::{Fault, first_fault};
 use pc_common::Memory;
 use std::alloc::Global;
@@ -14,7 +12,7 @@ use uspec_lexer::Tokens;
 pub(crate) fn syntax_fault(alloc: Global, tokens: &Tokens<'_>) -> Result<Option<usize>, Memory>
     ensures { IfOk result (IsSyntaxAnswer tokens.now) }
 {
-    let terminals = terminals(alloc, tokens)?;
+    let terminals = tokens.terminals(alloc)?;
     Ok(place_in(first_fault(alloc, Phrase::Test, &terminals)?))
 }
 
@@ -25,14 +23,4 @@ fn place_in(fault: Option<Fault>) -> Option<usize>
     match fault? {
         Fault::Syntax(k) | Fault::Depth(k) => Some(k),
     }
-}
-
-fn terminals(alloc: Global, tokens: &Tokens<'_>) -> Result<Vec<Terminal>, Memory>
-    ensures { IfOk result (λ v. v.items ≡ map terminal_spec tokens.now) }
-{
-    let mut terminals = Vec::new(alloc);
-    for k in 0..tokens.len() {
-        terminals.push(terminal_of(tokens.get(k)))?;
-    }
-    Ok(terminals)
 }

@@ -4,7 +4,7 @@ ghost use Rattle.uspec_lexer.specs.View.{plain};
 ghost use Rattle.litmus_reader.specs.Terminals.{terminal_of as terminal_spec, word_terminal as word_spec, symbol_terminal as symbol_spec};
 
 use ll_grammar::TokenClass;
-use uspec_lexer::{Token, TokenKind};
+use uspec_lexer::{FromToken, Token, TokenKind};
 
 /// The classes of a test's tokens: the terminals of its grammar.
 #[derive(Clone, Copy, PartialEq, Eq)]
@@ -37,6 +37,14 @@ pub(crate) enum Terminal {
 impl TokenClass for Terminal {
     fn is_same(self, other: Self) -> bool {
         self == other
+    }
+}
+
+impl FromToken for Terminal {
+    ghost seen = { terminal_spec };
+
+    fn from_token(token: Token<'_>) -> Self {
+        terminal_of(token)
     }
 }
 

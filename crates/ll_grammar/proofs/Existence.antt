@@ -1,18 +1,26 @@
 -- Tokens whose classes are told apart have an answer, by a run of the recogniser without a stack in memory.
-use Rattle.std.proofs.Common.{◌≡◌, ℕ, zero, suc, ◌+◌, ◌<◌, ◌⊎◌, inl, inr, Bool, true, false, List, [], ◌∷◌, ◌++◌, Option, Some, None, length, get_or, refl, sym, subst, arith}
+use Rattle.std.proofs.Common.{◌≡◌, ◌≢◌, ℕ, zero, suc, ◌+◌, ◌<◌, ◌⊎◌, inl, inr, Bool, true, false, List, [], ◌∷◌, ◌++◌, Option, Some, None, length, get_or, slice_get, unwrap_or, nat_eq, eq-eqb, eqb-true, refl, sym, ap, ◌∙◌, subst, arith}
 use Rattle.std.specs.List.{list_all}
 use Rattle.ll_grammar.specs.Rules.{Rules, Derives, can_be_empty}
-use Rattle.ll_grammar.specs.FirstFault.{AreDecided, IsAnswer, HasAnswer}
+use Rattle.ll_grammar.specs.FirstFault.{AreDecided, HasAnswer}
 use Rattle.ll_grammar.specs.Predictable.{IsPredictable, IsReady, HasTexts}
 use Rattle.ll_grammar.specs.Steps.{IsRead}
 use Rattle.ll_grammar.specs.declared.grammar.Symbol.{Symbol}
 use Rattle.ll_grammar.specs.declared.grammar.Symbol.TheVariants.{Class, Part}
 use Rattle.ll_grammar.specs.declared.grammar.Step.{Step}
 use Rattle.ll_grammar.specs.declared.grammar.Step.TheVariants.{Absent, Pushed, Deep}
-use Rattle.ll_grammar.specs.declared.fault.Fault.{Fault}
 use Rattle.ll_grammar.specs.declared.fault.Fault.TheVariants.{Syntax, Depth}
 use Rattle.ll_grammar.proofs.Symbols.{read-nothing, read-class, read-other_class, read-no_part, read-end, read-begins, read-deep}
 use Rattle.ll_grammar.proofs.Progress.{IsReading, begun, passed, refused, deepened, ended, unended}
+
+-- two classes are one or are not, by their places in a list of all
+pub decided_by : {C : Type 0} (classes : List C) (place : C → ℕ) → ((c : C) → slice_get classes (place c) ≡ Some c) → AreDecided C
+decided_by {C} classes place listed a b = by (nat_eq (place a) (place b)) refl
+  where
+    by : (t : Bool) → nat_eq (place a) (place b) ≡ t → (a ≡ b) ⊎ (a ≢ b)
+    by true e =
+        inl (ap (λ (o : Option C). unwrap_or o a) (sym (listed a) ∙ ap (slice_get classes) (eqb-true (place a) (place b) e) ∙ listed b))
+    by false e = inr (λ same. let yes = eq-eqb (place a) (place b) (ap place same) in cc)
 
 module _ {C N : Type 0} (g : Rules C N) (follow : N → C → Bool) (decided : AreDecided C)
     (predictable : IsPredictable g follow) (texts : HasTexts g) where
