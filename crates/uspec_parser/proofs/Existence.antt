@@ -1,9 +1,8 @@
 -- Tokens have an answer as a model and one as a formula.
-use Rattle.std.proofs.Common.{◌≡◌, ◌≢◌, ◌⊎◌, inl, inr, Bool, true, false, List, sym, ap, ◌∙◌, nat_eq, eq-eqb, eqb-true}
-use Rattle.std.specs.Prelude.{slice_get, unwrap_or, refl}
+use Rattle.std.specs.Prelude.{List}
 use Rattle.ll_grammar.specs.Rules.{Derives}
 use Rattle.ll_grammar.specs.FirstFault.{AreDecided, HasAnswer}
-use Rattle.ll_grammar.proofs.Existence.{some_answer}
+use Rattle.ll_grammar.proofs.Existence.{decided_by, some_answer}
 use Rattle.ll_grammar.proofs.Faults.{answer-along}
 use Rattle.uspec_parser.specs.Marks.{IsMarkedModel, IsMarkedFormula}
 use Rattle.uspec_parser.specs.Levels.{level_of}
@@ -13,14 +12,9 @@ use Rattle.uspec_parser.specs.declared.phrase.Phrase.TheVariants.{Items, Operand
 use Rattle.uspec_parser.proofs.Spelled.{marked_model_of, marked_formula_of}
 use Rattle.uspec_parser.proofs.Reading.{model_derived, formula_derived}
 
--- two terminals are one or are not, by their places in the list of all
+-- two terminals are one or are not
 decided : AreDecided Terminal
-decided a b = by (nat_eq (place a) (place b)) refl
-  where
-    by : (t : Bool) → nat_eq (place a) (place b) ≡ t → (a ≡ b) ⊎ (a ≢ b)
-    by true e =
-        inl (ap (λ o. unwrap_or o a) (sym (listed a) ∙ ap (slice_get terminals) (eqb-true (place a) (place b) e) ∙ listed b))
-    by false e = inr (λ same. let yes = eq-eqb (place a) (place b) (ap place same) in cc)
+decided = decided_by terminals place listed
 
 pub model_answer : (cs : List Terminal) → HasAnswer IsMarkedModel cs
 model_answer cs =

@@ -5,7 +5,8 @@ use Rattle.std.specs.Str.{bytes_eq}
 use Rattle.pc_syntax.specs.declared.model.StageItem.{StageItem}
 use Rattle.pc_syntax.specs.Written.{WrittenModel}
 use Rattle.uspec_lexer.specs.Token.{Token, Kind, name, number, text, symbol}
-use Rattle.uspec_parser.specs.Terminals.{Lexeme, plain, placed, name_, quoted, number_, word_terminal, symbol_terminal, text_terminal, terminal_of_kind, terminal_of, content, is_name, is_spelled_as_name, kept, lexeme}
+use Rattle.uspec_parser.specs.Terminals.{Lexeme, plain, placed, name_, quoted, number_, word_terminal, symbol_terminal, text_terminal, terminal_of_kind, terminal_of, content, is_name, kept, lexeme}
+use Rattle.uspec_lexer.specs.Bytes.{is_name as is_spelled_as_name}
 use Rattle.uspec_parser.specs.declared.terminal.Terminal.{Terminal}
 use Rattle.uspec_parser.specs.declared.terminal.Terminal.TheVariants.{StageName, Axiom, DefineMacro, ExpandMacro, Forall, Exists, Microop, Core, OneEdge, EdgeList, OneNode, NodeList, Name, Number, Quoted, Text, Open, Close, OpenBracket, CloseBracket, Comma, Semicolon, Colon, Dot, Not, And, Or, Implies, Arrow}
 use Rattle.uspec_parser.specs.Syntax.{Item, stage, axiom_item, macro, spelled_item, spelled_model, stages_of, DerivesModel}
@@ -35,11 +36,16 @@ abbrev is_quoted : Terminal → Bool
 is_quoted Quoted = true
 is_quoted _ = false
 
+abbrev is_number : Terminal → Bool
+is_number Number = true
+is_number _ = false
+
 record IsOther (t : Terminal) : Type 0 where
   pub is : is_quoted t ≡ false
+  pub no_number : is_number t ≡ false
 
-other : (t : Terminal) → is_quoted t ≡ false → IsOther t
-other t h = record { is = h }
+other : (t : Terminal) → is_quoted t ≡ false → is_number t ≡ false → IsOther t
+other t h n = record { is = h; no_number = n }
 
 pick : (b : Bool) (t u : Terminal) → IsOther t → IsOther u → IsOther (cond b t u)
 pick true t u h k = h
@@ -48,36 +54,36 @@ pick false t u h k = k
 word_never : (w : List ℕ) → IsOther (word_terminal w)
 unfolding word_terminal
 word_never w =
-    pick (bytes_eq w (codes "StageName")) StageName _ (other StageName refl) (
-    pick (bytes_eq w (codes "Axiom")) Axiom _ (other Axiom refl) (
-    pick (bytes_eq w (codes "DefineMacro")) DefineMacro _ (other DefineMacro refl) (
-    pick (bytes_eq w (codes "ExpandMacro")) ExpandMacro _ (other ExpandMacro refl) (
-    pick (bytes_eq w (codes "forall")) Forall _ (other Forall refl) (
-    pick (bytes_eq w (codes "exists")) Exists _ (other Exists refl) (
-    pick (bytes_eq w (codes "microop") || bytes_eq w (codes "microops")) Microop _ (other Microop refl) (
-    pick (bytes_eq w (codes "core") || bytes_eq w (codes "cores")) Core _ (other Core refl) (
-    pick (bytes_eq w (codes "AddEdge") || bytes_eq w (codes "EdgeExists")) OneEdge _ (other OneEdge refl) (
-    pick (bytes_eq w (codes "AddEdges") || bytes_eq w (codes "EdgesExist")) EdgeList _ (other EdgeList refl) (
-    pick (bytes_eq w (codes "NodeExists")) OneNode _ (other OneNode refl) (
-    pick (bytes_eq w (codes "NodesExist")) NodeList _ (other NodeList refl) (
-    other Name refl))))))))))))
+    pick (bytes_eq w (codes "StageName")) StageName _ (other StageName refl refl) (
+    pick (bytes_eq w (codes "Axiom")) Axiom _ (other Axiom refl refl) (
+    pick (bytes_eq w (codes "DefineMacro")) DefineMacro _ (other DefineMacro refl refl) (
+    pick (bytes_eq w (codes "ExpandMacro")) ExpandMacro _ (other ExpandMacro refl refl) (
+    pick (bytes_eq w (codes "forall")) Forall _ (other Forall refl refl) (
+    pick (bytes_eq w (codes "exists")) Exists _ (other Exists refl refl) (
+    pick (bytes_eq w (codes "microop") || bytes_eq w (codes "microops")) Microop _ (other Microop refl refl) (
+    pick (bytes_eq w (codes "core") || bytes_eq w (codes "cores")) Core _ (other Core refl refl) (
+    pick (bytes_eq w (codes "AddEdge") || bytes_eq w (codes "EdgeExists")) OneEdge _ (other OneEdge refl refl) (
+    pick (bytes_eq w (codes "AddEdges") || bytes_eq w (codes "EdgesExist")) EdgeList _ (other EdgeList refl refl) (
+    pick (bytes_eq w (codes "NodeExists")) OneNode _ (other OneNode refl refl) (
+    pick (bytes_eq w (codes "NodesExist")) NodeList _ (other NodeList refl refl) (
+    other Name refl refl))))))))))))
 
 symbol_never : (p : List ℕ) → IsOther (symbol_terminal p)
 unfolding symbol_terminal
 symbol_never p =
-    pick (bytes_eq p (codes "(")) Open _ (other Open refl) (
-    pick (bytes_eq p (codes ")")) Close _ (other Close refl) (
-    pick (bytes_eq p (codes "[")) OpenBracket _ (other OpenBracket refl) (
-    pick (bytes_eq p (codes "]")) CloseBracket _ (other CloseBracket refl) (
-    pick (bytes_eq p (codes ",")) Comma _ (other Comma refl) (
-    pick (bytes_eq p (codes ";")) Semicolon _ (other Semicolon refl) (
-    pick (bytes_eq p (codes ":")) Colon _ (other Colon refl) (
-    pick (bytes_eq p (codes ".")) Dot _ (other Dot refl) (
-    pick (bytes_eq p (codes "~")) Not _ (other Not refl) (
-    pick (bytes_eq p (codes "/\\")) And _ (other And refl) (
-    pick (bytes_eq p (codes "\\/")) Or _ (other Or refl) (
-    pick (bytes_eq p (codes "=>")) Implies _ (other Implies refl) (
-    other Arrow refl))))))))))))
+    pick (bytes_eq p (codes "(")) Open _ (other Open refl refl) (
+    pick (bytes_eq p (codes ")")) Close _ (other Close refl refl) (
+    pick (bytes_eq p (codes "[")) OpenBracket _ (other OpenBracket refl refl) (
+    pick (bytes_eq p (codes "]")) CloseBracket _ (other CloseBracket refl refl) (
+    pick (bytes_eq p (codes ",")) Comma _ (other Comma refl refl) (
+    pick (bytes_eq p (codes ";")) Semicolon _ (other Semicolon refl refl) (
+    pick (bytes_eq p (codes ":")) Colon _ (other Colon refl refl) (
+    pick (bytes_eq p (codes ".")) Dot _ (other Dot refl refl) (
+    pick (bytes_eq p (codes "~")) Not _ (other Not refl refl) (
+    pick (bytes_eq p (codes "/\\")) And _ (other And refl refl) (
+    pick (bytes_eq p (codes "\\/")) Or _ (other Or refl refl) (
+    pick (bytes_eq p (codes "=>")) Implies _ (other Implies refl refl) (
+    other Arrow refl refl))))))))))))
 
 first : (a b : Bool) → (a && b) ≡ true → a ≡ true
 first true b h = refl
@@ -96,6 +102,21 @@ quoted_only name p h = let n = (word_never p).is in cc
 quoted_only (number n) p h = cc
 quoted_only text p h = text_only p h
 quoted_only symbol p h = let n = (symbol_never p).is in cc
+
+text_numberless : (p : List ℕ) → is_number (text_terminal p) ≡ false
+unfolding text_terminal
+text_numberless p = by (is_spelled_as_name (content p) && is_name (word_terminal (content p)))
+  where
+    by : (b : Bool) → is_number (cond b Quoted Text) ≡ false
+    by true = refl
+    by false = refl
+
+-- only a number is the terminal of numbers
+pub number_only : (k : Kind) (p : List ℕ) → terminal_of_kind k p ≡ Number → (n : ℕ) × (k ≡ number n)
+number_only name p h = let n = (word_never p).no_number in let yes = ap is_number h in absurd (cc)
+number_only (number n) p h = (n, refl)
+number_only text p h = let n = text_numberless p in let yes = ap is_number h in absurd (cc)
+number_only symbol p h = let n = (symbol_never p).no_number in let yes = ap is_number h in absurd (cc)
 
 fine_kept : (t : Terminal) (x : Token) → (is_quoted t ≡ true → IsTrue (is_spelled_as_name (content x.piece))) → IsFine (kept t x)
 fine_kept Quoted x h = h refl

@@ -1,10 +1,11 @@
 -- How many openers are open at the tokens of a list of operands.
 use Rattle.std.specs.Prelude.{ℕ, ◌+◌, Bool, nat_le}
+use Rattle.uspec_parser.specs.declared.level.TheConstants.{MAX_OPENERS}
 use Rattle.uspec_parser.specs.declared.level.Level.{Level}
 
--- 128 openers are open already: one more is too deep
+-- as many openers are open already as may be: one more is too deep
 abbrev pub is_deep : ℕ → Bool
-is_deep opened = nat_le 128 opened
+is_deep opened = nat_le MAX_OPENERS opened
 
 -- a list begins where this many are open
 abbrev pub level_of : ℕ → Level

@@ -1,4 +1,4 @@
--- Which tokens of a text stand too deep: those that open with 128 openers open already.
+-- Which tokens of a text stand too deep: those that open with as many openers open as may be.
 use Rattle.std.specs.Prelude.{◌≡◌, ℕ, ◌+◌, Bool, false, List, [], ◌∷◌, ◌++◌, map}
 use Rattle.uspec_parser.specs.Terminals.{quoted, terminal}
 use Rattle.uspec_parser.specs.Operands.{Connective, conjoins, disjoins, implies}

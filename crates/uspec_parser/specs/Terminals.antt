@@ -1,11 +1,10 @@
 -- The terminals of a model's grammar, and what the tree keeps of a token.
-use Rattle.std.specs.Prelude.{ℕ, ◌-◌, Bool, true, false, ◌&&◌, ◌||◌, List, [], ◌∷◌, length, slice_range, codes, ◌==◌, if◌then◌else◌}
-use Rattle.std.specs.List.{list_all}
-use Rattle.std.specs.Char.{is_ascii_alphabetic, is_ascii_alphanumeric}
+use Rattle.std.specs.Prelude.{ℕ, ◌-◌, Bool, true, false, ◌&&◌, ◌||◌, List, length, slice_range, codes, if◌then◌else◌}
 use Rattle.std.specs.Str.{bytes_eq}
 use Rattle.pc_common.specs.declared.place.Place.{Place}
 use Rattle.pc_syntax.specs.declared.term.Word.{Word}
 use Rattle.uspec_lexer.specs.Token.{Token, Kind, name, number, text, symbol}
+use Rattle.uspec_lexer.specs.Bytes.{is_name as is_spelled_as_name}
 use Rattle.uspec_parser.specs.declared.terminal.Terminal.{Terminal}
 use Rattle.uspec_parser.specs.declared.terminal.Terminal.TheVariants.{StageName, Axiom, DefineMacro, ExpandMacro, Forall, Exists, Microop, Core, OneEdge, EdgeList, OneNode, NodeList, Name, Number, Quoted, Text, Open, Close, OpenBracket, CloseBracket, Comma, Semicolon, Colon, Dot, Not, And, Or, Implies, Arrow}
 
@@ -45,15 +44,6 @@ symbol_terminal piece =
     else (if bytes_eq piece (codes "\\/") then Or
     else (if bytes_eq piece (codes "=>") then Implies
     else Arrow)))))))))))
-
--- a letter, a digit, `_` or `'`
-abbrev pub is_name_byte : ℕ → Bool
-is_name_byte b = is_ascii_alphanumeric b || (b == 95) || (b == 39)
-
--- a letter, and then letters, digits, `_` and `'`
-unfoldable pub is_spelled_as_name : List ℕ → Bool
-is_spelled_as_name [] = false
-is_spelled_as_name (b ∷ bs) = is_ascii_alphabetic b && list_all is_name_byte bs
 
 -- what a text's quotes enclose
 abbrev pub content : List ℕ → List ℕ

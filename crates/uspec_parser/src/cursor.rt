@@ -1,4 +1,5 @@
-ghost use Rattle.std.specs.Prelude.{◌≡◌, ◌<◌, ◌≤◌, ◌^◌, IsTrue, List, [], ◌∷◌, drop, length, map, MatchOption, IfOk, OnOk, Some};
+ghost use Rattle.std.specs.Prelude.{◌≡◌, ℕ, ◌<◌, ◌≤◌, ◌^◌, IsTrue, List, [], ◌∷◌, drop, length, map, MatchOption, IfOk, OnOk, Some};
+ghost use Rattle.uspec_lexer.specs.Token.{number};
 ghost use Rattle.uspec_lexer.specs.Span.{kind_of};
 ghost use Rattle.uspec_lexer.specs.View.{plain as plain_token};
 ghost use Rattle.uspec_parser.specs.Terminals.{Lexeme, lexeme, terminal_of as terminal_spec, value as value_spec, is_placed};
@@ -80,7 +81,7 @@ impl<'a> Cursor<'a> {
     {
         match self.token() {
             Some(token) => token.at,
-            None => Place { offset: 0 },
+            None => unreachable!(),
         }
     }
 
@@ -124,11 +125,13 @@ fn copied(alloc: Global, bytes: &[u8], at: Place) -> Result<Word, Memory>
     })
 }
 
+/// The value of a number.
 fn value(kind: TokenKind) -> u64
+    requires { (n : ℕ) × (kind_of kind ≡ number n) }
     ensures { result ≡ value_spec (kind_of kind) }
 {
     match kind {
         TokenKind::Number(value) => value,
-        _ => 0,
+        TokenKind::Name | TokenKind::Text | TokenKind::Symbol => unreachable!(),
     }
 }

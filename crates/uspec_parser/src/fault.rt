@@ -11,7 +11,8 @@ pub enum ParseFault {
     /// The number of the tokens is for their end, where a text would have to go on.
     #[error("no text goes on with token {0}")]
     Syntax(usize),
-    /// Some text begins with the tokens through this one, which opens while 128 openers are open.
+    /// Some text begins with the tokens through this one, which opens while [`MAX_OPENERS`](crate::MAX_OPENERS)
+    /// openers are open.
     #[error("token {0} is one opener too many")]
     Depth(usize),
     /// Memory was refused.

@@ -1,8 +1,9 @@
 ghost use Rattle.std.specs.Prelude.{◌≡◌, ◌<◌};
+ghost use Rattle.uspec_parser.specs.declared.level.TheConstants.{MAX_OPENERS};
 ghost use Rattle.uspec_parser.specs.Levels.{level_of, behind_implies as behind_implies_spec, behind_or as behind_or_spec, behind_and as behind_and_spec};
 
-/// How many openers may be open at once.
-pub(crate) const MOST_OPEN: u8 = 128;
+/// How many openers of a formula may be open at once.
+pub const MAX_OPENERS: u8 = 128;
 
 /// How many openers are open at a `=>`, at a `\/`, and at a `/\` or an operand, that comes next in a
 /// list of operands. A looser operator ends the tighter ones of its list, so the three differ.
@@ -26,14 +27,14 @@ impl Level {
     }
 
     pub(crate) fn behind_implies(self) -> Self
-        requires { self.at_implies < 128 }
+        requires { self.at_implies < MAX_OPENERS }
         ensures { result ≡ behind_implies_spec self }
     {
         Level::new(self.at_implies + 1)
     }
 
     pub(crate) fn behind_or(self) -> Self
-        requires { self.at_or < 128 }
+        requires { self.at_or < MAX_OPENERS }
         ensures { result ≡ behind_or_spec self }
     {
         Level {
@@ -44,7 +45,7 @@ impl Level {
     }
 
     pub(crate) fn behind_and(self) -> Self
-        requires { self.at_and < 128 }
+        requires { self.at_and < MAX_OPENERS }
         ensures { result ≡ behind_and_spec self }
     {
         Level {

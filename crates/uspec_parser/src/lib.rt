@@ -28,7 +28,7 @@
 //!
 //! An opener is a `~`, a formula's `(`, a quantifier or a connective. It is open until its operand ends,
 //! until the `)`, until the body ends, or until the list of operands ends or has a looser connective. At
-//! most 128 may be open at once, which bounds how deep calls nest.
+//! most [`MAX_OPENERS`] may be open at once, which bounds how deep calls nest.
 //!
 //! First the recogniser of `ll_grammar` goes over the terminals and finds the first fault, if there is one.
 //! Then a plain descent builds the tree of tokens that are known to be well-formed.
@@ -55,4 +55,5 @@ pub use laws::{
     formula_texts, model_texts, one_answer, one_formula_tree, one_model_tree, some_answer,
     split_of_operands,
 };
+pub use level::MAX_OPENERS;
 pub use parse::{parse_formula, parse_model};

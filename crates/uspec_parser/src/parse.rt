@@ -1,7 +1,6 @@
-ghost use Rattle.std.specs.Prelude.{◌≡◌, IfOk, IfErr, map};
+ghost use Rattle.std.specs.Prelude.{◌≡◌, IfOk, IfErr};
 ghost use Rattle.ll_grammar.specs.FirstFault.{IsAnswer, IsAccepted, IsFirstFault};
 ghost use Rattle.pc_syntax.specs.Written.{written, written_model};
-ghost use Rattle.uspec_parser.specs.Terminals.{terminal_of as terminal_spec};
 ghost use Rattle.uspec_parser.specs.Marks.{IsMarkedFormula, IsMarkedModel};
 ghost use Rattle.uspec_parser.specs.Syntax.{DerivesFormula, DerivesModel};
 ghost use Rattle.uspec_parser.specs.Answers.{terminals, refusal_of, IsRefusal};
@@ -10,22 +9,11 @@ use super::cursor::Cursor;
 use super::fault::ParseFault;
 use super::level::Level;
 use super::phrase::Phrase;
-use super::terminal::{Terminal, terminal_of};
+use super::terminal::Terminal;
 use ll_grammar::{Fault, first_fault};
-use pc_common::Memory;
 use pc_syntax::{Formula, ModelFile};
 use std::alloc::{AllocError, Global};
 use uspec_lexer::Tokens;
-
-fn terminals_of(alloc: Global, tokens: &Tokens<'_>) -> Result<Vec<Terminal>, Memory>
-    ensures { IfOk result (λ ts. ts.items ≡ terminals tokens.now) }
-{
-    let mut terminals = Vec::new(alloc);
-    for k in 0..tokens.len() {
-        terminals.push(terminal_of(tokens.get(k)))?;
-    }
-    Ok(terminals)
-}
 
 fn formula_fault(alloc: Global, terminals: &[Terminal]) -> Result<Option<Fault>, AllocError>
     ensures { IfOk result (IsAnswer IsMarkedFormula terminals.now) }
@@ -57,7 +45,7 @@ pub fn parse_formula(alloc: Global, tokens: &Tokens<'_>) -> Result<Formula, Pars
     ensures accepted { IfOk result (λ f. IsAccepted IsMarkedFormula (terminals tokens.now)) }
     ensures fault { IfErr result (λ e. IsRefusal IsMarkedFormula (terminals tokens.now) e) }
 {
-    let terminals = terminals_of(alloc, tokens)?;
+    let terminals = tokens.terminals(alloc)?;
     if let Some(fault) = formula_fault(alloc, &terminals)? {
         return Err(refusal(fault));
     }
@@ -74,7 +62,7 @@ pub fn parse_model(alloc: Global, tokens: &Tokens<'_>) -> Result<ModelFile, Pars
     ensures accepted { IfOk result (λ m. IsAccepted IsMarkedModel (terminals tokens.now)) }
     ensures fault { IfErr result (λ e. IsRefusal IsMarkedModel (terminals tokens.now) e) }
 {
-    let terminals = terminals_of(alloc, tokens)?;
+    let terminals = tokens.terminals(alloc)?;
     if let Some(fault) = model_fault(alloc, &terminals)? {
         return Err(refusal(fault));
     }

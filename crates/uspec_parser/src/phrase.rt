@@ -4,7 +4,7 @@ ghost use Rattle.ll_grammar.specs.Steps.{IsStep};
 ghost use Rattle.uspec_parser.specs.Phrases.{behind, deep, rules as rules_spec, follow as follow_spec, is_predictable, has_texts as texts_spec};
 
 use self::Phrase::*;
-use super::level::{Level, MOST_OPEN};
+use super::level::{Level, MAX_OPENERS};
 use super::terminal::Terminal::{self, *};
 use ll_grammar::{Grammar, Step, Symbol, push};
 use std::alloc::AllocError;
@@ -129,7 +129,7 @@ fn push_operand(
     ensures { IfOk result (λ step. IsStep (behind (Phrase.Operand level opened) class) (deep (Phrase.Operand level opened) class) stack.old.items step stack.new.items) }
 {
     match class {
-        Open | Not | Forall | Exists if opened >= MOST_OPEN => Ok(Step::Deep),
+        Open | Not | Forall | Exists if opened >= MAX_OPENERS => Ok(Step::Deep),
         OneEdge => push!(stack; [Edge] [More(level)]),
         EdgeList => push!(stack; OpenBracket [Edges] [More(level)]),
         OneNode => push!(stack; [Node] [More(level)]),
@@ -147,9 +147,9 @@ fn push_more(level: Level, class: Terminal, stack: &mut Vec<Waiting>) -> Result<
     ensures { IfOk result (λ step. IsStep (behind (Phrase.More level) class) (deep (Phrase.More level) class) stack.old.items step stack.new.items) }
 {
     match class {
-        And if level.at_and >= MOST_OPEN => Ok(Step::Deep),
-        Or if level.at_or >= MOST_OPEN => Ok(Step::Deep),
-        Implies if level.at_implies >= MOST_OPEN => Ok(Step::Deep),
+        And if level.at_and >= MAX_OPENERS => Ok(Step::Deep),
+        Or if level.at_or >= MAX_OPENERS => Ok(Step::Deep),
+        Implies if level.at_implies >= MAX_OPENERS => Ok(Step::Deep),
         And => push!(stack; [Operand(level.behind_and(), level.at_and + 1)]),
         Or => push!(stack; [Operand(level.behind_or(), level.at_or + 1)]),
         Implies => push!(stack; [Operand(level.behind_implies(), level.at_implies + 1)]),

@@ -1,11 +1,10 @@
 ghost use Rattle.std.specs.Prelude.{◌≡◌};
-ghost use Rattle.std.specs.List.{list_all};
 ghost use Rattle.std.specs.Str.{bytes_eq};
 ghost use Rattle.uspec_lexer.specs.View.{plain};
-ghost use Rattle.uspec_parser.specs.Terminals.{terminal_of as terminal_spec, word_terminal as word_spec, symbol_terminal as symbol_spec, text_terminal as text_spec, content as content_spec, is_spelled_as_name as spelled_spec, is_name_byte};
+ghost use Rattle.uspec_parser.specs.Terminals.{terminal_of as terminal_spec, word_terminal as word_spec, symbol_terminal as symbol_spec, text_terminal as text_spec, content as content_spec};
 
 use ll_grammar::TokenClass;
-use uspec_lexer::{Token, TokenKind};
+use uspec_lexer::{FromToken, Token, TokenKind, is_name};
 
 /// The classes of a model's tokens: the terminals of its grammar. Words that are alike to the grammar
 /// and to the tree are one class.
@@ -55,6 +54,14 @@ pub(crate) enum Terminal {
 impl TokenClass for Terminal {
     fn is_same(self, other: Self) -> bool {
         self == other
+    }
+}
+
+impl FromToken for Terminal {
+    ghost seen = { terminal_spec };
+
+    fn from_token(token: Token<'_>) -> Self {
+        terminal_of(token)
     }
 }
 
@@ -150,7 +157,7 @@ fn text_terminal(text: &[u8]) -> Terminal
     ensures { result ≡ text_spec text.now }
 {
     let content = content(text);
-    if is_spelled_as_name(content) && word_terminal(content) == Terminal::Name {
+    if is_name(content) && word_terminal(content) == Terminal::Name {
         Terminal::Quoted
     } else {
         Terminal::Text
@@ -165,23 +172,4 @@ pub(crate) fn content(text: &[u8]) -> &[u8]
         return &text[..0];
     }
     &text[1..text.len() - 1]
-}
-
-/// Whether the bytes are a letter, and then letters, digits, `_` and `'`.
-#[tactic(auto, unfolding(crate::specs::Terminals::is_spelled_as_name))]
-fn is_spelled_as_name(word: &[u8]) -> bool
-    ensures { result ≡ spelled_spec word.now }
-{
-    match word {
-        [] => false,
-        [first, rest @ ..] => first.is_ascii_alphabetic() && are_name_bytes(rest),
-    }
-}
-
-fn are_name_bytes(bytes: &[u8]) -> bool
-    ensures { result ≡ list_all is_name_byte bytes.now }
-{
-    bytes
-        .iter()
-        .all(|b| b.is_ascii_alphanumeric() || *b == b'_' || *b == b'\'')
 }
