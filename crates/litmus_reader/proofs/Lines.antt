@@ -7,7 +7,7 @@ use Rattle.uspec_lexer.specs.Token.{Token}
 use Rattle.litmus_reader.specs.Expected.{Expected, a_word, word_at, a_symbol}
 use Rattle.litmus_reader.specs.Syntax.{spelled_memop, spelled_access, spelled_head, spelled_item, open_, close_, dot}
 use Rattle.litmus_reader.specs.Terminals.{word_terminal, terminal_of}
-use Rattle.litmus_reader.specs.Reading.{StandsAt, IsNameAt, BeginsAt, NamesAt, SomeMicroopAt, IsMicroopAt}
+use Rattle.litmus_reader.specs.Reading.{StandsAt, IsNameAt, BeginsAt, NamesAt, SomeActionAt, SomeMicroopAt, SomeRelationshipAt, SomeValueLineAt, IsMicroopAt}
 use Rattle.litmus_reader.specs.declared.item.Action.{Action}
 use Rattle.litmus_reader.specs.declared.item.Action.TheVariants.{Read as read, Write as write, Fence as fence}
 use Rattle.litmus_reader.specs.declared.item.Microop.{Microop as MicroopLine}
@@ -124,6 +124,16 @@ access-said {ts} {k} types fence b word next said is_word behind if_read if_writ
       ap (λ (p : Action × ℕ). p.1) so ∙ (let l = length-map types a_word in omega arith),
     )
 
+-- what it touches begins behind the names
+pub access-action : {ts : List Token} {k : ℕ} (types : List (List ℕ)) (action : Action)
+    → BeginsAt ts k (spelled_access types action ++ close_ ∷ []) → (word : Terminal) (next : ℕ)
+    → word ≡ access_word action → next ≡ k + 1 + length types → SomeActionAt ts word next
+access-action {ts} types (read m) b word next is_word behind =
+    inr (inl is_word, m, subst (λ (n : ℕ). BeginsAt ts n (spelled_memop m)) (sym behind) (access-memop (codes "Read") types m b))
+access-action {ts} types (write m) b word next is_word behind =
+    inr (inr is_word, m, subst (λ (n : ℕ). BeginsAt ts n (spelled_memop m)) (sym behind) (access-memop (codes "Write") types m b))
+access-action types fence b word next is_word behind = inl is_word
+
 -- the parts of a micro-op's line
 pub microop-head : {ts : List Token} {k : ℕ} (m : MicroopLine) → BeginsAt ts k (spelled_item (microop m)) → BeginsAt ts k (spelled_head m.head)
 microop-head m b = begins-front (spelled_head m.head) (open_ ∷ (spelled_access m.types m.action ++ (close_ ∷ dot ∷ []))) b
@@ -168,6 +178,29 @@ pub microop-begins : {ts : List Token} {k : ℕ} (i : Item) → BeginsAt ts k (s
 microop-begins (microop m) b w = (m, b)
 microop-begins i b w = absurd (cc)
 
+pub relationship-begins : {ts : List Token} {k : ℕ} (i : Item) → BeginsAt ts k (spelled_item i) → item_word i ≡ Relationship
+    → SomeRelationshipAt ts k
+relationship-begins (relationship r) b w = (r, b)
+relationship-begins i b w = absurd (cc)
+
+pub initial-begins : {ts : List Token} {k : ℕ} (i : Item) → BeginsAt ts k (spelled_item i) → item_word i ≡ Init → SomeValueLineAt ts k
+initial-begins (initial v) b w = (v, inl b)
+initial-begins i b w = absurd (cc)
+
+pub final-begins : {ts : List Token} {k : ℕ} (i : Item) → BeginsAt ts k (spelled_item i) → item_word i ≡ Final → SomeValueLineAt ts k
+final-begins (final v) b w = (v, inr b)
+final-begins i b w = absurd (cc)
+
+-- a line has one of six words
+pub one_of_six : (i : Item) → (item_word i ≢ Microop) → (item_word i ≢ Relationship) → (item_word i ≢ Init) → (item_word i ≢ Final)
+    → (item_word i ≢ Permitted) → (item_word i ≢ Forbidden) → ⊥
+one_of_six (microop _) m r i f p g = m refl
+one_of_six (relationship _) m r i f p g = r refl
+one_of_six (initial _) m r i f p g = i refl
+one_of_six (final _) m r i f p g = f refl
+one_of_six (permitted _) m r i f p g = p refl
+one_of_six (forbidden _) m r i f p g = g refl
+
 -- a line of eight tokens
 pub eight-within : {ts : List Token} {k : ℕ} (i : Item) → BeginsAt ts k (spelled_item i)
     → (item_word i ≡ Relationship) ⊎ (item_word i ≡ Init) ⊎ (item_word i ≡ Final) → k + 8 ≤ length ts
@@ -208,13 +241,8 @@ permitted-said (permitted q) b w t at p is =
     (ap permitted (place-stands p q t at is (stands-first (word_at (codes "Permitted") q) (dot ∷ []) b)), refl)
 permitted-said i b w t at p is = absurd (cc)
 
-pub forbidden-said : {ts : List Token} {k : ℕ} (i : Item) → BeginsAt ts k (spelled_item i)
-    → (item_word i ≢ Microop) → (item_word i ≢ Relationship) → (item_word i ≢ Init) → (item_word i ≢ Final) → (item_word i ≢ Permitted)
+pub forbidden-said : {ts : List Token} {k : ℕ} (i : Item) → BeginsAt ts k (spelled_item i) → item_word i ≡ Forbidden
     → (t : Token) → slice_get ts k ≡ Some t → (p : Place) → p.offset ≡ t.at → IsSaid k i (forbidden p, k + 2)
-forbidden-said (forbidden q) b m r i f e t at p is =
+forbidden-said (forbidden q) b w t at p is =
     (ap forbidden (place-stands p q t at is (stands-first (word_at (codes "Forbidden") q) (dot ∷ []) b)), refl)
-forbidden-said (microop _) b m r i f e t at p is = absurd (m refl)
-forbidden-said (relationship _) b m r i f e t at p is = absurd (r refl)
-forbidden-said (initial _) b m r i f e t at p is = absurd (i refl)
-forbidden-said (final _) b m r i f e t at p is = absurd (f refl)
-forbidden-said (permitted _) b m r i f e t at p is = absurd (e refl)
+forbidden-said i b w t at p is = absurd (cc)

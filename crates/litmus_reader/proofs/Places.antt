@@ -6,7 +6,8 @@ use Rattle.std.proofs.Math.Seq.{drop-append_seam}
 use Rattle.std.proofs.lemmas.List.{length-drop, length-append}
 use Rattle.pc_common.specs.declared.place.Place.{Place}
 use Rattle.uspec_lexer.specs.Token.{Token, name}
-use Rattle.litmus_reader.specs.Expected.{Expected, a_word, word_at, a_symbol, Spell}
+use Rattle.litmus_reader.specs.Expected.{Expected, a_word, word_at, a_number, number_at, a_symbol, Spell}
+use Rattle.litmus_reader.specs.declared.item.Numeral.{Numeral}
 use Rattle.litmus_reader.specs.Reading.{StandsAt, IsNameAt, BeginsAt, NamesAt}
 use Rattle.litmus_reader.proofs.Spelling.{spell-part, spell-length, spell-get}
 
@@ -38,6 +39,10 @@ stands {ts} {k} es b j e at =
 pub stands-first : {ts : List Token} {k : ℕ} (e : Expected) (es : List Expected) → BeginsAt ts k (e ∷ es) → StandsAt ts k e
 stands-first {ts} {k} e es b =
     let n : k + 0 ≡ k = omega arith in subst (λ (i : ℕ). StandsAt ts i e) n (stands (e ∷ es) b 0 e refl)
+
+-- a number with its place is a number
+pub number-stands : {ts : List Token} {k : ℕ} (n : Numeral) → StandsAt ts k (number_at n) → StandsAt ts k (a_number n.value)
+number-stands n s = record { token = s.token; at = s.at; is = s.is.0 }
 
 -- what stands behind
 pub spell-behind : (ts : List Token) (k : ℕ) (es fs : List Expected) → Spell (es ++ fs) (drop k ts) → Spell fs (drop (k + length es) ts)

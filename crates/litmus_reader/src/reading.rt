@@ -3,7 +3,7 @@ ghost use Rattle.pc_case.specs.declared.op.Page.{Page as PagePair};
 ghost use Rattle.pc_case.specs.declared.op.Memop.{Memop as Touched};
 ghost use Rattle.litmus_reader.specs.Expected.{a_word, a_number, number_at as numeral_expected};
 ghost use Rattle.litmus_reader.specs.Syntax.{spelled_memop, spelled_head, spelled_item};
-ghost use Rattle.litmus_reader.specs.Reading.{StandsAt, IsNameAt, BeginsAt, NamesAt, SomeItemAt, IsItemAt, SomeAccessAt, IsAccessAt, SomeMicroopAt, IsMicroopAt};
+ghost use Rattle.litmus_reader.specs.Reading.{StandsAt, IsNumberAt, IsPageAt, IsEndAt, IsNameAt, BeginsAt, NamesAt, SomeActionAt, SomeValueLineAt, SomeRelationshipAt, SomeItemAt, IsItemAt, SomeAccessAt, IsAccessAt, SomeMicroopAt, IsMicroopAt};
 ghost use Rattle.litmus_reader.specs.declared.item.Head.{Head as HeadNumbers};
 ghost use Rattle.litmus_reader.specs.declared.item.End.{End as EndNumbers};
 ghost use Rattle.litmus_reader.specs.declared.item.Relationship.{Relationship as RelationshipSaid};
@@ -22,18 +22,17 @@ use uspec_lexer::{TokenKind, Tokens};
 
 /// The number that stands at `k`.
 pub(crate) fn numeral_at(tokens: &Tokens<'_>, k: usize) -> Numeral
-    requires { k < length tokens.now }
+    requires { IsNumberAt tokens.now k }
     ensures numeral { (n : NumeralPair) → StandsAt tokens.now k (numeral_expected n) → result ≡ n }
     ensures value { (v : ℕ) → StandsAt tokens.now k (a_number v) → result.value ≡ v }
 {
     let token = tokens.get(k);
-    let value = match token.kind {
-        TokenKind::Number(value) => value,
-        _ => 0,
-    };
-    Numeral {
-        value,
-        at: token.at,
+    match token.kind {
+        TokenKind::Number(value) => Numeral {
+            value,
+            at: token.at,
+        },
+        TokenKind::Name | TokenKind::Text | TokenKind::Symbol => unreachable!(),
     }
 }
 
@@ -48,10 +47,10 @@ pub(crate) fn name_at(alloc: Global, tokens: &Tokens<'_>, k: usize) -> Result<By
 
 /// The page whose bracket opens at `k`.
 pub(crate) fn page_at(tokens: &Tokens<'_>, k: usize) -> Page
+    requires page { (p : PagePair) × IsPageAt tokens.now k p }
     requires within { k + 4 < length tokens.now }
     requires few { length tokens.now < 2 ^ 63 }
-    ensures { (p : PagePair) → StandsAt tokens.now (k + 2) (a_number p.tag)
-        → StandsAt tokens.now (k + 3) (a_number p.index) → result ≡ p }
+    ensures { (p : PagePair) → IsPageAt tokens.now k p → result ≡ p }
 {
     Page {
         tag: numeral_at(tokens, k + 2).value,
@@ -88,6 +87,7 @@ pub(crate) fn names_at(
 
 /// What a read or a write touches, where its first bracket opens at `k`.
 fn memop_at(tokens: &Tokens<'_>, k: usize) -> Memop
+    requires begins { (m : Touched) × BeginsAt tokens.now k (spelled_memop m) }
     requires within { k + 14 ≤ length tokens.now }
     requires few { length tokens.now < 2 ^ 63 }
     ensures { (m : Touched) → BeginsAt tokens.now k (spelled_memop m) → result ≡ m }
@@ -101,6 +101,7 @@ fn memop_at(tokens: &Tokens<'_>, k: usize) -> Memop
 
 /// What a `Microop` line that begins at `k` says before its brackets.
 fn head_at(tokens: &Tokens<'_>, k: usize) -> Head
+    requires begins { (h : HeadNumbers) × BeginsAt tokens.now k (spelled_head h) }
     requires within { k + 5 ≤ length tokens.now }
     requires few { length tokens.now < 2 ^ 63 }
     ensures { (h : HeadNumbers) → BeginsAt tokens.now k (spelled_head h) → result ≡ h }
@@ -117,6 +118,7 @@ fn head_at(tokens: &Tokens<'_>, k: usize) -> Head
 /// What a micro-op of this word does, where the bracket of what it touches opens at `next`, and the
 /// place behind.
 fn action_at(tokens: &Tokens<'_>, word: Terminal, next: usize) -> (Action, usize)
+    requires begins { SomeActionAt tokens.now word next }
     requires within { word ≢ FenceWord → next + 14 ≤ length tokens.now }
     requires few { length tokens.now < 2 ^ 63 }
     ensures read { (m : Touched) → word ≡ ReadWord → BeginsAt tokens.now next (spelled_memop m)
@@ -128,7 +130,8 @@ fn action_at(tokens: &Tokens<'_>, word: Terminal, next: usize) -> (Action, usize
     match word {
         Terminal::Fence => (Action::Fence, next),
         Terminal::Read => (Action::Read(memop_at(tokens, next)), next + 14),
-        _ => (Action::Write(memop_at(tokens, next)), next + 14),
+        Terminal::Write => (Action::Write(memop_at(tokens, next)), next + 14),
+        _ => unreachable!(),
     }
 }
 
@@ -168,10 +171,10 @@ fn microop_at(alloc: Global, tokens: &Tokens<'_>, k: usize) -> Result<(Microop, 
 
 /// The end of a relationship whose g stands at `k`.
 fn end_at(tokens: &Tokens<'_>, k: usize) -> End
+    requires end { (e : EndNumbers) × IsEndAt tokens.now k e }
     requires within { k + 1 < length tokens.now }
     requires few { length tokens.now < 2 ^ 63 }
-    ensures { (e : EndNumbers) → StandsAt tokens.now k (numeral_expected e.g)
-        → StandsAt tokens.now (k + 1) (a_number e.n) → result ≡ e }
+    ensures { (e : EndNumbers) → IsEndAt tokens.now k e → result ≡ e }
 {
     End {
         g: numeral_at(tokens, k),
@@ -181,6 +184,7 @@ fn end_at(tokens: &Tokens<'_>, k: usize) -> End
 
 /// The relationship whose line begins at `k`.
 fn relationship_at(alloc: Global, tokens: &Tokens<'_>, k: usize) -> Result<Relationship, Memory>
+    requires begins { SomeRelationshipAt tokens.now k }
     requires within { k + 8 ≤ length tokens.now }
     requires few { length tokens.now < 2 ^ 63 }
     ensures { IfOk result (λ r. (s : RelationshipSaid) → BeginsAt tokens.now k (spelled_item (relationship s)) → r ≡ s) }
@@ -194,6 +198,7 @@ fn relationship_at(alloc: Global, tokens: &Tokens<'_>, k: usize) -> Result<Relat
 
 /// The address and the value that an `Init` or a `Final` line states, which begins at `k`.
 fn value_line_at(tokens: &Tokens<'_>, k: usize) -> ValueLine
+    requires begins { SomeValueLineAt tokens.now k }
     requires within { k + 8 ≤ length tokens.now }
     requires few { length tokens.now < 2 ^ 63 }
     ensures initial { (v : ValueSaid) → BeginsAt tokens.now k (spelled_item (initial v)) → result ≡ v }
@@ -225,6 +230,7 @@ pub(crate) fn item_at(alloc: Global, tokens: &Tokens<'_>, k: usize) -> Result<(I
         Terminal::Init => (Item::Initial(value_line_at(tokens, k)), k + 8),
         Terminal::Final => (Item::Final(value_line_at(tokens, k)), k + 8),
         Terminal::Permitted => (Item::Permitted(word.at), k + 2),
-        _ => (Item::Forbidden(word.at), k + 2),
+        Terminal::Forbidden => (Item::Forbidden(word.at), k + 2),
+        _ => unreachable!(),
     })
 }

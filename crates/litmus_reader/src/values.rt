@@ -77,10 +77,7 @@ impl Values {
                 pa: *pa,
                 value: *value,
             },
-            None => Stated {
-                pa: Page { tag: 0, index: 0 },
-                value: 0,
-            },
+            None => unreachable!(),
         }
     }
 }

@@ -1,6 +1,6 @@
 use Rattle.std.proofs.Common.{arith, ◌∙◌}
 use Rattle.uspec_lexer.specs.View.{plain}
-use Rattle.litmus_reader.proofs.Lines.{access-terminal, access-names, access-room, access-said}
+use Rattle.litmus_reader.proofs.Lines.{access-terminal, access-names, access-room, access-action, access-said}
 use Rattle.litmus_reader.proofs.reading.access_at.Goals as goal
 
 pub action_at-action-requires-clause-within : goal.action_at-action-requires-clause-within
@@ -9,6 +9,13 @@ action_at-action-requires-clause-within c = λ other.
     let word = c.terminal_of-word.ensures ∙ access-terminal types action b (plain c.get.result) c.get.ensures in
     let read = c.in_ok-types.ensures.names types (access-names types action b) in
     omega (arith, read.1, access-room types action b (λ h. other (word ∙ h)))
+
+pub action_at-action-requires-clause-begins : goal.action_at-action-requires-clause-begins
+action_at-action-requires-clause-begins c =
+    let (types, action, b) = c.requires.begins in
+    let word = c.terminal_of-word.ensures ∙ access-terminal types action b (plain c.get.result) c.get.ensures in
+    let read = c.in_ok-types.ensures.names types (access-names types action b) in
+    access-action types action b c.terminal_of-word.result c.in_ok-types.next word read.1
 
 pub returns : goal.returns
 returns c = λ types action b.

@@ -2,8 +2,23 @@ use Rattle.std.proofs.Common.{refl, codes, [], ◌∷◌}
 use Rattle.uspec_lexer.specs.View.{plain}
 use Rattle.litmus_reader.specs.Expected.{word_at, a_number, number_at}
 use Rattle.litmus_reader.specs.Syntax.{spelled_head}
-use Rattle.litmus_reader.proofs.Places.{stands, stands-first, place-stands}
+use Rattle.litmus_reader.proofs.Places.{stands, stands-first, number-stands, place-stands}
 use Rattle.litmus_reader.proofs.reading.head_at.Goals as goal
+
+pub numeral_at-requires : goal.numeral_at-requires
+numeral_at-requires c =
+    let (h, b) = c.requires.begins in (h.g.value, number-stands h.g (stands (spelled_head h) b 1 (number_at h.g) refl))
+
+pub numeral_at-requires-2 : goal.numeral_at-requires-2
+numeral_at-requires-2 c =
+    let (h, b) = c.requires.begins in (h.core.value, number-stands h.core (stands (spelled_head h) b 2 (number_at h.core) refl))
+
+pub numeral_at-requires-3 : goal.numeral_at-requires-3
+numeral_at-requires-3 c =
+    let (h, b) = c.requires.begins in (h.thread.value, number-stands h.thread (stands (spelled_head h) b 3 (number_at h.thread) refl))
+
+pub numeral_at-requires-4 : goal.numeral_at-requires-4
+numeral_at-requires-4 c = let (h, b) = c.requires.begins in (h.n, stands (spelled_head h) b 4 (a_number h.n) refl)
 
 pub returns : goal.returns
 returns c = λ h b.

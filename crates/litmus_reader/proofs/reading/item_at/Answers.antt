@@ -1,14 +1,36 @@
 use Rattle.std.proofs.Common.{◌≡◌, ℕ, ap, sym, ◌∙◌, refl, inl, inr, slice_get, Some}
 use Rattle.uspec_lexer.specs.View.{plain}
 use Rattle.litmus_reader.specs.declared.item.Item.{Item}
-use Rattle.litmus_reader.proofs.Lines.{item_word, item-terminal, IsSaid, microop-begins, eight-within, microop-said, relationship-said, initial-said, final-said, permitted-said, forbidden-said}
+use Rattle.litmus_reader.proofs.Lines.{item_word, item-terminal, IsSaid, microop-begins, relationship-begins, initial-begins, final-begins, one_of_six, eight-within, microop-said, relationship-said, initial-said, final-said, permitted-said, forbidden-said}
 use Rattle.litmus_reader.proofs.reading.item_at.Goals as goal
-use Rattle.litmus_reader.proofs.reading.item_at.Goals.{in-Microop+in_ok-microop-in-Microop, in-Relationship+in_ok-relationship_at-in-Relationship, in-Init, in-Final, in-Permitted, in_default}
+use Rattle.litmus_reader.proofs.reading.item_at.Goals.{in-Microop+in_ok-microop-in-Microop, in-Relationship+in_ok-relationship_at-in-Relationship, in-Init, in-Final, in-Permitted, in-Forbidden}
 
 pub microop_at-requires-clause-begins : goal.microop_at-requires-clause-begins
 microop_at-requires-clause-begins c =
     let (i, b) = c.requires.begins in
     microop-begins i b (sym (c.terminal_of.ensures ∙ item-terminal i b (plain c.get-word.result) c.get-word.ensures) ∙ c.in-Microop.is)
+
+pub relationship_at-requires-clause-begins : goal.relationship_at-requires-clause-begins
+relationship_at-requires-clause-begins c =
+    let (i, b) = c.requires.begins in
+    relationship-begins i b (sym (c.terminal_of.ensures ∙ item-terminal i b (plain c.get-word.result) c.get-word.ensures) ∙ c.in-Relationship.is)
+
+pub value_line_at-requires-clause-begins : goal.value_line_at-requires-clause-begins
+value_line_at-requires-clause-begins c =
+    let (i, b) = c.requires.begins in
+    initial-begins i b (sym (c.terminal_of.ensures ∙ item-terminal i b (plain c.get-word.result) c.get-word.ensures) ∙ c.in-Init.is)
+
+pub value_line_at-requires-in-Final-clause-begins : goal.value_line_at-requires-in-Final-clause-begins
+value_line_at-requires-in-Final-clause-begins c =
+    let (i, b) = c.requires.begins in
+    final-begins i b (sym (c.terminal_of.ensures ∙ item-terminal i b (plain c.get-word.result) c.get-word.ensures) ∙ c.in-Final.is)
+
+pub unreachable-requires : goal.unreachable-requires
+unreachable-requires c =
+    let (i, b) = c.requires.begins in
+    let word = c.terminal_of.ensures ∙ item-terminal i b (plain c.get-word.result) c.get-word.ensures in
+    one_of_six i (λ h. c.in_default.not-Microop (word ∙ h)) (λ h. c.in_default.not-Relationship (word ∙ h)) (λ h. c.in_default.not-Init (word ∙ h))
+    (λ h. c.in_default.not-Final (word ∙ h)) (λ h. c.in_default.not-Permitted (word ∙ h)) (λ h. c.in_default.not-Forbidden (word ∙ h))
 
 pub relationship_at-requires-clause-within : goal.relationship_at-requires-clause-within
 relationship_at-requires-clause-within c =
@@ -42,7 +64,5 @@ returns c = λ i b.
       | in-Init w ↦ joined c.args.k i c.match-terminal_of.result _ w.result-is (initial-said i b (sym word ∙ w.in-Init.is) w.value_line_at.result w.value_line_at.ensures.initial)
       | in-Final w ↦ joined c.args.k i c.match-terminal_of.result _ w.result-is (final-said i b (sym word ∙ w.in-Final.is) w.value_line_at-in-Final.result w.value_line_at-in-Final.ensures.final_)
       | in-Permitted w ↦ joined c.args.k i c.match-terminal_of.result _ w.result-is (permitted-said i b (sym word ∙ w.in-Permitted.is) t at c.get-word.result.at refl)
-      | in_default w ↦ joined c.args.k i c.match-terminal_of.result _ w.result-is
-          (forbidden-said i b (λ h. w.in_default.not-Microop (word ∙ h)) (λ h. w.in_default.not-Relationship (word ∙ h)) (λ h. w.in_default.not-Init (word ∙ h))
-          (λ h. w.in_default.not-Final (word ∙ h)) (λ h. w.in_default.not-Permitted (word ∙ h)) t at c.get-word.result.at refl)
+      | in-Forbidden w ↦ joined c.args.k i c.match-terminal_of.result _ w.result-is (forbidden-said i b (sym word ∙ w.in-Forbidden.is) t at c.get-word.result.at refl)
     ]

@@ -7,6 +7,9 @@ pub head_at-head-requires-clause-within : goal.head_at-head-requires-clause-with
 head_at-head-requires-clause-within c =
     let (m, b) = c.requires.begins in omega (arith, item-within (microop m) b)
 
+pub head_at-head-requires-clause-begins : goal.head_at-head-requires-clause-begins
+head_at-head-requires-clause-begins c = let (m, b) = c.requires.begins in (m.head, microop-head m b)
+
 pub access_at-requires-clause-begins : goal.access_at-requires-clause-begins
 access_at-requires-clause-begins c =
     let (m, b) = c.requires.begins in (m.types, m.action, microop-access m b)
