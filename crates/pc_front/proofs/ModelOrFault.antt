@@ -1,13 +1,13 @@
 -- The bytes of a model say one without a fault, or have a first fault.
-use Rattle.std.proofs.Common.{◌≡◌, ℕ, ⊎_elim, inl, inr, List, Option, Some, None, length, slice_get, refl}
-use Rattle.pc_common.specs.declared.place.Place.{Place}
+use Rattle.std.proofs.Common.{◌≡◌, ℕ, ⊎_elim, inl, inr, List, Option, Some, None, refl}
 use Rattle.pc_common.specs.declared.fault.FaultKind.TheVariants.{Lexical, Syntax, Depth}
 use Rattle.ll_grammar.specs.FirstFault.{IsAnswer}
 use Rattle.ll_grammar.specs.declared.fault.Fault.{Fault as TokenFault}
 use Rattle.ll_grammar.specs.declared.fault.Fault.TheVariants.{Syntax as a_syntax_fault, Depth as a_depth_fault}
-use Rattle.uspec_lexer.specs.Token.{Token}
+use Rattle.uspec_lexer.specs.Token.{Token, token_place}
 use Rattle.uspec_lexer.specs.Spells.{Spells}
 use Rattle.uspec_lexer.proofs.Totality.{spells-or_fault}
+use Rattle.uspec_parser.specs.declared.level.TheConstants.{MAX_OPENERS}
 use Rattle.uspec_parser.specs.Marks.{IsMarkedModel}
 use Rattle.uspec_parser.specs.Answers.{terminals}
 use Rattle.uspec_parser.proofs.Existence.{model_answer}
@@ -15,7 +15,7 @@ use Rattle.uspec_parser.proofs.Trees.{text_model}
 use Rattle.pc_syntax.specs.Fault.{Fault}
 use Rattle.pc_syntax.specs.Written.{WrittenModel}
 use Rattle.pc_syntax.specs.ModelFault.{first_model_fault}
-use Rattle.pc_front.specs.ModelFront.{ModelOf, token_place, lexical, syntax, depth, said}
+use Rattle.pc_front.specs.ModelFront.{ModelOf, lexical, syntax, depth, said}
 use Rattle.pc_front.specs.Laws.{HasModelOrFault}
 
 -- of a model that they say
@@ -30,9 +30,9 @@ of_tokens bytes ts spelled None accepted =
     let (m, tree) = text_model ts accepted.0 in
     of_model bytes m (record { tokens = ts; spelled = spelled; tree = tree; accepted = accepted }) (first_model_fault m) refl
 of_tokens bytes ts spelled (Some (a_syntax_fault k)) first =
-    inr (Syntax, record { offset = token_place (length bytes) (slice_get ts k) }, syntax spelled first refl)
+    inr (Syntax, record { offset = token_place bytes ts k }, syntax spelled first refl)
 of_tokens bytes ts spelled (Some (a_depth_fault k)) first =
-    inr (Depth 128, record { offset = token_place (length bytes) (slice_get ts k) }, depth spelled first refl)
+    inr (Depth MAX_OPENERS, record { offset = token_place bytes ts k }, depth spelled first refl)
 
 pub model_or_fault : (bytes : List ℕ) → HasModelOrFault bytes
 model_or_fault bytes =

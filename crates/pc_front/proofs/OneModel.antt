@@ -1,12 +1,12 @@
 -- Bytes are one whole model at most, and none where they have a fault; and they have one first fault at most.
-use Rattle.std.proofs.Common.{◌≡◌, ℕ, List, Some, None, length, slice_get, unwrap_or, refl, sym, ◌∙◌, ap, subst}
+use Rattle.std.proofs.Common.{◌≡◌, ℕ, List, Some, None, unwrap_or, refl, sym, ◌∙◌, ap, subst}
 use Rattle.pc_common.specs.declared.place.Place.{Place}
 use Rattle.pc_common.specs.declared.fault.FaultKind.{FaultKind}
 use Rattle.ll_grammar.specs.FirstFault.{IsFirstFault}
 use Rattle.ll_grammar.specs.declared.fault.Fault.{Fault as TokenFault}
 use Rattle.ll_grammar.specs.declared.fault.Fault.TheVariants.{Syntax as a_syntax_fault, Depth as a_depth_fault}
 use Rattle.ll_grammar.proofs.Faults.{one_answer}
-use Rattle.uspec_lexer.specs.Token.{Token}
+use Rattle.uspec_lexer.specs.Token.{Token, token_place}
 use Rattle.uspec_lexer.specs.Spells.{Spells}
 use Rattle.uspec_lexer.proofs.Spelling.{spells-unique, spells-no_fault, lexical_fault-unique}
 use Rattle.uspec_parser.specs.Marks.{IsMarkedModel}
@@ -15,7 +15,7 @@ use Rattle.uspec_parser.specs.Answers.{terminals}
 use Rattle.uspec_parser.proofs.Trees.{one_model}
 use Rattle.pc_syntax.specs.Written.{WrittenModel}
 use Rattle.pc_syntax.specs.ModelFault.{first_model_fault}
-use Rattle.pc_front.specs.ModelFront.{ModelOf, token_place, IsModelFault, lexical, syntax, depth, said}
+use Rattle.pc_front.specs.ModelFront.{ModelOf, IsModelFault, lexical, syntax, depth, said}
 
 pub one_whole_model : (bytes : List ℕ) (m n : WrittenModel) → ModelOf bytes m → ModelOf bytes n → m ≡ n
 one_whole_model bytes m n x y =
@@ -57,12 +57,12 @@ number_of (a_depth_fault k) = k
 
 -- and so one place
 one_token_place : (bytes : List ℕ) (ts us : List Token) (f g : TokenFault) (p q : Place) → Spells bytes ts → Spells bytes us
-    → f ≡ g → p.offset ≡ token_place (length bytes) (slice_get ts (number_of f))
-    → q.offset ≡ token_place (length bytes) (slice_get us (number_of g)) → p ≡ q
+    → f ≡ g → p.offset ≡ token_place bytes ts (number_of f)
+    → q.offset ≡ token_place bytes us (number_of g) → p ≡ q
 one_token_place bytes ts us f g p q spelled other same at there =
     place_is p q
-    (at ∙ ap (λ vs. token_place (length bytes) (slice_get vs (number_of f))) (spells-unique spelled other)
-    ∙ ap (λ h. token_place (length bytes) (slice_get us (number_of h))) same ∙ sym there)
+    (at ∙ ap (λ vs. token_place bytes vs (number_of f)) (spells-unique spelled other)
+    ∙ ap (λ h. token_place bytes us (number_of h)) same ∙ sym there)
 
 -- bytes have one first fault as a model
 pub one_model_fault : (bytes : List ℕ) (j k : FaultKind) (p q : Place) → IsModelFault bytes j p → IsModelFault bytes k q

@@ -11,7 +11,7 @@ use Rattle.pc_common.specs.Names.{same_name}
 use Rattle.pc_syntax.specs.StageFaults.{stage_numbered, stage_called, number_fault, number_again, name_again, stage_fault, stages_fault}
 use Rattle.pc_syntax.proofs.NoFault.{none_first, none_second, none_where}
 use Rattle.macro_expand.proofs.Names.{is_same}
-use Rattle.uspec_parser.specs.Terminals.{is_spelled_as_name, is_name_byte as is_byte_of_name}
+use Rattle.uspec_lexer.specs.Bytes.{is_name as is_spelled_as_name, is_name_byte as is_byte_of_name}
 use Rattle.pc_ground.specs.Stages.{AreStages, is_letter, is_name_byte, is_name}
 use Rattle.pc_front.specs.ModelFront.{stage_said}
 

@@ -1,5 +1,5 @@
 -- What the bytes of a whole model say: its stages and its closed axioms, or its first fault.
-use Rattle.std.specs.Prelude.{◌≡◌, ℕ, ⊤, List, [], Option, Some, None, length, map, slice_get}
+use Rattle.std.specs.Prelude.{◌≡◌, ℕ, ⊤, List, [], Some, None, map}
 use Rattle.pc_common.specs.Case.{Case}
 use Rattle.pc_common.specs.World.{Node, World}
 use Rattle.pc_common.specs.declared.place.Place.{Place}
@@ -8,8 +8,9 @@ use Rattle.pc_common.specs.declared.fault.FaultKind.TheVariants.{Lexical, Syntax
 use Rattle.pc_common.specs.declared.fault.Which.TheVariants.{Model}
 use Rattle.ll_grammar.specs.FirstFault.{IsAccepted, IsFirstFault}
 use Rattle.ll_grammar.specs.declared.fault.Fault.TheVariants.{Syntax as a_syntax_fault, Depth as a_depth_fault}
-use Rattle.uspec_lexer.specs.Token.{Token}
+use Rattle.uspec_lexer.specs.Token.{Token, token_place}
 use Rattle.uspec_lexer.specs.Spells.{Spells, IsLexicalFault}
+use Rattle.uspec_parser.specs.declared.level.TheConstants.{MAX_OPENERS}
 use Rattle.uspec_parser.specs.Marks.{IsMarkedModel}
 use Rattle.uspec_parser.specs.Syntax.{DerivesModel}
 use Rattle.uspec_parser.specs.Answers.{terminals}
@@ -32,18 +33,13 @@ pub record ModelOf (bytes : List ℕ) (m : WrittenModel) : Type 0 where
   pub tree : DerivesModel tokens m
   pub accepted : IsAccepted IsMarkedModel (terminals tokens)
 
--- the place of token k, or the length of the text at the end
-abbrev pub token_place : ℕ → Option Token → ℕ
-token_place end None = end
-token_place end (Some t) = t.at
-
 -- the first fault of a model's bytes: of its bytes, of its tokens, or of what its tree says
 pub data IsModelFault (bytes : List ℕ) : FaultKind → Place → Type 0 where
   lexical : {at : Place} → IsLexicalFault bytes at.offset → IsModelFault bytes Lexical at
   syntax : {ts : List Token} {k : ℕ} {at : Place} → Spells bytes ts → IsFirstFault IsMarkedModel (terminals ts) (a_syntax_fault k)
-      → at.offset ≡ token_place (length bytes) (slice_get ts k) → IsModelFault bytes Syntax at
+      → at.offset ≡ token_place bytes ts k → IsModelFault bytes Syntax at
   depth : {ts : List Token} {k : ℕ} {at : Place} → Spells bytes ts → IsFirstFault IsMarkedModel (terminals ts) (a_depth_fault k)
-      → at.offset ≡ token_place (length bytes) (slice_get ts k) → IsModelFault bytes (Depth 128) at
+      → at.offset ≡ token_place bytes ts k → IsModelFault bytes (Depth MAX_OPENERS) at
   said : {m : WrittenModel} {kind : FaultKind} {at : Place} → ModelOf bytes m → first_model_fault m ≡ Some (kind, at)
       → IsModelFault bytes kind at
 

@@ -1,11 +1,11 @@
-ghost use Rattle.std.specs.Prelude.{◌≡◌, ◌<◌, ◌^◌, [], Some, None, length, map, slice_get, IfOk, IfErr};
+ghost use Rattle.std.specs.Prelude.{◌≡◌, ◌<◌, ◌^◌, [], Some, None, length, map, IfOk, IfErr};
 ghost use Rattle.pc_syntax.specs.Written.{written_model};
 ghost use Rattle.pc_syntax.specs.Fault.{first_fault};
 ghost use Rattle.pc_syntax.specs.StageFaults.{stages_fault, first_stage_fault};
 ghost use Rattle.macro_expand.specs.Faults.{fault_told as macro_fault_told};
 ghost use Rattle.scope_check.specs.FirstFault.{fault_told as name_fault_told, Answers};
 ghost use Rattle.pc_ground.specs.Stages.{plain_stage, plain_axioms};
-ghost use Rattle.pc_front.specs.ModelFront.{ModelOf, IsModelFront, IsModelEnd, token_place, stage_said};
+ghost use Rattle.pc_front.specs.ModelFront.{ModelOf, IsModelFront, IsModelEnd, stage_said};
 ghost use Rattle.pc_front.specs.ModelSteps.{end_of, lexical_told, axiom_fault, AreClosings};
 
 use super::model_front::{FrontEnd, ModelFront};
@@ -15,11 +15,8 @@ use pc_ground::{Axioms, Stage, Stages};
 use pc_syntax::{Expanded, ModelFile, StageItems, TryCopy};
 use scope_check::{NameFault, close};
 use std::alloc::Global;
-use uspec_lexer::{LexFault, Tokens, tokens};
-use uspec_parser::{ParseFault, parse_model};
-
-/// How many openers of a formula may be open at once.
-const MOST_OPENERS: u64 = 128;
+use uspec_lexer::{LexFault, tokens};
+use uspec_parser::{MAX_OPENERS, ParseFault, parse_model};
 
 /// The stages and the closed axioms of a whole model.
 ///
@@ -64,31 +61,12 @@ fn parsed(alloc: Global, bytes: &[u8]) -> Result<ModelFile, FrontEnd>
     };
     match parse_model(alloc, &tokens) {
         Ok(model) => Ok(model),
-        Err(ParseFault::Syntax(k)) => {
-            Err(refused(FaultKind::Syntax, place_of_token(bytes, &tokens, k)))
-        }
+        Err(ParseFault::Syntax(k)) => Err(refused(FaultKind::Syntax, tokens.place(bytes, k))),
         Err(ParseFault::Depth(k)) => {
-            let limit = MOST_OPENERS;
-            Err(refused(
-                FaultKind::Depth { limit },
-                place_of_token(bytes, &tokens, k),
-            ))
+            let limit = u64::from(MAX_OPENERS);
+            Err(refused(FaultKind::Depth { limit }, tokens.place(bytes, k)))
         }
         Err(ParseFault::Memory) => Err(FrontEnd::Memory),
-    }
-}
-
-/// The place of the token at `k`, or of the end of the bytes.
-fn place_of_token(bytes: &[u8], tokens: &Tokens<'_>, k: usize) -> Place
-    requires { length bytes.now < 2 ^ 32 }
-    ensures { result.offset ≡ token_place (length bytes.now) (slice_get tokens.now k) }
-{
-    if k < tokens.len() {
-        tokens.get(k).at
-    } else {
-        Place {
-            offset: bytes.len() as u32,
-        }
     }
 }
 
