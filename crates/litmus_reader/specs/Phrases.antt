@@ -1,9 +1,11 @@
 -- The grammar of tests as a table: what stands behind a token where a phrase begins with it.
 use Rattle.std.specs.Prelude.{◌≡◌, ℕ, Bool, true, false, List, [], ◌∷◌, Option, Some, None, refl, slice_get, if◌then◌else◌}
 use Rattle.ll_grammar.specs.Rules.{Rules}
+use Rattle.ll_grammar.specs.Steps.{IsStep}
 use Rattle.ll_grammar.specs.Predictable.{IsPredictable, HasTexts}
 use Rattle.ll_grammar.specs.Tables.{predictable_by, texts_by, is_predictable_part, is_ranked_part}
 use Rattle.ll_grammar.specs.declared.grammar.Symbol.{Symbol}
+use Rattle.ll_grammar.specs.declared.grammar.Step.{Step}
 use Rattle.ll_grammar.specs.declared.grammar.Symbol.TheVariants.{Class, Part}
 use Rattle.litmus_reader.specs.Terminals.{is_name}
 use Rattle.litmus_reader.specs.declared.terminal.Terminal.{Terminal}
@@ -39,6 +41,10 @@ may_end _ = false
 -- nothing nests, so no token stands too deep
 abbrev pub deep : Phrase → Terminal → Bool
 deep n c = false
+
+-- what the phrase makes of the stack at a token of this class
+abbrev pub IsPush : Phrase → Terminal → List (Symbol Terminal Phrase) → List (Symbol Terminal Phrase) → Step → Type 0
+IsPush n c old new step = IsStep (behind n c) (deep n c) old step new
 
 abbrev pub rules : Rules Terminal Phrase
 rules = record { behind = behind; may_end = may_end; deep = deep }

@@ -1,7 +1,6 @@
 ghost use Rattle.std.specs.Prelude.{◌≡◌, IfOk};
-ghost use Rattle.ll_grammar.specs.Steps.{IsStep};
 ghost use Rattle.litmus_reader.specs.Terminals.{is_name as is_name_spec};
-ghost use Rattle.litmus_reader.specs.Phrases.{rules, follow, rules_predictable, rules_texts, behind, deep};
+ghost use Rattle.litmus_reader.specs.Phrases.{rules, follow, rules_predictable, rules_texts, IsPush};
 
 use self::Phrase::*;
 use super::terminal::Terminal::{self, *};
@@ -69,7 +68,7 @@ impl Grammar<Terminal> for Phrase {
 }
 
 fn push_test(class: Terminal, stack: &mut Vec<Waiting>) -> Result<Step, AllocError>
-    ensures { IfOk result (λ step. IsStep (behind Phrase.Test class) (deep Phrase.Test class) stack.old.items step stack.new.items) }
+    ensures { IfOk result (IsPush Phrase.Test class stack.old.items stack.new.items) }
 {
     match class {
         Litmus => push!(stack; Text Dot [Items]),
@@ -78,7 +77,7 @@ fn push_test(class: Terminal, stack: &mut Vec<Waiting>) -> Result<Step, AllocErr
 }
 
 fn push_items(class: Terminal, stack: &mut Vec<Waiting>) -> Result<Step, AllocError>
-    ensures { IfOk result (λ step. IsStep (behind Phrase.Items class) (deep Phrase.Items class) stack.old.items step stack.new.items) }
+    ensures { IfOk result (IsPush Phrase.Items class stack.old.items stack.new.items) }
 {
     match class {
         Microop => push!(stack; Number Number Number Number Open [Access] Close Dot [Items]),
@@ -90,7 +89,7 @@ fn push_items(class: Terminal, stack: &mut Vec<Waiting>) -> Result<Step, AllocEr
 }
 
 fn push_access(class: Terminal, stack: &mut Vec<Waiting>) -> Result<Step, AllocError>
-    ensures { IfOk result (λ step. IsStep (behind Phrase.Access class) (deep Phrase.Access class) stack.old.items step stack.new.items) }
+    ensures { IfOk result (IsPush Phrase.Access class stack.old.items stack.new.items) }
 {
     match class {
         Read | Write => push!(stack; [Types] [VirtualPage] [PhysicalPage] [Value]),
@@ -100,7 +99,7 @@ fn push_access(class: Terminal, stack: &mut Vec<Waiting>) -> Result<Step, AllocE
 }
 
 fn push_types(class: Terminal, stack: &mut Vec<Waiting>) -> Result<Step, AllocError>
-    ensures { IfOk result (λ step. IsStep (behind Phrase.Types class) (deep Phrase.Types class) stack.old.items step stack.new.items) }
+    ensures { IfOk result (IsPush Phrase.Types class stack.old.items stack.new.items) }
 {
     match class {
         name if is_name(name) => push!(stack; [Types]),
@@ -109,7 +108,7 @@ fn push_types(class: Terminal, stack: &mut Vec<Waiting>) -> Result<Step, AllocEr
 }
 
 fn push_any_name(class: Terminal, stack: &mut Vec<Waiting>) -> Result<Step, AllocError>
-    ensures { IfOk result (λ step. IsStep (behind Phrase.AnyName class) (deep Phrase.AnyName class) stack.old.items step stack.new.items) }
+    ensures { IfOk result (IsPush Phrase.AnyName class stack.old.items stack.new.items) }
 {
     match class {
         name if is_name(name) => push!(stack;),
@@ -118,7 +117,7 @@ fn push_any_name(class: Terminal, stack: &mut Vec<Waiting>) -> Result<Step, Allo
 }
 
 fn push_virtual_page(class: Terminal, stack: &mut Vec<Waiting>) -> Result<Step, AllocError>
-    ensures { IfOk result (λ step. IsStep (behind Phrase.VirtualPage class) (deep Phrase.VirtualPage class) stack.old.items step stack.new.items) }
+    ensures { IfOk result (IsPush Phrase.VirtualPage class stack.old.items stack.new.items) }
 {
     match class {
         Open => push!(stack; Va Number Number Close),
@@ -127,7 +126,7 @@ fn push_virtual_page(class: Terminal, stack: &mut Vec<Waiting>) -> Result<Step, 
 }
 
 fn push_physical_page(class: Terminal, stack: &mut Vec<Waiting>) -> Result<Step, AllocError>
-    ensures { IfOk result (λ step. IsStep (behind Phrase.PhysicalPage class) (deep Phrase.PhysicalPage class) stack.old.items step stack.new.items) }
+    ensures { IfOk result (IsPush Phrase.PhysicalPage class stack.old.items stack.new.items) }
 {
     match class {
         Open => push!(stack; Pa Number Number Close),
@@ -136,7 +135,7 @@ fn push_physical_page(class: Terminal, stack: &mut Vec<Waiting>) -> Result<Step,
 }
 
 fn push_value(class: Terminal, stack: &mut Vec<Waiting>) -> Result<Step, AllocError>
-    ensures { IfOk result (λ step. IsStep (behind Phrase.Value class) (deep Phrase.Value class) stack.old.items step stack.new.items) }
+    ensures { IfOk result (IsPush Phrase.Value class stack.old.items stack.new.items) }
 {
     match class {
         Open => push!(stack; Data Number Close),

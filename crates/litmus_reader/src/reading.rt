@@ -14,11 +14,11 @@ ghost use Rattle.litmus_reader.specs.declared.terminal.Terminal.TheVariants.{Rea
 ghost use Rattle.litmus_reader.specs.declared.item.Numeral.{Numeral as NumeralPair};
 
 use super::item::{Action, End, Head, Item, Microop, Numeral, Relationship, ValueLine};
-use super::terminal::{Terminal, terminal_of};
+use super::terminal::Terminal;
 use pc_case::{Memop, Page, TypeNames};
 use pc_common::{Bytes, Listed, Memory};
 use std::alloc::Global;
-use uspec_lexer::{TokenKind, Tokens};
+use uspec_lexer::{FromToken, TokenKind, Tokens};
 
 /// The number that stands at `k`.
 pub(crate) fn numeral_at(tokens: &Tokens<'_>, k: usize) -> Numeral
@@ -145,7 +145,7 @@ fn access_at(
     requires few { length tokens.now < 2 ^ 63 }
     ensures { IfOk result (λ r. IsAccessAt tokens.now k r.0 r.1 r.2) }
 {
-    let word = terminal_of(tokens.get(k));
+    let word = Terminal::from_token(tokens.get(k));
     let (types, next) = names_at(alloc, tokens, k + 1)?;
     let (action, next) = action_at(tokens, word, next);
     Ok((types, action, next))
@@ -218,7 +218,7 @@ pub(crate) fn item_at(alloc: Global, tokens: &Tokens<'_>, k: usize) -> Result<(I
     ensures { IfOk result (λ r. IsItemAt tokens.now k r.0 r.1) }
 {
     let word = tokens.get(k);
-    Ok(match terminal_of(word) {
+    Ok(match Terminal::from_token(word) {
         Terminal::Microop => {
             let (microop, next) = microop_at(alloc, tokens, k)?;
             (Item::Microop(microop), next)

@@ -8,44 +8,44 @@ use Rattle.litmus_reader.proofs.reading.item_at.Goals.{in-Microop+in_ok-microop-
 pub microop_at-requires-clause-begins : goal.microop_at-requires-clause-begins
 microop_at-requires-clause-begins c =
     let (i, b) = c.requires.begins in
-    microop-begins i b (sym (c.terminal_of.ensures ∙ item-terminal i b (plain c.get-word.result) c.get-word.ensures) ∙ c.in-Microop.is)
+    microop-begins i b (sym (c.from_token.ensures ∙ item-terminal i b (plain c.get-word.result) c.get-word.ensures) ∙ c.in-Microop.is)
 
 pub relationship_at-requires-clause-begins : goal.relationship_at-requires-clause-begins
 relationship_at-requires-clause-begins c =
     let (i, b) = c.requires.begins in
-    relationship-begins i b (sym (c.terminal_of.ensures ∙ item-terminal i b (plain c.get-word.result) c.get-word.ensures) ∙ c.in-Relationship.is)
+    relationship-begins i b (sym (c.from_token.ensures ∙ item-terminal i b (plain c.get-word.result) c.get-word.ensures) ∙ c.in-Relationship.is)
 
 pub value_line_at-requires-clause-begins : goal.value_line_at-requires-clause-begins
 value_line_at-requires-clause-begins c =
     let (i, b) = c.requires.begins in
-    initial-begins i b (sym (c.terminal_of.ensures ∙ item-terminal i b (plain c.get-word.result) c.get-word.ensures) ∙ c.in-Init.is)
+    initial-begins i b (sym (c.from_token.ensures ∙ item-terminal i b (plain c.get-word.result) c.get-word.ensures) ∙ c.in-Init.is)
 
 pub value_line_at-requires-in-Final-clause-begins : goal.value_line_at-requires-in-Final-clause-begins
 value_line_at-requires-in-Final-clause-begins c =
     let (i, b) = c.requires.begins in
-    final-begins i b (sym (c.terminal_of.ensures ∙ item-terminal i b (plain c.get-word.result) c.get-word.ensures) ∙ c.in-Final.is)
+    final-begins i b (sym (c.from_token.ensures ∙ item-terminal i b (plain c.get-word.result) c.get-word.ensures) ∙ c.in-Final.is)
 
 pub unreachable-requires : goal.unreachable-requires
 unreachable-requires c =
     let (i, b) = c.requires.begins in
-    let word = c.terminal_of.ensures ∙ item-terminal i b (plain c.get-word.result) c.get-word.ensures in
+    let word = c.from_token.ensures ∙ item-terminal i b (plain c.get-word.result) c.get-word.ensures in
     one_of_six i (λ h. c.in_default.not-Microop (word ∙ h)) (λ h. c.in_default.not-Relationship (word ∙ h)) (λ h. c.in_default.not-Init (word ∙ h))
     (λ h. c.in_default.not-Final (word ∙ h)) (λ h. c.in_default.not-Permitted (word ∙ h)) (λ h. c.in_default.not-Forbidden (word ∙ h))
 
 pub relationship_at-requires-clause-within : goal.relationship_at-requires-clause-within
 relationship_at-requires-clause-within c =
     let (i, b) = c.requires.begins in
-    eight-within i b (inl (sym (c.terminal_of.ensures ∙ item-terminal i b (plain c.get-word.result) c.get-word.ensures) ∙ c.in-Relationship.is))
+    eight-within i b (inl (sym (c.from_token.ensures ∙ item-terminal i b (plain c.get-word.result) c.get-word.ensures) ∙ c.in-Relationship.is))
 
 pub value_line_at-requires-clause-within : goal.value_line_at-requires-clause-within
 value_line_at-requires-clause-within c =
     let (i, b) = c.requires.begins in
-    eight-within i b (inr (inl (sym (c.terminal_of.ensures ∙ item-terminal i b (plain c.get-word.result) c.get-word.ensures) ∙ c.in-Init.is)))
+    eight-within i b (inr (inl (sym (c.from_token.ensures ∙ item-terminal i b (plain c.get-word.result) c.get-word.ensures) ∙ c.in-Init.is)))
 
 pub value_line_at-requires-in-Final-clause-within : goal.value_line_at-requires-in-Final-clause-within
 value_line_at-requires-in-Final-clause-within c =
     let (i, b) = c.requires.begins in
-    eight-within i b (inr (inr (sym (c.terminal_of.ensures ∙ item-terminal i b (plain c.get-word.result) c.get-word.ensures) ∙ c.in-Final.is)))
+    eight-within i b (inr (inr (sym (c.from_token.ensures ∙ item-terminal i b (plain c.get-word.result) c.get-word.ensures) ∙ c.in-Final.is)))
 
 -- the answer of the branch that was taken
 joined : (k : ℕ) (i : Item) (result said : Item × ℕ) → result ≡ said → IsSaid k i said → IsSaid k i result
@@ -55,14 +55,14 @@ pub returns : goal.returns
 returns c = λ i b.
     let t = plain c.get-word.result in
     let at : slice_get c.args.tokens.now c.args.k ≡ Some t = c.get-word.ensures in
-    let word : c.terminal_of.result ≡ item_word i = c.terminal_of.ensures ∙ item-terminal i b t at in
-    elim c.match-terminal_of.branch [
-      | in-Microop+in_ok-microop-in-Microop w ↦ joined c.args.k i c.match-terminal_of.result _ w.result-is
+    let word : c.from_token.result ≡ item_word i = c.from_token.ensures ∙ item-terminal i b t at in
+    elim c.match-from_token.branch [
+      | in-Microop+in_ok-microop-in-Microop w ↦ joined c.args.k i c.match-from_token.result _ w.result-is
           (microop-said i b (sym word ∙ w.in-Microop.is) w.in_ok-microop-in-Microop.microop w.in_ok-microop-in-Microop.next w.in_ok-microop-in-Microop.ensures)
-      | in-Relationship+in_ok-relationship_at-in-Relationship w ↦ joined c.args.k i c.match-terminal_of.result _ w.result-is
+      | in-Relationship+in_ok-relationship_at-in-Relationship w ↦ joined c.args.k i c.match-from_token.result _ w.result-is
           (relationship-said i b (sym word ∙ w.in-Relationship.is) w.in_ok-relationship_at-in-Relationship.field-0 w.in_ok-relationship_at-in-Relationship.ensures)
-      | in-Init w ↦ joined c.args.k i c.match-terminal_of.result _ w.result-is (initial-said i b (sym word ∙ w.in-Init.is) w.value_line_at.result w.value_line_at.ensures.initial)
-      | in-Final w ↦ joined c.args.k i c.match-terminal_of.result _ w.result-is (final-said i b (sym word ∙ w.in-Final.is) w.value_line_at-in-Final.result w.value_line_at-in-Final.ensures.final_)
-      | in-Permitted w ↦ joined c.args.k i c.match-terminal_of.result _ w.result-is (permitted-said i b (sym word ∙ w.in-Permitted.is) t at c.get-word.result.at refl)
-      | in-Forbidden w ↦ joined c.args.k i c.match-terminal_of.result _ w.result-is (forbidden-said i b (sym word ∙ w.in-Forbidden.is) t at c.get-word.result.at refl)
+      | in-Init w ↦ joined c.args.k i c.match-from_token.result _ w.result-is (initial-said i b (sym word ∙ w.in-Init.is) w.value_line_at.result w.value_line_at.ensures.initial)
+      | in-Final w ↦ joined c.args.k i c.match-from_token.result _ w.result-is (final-said i b (sym word ∙ w.in-Final.is) w.value_line_at-in-Final.result w.value_line_at-in-Final.ensures.final_)
+      | in-Permitted w ↦ joined c.args.k i c.match-from_token.result _ w.result-is (permitted-said i b (sym word ∙ w.in-Permitted.is) t at c.get-word.result.at refl)
+      | in-Forbidden w ↦ joined c.args.k i c.match-from_token.result _ w.result-is (forbidden-said i b (sym word ∙ w.in-Forbidden.is) t at c.get-word.result.at refl)
     ]
