@@ -1,9 +1,11 @@
 -- The grammar of models as a table: what stands behind a token where a phrase begins with it.
 use Rattle.std.specs.Prelude.{◌≡◌, ℕ, ◌+◌, Bool, true, false, List, [], ◌∷◌, Option, Some, None, refl, slice_get}
 use Rattle.ll_grammar.specs.Rules.{Rules}
+use Rattle.ll_grammar.specs.Steps.{IsStep}
 use Rattle.ll_grammar.specs.Predictable.{IsPredictable, HasTexts}
 use Rattle.ll_grammar.specs.Tables.{predictable_by, texts_by, is_predictable_part, is_ranked_part}
 use Rattle.ll_grammar.specs.declared.grammar.Symbol.{Symbol}
+use Rattle.ll_grammar.specs.declared.grammar.Step.{Step}
 use Rattle.ll_grammar.specs.declared.grammar.Symbol.TheVariants.{Class, Part}
 use Rattle.uspec_parser.specs.declared.terminal.Terminal.{Terminal}
 use Rattle.uspec_parser.specs.declared.terminal.Terminal.TheVariants.{StageName, Axiom, DefineMacro, ExpandMacro, Forall, Exists, Microop, Core, OneEdge, EdgeList, OneNode, NodeList, Name, Number, Quoted, Text, Open, Close, OpenBracket, CloseBracket, Comma, Semicolon, Colon, Dot, Not, And, Or, Implies, Arrow}
@@ -73,6 +75,10 @@ deep (More l) And = is_deep l.at_and
 deep (More l) Or = is_deep l.at_or
 deep (More l) Implies = is_deep l.at_implies
 deep _ _ = false
+
+-- what the phrase makes of the stack at a token of this class
+abbrev pub IsPush : Phrase → Terminal → List (Symbol Terminal Phrase) → List (Symbol Terminal Phrase) → Step → Type 0
+IsPush n c old new step = IsStep (behind n c) (deep n c) old step new
 
 abbrev pub rules : Rules Terminal Phrase
 rules = record { behind = behind; may_end = may_end; deep = deep }

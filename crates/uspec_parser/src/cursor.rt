@@ -5,12 +5,12 @@ ghost use Rattle.uspec_lexer.specs.View.{plain as plain_token};
 ghost use Rattle.uspec_parser.specs.Terminals.{Lexeme, lexeme, terminal_of as terminal_spec, value as value_spec, is_placed};
 ghost use Rattle.uspec_parser.specs.Descent.{next, behind, word as word_spec, place as place_spec, number as number_spec, number_place};
 
-use super::terminal::{Terminal, content, terminal_of};
+use super::terminal::{Terminal, content};
 use pc_common::{Memory, Place};
 use pc_syntax::{Name, Word};
 use std::alloc::Global;
 use std::marker::Model;
-use uspec_lexer::{Token, TokenKind, Tokens};
+use uspec_lexer::{FromToken, Token, TokenKind, Tokens};
 
 /// The tokens of a text that are still to be read, with their terminals.
 #[derive(Drop)]
@@ -92,7 +92,10 @@ impl<'a> Cursor<'a> {
         ensures place { result.1 ≡ number_place self.now }
     {
         match self.token() {
-            Some(token) if terminal_of(token) == Terminal::Number => (value(token.kind), token.at),
+            Some(token) if Terminal::from_token(token) == Terminal::Number => (
+                value(token.kind),
+                token.at,
+            ),
             _ => (0, Place { offset: 0 }),
         }
     }
@@ -105,7 +108,7 @@ impl<'a> Cursor<'a> {
         let Some(token) = self.token() else {
             return copied(alloc, b"", Place { offset: 0 });
         };
-        match terminal_of(token) {
+        match Terminal::from_token(token) {
             Terminal::Name => copied(alloc, token.piece, token.at),
             Terminal::Quoted => copied(alloc, content(token.piece), token.at),
             _ => copied(alloc, b"", Place { offset: 0 }),

@@ -1,7 +1,6 @@
 ghost use Rattle.std.specs.Prelude.{◌≡◌, IfOk};
 ghost use Rattle.uspec_parser.specs.Levels.{level_of};
-ghost use Rattle.ll_grammar.specs.Steps.{IsStep};
-ghost use Rattle.uspec_parser.specs.Phrases.{behind, deep, rules as rules_spec, follow as follow_spec, is_predictable, has_texts as texts_spec};
+ghost use Rattle.uspec_parser.specs.Phrases.{IsPush, rules as rules_spec, follow as follow_spec, is_predictable, has_texts as texts_spec};
 
 use self::Phrase::*;
 use super::level::{Level, MAX_OPENERS};
@@ -92,7 +91,7 @@ fn within(opened: u8) -> Phrase
 }
 
 fn push_items(class: Terminal, stack: &mut Vec<Waiting>) -> Result<Step, AllocError>
-    ensures { IfOk result (λ step. IsStep (behind Phrase.Items class) (deep Phrase.Items class) stack.old.items step stack.new.items) }
+    ensures { IfOk result (IsPush Phrase.Items class stack.old.items stack.new.items) }
 {
     match class {
         StageName => push!(stack; Number Quoted Dot [Items]),
@@ -103,7 +102,7 @@ fn push_items(class: Terminal, stack: &mut Vec<Waiting>) -> Result<Step, AllocEr
 }
 
 fn push_parameters(class: Terminal, stack: &mut Vec<Waiting>) -> Result<Step, AllocError>
-    ensures { IfOk result (λ step. IsStep (behind Phrase.Parameters class) (deep Phrase.Parameters class) stack.old.items step stack.new.items) }
+    ensures { IfOk result (IsPush Phrase.Parameters class stack.old.items stack.new.items) }
 {
     match class {
         Quoted => push!(stack; [Parameters]),
@@ -112,7 +111,7 @@ fn push_parameters(class: Terminal, stack: &mut Vec<Waiting>) -> Result<Step, Al
 }
 
 fn push_label(class: Terminal, stack: &mut Vec<Waiting>) -> Result<Step, AllocError>
-    ensures { IfOk result (λ step. IsStep (behind Phrase.Label class) (deep Phrase.Label class) stack.old.items step stack.new.items) }
+    ensures { IfOk result (IsPush Phrase.Label class stack.old.items stack.new.items) }
 {
     match class {
         Quoted | Text => push!(stack;),
@@ -126,7 +125,7 @@ fn push_operand(
     class: Terminal,
     stack: &mut Vec<Waiting>,
 ) -> Result<Step, AllocError>
-    ensures { IfOk result (λ step. IsStep (behind (Phrase.Operand level opened) class) (deep (Phrase.Operand level opened) class) stack.old.items step stack.new.items) }
+    ensures { IfOk result (IsPush (Phrase.Operand level opened) class stack.old.items stack.new.items) }
 {
     match class {
         Open | Not | Forall | Exists if opened >= MAX_OPENERS => Ok(Step::Deep),
@@ -144,7 +143,7 @@ fn push_operand(
 }
 
 fn push_more(level: Level, class: Terminal, stack: &mut Vec<Waiting>) -> Result<Step, AllocError>
-    ensures { IfOk result (λ step. IsStep (behind (Phrase.More level) class) (deep (Phrase.More level) class) stack.old.items step stack.new.items) }
+    ensures { IfOk result (IsPush (Phrase.More level) class stack.old.items stack.new.items) }
 {
     match class {
         And if level.at_and >= MAX_OPENERS => Ok(Step::Deep),
@@ -158,7 +157,7 @@ fn push_more(level: Level, class: Terminal, stack: &mut Vec<Waiting>) -> Result<
 }
 
 fn push_arguments(class: Terminal, stack: &mut Vec<Waiting>) -> Result<Step, AllocError>
-    ensures { IfOk result (λ step. IsStep (behind Phrase.Arguments class) (deep Phrase.Arguments class) stack.old.items step stack.new.items) }
+    ensures { IfOk result (IsPush Phrase.Arguments class stack.old.items stack.new.items) }
 {
     match class {
         Name | Number => push!(stack; [Arguments]),
@@ -167,7 +166,7 @@ fn push_arguments(class: Terminal, stack: &mut Vec<Waiting>) -> Result<Step, All
 }
 
 fn push_argument(class: Terminal, stack: &mut Vec<Waiting>) -> Result<Step, AllocError>
-    ensures { IfOk result (λ step. IsStep (behind Phrase.Argument class) (deep Phrase.Argument class) stack.old.items step stack.new.items) }
+    ensures { IfOk result (IsPush Phrase.Argument class stack.old.items stack.new.items) }
 {
     match class {
         Name | Number => push!(stack;),
@@ -176,7 +175,7 @@ fn push_argument(class: Terminal, stack: &mut Vec<Waiting>) -> Result<Step, Allo
 }
 
 fn push_node(class: Terminal, stack: &mut Vec<Waiting>) -> Result<Step, AllocError>
-    ensures { IfOk result (λ step. IsStep (behind Phrase.Node class) (deep Phrase.Node class) stack.old.items step stack.new.items) }
+    ensures { IfOk result (IsPush Phrase.Node class stack.old.items stack.new.items) }
 {
     match class {
         Open => push!(stack; Name Comma [Location] Close),
@@ -185,7 +184,7 @@ fn push_node(class: Terminal, stack: &mut Vec<Waiting>) -> Result<Step, AllocErr
 }
 
 fn push_location(class: Terminal, stack: &mut Vec<Waiting>) -> Result<Step, AllocError>
-    ensures { IfOk result (λ step. IsStep (behind Phrase.Location class) (deep Phrase.Location class) stack.old.items step stack.new.items) }
+    ensures { IfOk result (IsPush Phrase.Location class stack.old.items stack.new.items) }
 {
     match class {
         Name => push!(stack;),
@@ -195,7 +194,7 @@ fn push_location(class: Terminal, stack: &mut Vec<Waiting>) -> Result<Step, Allo
 }
 
 fn push_edge(class: Terminal, stack: &mut Vec<Waiting>) -> Result<Step, AllocError>
-    ensures { IfOk result (λ step. IsStep (behind Phrase.Edge class) (deep Phrase.Edge class) stack.old.items step stack.new.items) }
+    ensures { IfOk result (IsPush Phrase.Edge class stack.old.items stack.new.items) }
 {
     match class {
         Open => push!(stack; [Node] Comma [Node] [Labels] Close),
@@ -204,7 +203,7 @@ fn push_edge(class: Terminal, stack: &mut Vec<Waiting>) -> Result<Step, AllocErr
 }
 
 fn push_labels(class: Terminal, stack: &mut Vec<Waiting>) -> Result<Step, AllocError>
-    ensures { IfOk result (λ step. IsStep (behind Phrase.Labels class) (deep Phrase.Labels class) stack.old.items step stack.new.items) }
+    ensures { IfOk result (IsPush Phrase.Labels class stack.old.items stack.new.items) }
 {
     match class {
         Comma => push!(stack; [Label] [SecondLabel]),
@@ -213,7 +212,7 @@ fn push_labels(class: Terminal, stack: &mut Vec<Waiting>) -> Result<Step, AllocE
 }
 
 fn push_second_label(class: Terminal, stack: &mut Vec<Waiting>) -> Result<Step, AllocError>
-    ensures { IfOk result (λ step. IsStep (behind Phrase.SecondLabel class) (deep Phrase.SecondLabel class) stack.old.items step stack.new.items) }
+    ensures { IfOk result (IsPush Phrase.SecondLabel class stack.old.items stack.new.items) }
 {
     match class {
         Comma => push!(stack; [Label]),
@@ -222,7 +221,7 @@ fn push_second_label(class: Terminal, stack: &mut Vec<Waiting>) -> Result<Step, 
 }
 
 fn push_sort_word(class: Terminal, stack: &mut Vec<Waiting>) -> Result<Step, AllocError>
-    ensures { IfOk result (λ step. IsStep (behind Phrase.SortWord class) (deep Phrase.SortWord class) stack.old.items step stack.new.items) }
+    ensures { IfOk result (IsPush Phrase.SortWord class stack.old.items stack.new.items) }
 {
     match class {
         Microop | Core => push!(stack;),
@@ -231,7 +230,7 @@ fn push_sort_word(class: Terminal, stack: &mut Vec<Waiting>) -> Result<Step, All
 }
 
 fn push_nodes(class: Terminal, stack: &mut Vec<Waiting>) -> Result<Step, AllocError>
-    ensures { IfOk result (λ step. IsStep (behind Phrase.Nodes class) (deep Phrase.Nodes class) stack.old.items step stack.new.items) }
+    ensures { IfOk result (IsPush Phrase.Nodes class stack.old.items stack.new.items) }
 {
     match class {
         CloseBracket => push!(stack;),
@@ -241,7 +240,7 @@ fn push_nodes(class: Terminal, stack: &mut Vec<Waiting>) -> Result<Step, AllocEr
 }
 
 fn push_more_nodes(class: Terminal, stack: &mut Vec<Waiting>) -> Result<Step, AllocError>
-    ensures { IfOk result (λ step. IsStep (behind Phrase.MoreNodes class) (deep Phrase.MoreNodes class) stack.old.items step stack.new.items) }
+    ensures { IfOk result (IsPush Phrase.MoreNodes class stack.old.items stack.new.items) }
 {
     match class {
         CloseBracket => push!(stack;),
@@ -251,7 +250,7 @@ fn push_more_nodes(class: Terminal, stack: &mut Vec<Waiting>) -> Result<Step, Al
 }
 
 fn push_edges(class: Terminal, stack: &mut Vec<Waiting>) -> Result<Step, AllocError>
-    ensures { IfOk result (λ step. IsStep (behind Phrase.Edges class) (deep Phrase.Edges class) stack.old.items step stack.new.items) }
+    ensures { IfOk result (IsPush Phrase.Edges class stack.old.items stack.new.items) }
 {
     match class {
         CloseBracket => push!(stack;),
@@ -261,7 +260,7 @@ fn push_edges(class: Terminal, stack: &mut Vec<Waiting>) -> Result<Step, AllocEr
 }
 
 fn push_more_edges(class: Terminal, stack: &mut Vec<Waiting>) -> Result<Step, AllocError>
-    ensures { IfOk result (λ step. IsStep (behind Phrase.MoreEdges class) (deep Phrase.MoreEdges class) stack.old.items step stack.new.items) }
+    ensures { IfOk result (IsPush Phrase.MoreEdges class stack.old.items stack.new.items) }
 {
     match class {
         CloseBracket => push!(stack;),

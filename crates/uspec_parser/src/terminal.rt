@@ -61,19 +61,12 @@ impl FromToken for Terminal {
     ghost seen = { terminal_spec };
 
     fn from_token(token: Token<'_>) -> Self {
-        terminal_of(token)
-    }
-}
-
-/// The terminal that a token is.
-pub(crate) fn terminal_of(token: Token<'_>) -> Terminal
-    ensures { result ≡ terminal_spec (plain token.entry) }
-{
-    match token.kind {
-        TokenKind::Name => word_terminal(token.piece),
-        TokenKind::Number(_) => Terminal::Number,
-        TokenKind::Text => text_terminal(token.piece),
-        TokenKind::Symbol => symbol_terminal(token.piece),
+        match token.kind {
+            TokenKind::Name => word_terminal(token.piece),
+            TokenKind::Number(_) => Terminal::Number,
+            TokenKind::Text => text_terminal(token.piece),
+            TokenKind::Symbol => symbol_terminal(token.piece),
+        }
     }
 }
 

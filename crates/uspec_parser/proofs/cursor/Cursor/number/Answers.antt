@@ -6,5 +6,5 @@ use Rattle.uspec_parser.proofs.cursor.Cursor.number.Goals as goal
 
 pub value-requires : goal.value-requires
 value-requires c =
-    let same : c.terminal_of.result ≡ Number = search rules in
-    number_only (kind_of c.in-Some.token.kind) c.in-Some.token.piece.now (sym c.terminal_of.ensures ∙ same)
+    let same : c.from_token.result ≡ Number = search rules in
+    number_only (kind_of c.in-Some.token.kind) c.in-Some.token.piece.now (sym c.from_token.ensures ∙ same)
