@@ -1,9 +1,7 @@
 -- The stages of a model without stage faults have numbers below 64 and names, and no two have one number or one name.
-use Rattle.std.proofs.Common.{◌≡◌, ℕ, zero, suc, ◌<◌, ◌⊎◌, inl, inr, Bool, true, false, ◌&&◌, ◌||◌, cond, List, [], ◌∷◌, ◌++◌, Option, Some, None, map, slice_get, nat_lt, ltb-false, refl, sym, ◌∙◌, ap, subst, arith}
-use Rattle.std.specs.Prelude.{IsTrue, unwrap_or, ◌==◌}
-use Rattle.std.specs.List.{list_all}
+use Rattle.std.proofs.Common.{◌≡◌, ℕ, zero, suc, ◌<◌, ◌⊎◌, inl, inr, Bool, true, false, cond, List, [], ◌∷◌, ◌++◌, Option, Some, None, map, slice_get, nat_lt, ltb-false, refl, sym, ◌∙◌, ap, subst, arith}
+use Rattle.std.specs.Prelude.{IsTrue, unwrap_or}
 use Rattle.std.specs.Option.{option_or, option_map}
-use Rattle.std.specs.Char.{is_ascii_alphabetic, is_ascii_digit, is_ascii_uppercase, is_ascii_lowercase}
 use Rattle.std.proofs.lemmas.Bool.{eq-eqb}
 use Rattle.pc_common.specs.Lines.{StageName}
 use Rattle.pc_syntax.specs.declared.model.StageItem.{StageItem}
@@ -11,8 +9,8 @@ use Rattle.pc_common.specs.Names.{same_name}
 use Rattle.pc_syntax.specs.StageFaults.{stage_numbered, stage_called, number_fault, number_again, name_again, stage_fault, stages_fault}
 use Rattle.pc_syntax.proofs.NoFault.{none_first, none_second, none_where}
 use Rattle.macro_expand.proofs.Names.{is_same}
-use Rattle.uspec_lexer.specs.Bytes.{is_name as is_spelled_as_name, is_name_byte as is_byte_of_name}
-use Rattle.pc_ground.specs.Stages.{AreStages, is_letter, is_name_byte, is_name}
+use Rattle.uspec_lexer.specs.Bytes.{is_name as is_spelled_as_name}
+use Rattle.pc_ground.specs.Stages.{AreStages, is_name}
 use Rattle.pc_front.specs.ModelFront.{stage_said}
 
 abbrev In : {X : Type 0} → X → List X → Type 0
@@ -109,38 +107,11 @@ numbers earlier (x ∷ ss) zero s f at =
 numbers earlier (x ∷ ss) (suc k) s f at =
     numbers (earlier ++ x ∷ []) ss k s (none_second (stage_fault earlier x) (stages_fault (earlier ++ x ∷ []) ss) f) at
 
--- the name bytes of the grammar are those of certificates
-letters : (b : ℕ) → IsTrue (is_ascii_alphabetic b) → IsTrue (is_letter b)
-letters b h = h
-
-shuffled : (d u l x y : Bool) → ((((d || u) || l) || x) || y) ≡ true → ((((u || l) || d) || x) || y) ≡ true
-shuffled true true l x y h = refl
-shuffled true false true x y h = refl
-shuffled true false false x y h = refl
-shuffled false true l x y h = refl
-shuffled false false true x y h = refl
-shuffled false false false x y h = h
-
-name_byte : (b : ℕ) → IsTrue (is_byte_of_name b) → IsTrue (is_name_byte b)
-name_byte b h = shuffled (is_ascii_digit b) (is_ascii_uppercase b) (is_ascii_lowercase b) (b == 95) (b == 39) h
-
-both : (a b x y : Bool) → ((a ≡ true) → x ≡ true) → ((b ≡ true) → y ≡ true) → (a && b) ≡ true → (x && y) ≡ true
-both true true x y f g h = cond_true x y (f refl) (g refl)
-  where
-    cond_true : (x y : Bool) → x ≡ true → y ≡ true → (x && y) ≡ true
-    cond_true true y p q = q
-    cond_true false y p q = cc
-both true false x y f g h = cc
-both false b x y f g h = cc
-
-name_bytes : (bs : List ℕ) → IsTrue (list_all is_byte_of_name bs) → IsTrue (list_all is_name_byte bs)
-name_bytes [] h = refl
-name_bytes (b ∷ bs) h = both (is_byte_of_name b) (list_all is_byte_of_name bs) (is_name_byte b) (list_all is_name_byte bs) (name_byte b) (name_bytes bs) h
-
+-- the names of the grammar are those of certificates
 pub named : (bs : List ℕ) → IsTrue (is_spelled_as_name bs) → IsTrue (is_name bs)
 unfolding is_spelled_as_name
 named [] h = cc
-named (b ∷ bs) h = both (is_ascii_alphabetic b) (list_all is_byte_of_name bs) (is_letter b) (list_all is_name_byte bs) (λ k. k) (name_bytes bs) h
+named (b ∷ bs) h = h
 
 -- what is said of a stage
 from_map : (ss : List StageItem) (k : ℕ) (p : StageName) → slice_get (map stage_said ss) k ≡ Some p

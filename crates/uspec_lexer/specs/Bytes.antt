@@ -2,7 +2,7 @@
 -- a piece begins with holds 0.
 use Rattle.std.specs.Prelude.{◌≡◌, ◌≢◌, ℕ, ◌+◌, ◌-◌, ◌*◌, ◌≤◌, ◌⊎◌, ◌==◌, Bool, false, ◌&&◌, ◌||◌, IsTrue, List, [], ◌∷◌, fold}
 use Rattle.std.specs.List.{list_all}
-use Rattle.std.specs.Char.{is_ascii_alphabetic, is_ascii_alphanumeric}
+use Rattle.std.specs.Char.{is_ascii_alphabetic, is_ascii_digit}
 
 -- space, tab, CR, LF
 abbrev pub IsBlank : ℕ → Type 0
@@ -18,7 +18,7 @@ IsLetter c = ((0x41 ≤ c) × (c ≤ 0x5A)) ⊎ ((0x61 ≤ c) × (c ≤ 0x7A))
 
 -- a letter, a digit, `_` or `'`
 abbrev pub is_name_byte : ℕ → Bool
-is_name_byte c = is_ascii_alphanumeric c || (c == 0x5F) || (c == 0x27)
+is_name_byte c = is_ascii_alphabetic c || is_ascii_digit c || (c == 0x5F) || (c == 0x27)
 
 abbrev pub IsNameByte : ℕ → Type 0
 IsNameByte c = IsTrue (is_name_byte c)

@@ -59,7 +59,7 @@ pub(crate) fn is_letter(byte: u8) -> bool
 fn is_name_byte(byte: u8) -> bool
     ensures { result ≡ name_byte_spec byte }
 {
-    byte.is_ascii_alphanumeric() || byte == b'_' || byte == b'\''
+    is_letter(byte) || byte.is_ascii_digit() || byte == b'_' || byte == b'\''
 }
 
 fn are_name_bytes(bytes: &[u8]) -> bool
