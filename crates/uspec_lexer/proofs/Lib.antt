@@ -5,3 +5,4 @@ pub mod Spelling
 pub mod Order
 pub mod Totality
 mod Spans
+mod Seen
