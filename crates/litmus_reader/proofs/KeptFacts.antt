@@ -80,16 +80,6 @@ dependency_said-append heads more r never =
     let t = place_in-append heads more r.target (known heads r.target (never-others (Unknown heads r.source) (Unknown heads r.target) never)) in
     sym (λ i. record { kind = r.kind; source = s i; target = t i })
 
-pub keeps-none : (k : Kept) → k.heads.items ≡ [] → k.ops ≡ [] → k.dependencies ≡ [] → k.initial ≡ [] → k.final_values ≡ [] → stances k.stance ≡ [] → Keeps k []
-keeps-none k h o d i f s = record {
-  heads = h;
-  ops = ap (map micro_op) o;
-  dependencies = λ more. ap (map dependency) d;
-  initial = i;
-  final_values = f;
-  stance = s;
-}
-
 pub keeps-microop : (old new : Kept) (before : List Item) (m : Microop) → Keeps old before → AddsMicroop old new m → Keeps new (before ++ microop m ∷ [])
 keeps-microop old new before m k a = record {
   heads = a.heads ∙ ap (λ (hs : List Head). hs ++ m.head ∷ []) k.heads ∙ sym (added_head before m);

@@ -1,6 +1,5 @@
 -- What stands at the places of the tokens.
 use Rattle.std.proofs.Common.{◌≡◌, ℕ, zero, suc, ◌+◌, ◌<◌, ◌≤◌, List, [], ◌∷◌, ◌++◌, Some, map, length, slice_get, drop, refl, sym, ap, subst, ◌∙◌, arith, append_assoc}
-use Rattle.std.proofs.lemmas.Option.{slice_get_within}
 use Rattle.std.proofs.Math.Nat.{suc-add}
 use Rattle.std.proofs.Math.Seq.{drop-append_seam}
 use Rattle.std.proofs.lemmas.List.{length-drop, length-append}
@@ -71,9 +70,6 @@ begins-within {ts} {k} es b some =
     let (us, vs, same, front, back) = spell-part es b.others (drop k ts) b.spell in
     let n = spell-length es us front in
     omega (arith, length-drop k ts, ap length same, length-append us vs, n)
-
-pub stands-within : {ts : List Token} {k : ℕ} {e : Expected} → StandsAt ts k e → k < length ts
-stands-within {ts} {k} s = slice_get_within ts k s.token s.at
 
 -- no names begin where no name stands
 pub names-none : {ts : List Token} {k : ℕ} (names : List (List ℕ)) → NamesAt ts k names → ¬ IsNameAt ts k → names ≡ []

@@ -19,10 +19,6 @@ pub first-none : (Row Others : FaultKind → Place → Type 0) → Never Row →
 first-none Row Others never None others = λ kind at h. elim h [ inl row ↦ never kind at row | inr pair ↦ others kind at pair.1 ]
 first-none Row Others never (Some r) others = inr (never, others)
 
-pub first-some : (Row Others : FaultKind → Place → Type 0) → (found : Option Refusal) (r : Refusal) → found ≡ Some r → Answers Row found
-    → First Row Others r.kind r.place
-first-some Row Others found r e row = inl (subst (Answers Row) e row)
-
 pub never-of : (Row : FaultKind → Place → Type 0) → (found : Option Refusal) → found ≡ None → Answers Row found → Never Row
 never-of Row found e row = subst (Answers Row) e row
 

@@ -1,5 +1,5 @@
 -- A grammar with no bound on depth: its answers are of syntax alone.
-use Rattle.std.proofs.Common.{◌≡◌, ℕ, zero, suc, Bool, true, false, List, Option, Some, None, Result, Ok, Err, IfOk, slice_get}
+use Rattle.std.proofs.Common.{◌≡◌, ℕ, zero, suc, Bool, true, false, List, Option, Some, None, slice_get}
 use Rattle.ll_grammar.specs.Rules.{Rules, Reads, Derives}
 use Rattle.ll_grammar.specs.Rules.Reads.{done, class as r_class, ends as r_ends, begins as r_begins}
 use Rattle.ll_grammar.specs.Texts.{IsText}
@@ -29,9 +29,3 @@ module _ {C N : Type 0} (g : Rules C N) (start : N) (shallow : (n : N) (c : C) �
   syntax-along (Some (Syntax k)) (fault, _) =
       fault-along (IsText (Derives g start)) Text (λ ds (marks, reads). to ds marks reads) from cs k fault
   syntax-along (Some (Depth k)) ((_, rest, marks, reads, at), _) = never_deep shallow reads k at
-
-  -- of a call that may run out of memory
-  pub if_ok_syntax-along : {E : Type 0} (result : Result (Option Fault) E) → IfOk result (IsAnswer (Derives g start) cs)
-      → IfOk result (IsSyntaxAnswer Text cs)
-  if_ok_syntax-along (Ok found) answer = syntax-along found answer
-  if_ok_syntax-along (Err e) answer = answer

@@ -3,15 +3,11 @@
 use Rattle.std.proofs.Common.{◌≡◌, ℕ, zero, suc, ◌+◌, ◌-◌, ◌<◌, ◌≤◌, List, [], ◌∷◌, ◌++◌, length, drop, Some, sym, ap, subst, arith, length-append, length-drop}
 use Rattle.std.specs.Prelude.{⊤, slice_get, slice_range}
 use Rattle.std.proofs.lemmas.List.{length-take-le}
-use Rattle.uspec_lexer.specs.Token.{Token, number}
+use Rattle.uspec_lexer.specs.Token.{Token}
 use Rattle.uspec_lexer.specs.Piece.{Form, blank, comment, token, IsPiece}
 use Rattle.uspec_lexer.specs.Spells.{Piece, Joined, told, tokens_of, Spells}
+use Rattle.uspec_lexer.specs.Laws.{IsTokenOf}
 use Rattle.uspec_lexer.proofs.Pieces.{piece-rises, piece-within}
-
--- the token is a piece of the text, with the bytes of that piece
-pub record IsTokenOf (bytes : List ℕ) (t : Token) : Type 0 where
-  pub stands : IsPiece bytes (token t.kind) t.at (t.at + length t.piece)
-  pub is : t.piece ≡ slice_range bytes t.at (t.at + length t.piece)
 
 -- tokens of the text, the first at a or behind it, each other behind the end of the one before
 abbrev pub AreTokensFrom : List ℕ → ℕ → List Token → Type 0
@@ -75,10 +71,6 @@ spells-rises {bytes} {ts} j k {t} {u} s got got' lt = from-rises bytes 0 ts j k 
 pub token-within : {bytes : List ℕ} {t : Token} → IsTokenOf bytes t → (0 < length t.piece) × (t.at + length t.piece ≤ length bytes)
 token-within {bytes} {t} is =
     (omega (arith, piece-rises bytes (token t.kind) t.at (t.at + length t.piece) is.stands), piece-within bytes (token t.kind) t.at (t.at + length t.piece) is.stands)
-
--- a number fits 64 bits
-pub token-number : {bytes : List ℕ} {t : Token} {value : ℕ} → IsTokenOf bytes t → t.kind ≡ number value → value ≤ 18446744073709551615
-token-number {bytes} {t} is kind = (subst (λ k. IsPiece bytes (token k) t.at (t.at + length t.piece)) kind is.stands).fits
 
 told_few : (bytes : List ℕ) (form : Form) (a b : ℕ) → length (told bytes form a b) ≤ 1
 told_few bytes blank a b = omega arith

@@ -1,5 +1,5 @@
 // Laws of the definitions in specs/. Each function does nothing: its contract is the law.
-ghost use Rattle.uspec_lexer.specs.Laws.{HasTokensOrFault, HasOneList, HasOneFault, HasNoFaultBeside};
+ghost use Rattle.uspec_lexer.specs.Laws.{HasTokensOrFault, HasOneList, HasOneFault, HasNoFaultBeside, ArePieces, AreInOrder, AreFew};
 
 /// Bytes spell tokens or have a lexical fault.
 pub fn tokens_or_fault(bytes: &[u8])
@@ -19,4 +19,12 @@ pub fn one_fault(bytes: &[u8])
 /// Bytes that spell tokens have no lexical fault.
 pub fn no_fault(bytes: &[u8])
     ensures { HasNoFaultBeside bytes.now }
+{}
+
+/// Each token that bytes spell is a piece of them, and begins where every earlier one has ended. There
+/// are no more of them than bytes.
+pub fn tokens_in_order(bytes: &[u8])
+    ensures pieces { ArePieces bytes.now }
+    ensures order { AreInOrder bytes.now }
+    ensures few { AreFew bytes.now }
 {}

@@ -16,7 +16,7 @@
 //! can't be completed, stands the text's lexical fault.
 //!
 //! `specs/Spells.antt` says this of whole texts, as a relation. The laws in `laws.rt` say that each text
-//! spells tokens or has a fault, one at most of each, and never both.
+//! spells tokens or has a fault, one at most of each, and never both, and that tokens are pieces in order.
 #![tactic(auto)]
 
 mod class;
@@ -29,7 +29,7 @@ mod token;
 
 pub use class::is_name;
 pub use fault::LexFault;
-pub use laws::{no_fault, one_fault, one_list, tokens_or_fault};
+pub use laws::{no_fault, one_fault, one_list, tokens_in_order, tokens_or_fault};
 pub use lex::tokens;
 pub use list::Tokens;
 pub use token::{FromToken, Token, TokenKind};

@@ -1,5 +1,5 @@
 -- The lexemes that are left, by the place of the next token.
-use Rattle.std.proofs.Common.{◌≡◌, ℕ, zero, suc, ◌<◌, ◌≤◌, List, [], ◌∷◌, ◌++◌, Some, length, map, take, drop, slice_get, slice_index_or, refl, sym, ap, arith}
+use Rattle.std.proofs.Common.{◌≡◌, ℕ, zero, suc, ◌<◌, ◌≤◌, List, [], ◌∷◌, Some, length, map, drop, slice_get, slice_index_or, refl, sym, ap, arith}
 use Rattle.uspec_lexer.specs.Token.{Token}
 use Rattle.uspec_parser.specs.Terminals.{terminal, terminal_of, kept, lexeme}
 use Rattle.uspec_parser.specs.Descent.{next, behind}
@@ -36,10 +36,3 @@ pub next_left : (ts : List Token) (at : ℕ) (d : Terminal) → at < length ts
 next_left [] at d h = absurd (omega arith)
 next_left (x ∷ ts) zero d h = sym (terminal-kept (terminal_of x) x)
 next_left (x ∷ ts) (suc at) d h = next_left ts at d (omega arith)
-
--- the terminals so far, with one more
-pub terminals_more : (ts : List Token) (k : ℕ) (t : Token) → slice_get ts k ≡ Some t
-    → map terminal_of (take (suc k) ts) ≡ map terminal_of (take k ts) ++ terminal_of t ∷ []
-terminals_more [] k t e = absurd (cc)
-terminals_more (x ∷ ts) zero t e = let same : x ≡ t = cc in ap (λ (y : Token). terminal_of y ∷ []) same
-terminals_more (x ∷ ts) (suc k) t e = ap (λ (cs : List Terminal). terminal_of x ∷ cs) (terminals_more ts k t e)
