@@ -123,7 +123,7 @@ fn end_tree<'a>(branches: &Branches<'_>) -> Option<Stage<'a>>
 pub(crate) fn show_asked(front: &Front, names: &NodeText<'_>)
     ensures { names.now ≡ names_of front.now → IsAsked (question_of front.now) }
 {
-    let _node = names.read(b"");
+    names.show_readable();
     let _ops = front.case.ops();
     let _positions = front.tree.len();
 }

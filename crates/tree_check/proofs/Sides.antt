@@ -6,6 +6,7 @@ use Rattle.std.proofs.lemmas.Grind.{flat_map-append}
 use Rattle.pc_common.specs.World.{Node}
 use Rattle.pc_common.proofs.Elements.{In, in_from_contains, contains_from_in, in_front, in_back, in_either}
 use Rattle.pc_ground.specs.declared.node_key.NodeKey.{NodeKey}
+use Rattle.pc_ground.specs.declared.literal.Literal.{Literal}
 use Rattle.pc_ground.specs.declared.row.RowKind.{RowKind}
 use Rattle.pc_ground.specs.declared.row.RowKind.TheVariants.{True, False, Lit, And, Or}
 use Rattle.pc_ground.specs.declared.row.Row.{Row}
@@ -17,7 +18,7 @@ use Rattle.pc_ground.specs.Refutes.{Branch, subtree_at, asserted, with_side}
 use Rattle.pc_ground.proofs.FlatRows.{root_of, row_subtree, subtree_size, length_rows, children_both, rows_injective}
 use Rattle.pc_ground.proofs.StageWalks.{some_same}
 use Rattle.pc_ground.proofs.Walks.{walk_side, walk_turn, walk_done, walk_within}
-use Rattle.tree_check.specs.Facts.{Known, placed, facts_in, facts_at, facts_of_kind, facts_on, HasAdded, reached, reached_in}
+use Rattle.tree_check.specs.Facts.{Known, placed, facts_of_literal, facts_in, facts_at, facts_of_kind, facts_on, HasAdded, reached, reached_in}
 use Rattle.tree_check.specs.Opened.{IsWhole, IsBranch}
 use Rattle.tree_check.proofs.Knowing.{place_known, added_none, added_then, has_more, has_again, facts_none}
 
@@ -126,6 +127,22 @@ walked_all rows root end at old new w past t flat =
     let P : List Known → Type 0 = λ ks. HasAdded old ks new in
     subst P (here ∙ ap (λ x. reached x root) one) w.added
 
+-- a side of one literal asserts what the literal says
+alone : (s : Tree Node) (p : ℕ) (l : Literal Node) → (root_of s).kind ≡ Lit l → asserted s p ≡ p ∷ []
+alone always p l e = cc
+alone never p l e = cc
+alone (leaf m) p l e = refl
+alone (both a b) p l e = cc
+alone (either a b) p l e = cc
+
+literal_reached : (t : Tree Node) (rows : List (Row Node)) (root : ℕ) (r : Row Node) (l : Literal Node) → rows ≡ rows_of t → slice_get rows root ≡ Some r → r.kind ≡ Lit l
+    → facts_of_literal l ≡ reached t root
+literal_reached t rows root r l flat here is =
+    let sub = row_subtree t root r (ap (λ xs. slice_get xs root) (sym flat) ∙ here) in
+    let kind : (root_of sub.0).kind ≡ Lit l = ap (λ (x : Row Node). x.kind) sub.2 ∙ is in
+    ap (facts_of_kind root) (sym is) ∙ facts_here t rows root r flat here ∙ sym (append-nil (facts_at t root))
+    ∙ ap (facts_on t) (sym (alone sub.0 root l kind)) ∙ ap (λ o. reached_in t o root) (sym sub.1)
+
 at_root : (t s u : Tree Node) (root p q : ℕ) → subtree_at t root ≡ Some s → root ≡ p → subtree_at t p ≡ Some u → In q (asserted u p) → In q (asserted s root)
 at_root t s u root p q at e f j =
     let same : u ≡ s = some_same (sym f ∙ ap (subtree_at t) (sym e) ∙ at) in
@@ -178,6 +195,13 @@ entered_all t facts new ps s root add at (has, whole) =
     let P : List Known → Type 0 = λ ks. HasAdded facts ks new in
     let here : reached t root ≡ facts_on t (asserted s root) = ap (λ o. reached_in t o root) at in
     (has_more t facts new ps (asserted s root) has (subst P here add), whole_with t s ps root whole at)
+
+-- a side of one literal
+pub entered_literal : (t : Tree Node) (rows : List (Row Node)) (r : Row Node) (l : Literal Node) (facts new : List Known) (ps : Branch) (s : Tree Node) (root : ℕ) → rows ≡ rows_of t
+    → slice_get rows root ≡ Some r → r.kind ≡ Lit l → HasAdded facts (facts_of_literal l) new → subtree_at t root ≡ Some s → IsBranch t facts ps → IsBranch t new (with_side ps s root)
+entered_literal t rows r l facts new ps s root flat here is add at b =
+    let P : List Known → Type 0 = λ ks. HasAdded facts ks new in
+    entered_all t facts new ps s root (subst P (literal_reached t rows root r l flat here is) add) at b
 
 pub none_branch : (t : Tree Node) → IsBranch t [] []
 none_branch t = (facts_none t, λ p q s has f j. absurd (in_from_contains p [] has))

@@ -57,16 +57,21 @@ fn add_side(tree: &Flat, root: usize, facts: &mut Facts) -> Result<(), Memory>
     Ok(())
 }
 
-/// Asserts the side at `root` on a branch. Where its root is known to be asserted, all that it asserts is, so
-/// nothing is walked. A side of one literal is walked each time.
+/// Asserts the side at `root` on a branch. A literal adds what it says. Where any other root is asserted already,
+/// all that its side asserts is, so nothing is walked.
 pub(crate) fn enter_side(tree: &Flat, root: usize, facts: &mut Facts) -> Result<(), Memory>
     requires { root < length tree.now }
     ensures kept { OnOk result (take (length facts.old) facts.new ≡ facts.old) }
     ensures entered { OnOk result ((t : Tree Node) (ps : Branch) (s : Tree Node) → tree.now ≡ rows_of t → subtree_at t root ≡ Some s
         → IsBranch t facts.old ps → IsBranch t facts.new (with_side ps s root)) }
 {
-    if facts.has(Fact::At(root)) {
-        return Ok(());
+    match tree.row(root).kind {
+        RowKind::Lit(literal) => add_literal(facts, literal),
+        _ => {
+            if facts.has(Fact::At(root)) {
+                return Ok(());
+            }
+            add_side(tree, root, facts)
+        }
     }
-    add_side(tree, root, facts)
 }
