@@ -1,4 +1,4 @@
-ghost use Rattle.std.specs.Prelude.{◌≡◌, ◌↔◌, ℕ, true, List, IfOk, codes, map};
+ghost use Rattle.std.specs.Prelude.{◌≡◌, ◌≤◌, ◌↔◌, ℕ, true, List, IfOk, codes, map};
 ghost use Rattle.pc_common.specs.World.{Node};
 ghost use Rattle.pc_ground.specs.Refutes.{Step};
 ghost use Rattle.cert_check.specs.declared.stage.Stage.TheVariants.{Start, Said};
@@ -93,6 +93,20 @@ fn spaces(line: &[u8]) -> usize
     line.iter().filter(|byte| **byte == b' ').count()
 }
 
+/// How many nodes there is room for from the first line on: no line of so many bytes has more.
+const SHORT: usize = 256;
+
+/// Room for the nodes of a line. The spaces of a short one need not be counted.
+fn room_for(line: &[u8]) -> usize
+    ensures { spaces_in line.now ≤ result }
+{
+    if line.len() <= SHORT {
+        SHORT
+    } else {
+        spaces(line)
+    }
+}
+
 /// Takes a step line.
 fn take_line(
     names: &NodeText<'_>,
@@ -102,7 +116,7 @@ fn take_line(
 ) -> Result<bool, Memory>
     ensures { IfOk result (λ good. (t : Tree Node) (opens : List Branch) → Stands branches.old t opens → StepsOn names.now t opens line.now branches.new good) }
 {
-    row.reserve(spaces(line))?;
+    row.reserve(room_for(line))?;
     match read_line(names, line, row) {
         Ok(head) => take_step(branches, head, row.as_slice()),
         Err(_) => Ok(false),
