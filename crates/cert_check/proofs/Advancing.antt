@@ -1,16 +1,17 @@
 -- What the next line makes of each stage.
-use Rattle.std.proofs.Common.{◌≡◌, inl, ℕ, List, [], ◌∷◌, ◌++◌, refl, sym, ◌∙◌, ap, subst, arith}
-use Rattle.std.specs.Prelude.{All, Contains, codes}
+use Rattle.std.proofs.Common.{◌≡◌, inl, ℕ, Bool, true, false, List, [], ◌∷◌, ◌++◌, refl, sym, ◌∙◌, ap, subst, arith}
+use Rattle.std.specs.Prelude.{All, Contains, MatchBool, codes}
 use Rattle.std.proofs.lemmas.List.Elements.{All-contains, All-nil}
 use Rattle.pc_common.specs.World.{Node}
 use Rattle.pc_common.specs.Generated.{HasEnds}
 use Rattle.pc_common.proofs.Elements.{in_from_contains, contains_from_in}
-use Rattle.pc_common.specs.Lines.{Line, Verdict as PlainVerdict, observable, unobservable, verdict, second, node, edge, end, line_words, verdict_text, second_text}
+use Rattle.pc_common.specs.Lines.{Names, Line, Verdict as PlainVerdict, observable, unobservable, verdict, second, node, edge, end, line_words, verdict_text, second_text}
 use Rattle.pc_ground.specs.NodeForm.{IsNodeIn}
 use Rattle.pc_ground.specs.Numbers.{nodes_of_tree}
 use Rattle.pc_ground.specs.Tree.{Tree as GroundTree}
 use Rattle.pc_ground.specs.Refutes.{Step, split, cycle, path, absent, false_step, Branch, Closes, a_cycle, a_path, an_absence, a_falsity, literals_of, Runs, IsPartial, asserted}
 use Rattle.graph_text.specs.OpenGraphs.{PlainGraph, empty_graph, Takes, Refuses}
+use Rattle.graph_text.proofs.LinesOf.{keeps_ends}
 use Rattle.refutation.specs.Steps.{step_line, HasItsNodes}
 use Rattle.refutation.specs.Reading.{IsLineOf, HasSmallPosition}
 use Rattle.tree_check.specs.Opened.{Opened, Stands}
@@ -18,7 +19,7 @@ use Rattle.tree_check.proofs.Running.{runs_then}
 use Rattle.cert_check.specs.Certificates.{Question, header, IsCertificate, BeginsWell}
 use Rattle.cert_check.specs.Verdicts.{plain_verdict}
 use Rattle.cert_check.specs.Proper.{IsAsked}
-use Rattle.cert_check.specs.Stages.{IsGraphSoFar, IsTreeSoFar, GoesOn, IsStuck}
+use Rattle.cert_check.specs.Stages.{IsGraphSoFar, IsTreeSoFar, GoesOn, IsStuck, HasAdvanced, StepsOn}
 use Rattle.cert_check.specs.declared.header.Verdict.{Verdict}
 use Rattle.cert_check.specs.declared.header.Verdict.TheVariants.{Observable, Unobservable}
 use Rattle.cert_check.specs.declared.stage.Stage.TheVariants.{Said, Graph, Tree, Ended}
@@ -251,3 +252,28 @@ tree_goes q asked o new lines text so_far no_end s next is only run stands = rec
 -- behind the last line
 pub ended_stuck : (q : Question) (lines : List Line) (text : List ℕ) (v : Verdict) → IsCertificate q (plain_verdict v) lines → IsStuck q lines text
 ended_stuck q lines text v certificate l same begins = no_more q (plain_verdict v) lines l certificate begins
+
+-- a line of a graph, judged where the graph is
+pub graph_advanced : (q : Question) → IsAsked q → (names : Names) → names ≡ q.names → (old new : PlainGraph) (lines : List Line) (text : List ℕ) → IsGraphSoFar q old lines
+    → (text ≡ codes "end" → ⊥) → (All (IsNodeIn names) old.nodes → All (IsNodeIn names) new.nodes) → (taken : Bool)
+    → MatchBool taken (Takes names text old new) (Refuses names text old × (new ≡ old)) → HasAdvanced q lines text (Graph new) taken
+graph_advanced q asked names same old new lines text so_far no_end of_names true takes =
+    let P : Names → Type 0 = λ ns. Takes ns text old new in
+    let Q : Names → Type 0 = λ ns. All (IsNodeIn ns) new.nodes in
+    let R : Names → Type 0 = λ ns. All (IsNodeIn ns) old.nodes in
+    graph_goes q asked old new lines text so_far (subst P same takes) (subst Q same (of_names (subst R (sym same) so_far.of_names)))
+    (keeps_ends old new takes.line takes.put so_far.ends)
+graph_advanced q asked names same old new lines text so_far no_end of_names false refuses =
+    let P : Names → Type 0 = λ ns. Refuses ns text old in
+    graph_stuck q old lines text so_far no_end (subst P same refuses.0)
+
+-- a step, taken where the branches are
+pub tree_advanced : (q : Question) → IsAsked q → (names : Names) → names ≡ q.names → (old new : Opened) (lines : List Line) (text : List ℕ) (so_far : IsTreeSoFar q old lines)
+    → (text ≡ codes "end" → ⊥) → (good : Bool) → StepsOn names q.tree so_far.opens text new good → HasAdvanced q lines text (Tree new) good
+tree_advanced q asked names same old new lines text so_far no_end true steps =
+    let P : Names → Type 0 = λ ns. StepsOn ns q.tree so_far.opens text new true in
+    let some = subst P same steps in
+    tree_goes q asked old new lines text so_far no_end some.0 some.3.0 some.1 some.2 some.3.1 some.3.2
+tree_advanced q asked names same old new lines text so_far no_end false steps =
+    let P : Names → Type 0 = λ ns. StepsOn ns q.tree so_far.opens text new false in
+    tree_stuck q asked old lines text so_far no_end (subst P same steps)

@@ -65,7 +65,7 @@ whole_verified q asked start judge asks text short is_whole =
     let P : Question → Type 0 = λ p. Verified p text (checked_of judge.stage) in
     let A : Question → Type 0 = λ p. IsAsked p in
     let made = is_whole.made in
-    let st = is_whole.stand.1 in
+    let st = is_whole.stand.2 in
     let ended = (raw_done (question_of judge.front.now) judge.stage made.lines st).1 ((is_whole.alike.same_whole made.lines).0 made.accepted) in
     subst P asks (ended_verified own (question_of judge.front.now) (subst A (sym asks) asked) text short made judge.stage st ended)
 

@@ -1,5 +1,5 @@
 -- What a judge of certificates stands at, line by line as bytes.
-use Rattle.std.proofs.Common.{◌≡◌, ℕ, true, false, List, [], ◌∷◌, ◌++◌, map, refl, sym, ◌∙◌, ap, subst}
+use Rattle.std.proofs.Common.{◌≡◌, ℕ, Bool, true, false, List, [], ◌∷◌, ◌++◌, map, refl, sym, ◌∙◌, ap, subst}
 use Rattle.std.specs.Prelude.{◌↔◌}
 use Rattle.pc_common.specs.World.{Node, Edge}
 use Rattle.pc_common.specs.Lines.{Line, Verdict as PlainVerdict, observable, unobservable, verdict, second, end, line_words}
@@ -8,7 +8,7 @@ use Rattle.graph_text.specs.Graphs.{graph_lines}
 use Rattle.refutation.specs.Steps.{step_line}
 use Rattle.cert_check.specs.Certificates.{Question, header, IsCertificate, BeginsWell, in_header, in_graph, in_tree, whole}
 use Rattle.cert_check.specs.Verdicts.{plain_verdict}
-use Rattle.cert_check.specs.Stages.{StandsAt, GoesOn, IsStuck, is_ended}
+use Rattle.cert_check.specs.Stages.{StandsAt, GoesOn, IsStuck, HasAdvanced, is_ended}
 use Rattle.cert_check.specs.RawLines.{RawBegins, RawWhole, RawStands}
 use Rattle.cert_check.specs.declared.stage.Stage.{Stage}
 use Rattle.cert_check.specs.declared.stage.Stage.TheVariants.{Start, Said, Graph, Tree, Ended}
@@ -66,6 +66,17 @@ pub raw_stuck : (q : Question) (old : Stage) (raws : List (List ℕ)) (text : Li
 raw_stuck q old raws text st stuck b =
     let exact = raw_exact q (raws ++ text ∷ []) b in
     let more = one_more q old raws text st exact.lines exact.are exact.begins in stuck more.last more.text_is more.begins
+
+-- the same, by what came of the line
+pub raw_advanced : (q : Question) (old next : Stage) (raws : List (List ℕ)) (text : List ℕ) (st : RawStands q old raws) (good : Bool) → good ≡ true
+    → HasAdvanced q st.lines text next good → RawStands q next (raws ++ text ∷ [])
+raw_advanced q old next raws text st true e goes = raw_goes q old next raws text st goes
+raw_advanced q old next raws text st false e stuck = cc
+
+pub raw_refused : (q : Question) (old next : Stage) (raws : List (List ℕ)) (text : List ℕ) (st : RawStands q old raws) (good : Bool) → good ≡ false
+    → HasAdvanced q st.lines text next good → RawBegins q (raws ++ text ∷ []) → ⊥
+raw_refused q old next raws text st true e goes = cc
+raw_refused q old next raws text st false e stuck = raw_stuck q old raws text st stuck
 
 -- a certificate is read to its last line
 graph_whole : (q : Question) (nodes : List Node) (edges : List Edge) (v : PlainVerdict) (lines : List Line) → lines ≡ header q observable ++ graph_lines nodes edges

@@ -4,6 +4,7 @@ use Rattle.pc_ground.specs.NodeForm.{names_of}
 use Rattle.line_judge.specs.Texts.{HoldsRefused}
 use Rattle.line_judge.specs.Feeding.{After}
 use Rattle.cert_check.specs.Certificates.{Question}
+use Rattle.cert_check.specs.Proper.{IsAsked}
 use Rattle.cert_check.specs.Questions.{question_of}
 use Rattle.cert_check.specs.RawLines.{RawBegins, RawWhole, RawStands}
 use Rattle.cert_check.specs.Verified.{text_limit}
@@ -17,7 +18,7 @@ abbrev pub judge_whole : CertificateJudge → List (List ℕ) → Type 0
 judge_whole j raws = RawWhole (question_of j.front.now) raws
 
 abbrev pub judge_stands : CertificateJudge → List (List ℕ) → Type 0
-judge_stands j raws = (j.names ≡ names_of j.front.now) × RawStands (question_of j.front.now) j.stage raws
+judge_stands j raws = IsAsked (question_of j.front.now) × (j.names ≡ names_of j.front.now) × RawStands (question_of j.front.now) j.stage raws
 
 -- the checker is one of this question, and took this text
 pub record IsFed (c : Checker) (q : Question) (text : List ℕ) : Type 0 where

@@ -54,6 +54,11 @@ abbrev pub Advances : Question → List Line → List ℕ → Option Stage → T
 Advances q lines text None = IsStuck q lines text
 Advances q lines text (Some next) = GoesOn q lines text next
 
+-- what came of the next line: where it is good, the stage behind it stands; else it is stuck
+abbrev pub HasAdvanced : Question → List Line → List ℕ → Stage → Bool → Type 0
+HasAdvanced q lines text new true = GoesOn q lines text new
+HasAdvanced q lines text new false = IsStuck q lines text
+
 -- what a step line makes of the open branches: it is that of one step, which leads on; or no step with this line does
 abbrev pub StepsOn : Names → GroundTree Node → List Branch → List ℕ → Opened → Bool → Type 0
 StepsOn names t opens text new true =

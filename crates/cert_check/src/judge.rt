@@ -1,18 +1,18 @@
 ghost use Rattle.std.specs.Prelude.{◌≡◌, []};
 ghost use Rattle.pc_ground.specs.NodeForm.{names_of};
 ghost use Rattle.cert_check.specs.Questions.{question_of};
+ghost use Rattle.cert_check.specs.Proper.{IsAsked};
 ghost use Rattle.cert_check.specs.Ends.{checked_of};
 ghost use Rattle.cert_check.specs.RawLines.{RawBegins, RawWhole, RawStands, first_begins, taken_begins, whole_begins};
 
 use super::checked::Checked;
-use super::next::next_stage;
+use super::next::{advance, show_asked};
 use super::stage::Stage;
 use line_judge::Judge;
 use pc_common::Memory;
 use pc_ground::{Front, NodeText};
 use refutation::NodeRow;
 use std::alloc::Global;
-use std::mem;
 
 /// A judge of certificates of one front.
 #[derive(Drop)]
@@ -29,12 +29,15 @@ impl<'a> CertificateJudge<'a> {
     pub(crate) fn new(alloc: Global, front: &'a Front) -> CertificateJudge<'a>
         ensures front { result.front.now ≡ front.now }
         ensures names { result.names ≡ names_of front.now }
+        ensures asked { IsAsked (question_of front.now) }
         ensures stands { RawStands (question_of front.now) result.stage [] }
     {
+        let names = NodeText::of(front);
+        show_asked(front, &names);
         CertificateJudge {
             alloc,
             front,
-            names: NodeText::of(front),
+            names,
             row: NodeRow::new(alloc),
             stage: Stage::Start,
         }
@@ -55,30 +58,23 @@ impl<'a> Judge for CertificateJudge<'a> {
 
     ghost whole = { λ j. RawWhole (question_of j.front.now) };
 
-    ghost stands = { λ j raws. (j.names ≡ names_of j.front.now) × RawStands (question_of j.front.now) j.stage raws };
+    ghost stands = { λ j raws. IsAsked (question_of j.front.now) × (j.names ≡ names_of j.front.now) × RawStands (question_of j.front.now) j.stage raws };
 
-    ghost stands_begins = { λ j lines stands. taken_begins (question_of j.front.now) j.stage lines stands.1 };
+    ghost stands_begins = { λ j lines stands. taken_begins (question_of j.front.now) j.stage lines stands.2 };
 
     ghost begins_first = { λ j lines more begins. first_begins (question_of j.front.now) lines more begins };
 
     ghost whole_begins = { λ j lines whole. whole_begins (question_of j.front.now) lines whole };
 
     fn step(&mut self, line: &[u8]) -> Result<bool, Memory> {
-        let stage = mem::replace(&mut self.stage, Stage::Start);
-        match next_stage(
+        advance(
             self.alloc,
             self.front,
             &self.names,
             &mut self.row,
-            stage,
+            &mut self.stage,
             line,
-        )? {
-            Some(next) => {
-                self.stage = next;
-                Ok(true)
-            }
-            None => Ok(false),
-        }
+        )
     }
 
     fn is_done(&self) -> bool {

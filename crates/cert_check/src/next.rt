@@ -1,4 +1,4 @@
-ghost use Rattle.std.specs.Prelude.{◌≡◌, ◌↔◌, true, List, IfOk, codes, map};
+ghost use Rattle.std.specs.Prelude.{◌≡◌, ◌≤◌, ◌↔◌, ℕ, true, List, IfOk, codes, map};
 ghost use Rattle.pc_common.specs.World.{Node};
 ghost use Rattle.pc_ground.specs.Refutes.{Step};
 ghost use Rattle.cert_check.specs.declared.stage.Stage.TheVariants.{Start, Said};
@@ -13,7 +13,7 @@ ghost use Rattle.refutation.specs.Words.{spaces as spaces_in};
 ghost use Rattle.cert_check.specs.Certificates.{Question};
 ghost use Rattle.cert_check.specs.Questions.{question_of};
 ghost use Rattle.cert_check.specs.Proper.{IsAsked};
-ghost use Rattle.cert_check.specs.Stages.{StandsAt, Advances, StepsOn, IsGraphSoFar, IsTreeSoFar};
+ghost use Rattle.cert_check.specs.Stages.{StandsAt, Advances, HasAdvanced, StepsOn, IsGraphSoFar, IsTreeSoFar};
 
 use super::header::{Verdict, is_second, verdict_of};
 use super::stage::Stage;
@@ -71,25 +71,6 @@ fn end_graph<'a>(
     Ok(Some(Stage::Ended(Verdict::Observable)))
 }
 
-/// The stage behind a line of a graph, or behind the last line where the graph's world satisfies.
-fn after_graph<'a>(
-    alloc: Global,
-    front: &'a Front,
-    names: &NodeText<'_>,
-    mut graph: OpenGraph,
-    line: &[u8],
-) -> Result<Option<Stage<'a>>, Memory>
-    ensures { IfOk result (λ next. names.now ≡ names_of front.now → IsAsked (question_of front.now) → (lines : List Line) → IsGraphSoFar (question_of front.now) graph lines → Advances (question_of front.now) lines line.now next) }
-{
-    if is_end(line) {
-        return end_graph(alloc, front, &graph);
-    }
-    if !graph.take(names, line)? {
-        return Ok(None);
-    }
-    Ok(Some(Stage::Graph(graph)))
-}
-
 /// Takes a step whose nodes are these.
 fn take_step(branches: &mut Branches<'_>, head: StepHead, nodes: &[NodeKey]) -> Result<bool, Memory>
     requires { (s : Step Node) × (head ≡ head_of s) × (map key_node nodes.now ≡ nodes_of s) }
@@ -112,6 +93,20 @@ fn spaces(line: &[u8]) -> usize
     line.iter().filter(|byte| **byte == b' ').count()
 }
 
+/// How many nodes there is room for from the first line on: no line of so many bytes has more.
+const SHORT: usize = 256;
+
+/// Room for the nodes of a line. The spaces of a short one need not be counted.
+fn room_for(line: &[u8]) -> usize
+    ensures { spaces_in line.now ≤ result }
+{
+    if line.len() <= SHORT {
+        SHORT
+    } else {
+        spaces(line)
+    }
+}
+
 /// Takes a step line.
 fn take_line(
     names: &NodeText<'_>,
@@ -121,7 +116,7 @@ fn take_line(
 ) -> Result<bool, Memory>
     ensures { IfOk result (λ good. (t : Tree Node) (opens : List Branch) → Stands branches.old t opens → StepsOn names.now t opens line.now branches.new good) }
 {
-    row.reserve(spaces(line))?;
+    row.reserve(room_for(line))?;
     match read_line(names, line, row) {
         Ok(head) => take_step(branches, head, row.as_slice()),
         Err(_) => Ok(false),
@@ -138,50 +133,57 @@ fn end_tree<'a>(branches: &Branches<'_>) -> Option<Stage<'a>>
     Some(Stage::Ended(Verdict::Unobservable))
 }
 
-/// The stage behind a step line, or behind the last line where no branch is open.
-fn after_step<'a>(
-    names: &NodeText<'_>,
-    row: &mut NodeRow,
-    mut branches: Branches<'a>,
-    line: &[u8],
-) -> Result<Option<Stage<'a>>, Memory>
-    ensures { IfOk result (λ next. (q : Question) (lines : List Line) → IsAsked q → q.names ≡ names.now → IsTreeSoFar q branches.entry lines → Advances q lines line.now next) }
-{
-    if is_end(line) {
-        return Ok(end_tree(&branches));
-    }
-    if !take_line(names, row, &mut branches, line)? {
-        return Ok(None);
-    }
-    Ok(Some(Stage::Tree(branches)))
-}
-
 /// Does nothing. It shows what the question of a front keeps.
 pub(crate) fn show_asked(front: &Front, names: &NodeText<'_>)
     ensures { names.now ≡ names_of front.now → IsAsked (question_of front.now) }
 {
-    let _node = names.read(b"");
+    names.show_readable();
     let _ops = front.case.ops();
     let _positions = front.tree.len();
 }
 
-/// The stage behind the next line; None where no certificate goes on so.
-pub(crate) fn next_stage<'a>(
+/// Puts the next stage in a stage's place, if there is one. Answers whether there is.
+fn go_on<'a>(stage: &mut Stage<'a>, next: Option<Stage<'a>>) -> bool
+    ensures { (q : Question) (lines : List Line) (text : List ℕ) → Advances q lines text next.entry → HasAdvanced q lines text stage.new result }
+{
+    let Some(next) = next else {
+        return false;
+    };
+    *stage = next;
+    true
+}
+
+/// Takes the next line, so that the stage is the one behind it. Answers whether a certificate goes on so.
+/// After false, or where memory is refused, nothing is said of the stage.
+///
+/// A line of a graph or of a refutation changes the stage where it is.
+pub(crate) fn advance<'a>(
     alloc: Global,
     front: &'a Front,
     names: &NodeText<'_>,
     row: &mut NodeRow,
-    stage: Stage<'a>,
+    stage: &mut Stage<'a>,
     line: &[u8],
-) -> Result<Option<Stage<'a>>, Memory>
-    ensures { IfOk result (λ next. names.now ≡ names_of front.now → (lines : List Line) → StandsAt (question_of front.now) stage.entry lines → Advances (question_of front.now) lines line.now next) }
+) -> Result<bool, Memory>
+    ensures { IfOk result (λ good. IsAsked (question_of front.now) → names.now ≡ names_of front.now → (lines : List Line)
+        → StandsAt (question_of front.now) stage.old lines → HasAdvanced (question_of front.now) lines line.now stage.new good) }
 {
-    show_asked(front, names);
-    match stage {
-        Stage::Start => Ok(after_start(line)),
-        Stage::Said(verdict) => after_verdict(alloc, front, verdict, line),
-        Stage::Graph(graph) => after_graph(alloc, front, names, graph, line),
-        Stage::Tree(branches) => after_step(names, row, branches, line),
-        Stage::Ended(_) => Ok(None),
-    }
+    let next = match stage {
+        Stage::Start => after_start(line),
+        Stage::Said(verdict) => after_verdict(alloc, front, *verdict, line)?,
+        Stage::Graph(graph) => {
+            if !is_end(line) {
+                return graph.take(names, line);
+            }
+            end_graph(alloc, front, graph)?
+        }
+        Stage::Tree(branches) => {
+            if !is_end(line) {
+                return take_line(names, row, branches, line);
+            }
+            end_tree(branches)
+        }
+        Stage::Ended(_) => None,
+    };
+    Ok(go_on(stage, next))
 }

@@ -1,9 +1,11 @@
 -- The nodes and edges that lines are of.
-use Rattle.std.proofs.Common.{◌≡◌, Bool, true, false, List, [], ◌∷◌, ◌++◌, Result, Ok, Err, map, refl, sym, ◌∙◌, ap, subst}
-use Rattle.std.specs.Prelude.{All, MatchBool, IfOk, OnErr}
+use Rattle.std.proofs.Common.{◌≡◌, inl, inr, Bool, true, false, List, [], ◌∷◌, ◌++◌, Result, Ok, Err, map, refl, sym, ◌∙◌, ap, subst}
+use Rattle.std.specs.Prelude.{All, Contains, MatchBool, IfOk, OnErr}
 use Rattle.std.proofs.lemmas.List.{append-nil}
 use Rattle.std.proofs.lemmas.List.Elements.{All-push}
 use Rattle.pc_common.specs.World.{Node, Edge}
+use Rattle.pc_common.specs.Generated.{HasEnds}
+use Rattle.pc_common.proofs.Elements.{In, in_from_contains, contains_from_in, in_front, in_either}
 use Rattle.pc_common.specs.Lines.{Names, Line, verdict, second, node as node_line, edge as edge_line, split, cycle, path, absent, false_step, end}
 use Rattle.pc_ground.specs.NodeForm.{IsNodeIn}
 use Rattle.graph_text.specs.Graphs.{graph_lines}
@@ -100,3 +102,40 @@ pub keeps_names : {E : Type 0} (names : Names) (old new : PlainGraph) (l : Line)
 keeps_names names old new l (Ok true) inside h k all = with_names names old new l inside h all
 keeps_names names old new l (Ok false) inside h k all = (let P : PlainGraph → Type 0 = λ g. All (IsNodeIn names) g.nodes in subst P (sym h.1) all)
 keeps_names names old new l (Err fault) inside h k all = (let P : PlainGraph → Type 0 = λ g. All (IsNodeIn names) g.nodes in subst P (sym k) all)
+
+-- one line more that may stand next leaves each edge between two of the nodes
+pub keeps_ends : (old new : PlainGraph) (l : Line) → IsWithLine old new l → HasEnds old.nodes old.edges → HasEnds new.nodes new.edges
+keeps_ends old new l put ends = with_line l put.follows (nodes_with old.nodes new.nodes old.edges new.edges l put.lines) (edges_with old.nodes new.nodes old.edges new.edges l put.lines)
+  where
+    listed_in : (es : List Edge) → new.edges ≡ es → (x y : Node) → Contains new.edges (x, y) → In {X = Edge} (x, y) es
+    listed_in es same x y has = in_from_contains (x, y) es (let P : List Edge → Type 0 = λ fs. Contains fs (x, y) in subst P same has)
+
+    stays : (more : List Node) → new.nodes ≡ old.nodes ++ more → (x : Node) → Contains old.nodes x → Contains new.nodes x
+    stays more same x has =
+        let P : List Node → Type 0 = λ ns. Contains ns x in
+        subst P (sym same) (contains_from_in x (old.nodes ++ more) (in_front x old.nodes more (in_from_contains x old.nodes has)))
+
+    of_old : (more : List Node) → new.nodes ≡ old.nodes ++ more → (x y : Node) → In {X = Edge} (x, y) old.edges → Contains new.nodes x × Contains new.nodes y
+    of_old more same x y i = (let both = ends x y (contains_from_in (x, y) old.edges i) in (stays more same x both.0, stays more same y both.1))
+
+    last_edge : (a b x y : Node) → Contains old.nodes a × Contains old.nodes b → new.nodes ≡ old.nodes ++ [] → In {X = Edge} (x, y) ((a, b) ∷ []) → Contains new.nodes x × Contains new.nodes y
+    last_edge a b x y follows same (inl e) =
+        let P : Node × Node → Type 0 = λ p. Contains new.nodes p.0 × Contains new.nodes p.1 in
+        subst P e (stays [] same a follows.0, stays [] same b follows.1)
+    last_edge a b x y follows same (inr i) = absurd i
+
+    with_line : (l : Line) → Follows old l → new.nodes ≡ old.nodes ++ nodes_in (l ∷ []) → new.edges ≡ old.edges ++ edges_in (l ∷ []) → HasEnds new.nodes new.edges
+    with_line (node_line a) follows nodes edges x y has = of_old (a ∷ []) nodes x y (listed_in old.edges (edges ∙ append-nil old.edges) x y has)
+    with_line (edge_line a b) follows nodes edges x y has =
+        elim (in_either (x, y) old.edges ((a, b) ∷ []) (listed_in (old.edges ++ (a, b) ∷ []) edges x y has)) [
+          | inl i ↦ of_old [] nodes x y i
+          | inr i ↦ last_edge a b x y follows nodes i
+        ]
+    with_line (verdict v) follows nodes edges x y has = absurd follows
+    with_line (second v e) follows nodes edges x y has = absurd follows
+    with_line (split p) follows nodes edges x y has = absurd follows
+    with_line (cycle ns) follows nodes edges x y has = absurd follows
+    with_line (path ns) follows nodes edges x y has = absurd follows
+    with_line (absent a) follows nodes edges x y has = absurd follows
+    with_line false_step follows nodes edges x y has = absurd follows
+    with_line end follows nodes edges x y has = absurd follows

@@ -53,13 +53,6 @@ impl<'a, K: Named> Judge for GraphJudge<'a, K> {
     }
 }
 
-/// Does nothing. It shows that each node's text has the form of one, and that no two nodes have one text.
-fn show_readable(names: &NodeText<'_>)
-    ensures { AreReadable names.now }
-{
-    let _ = names.read(b"");
-}
-
 /// Reads the lines of a graph of the names `K`, as `read_graph`.
 fn read_named<K: Named>(
     alloc: Global,
@@ -70,7 +63,7 @@ fn read_named<K: Named>(
     ensures read { ReadsGraph K.names body.now result }
     ensures again { (g : PlainGraph) → IsTextOf K.names body.now g → AnswersGraph result g }
 {
-    show_readable(names);
+    names.show_readable();
     let judge: GraphJudge<'_, K> = GraphJudge {
         names,
         graph: OpenGraph::new(alloc),

@@ -140,6 +140,13 @@ impl<'a> NodeText<'a> {
         }
     }
 
+    /// Does nothing. It shows that no two nodes of these names have one text.
+    pub fn show_readable(&self)
+        ensures { AreReadable self.now }
+    {
+        self.show_kept();
+    }
+
     /// Does nothing. It shows what the view keeps of its names.
     fn show_kept(&self)
         ensures { AreKept self.now }

@@ -112,13 +112,6 @@ fn read_words(names: &NodeText<'_>, line: &[u8], row: &mut NodeRow) -> Result<St
     }
 }
 
-/// Does nothing. It shows that nodes of these names can be read again.
-fn show_readable(names: &NodeText<'_>)
-    ensures { AreReadable names.now }
-{
-    let _ = names.read(b"");
-}
-
 /// Reads a step line, without its LF, and leaves its nodes in the row, which it empties first. Takes no memory.
 ///
 /// `Malformed` where the line has no form of a step line, whatever its nodes name; `Foreign` where it has, and a node
@@ -136,7 +129,7 @@ pub fn read_line(
     // no step has this line
     ensures none { OnErr result ((s : PlainStep Node) → IsLineOf names.now line.now s → ⊥) }
 {
-    show_readable(names);
+    names.show_readable();
     row.clear();
     let read = read_words(names, line, row);
     if read.is_err() {

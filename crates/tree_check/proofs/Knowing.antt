@@ -1,8 +1,6 @@
 -- What is known on a branch: by its positions, by their literals, and once more is added.
-use Rattle.std.proofs.Common.{◌≡◌, ℕ, ◌⊎◌, inl, inr, List, [], ◌∷◌, ◌++◌, length, take, refl, sym, ◌∙◌, ap, subst}
+use Rattle.std.proofs.Common.{◌≡◌, ℕ, ◌⊎◌, inl, inr, List, [], ◌∷◌, ◌++◌, Option, Some, None, length, take, refl, sym, ◌∙◌, ap, subst}
 use Rattle.std.specs.Prelude.{Contains, ◌↔◌}
-use Rattle.std.specs.List.{flat_map}
-use Rattle.std.proofs.lemmas.List.{append-nil}
 use Rattle.std.proofs.Math.Seq.{take-length}
 use Rattle.std.proofs.lemmas.Grind.{flat_map-append}
 use Rattle.pc_common.specs.World.{Node}
@@ -13,11 +11,10 @@ use Rattle.pc_ground.specs.declared.node_key.NodeKey.{NodeKey}
 use Rattle.pc_ground.specs.declared.row.RowKind.{RowKind}
 use Rattle.pc_ground.specs.declared.row.RowKind.TheVariants.{True, False, Lit, And, Or}
 use Rattle.pc_ground.specs.Keys.{key_node, literal_node, renamed_kind}
-use Rattle.pc_ground.specs.Walks.{literals_of_kind}
-use Rattle.pc_ground.specs.Tree.{Tree}
+use Rattle.pc_ground.specs.Tree.{Tree, always, never, leaf, both, either}
 use Rattle.pc_ground.specs.Literals.{IsPresent, as_node, as_start, as_end}
 use Rattle.pc_ground.specs.Refutes.{Branch, subtree_at, literal_of, literals_of}
-use Rattle.tree_check.specs.Facts.{Known, placed, edge, denied, missing, present, facts_of_literal, facts_at, facts_on, HasFacts, HasAdded}
+use Rattle.tree_check.specs.Facts.{Known, placed, edge, denied, missing, present, facts_of_literal, facts_in, facts_at, facts_of_kind, facts_on, HasFacts, HasAdded}
 
 no_place : (l : Literal Node) (p : ℕ) → In (placed p) (facts_of_literal l) → ⊥
 no_place (a_node a) p (inl e) = cc
@@ -31,34 +28,67 @@ no_place (no_node a) p (inr i) = i
 no_place (no_edge a b) p (inl e) = cc
 no_place (no_edge a b) p (inr i) = i
 
--- a position of the branch is known
-pub place_in : (t : Tree Node) (ps : Branch) (p : ℕ) → In p ps → In (placed p) (facts_on t ps)
-place_in t ps p i = in_flat (facts_at t) p (placed p) ps i (inl refl)
+-- a place is known of no position but its own
+place_at : (o : Option (Tree Node)) (p q : ℕ) → In (placed p) (facts_in o q) → q ≡ p
+place_at None p q i = absurd i
+place_at (Some always) p q (inl e) = cc
+place_at (Some always) p q (inr i) = absurd i
+place_at (Some never) p q (inl e) = cc
+place_at (Some never) p q (inr i) = absurd i
+place_at (Some (leaf l)) p q i = absurd (no_place l p i)
+place_at (Some (both a b)) p q (inl e) = cc
+place_at (Some (both a b)) p q (inr i) = absurd i
+place_at (Some (either a b)) p q (inl e) = cc
+place_at (Some (either a b)) p q (inr i) = absurd i
 
-pub place_from : (t : Tree Node) (ps : Branch) (p : ℕ) → In (placed p) (facts_on t ps) → In p ps
-place_from t ps p i = go (from_flat (facts_at t) (placed p) ps i)
-  where
-    go : (q : ℕ) × In q ps × In (placed p) (facts_at t q) → In p ps
-    go (q, there, inl e) = (let same : q ≡ p = cc in let P : ℕ → Type 0 = λ n. In n ps in subst P same there)
-    go (q, there, inr j) = (let l = from_flat facts_of_literal (placed p) (literal_of (subtree_at t q)) j in absurd (no_place l.0 p l.2))
+-- what the literal of a position says is known of it
+said_at : (o : Option (Tree Node)) (q : ℕ) (l : Literal Node) (k : Known) → In l (literal_of o) → In k (facts_of_literal l) → In k (facts_in o q)
+said_at None q l k i j = absurd i
+said_at (Some always) q l k i j = absurd i
+said_at (Some never) q l k i j = absurd i
+said_at (Some (leaf m)) q l k (inl e) j = (let P : Literal Node → Type 0 = λ x. In k (facts_of_literal x) in subst P (sym e) j)
+said_at (Some (leaf m)) q l k (inr i) j = absurd i
+said_at (Some (both a b)) q l k i j = absurd i
+said_at (Some (either a b)) q l k i j = absurd i
+
+-- and what is known of it, but for its place, its literal says
+at_said : (o : Option (Tree Node)) (q : ℕ) (k : Known) → ((p : ℕ) → placed p ≡ k → ⊥) → In k (facts_in o q) → (l : Literal Node) × In l (literal_of o) × In k (facts_of_literal l)
+at_said None q k none i = absurd i
+at_said (Some always) q k none (inl e) = absurd (none q e)
+at_said (Some always) q k none (inr i) = absurd i
+at_said (Some never) q k none (inl e) = absurd (none q e)
+at_said (Some never) q k none (inr i) = absurd i
+at_said (Some (leaf l)) q k none i = (l, inl refl, i)
+at_said (Some (both a b)) q k none (inl e) = absurd (none q e)
+at_said (Some (both a b)) q k none (inr i) = absurd i
+at_said (Some (either a b)) q k none (inl e) = absurd (none q e)
+at_said (Some (either a b)) q k none (inr i) = absurd i
+
+-- an Or of the branch is known
+or_in : (t : Tree Node) (ps : Branch) (p : ℕ) (a b : Tree Node) → subtree_at t p ≡ Some (either a b) → In p ps → In (placed p) (facts_on t ps)
+or_in t ps p a b at i =
+    let P : Option (Tree Node) → Type 0 = λ o. In (placed p) (facts_in o p) in
+    in_flat (facts_at t) p (placed p) ps i (subst P (sym at) (inl refl))
+
+place_from : (t : Tree Node) (ps : Branch) (p : ℕ) → In (placed p) (facts_on t ps) → In p ps
+place_from t ps p i =
+    let at = from_flat (facts_at t) (placed p) ps i in
+    let P : ℕ → Type 0 = λ n. In n ps in
+    subst P (place_at (subtree_at t at.0) p at.0 at.2) at.1
 
 -- what a literal of the branch says is known
 said_in : (t : Tree Node) (ps : Branch) (l : Literal Node) (k : Known) → Contains (literals_of t ps) l → In k (facts_of_literal l) → Contains (facts_on t ps) k
 said_in t ps l k has j =
     let at = from_flat (λ p. literal_of (subtree_at t p)) l ps (in_from_contains l (literals_of t ps) has) in
-    contains_from_in k (facts_on t ps)
-    (in_flat (facts_at t) at.0 k ps at.1 (inr (in_flat facts_of_literal l k (literal_of (subtree_at t at.0)) at.2 j)))
+    contains_from_in k (facts_on t ps) (in_flat (facts_at t) at.0 k ps at.1 (said_at (subtree_at t at.0) at.0 l k at.2 j))
 
--- and what is known, but for the positions, a literal says
+-- and what is known, but for the places, a literal says
 said_from : (t : Tree Node) (ps : Branch) (k : Known) → ((p : ℕ) → placed p ≡ k → ⊥) → Contains (facts_on t ps) k
     → (l : Literal Node) × Contains (literals_of t ps) l × In k (facts_of_literal l)
-said_from t ps k none has = go (from_flat (facts_at t) k ps (in_from_contains k (facts_on t ps) has))
-  where
-    go : (q : ℕ) × In q ps × In k (facts_at t q) → (l : Literal Node) × Contains (literals_of t ps) l × In k (facts_of_literal l)
-    go (q, there, inl e) = absurd (none q e)
-    go (q, there, inr j) =
-        let l = from_flat facts_of_literal k (literal_of (subtree_at t q)) j in
-        (l.0, contains_from_in l.0 (literals_of t ps) (in_flat (λ p. literal_of (subtree_at t p)) q l.0 ps there l.1), l.2)
+said_from t ps k none has =
+    let at = from_flat (facts_at t) k ps (in_from_contains k (facts_on t ps) has) in
+    let l = at_said (subtree_at t at.0) at.0 k none at.2 in
+    (l.0, contains_from_in l.0 (literals_of t ps) (in_flat (λ p. literal_of (subtree_at t p)) at.0 l.0 ps at.1 l.1), l.2)
 
 edge_of : (l : Literal Node) (a b : Node) → In (edge a b) (facts_of_literal l) → l ≡ an_edge a b
 edge_of (a_node c) a b (inl e) = cc
@@ -111,11 +141,11 @@ module _ (ls : List (Literal Node)) (a : Node) where
 
 -- what the facts of a branch say of its positions and literals
 module _ (t : Tree Node) (facts : List Known) (ps : Branch) (has : HasFacts t facts ps) where
-  pub place_known : (p : ℕ) → Contains facts (placed p) ↔ Contains ps p
-  place_known p = (
-    λ h. contains_from_in p ps (place_from t ps p (in_from_contains (placed p) (facts_on t ps) ((has (placed p)).0 h))),
-    λ h. (has (placed p)).1 (contains_from_in (placed p) (facts_on t ps) (place_in t ps p (in_from_contains p ps h))),
-  )
+  pub place_known : (p : ℕ) → Contains facts (placed p) → Contains ps p
+  place_known p h = contains_from_in p ps (place_from t ps p (in_from_contains (placed p) (facts_on t ps) ((has (placed p)).0 h)))
+
+  pub or_known : (p : ℕ) (a b : Tree Node) → subtree_at t p ≡ Some (either a b) → Contains ps p → Contains facts (placed p)
+  or_known p a b at h = (has (placed p)).1 (contains_from_in (placed p) (facts_on t ps) (or_in t ps p a b at (in_from_contains p ps h)))
 
   literal_is : (l m : Literal Node) → l ≡ m → Contains (literals_of t ps) l → Contains (literals_of t ps) m
   literal_is l m e h = (let P : Literal Node → Type 0 = λ x. Contains (literals_of t ps) x in subst P e h)
@@ -231,13 +261,12 @@ pub facts_none : (t : Tree Node) → HasFacts t [] []
 facts_none t k = (λ h. h, λ h. h)
 
 -- what a row says, by its kind
-pub lit_facts : (k : RowKind NodeKey) (l : Literal NodeKey) → k ≡ Lit l → facts_of_literal (literal_node l) ≡ flat_map facts_of_literal (literals_of_kind (renamed_kind key_node k))
-lit_facts k l e =
-    sym (append-nil (facts_of_literal (literal_node l))) ∙ ap (λ x. flat_map facts_of_literal (literals_of_kind (renamed_kind key_node x))) (sym e)
+pub lit_facts : (p : ℕ) (k : RowKind NodeKey) (l : Literal NodeKey) → k ≡ Lit l → facts_of_literal (literal_node l) ≡ facts_of_kind p (renamed_kind key_node k)
+lit_facts p k l e = ap (λ x. facts_of_kind p (renamed_kind key_node x)) (sym e)
 
-pub no_facts : (k : RowKind NodeKey) → ((l : Literal NodeKey) → k ≡ Lit l → ⊥) → [] ≡ flat_map facts_of_literal (literals_of_kind (renamed_kind key_node k))
-no_facts True none = refl
-no_facts False none = refl
-no_facts (Lit l) none = absurd (none l refl)
-no_facts And none = refl
-no_facts Or none = refl
+pub place_fact : (p : ℕ) (k : RowKind NodeKey) → ((l : Literal NodeKey) → k ≡ Lit l → ⊥) → placed p ∷ [] ≡ facts_of_kind p (renamed_kind key_node k)
+place_fact p True none = refl
+place_fact p False none = refl
+place_fact p (Lit l) none = absurd (none l refl)
+place_fact p And none = refl
+place_fact p Or none = refl

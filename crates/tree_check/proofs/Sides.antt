@@ -1,24 +1,24 @@
 -- The walk over a side, and the branch that has the side.
 use Rattle.std.proofs.Common.{◌≡◌, ◌≤◌, ◌<◌, ℕ, ◌+◌, inl, inr, List, [], ◌∷◌, ◌++◌, Some, length, take, refl, sym, ◌∙◌, ap, subst, arith, append_assoc}
 use Rattle.std.specs.Prelude.{Contains, slice_get}
-use Rattle.std.specs.List.{flat_map}
 use Rattle.std.proofs.lemmas.List.{append-nil}
 use Rattle.std.proofs.lemmas.Grind.{flat_map-append}
 use Rattle.pc_common.specs.World.{Node}
 use Rattle.pc_common.proofs.Elements.{In, in_from_contains, contains_from_in, in_front, in_back, in_either}
 use Rattle.pc_ground.specs.declared.node_key.NodeKey.{NodeKey}
+use Rattle.pc_ground.specs.declared.literal.Literal.{Literal}
 use Rattle.pc_ground.specs.declared.row.RowKind.{RowKind}
 use Rattle.pc_ground.specs.declared.row.RowKind.TheVariants.{True, False, Lit, And, Or}
 use Rattle.pc_ground.specs.declared.row.Row.{Row}
 use Rattle.pc_ground.specs.Keys.{key_node, renamed_kind}
 use Rattle.pc_ground.specs.Tree.{Tree, always, never, leaf, both, either, size_of}
 use Rattle.pc_ground.specs.Rows.{rows_of, IsFlat}
-use Rattle.pc_ground.specs.Walks.{stride, stride_of, Walk, literals_of_kind, literals_of_row}
-use Rattle.pc_ground.specs.Refutes.{Branch, subtree_at, asserted, literal_of, with_side}
-use Rattle.pc_ground.proofs.FlatRows.{root_of, row_subtree, subtree_size, length_rows, literal_by_row, children_both, rows_injective}
+use Rattle.pc_ground.specs.Walks.{stride, stride_of, Walk}
+use Rattle.pc_ground.specs.Refutes.{Branch, subtree_at, asserted, with_side}
+use Rattle.pc_ground.proofs.FlatRows.{root_of, row_subtree, subtree_size, length_rows, children_both, rows_injective}
 use Rattle.pc_ground.proofs.StageWalks.{some_same}
 use Rattle.pc_ground.proofs.Walks.{walk_side, walk_turn, walk_done, walk_within}
-use Rattle.tree_check.specs.Facts.{Known, placed, facts_of_literal, facts_at, facts_of_row, facts_on, HasAdded, reached, reached_in}
+use Rattle.tree_check.specs.Facts.{Known, placed, facts_of_literal, facts_in, facts_at, facts_of_kind, facts_on, HasAdded, reached, reached_in}
 use Rattle.tree_check.specs.Opened.{IsWhole, IsBranch}
 use Rattle.tree_check.proofs.Knowing.{place_known, added_none, added_then, has_more, has_again, facts_none}
 
@@ -72,20 +72,26 @@ walked_start rows root r facts (t, flat) here =
       },
     )
 
-facts_here : (t : Tree Node) (rows : List (Row Node)) (p : ℕ) (r : Row Node) → rows ≡ rows_of t → slice_get rows p ≡ Some r → facts_of_row p r ≡ facts_at t p
+root_facts : (s : Tree Node) (p : ℕ) → facts_of_kind p (root_of s).kind ≡ facts_in (Some s) p
+root_facts always p = refl
+root_facts never p = refl
+root_facts (leaf l) p = refl
+root_facts (both a b) p = refl
+root_facts (either a b) p = refl
+
+facts_here : (t : Tree Node) (rows : List (Row Node)) (p : ℕ) (r : Row Node) → rows ≡ rows_of t → slice_get rows p ≡ Some r → facts_of_kind p r.kind ≡ facts_at t p
 facts_here t rows p r flat here =
-    let row : slice_get (rows_of t) p ≡ Some r = ap (λ xs. slice_get xs p) (sym flat) ∙ here in
-    let same : literals_of_kind r.kind ≡ literal_of (subtree_at t p) = sym (literal_by_row t p ∙ ap literals_of_row row) in
-    ap (λ ls. placed p ∷ flat_map facts_of_literal ls) same
+    let sub = row_subtree t p r (ap (λ xs. slice_get xs p) (sym flat) ∙ here) in
+    ap (λ (x : Row Node). facts_of_kind p x.kind) (sym sub.2) ∙ root_facts sub.0 p ∙ ap (λ o. facts_in o p) (sym sub.1)
 
 pub walked_step : (rows : List (Row Node)) (root end at : ℕ) (old mid new : List Known) (r : Row Node) → HasWalked rows root end at old mid → at < end
-    → slice_get rows at ≡ Some r → HasAdded mid (facts_of_row at r) new → HasWalked rows root end (at + stride r) old new
+    → slice_get rows at ≡ Some r → HasAdded mid (facts_of_kind at r.kind) new → HasWalked rows root end (at + stride r) old new
 walked_step rows root end at old mid new r w before here add =
     let turn = walk_turn w.walk before in
     let same : turn.0 ≡ r = some_same (sym turn.2 ∙ here) in
     let P : Row Node → Type 0 = λ x. Walk rows end (at + stride x) turn.1 in
     let Q : List Known → Type 0 = λ ks. HasAdded old ks new in
-    let both : facts_on w.tree w.done ++ facts_of_row at r ≡ facts_on w.tree (w.done ++ at ∷ []) =
+    let both : facts_on w.tree w.done ++ facts_of_kind at r.kind ≡ facts_on w.tree (w.done ++ at ∷ []) =
     ap (λ ks. facts_on w.tree w.done ++ ks) (facts_here w.tree rows at r w.flat here ∙ sym (append-nil (facts_at w.tree at)))
     ∙ sym (flat_map-append (facts_at w.tree) w.done (at ∷ [])) in record {
       tree = w.tree;
@@ -120,6 +126,22 @@ walked_all rows root end at old new w past t flat =
     let here : facts_on w.tree w.done ≡ reached w.tree root = ap (facts_on w.tree) all ∙ ap (λ o. reached_in w.tree o root) (sym w.there) in
     let P : List Known → Type 0 = λ ks. HasAdded old ks new in
     subst P (here ∙ ap (λ x. reached x root) one) w.added
+
+-- a side of one literal asserts what the literal says
+alone : (s : Tree Node) (p : ℕ) (l : Literal Node) → (root_of s).kind ≡ Lit l → asserted s p ≡ p ∷ []
+alone always p l e = cc
+alone never p l e = cc
+alone (leaf m) p l e = refl
+alone (both a b) p l e = cc
+alone (either a b) p l e = cc
+
+literal_reached : (t : Tree Node) (rows : List (Row Node)) (root : ℕ) (r : Row Node) (l : Literal Node) → rows ≡ rows_of t → slice_get rows root ≡ Some r → r.kind ≡ Lit l
+    → facts_of_literal l ≡ reached t root
+literal_reached t rows root r l flat here is =
+    let sub = row_subtree t root r (ap (λ xs. slice_get xs root) (sym flat) ∙ here) in
+    let kind : (root_of sub.0).kind ≡ Lit l = ap (λ (x : Row Node). x.kind) sub.2 ∙ is in
+    ap (facts_of_kind root) (sym is) ∙ facts_here t rows root r flat here ∙ sym (append-nil (facts_at t root))
+    ∙ ap (facts_on t) (sym (alone sub.0 root l kind)) ∙ ap (λ o. reached_in t o root) (sym sub.1)
 
 at_root : (t s u : Tree Node) (root p q : ℕ) → subtree_at t root ≡ Some s → root ≡ p → subtree_at t p ≡ Some u → In q (asserted u p) → In q (asserted s root)
 at_root t s u root p q at e f j =
@@ -161,7 +183,7 @@ whole_with t s ps root whole at = λ p q u has f j.
 pub entered_again : (t : Tree Node) (facts : List Known) (ps : Branch) (s : Tree Node) (root : ℕ) → Contains facts (placed root) → subtree_at t root ≡ Some s
     → IsBranch t facts ps → IsBranch t facts (with_side ps s root)
 entered_again t facts ps s root known at (has, whole) =
-    let on = (place_known t facts ps has root).0 known in
+    let on = place_known t facts ps has root known in
     let there : (q : ℕ) → In q (asserted s root) → In q ps = λ q i.
     in_from_contains q ps (whole root q s on at (contains_from_in q (asserted s root) i)) in
     (has_again t facts ps (asserted s root) has there, whole_with t s ps root whole at)
@@ -173,6 +195,13 @@ entered_all t facts new ps s root add at (has, whole) =
     let P : List Known → Type 0 = λ ks. HasAdded facts ks new in
     let here : reached t root ≡ facts_on t (asserted s root) = ap (λ o. reached_in t o root) at in
     (has_more t facts new ps (asserted s root) has (subst P here add), whole_with t s ps root whole at)
+
+-- a side of one literal
+pub entered_literal : (t : Tree Node) (rows : List (Row Node)) (r : Row Node) (l : Literal Node) (facts new : List Known) (ps : Branch) (s : Tree Node) (root : ℕ) → rows ≡ rows_of t
+    → slice_get rows root ≡ Some r → r.kind ≡ Lit l → HasAdded facts (facts_of_literal l) new → subtree_at t root ≡ Some s → IsBranch t facts ps → IsBranch t new (with_side ps s root)
+entered_literal t rows r l facts new ps s root flat here is add at b =
+    let P : List Known → Type 0 = λ ks. HasAdded facts ks new in
+    entered_all t facts new ps s root (subst P (literal_reached t rows root r l flat here is) add) at b
 
 pub none_branch : (t : Tree Node) → IsBranch t [] []
 none_branch t = (facts_none t, λ p q s has f j. absurd (in_from_contains p [] has))

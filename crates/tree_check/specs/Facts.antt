@@ -5,16 +5,16 @@ use Rattle.pc_common.specs.World.{Node}
 use Rattle.pc_ground.specs.Keys.{key_node}
 use Rattle.pc_ground.specs.declared.literal.Literal.{Literal}
 use Rattle.pc_ground.specs.declared.literal.Literal.TheVariants.{Node as a_node, Edge as an_edge, NoNode as no_node, NoEdge as no_edge}
-use Rattle.pc_ground.specs.declared.row.Row.{Row}
-use Rattle.pc_ground.specs.Tree.{Tree}
-use Rattle.pc_ground.specs.Walks.{literals_of_kind}
-use Rattle.pc_ground.specs.Refutes.{Branch, subtree_at, asserted, literal_of}
+use Rattle.pc_ground.specs.declared.row.RowKind.{RowKind}
+use Rattle.pc_ground.specs.declared.row.RowKind.TheVariants.{True, False, Lit, And, Or}
+use Rattle.pc_ground.specs.Tree.{Tree, always, never, leaf, both, either}
+use Rattle.pc_ground.specs.Refutes.{Branch, subtree_at, asserted}
 use Rattle.tree_check.specs.declared.fact.Fact.{Fact}
 use Rattle.tree_check.specs.declared.fact.Fact.TheVariants.{At, Edge, NoEdge, NoNode, Present}
 
 -- what can be known on a branch
 pub data Known : Type 0 where
-  -- the position is asserted
+  -- the position is asserted, and has no literal
   placed : ℕ → Known
   -- the first node happens before the second
   edge : Node → Node → Known
@@ -40,13 +40,25 @@ facts_of_literal (an_edge a b) = edge a b ∷ present a ∷ present b ∷ []
 facts_of_literal (no_node a) = missing a ∷ []
 facts_of_literal (no_edge a b) = denied a b ∷ []
 
--- that the position is asserted, and what its literal says
-abbrev pub facts_at : Tree Node → ℕ → List Known
-facts_at t p = placed p ∷ flat_map facts_of_literal (literal_of (subtree_at t p))
+-- what is known of an asserted position: what its literal says, and where it has none, that it is asserted
+abbrev pub facts_in : Option (Tree Node) → ℕ → List Known
+facts_in None p = []
+facts_in (Some always) p = placed p ∷ []
+facts_in (Some never) p = placed p ∷ []
+facts_in (Some (leaf l)) p = facts_of_literal l
+facts_in (Some (both a b)) p = placed p ∷ []
+facts_in (Some (either a b)) p = placed p ∷ []
 
--- the same, by the row that stands there
-abbrev pub facts_of_row : ℕ → Row Node → List Known
-facts_of_row p r = placed p ∷ flat_map facts_of_literal (literals_of_kind r.kind)
+abbrev pub facts_at : Tree Node → ℕ → List Known
+facts_at t p = facts_in (subtree_at t p) p
+
+-- the same, by the kind of the row that stands there
+abbrev pub facts_of_kind : ℕ → RowKind Node → List Known
+facts_of_kind p True = placed p ∷ []
+facts_of_kind p False = placed p ∷ []
+facts_of_kind p (Lit l) = facts_of_literal l
+facts_of_kind p And = placed p ∷ []
+facts_of_kind p Or = placed p ∷ []
 
 -- all that is known where these positions are asserted
 abbrev pub facts_on : Tree Node → Branch → List Known

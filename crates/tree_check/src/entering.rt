@@ -4,7 +4,7 @@ ghost use Rattle.pc_ground.specs.Keys.{literal_node, row_node};
 ghost use Rattle.pc_ground.specs.Tree.{Tree};
 ghost use Rattle.pc_ground.specs.Rows.{rows_of};
 ghost use Rattle.pc_ground.specs.Refutes.{Branch, subtree_at, with_side};
-ghost use Rattle.tree_check.specs.Facts.{facts_of_literal, facts_of_row, HasAdded, reached};
+ghost use Rattle.tree_check.specs.Facts.{facts_of_literal, facts_of_kind, HasAdded, reached};
 ghost use Rattle.tree_check.specs.Opened.{IsBranch};
 
 use super::fact::Fact;
@@ -29,14 +29,14 @@ fn add_literal(facts: &mut Facts, literal: Literal<NodeKey>) -> Result<(), Memor
     }
 }
 
-/// Adds that a position is asserted, and what its literal says, if it has one.
+/// Adds what is known of an asserted position: what its literal says, and where it has none, that it is
+/// asserted.
 fn add_row(facts: &mut Facts, position: usize, row: Row<NodeKey>) -> Result<(), Memory>
-    ensures { OnOk result (HasAdded facts.old (facts_of_row position (row_node row)) facts.new) }
+    ensures { OnOk result (HasAdded facts.old (facts_of_kind position (row_node row).kind) facts.new) }
 {
-    facts.add(Fact::At(position))?;
     match row.kind {
         RowKind::Lit(literal) => add_literal(facts, literal),
-        _ => Ok(()),
+        _ => facts.add(Fact::At(position)),
     }
 }
 
@@ -57,16 +57,21 @@ fn add_side(tree: &Flat, root: usize, facts: &mut Facts) -> Result<(), Memory>
     Ok(())
 }
 
-/// Asserts the side at `root` on a branch. Where its root is asserted already, all that it asserts is, so
-/// nothing is walked.
+/// Asserts the side at `root` on a branch. A literal adds what it says. Where any other root is asserted already,
+/// all that its side asserts is, so nothing is walked.
 pub(crate) fn enter_side(tree: &Flat, root: usize, facts: &mut Facts) -> Result<(), Memory>
     requires { root < length tree.now }
     ensures kept { OnOk result (take (length facts.old) facts.new ≡ facts.old) }
     ensures entered { OnOk result ((t : Tree Node) (ps : Branch) (s : Tree Node) → tree.now ≡ rows_of t → subtree_at t root ≡ Some s
         → IsBranch t facts.old ps → IsBranch t facts.new (with_side ps s root)) }
 {
-    if facts.has(Fact::At(root)) {
-        return Ok(());
+    match tree.row(root).kind {
+        RowKind::Lit(literal) => add_literal(facts, literal),
+        _ => {
+            if facts.has(Fact::At(root)) {
+                return Ok(());
+            }
+            add_side(tree, root, facts)
+        }
     }
-    add_side(tree, root, facts)
 }

@@ -1,9 +1,9 @@
 use pc_ground::NodeKey;
 
-/// What is known on a branch: which positions are asserted, and what their literals say.
+/// What is known on a branch: which positions without a literal are asserted, and what literals say.
 #[derive(Clone, Copy, PartialEq, Eq, Hash)]
 pub(crate) enum Fact {
-    /// The position is asserted.
+    /// The position is asserted, and has no literal.
     At(usize),
     /// The first node happens before the second.
     Edge(NodeKey, NodeKey),

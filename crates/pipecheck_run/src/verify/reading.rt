@@ -33,7 +33,7 @@ impl From<Memory> for CheckEnd {
 }
 
 /// How many bytes are asked for in one call.
-const PIECE: usize = 8192;
+const PIECE: usize = 2048;
 
 /// How many bytes of a file are read at most: one more than a certificate may have.
 const MOST: usize = 67_108_865;

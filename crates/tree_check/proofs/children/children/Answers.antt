@@ -1,7 +1,7 @@
 use Rattle.std.proofs.Common.{◌+◌, ◌∙◌, refl, sym, ap, arith, length}
 use Rattle.std.specs.Prelude.{slice_get}
 use Rattle.pc_ground.proofs.FlatRows.{length_rows, subtree_size, size_pos}
-use Rattle.tree_check.proofs.Knowing.{place_known}
+use Rattle.tree_check.proofs.Knowing.{place_known, or_known}
 use Rattle.tree_check.proofs.Rights.{is_or, has_sides, left_inside, right_inside}
 use Rattle.tree_check.proofs.children.children.Goals as goal
 
@@ -12,7 +12,7 @@ returns-then-position-len-clause-sides c = λ t ps flat has a b s.
 
 pub returns-then-not-has-clause-sides : goal.returns-then-not-has-clause-sides
 returns-then-not-has-clause-sides c = λ t ps flat has a b s.
-    let none = c.has.ensures.1 ((place_known t c.args.facts.now ps has c.args.position).1 s.0) in
+    let none = c.has.ensures.1 (or_known t c.args.facts.now ps has c.args.position a b s.1 s.0) in
     let no = c.if-not-has.true in
     cc
 
@@ -40,7 +40,7 @@ returns-in-Or-clause-sides c = λ t ps flat has.
     record {
       first = s.left;
       second = s.right;
-      is_split = ((place_known t c.args.facts.now ps has p).0 (c.has.ensures.0 c.if-not-has.false), s.at);
+      is_split = (place_known t c.args.facts.now ps has p (c.has.ensures.0 c.if-not-has.false), s.at);
       at_left = refl;
       at_right = ap (λ n. p + 1 + n) s.skips;
     }

@@ -1,15 +1,33 @@
+use Rattle.std.proofs.Common.{◌≡◌, ℕ, List, [], ◌∷◌, ◌++◌, true, false}
+use Rattle.std.proofs.lemmas.Result.{IfOk-weaker}
+use Rattle.pc_common.specs.Lines.{Line}
+use Rattle.pc_ground.specs.NodeForm.{names_of}
 use Rattle.cert_check.specs.Questions.{question_of}
-use Rattle.cert_check.proofs.Standing.{raw_goes, raw_stuck}
+use Rattle.cert_check.specs.Proper.{IsAsked}
+use Rattle.cert_check.specs.RawLines.{RawBegins, RawStands}
+use Rattle.cert_check.specs.Stages.{StandsAt, HasAdvanced}
+use Rattle.cert_check.proofs.Standing.{raw_advanced, raw_refused}
 use Rattle.cert_check.proofs.judge.CertificateJudgeJudge.step.Goals as goal
 
-pub returns-in-Some-clause-goes : goal.returns-in-Some-clause-goes
-returns-in-Some-clause-goes c = λ e lines st. (
-  st.0,
-  raw_goes (question_of c.args.self.now.front.now) c.args.self.now.stage c.in-Some.next lines c.args.line.now st.1
-      ((rw c.in-Some.is at (rw c.replace-stage.ensures.value at c.in_ok-next.ensures)) st.0 st.1.lines st.1.stands),
-)
+pub returns-clause-goes : goal.returns-clause-goes
+returns-clause-goes c =
+    let j = c.args.self.now in
+    let q = question_of j.front.now in
+    let text = c.args.line.now in
+    IfOk-weaker c.advance.result
+    (λ good. IsAsked q → j.names ≡ names_of j.front.now → (lines : List Line) → StandsAt q j.stage lines → HasAdvanced q lines text c.advance.new.stage good)
+    (λ good. good ≡ true → (raws : List (List ℕ)) → IsAsked q × (j.names ≡ names_of j.front.now) × RawStands q j.stage raws
+    → IsAsked q × (j.names ≡ names_of j.front.now) × RawStands q c.advance.new.stage (raws ++ text ∷ []))
+    (λ good h e raws st. (st.0, st.1, raw_advanced q j.stage c.advance.new.stage raws text st.2 good e (h st.0 st.1 st.2.lines st.2.stands)))
+    c.advance.ensures
 
-pub returns-in-None-clause-refused : goal.returns-in-None-clause-refused
-returns-in-None-clause-refused c = λ e lines st.
-    raw_stuck (question_of c.args.self.now.front.now) c.args.self.now.stage lines c.args.line.now st.1
-    ((rw c.in-None.is at (rw c.replace-stage.ensures.value at c.in_ok-next.ensures)) st.0 st.1.lines st.1.stands)
+pub returns-clause-refused : goal.returns-clause-refused
+returns-clause-refused c =
+    let j = c.args.self.now in
+    let q = question_of j.front.now in
+    let text = c.args.line.now in
+    IfOk-weaker c.advance.result
+    (λ good. IsAsked q → j.names ≡ names_of j.front.now → (lines : List Line) → StandsAt q j.stage lines → HasAdvanced q lines text c.advance.new.stage good)
+    (λ good. good ≡ false → (raws : List (List ℕ)) → IsAsked q × (j.names ≡ names_of j.front.now) × RawStands q j.stage raws → RawBegins q (raws ++ text ∷ []) → ⊥)
+    (λ good h e raws st. raw_refused q j.stage c.advance.new.stage raws text st.2 good e (h st.0 st.1 st.2.lines st.2.stands))
+    c.advance.ensures
