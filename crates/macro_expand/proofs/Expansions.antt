@@ -1,7 +1,8 @@
 -- What the expanded axioms of a model are, and that expansion keeps truth.
-use Rattle.std.proofs.Common.{◌≡◌, ℕ, ◌<◌, List, [], ◌∷◌, length, map, reverse, get_or, ◌&&◌, None, All, refl, sym, ap, subst, ◌∙◌, arith}
+use Rattle.std.proofs.Common.{◌≡◌, ℕ, ◌<◌, List, [], ◌∷◌, length, map, reverse, get_or, slice_get, option_map, ◌&&◌, Some, None, All, refl, sym, ap, subst, ◌∙◌, arith}
 use Rattle.std.specs.List.{flat_map}
 use Rattle.std.proofs.lemmas.List.{take_all, get_or-map, length-map}
+use Rattle.std.proofs.lemmas.Option.{get_or_from_slice_get, slice_get-map}
 use Rattle.std.proofs.lemmas.List.Elements.{All-nil, All-cons}
 use Rattle.pc_syntax.specs.declared.model.ModelFile.{ModelFile}
 use Rattle.pc_syntax.specs.declared.model.Item.{Item}
@@ -9,7 +10,7 @@ use Rattle.pc_syntax.specs.declared.expanded.Expanded.{Expanded}
 use Rattle.pc_syntax.specs.Written.{Written, written, MacroAt, WrittenItem, axiom_, macro_, written_item, WrittenModel, written_model}
 use Rattle.pc_syntax.specs.Observable.{axiom_of, macro_of, macros_in_order, macros_of, axioms_of, setting}
 use Rattle.pc_syntax.specs.Truth.{Setting, are_true}
-use Rattle.pc_syntax.specs.Expansion.{expansion_of, IsExpanded}
+use Rattle.pc_syntax.specs.Expansion.{expansion_of, parameter_names, IsExpanded}
 use Rattle.pc_syntax.specs.MacroFaults.{body_fault, macro_fault, items_fault, first_macro_fault}
 use Rattle.pc_syntax.specs.Sizes.{sizes_fault, first_size_fault}
 use Rattle.pc_syntax.proofs.NoFault.{none_first, none_second}
@@ -19,6 +20,13 @@ use Rattle.macro_expand.specs.declared.macros.Macro.{Macro}
 use Rattle.macro_expand.specs.Faults.{AreExpansions}
 use Rattle.macro_expand.specs.Laws.{ExpansionKeepsTruth, ExpansionsSatisfy}
 use Rattle.macro_expand.specs.Tables.{before, macro_at, listed, OfAxiom}
+
+-- the names of the parameters of the macro at k
+pub parameter_names_at : (ms : List MacroAt) (names : List (List (List ℕ))) (k : ℕ) (m : MacroAt) (found : List (List ℕ))
+    → names ≡ map parameter_names ms → slice_get ms k ≡ Some m → found ≡ get_or names k found → found ≡ parameter_names m
+parameter_names_at ms names k m found are here is =
+    is ∙ get_or_from_slice_get names k (parameter_names m) found
+    (ap (λ xs. slice_get xs k) are ∙ slice_get-map parameter_names ms k ∙ ap (option_map parameter_names) here)
 
 pub latest_first : (ms : List Macro) → before (listed ms) (length ms) ≡ reverse (listed ms)
 latest_first ms = ap reverse (take_all (length ms) (listed ms) (omega (arith, length-map ms macro_at)))

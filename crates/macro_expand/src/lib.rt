@@ -9,6 +9,7 @@ mod items;
 mod laws;
 mod macros;
 mod measure;
+mod parameter_names;
 mod parameters;
 mod parts;
 mod sizes;

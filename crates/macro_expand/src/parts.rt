@@ -1,12 +1,9 @@
-ghost use Rattle.std.specs.Prelude.{◌≡◌, IfOk, map};
+ghost use Rattle.std.specs.Prelude.{◌≡◌, IfOk};
 ghost use Rattle.pc_syntax.specs.Written.{written, bind_};
-ghost use Rattle.pc_syntax.specs.Expansion.{parameter_names};
-ghost use Rattle.macro_expand.specs.Tables.{macro_at};
 ghost use Rattle.macro_expand.specs.Parts.{with_part, with_parts};
 
-use super::macros::Macro;
-use pc_common::{Listed, Memory, Place};
-use pc_syntax::{Args, Formula, Names, TryCopy, Words, copy_list};
+use pc_common::{Memory, Place};
+use pc_syntax::{Args, Formula, Names};
 use std::alloc::Global;
 
 /// A formula of one part, copied with `body` in that part's place. Any other is copied as it is.
@@ -16,21 +13,17 @@ pub(crate) fn of_part(alloc: Global, formula: &Formula, body: Formula) -> Result
     match formula {
         Formula::Not(_) => Formula::negation(alloc, body),
         Formula::Forall { at, sort, name, .. } => {
-            Formula::forall(alloc, *at, *sort, name.copy(alloc)?, body)
+            Formula::forall(alloc, *at, *sort, name.share()?, body)
         }
         Formula::Exists { at, sort, name, .. } => {
-            Formula::exists(alloc, *at, *sort, name.copy(alloc)?, body)
+            Formula::exists(alloc, *at, *sort, name.share()?, body)
         }
         Formula::Bind {
             at,
             names,
             args,
             ..
-        } => {
-            let names = copy_list(alloc, names)?;
-            let args = copy_list(alloc, args)?;
-            Formula::bind(alloc, *at, names, args, body)
-        }
+        } => { Formula::bind(alloc, *at, names.share()?, args.share()?, body) }
         _ => formula.copy(alloc),
     }
 }
@@ -52,28 +45,15 @@ pub(crate) fn of_parts(
     }
 }
 
-/// The names of a macro's parameters, without their places.
-fn names_of(alloc: Global, parameters: &Words) -> Result<Names, Memory>
-    ensures { IfOk result (λ names. names ≡ map (λ w. w.name) parameters.now) }
-{
-    let mut names = Listed::new(alloc);
-    for word in parameters.as_slice() {
-        names.push(word.name.copy(alloc)?)?;
-    }
-    Ok(names)
-}
-
-/// A macro's body below a binding of its parameters.
+/// A macro's body below a binding of its parameters, which shares their names and the arguments.
 pub(crate) fn bound(
     alloc: Global,
     at: Place,
-    callee: &Macro<'_>,
+    names: &Names,
     args: &Args,
     body: Formula,
 ) -> Result<Formula, Memory>
-    ensures { IfOk result (λ f. written f ≡ bind_ at (parameter_names (macro_at callee.now)) args.now (written body)) }
+    ensures { IfOk result (λ f. written f ≡ bind_ at names.now args.now (written body)) }
 {
-    let names = names_of(alloc, callee.parameters)?;
-    let args = copy_list(alloc, args)?;
-    Formula::bind(alloc, at, names, args, body)
+    Formula::bind(alloc, at, names.share()?, args.share()?, body)
 }

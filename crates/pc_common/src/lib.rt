@@ -1,6 +1,6 @@
-//! The ground floor: places and faults of the input files, the generic list, the outside world as two
-//! traits (files that are read, a sink that is written), reading and writing whole, and a room of 4,096
-//! bytes in front of a sink.
+//! The ground floor: places and faults of the input files, the generic list, a list whose copies share
+//! their items, the outside world as two traits (files that are read, a sink that is written), reading
+//! and writing whole, and a room of 4,096 bytes in front of a sink.
 //!
 //! Its `specs/` hold what every layer above speaks of as plain data: a case (what a litmus test says),
 //! what an address holds, a node, a world (things with a strict order), chains of edges, the world that
@@ -21,6 +21,7 @@ mod place;
 mod reading;
 mod room;
 mod schedule;
+mod shared;
 mod shelf;
 mod sink;
 mod status;
@@ -42,6 +43,7 @@ pub use place::Place;
 pub use reading::{ReadEnd, read_all};
 pub use room::Room;
 pub use schedule::Calls;
+pub use shared::Shared;
 pub use sink::Sink;
 pub use status::Status;
 pub use sure_files::SureFiles;

@@ -12,7 +12,7 @@ use super::model_front::{FrontEnd, ModelFront};
 use macro_expand::{MacroFault, expand, stage_faults};
 use pc_common::{FaultKind, InputFault, Listed, Memory, Place, Which};
 use pc_ground::{Axioms, Stage, Stages};
-use pc_syntax::{Expanded, ModelFile, StageItems, TryCopy};
+use pc_syntax::{Expanded, ModelFile, StageItems};
 use scope_check::{NameFault, close};
 use std::alloc::Global;
 use uspec_lexer::{LexFault, tokens};
@@ -23,9 +23,10 @@ use uspec_parser::{MAX_OPENERS, ParseFault, parse_model};
 /// `Refused` comes with the model's first fault: of its bytes, its tokens, its stages, its macros, its
 /// sizes, and then of its names. The size of the file isn't judged.
 ///
-/// Takes time and memory in proportion to the bytes and to the expanded axioms. These have a size of at
-/// most 1,000,000, but a part of theirs holds its names and arguments besides, whatever their length: a
-/// macro's are copied for each of its expansions.
+/// Takes time and memory in proportion to the bytes and to the expanded axioms, whose size is at most
+/// 1,000,000. Each name of the text is kept once, and so is each list of arguments as written. Closed
+/// arguments are kept for each use: at most 3 for a predicate, and at most 32 for a binding, one for each
+/// variable.
 pub fn read_model(alloc: Global, bytes: &[u8]) -> Result<ModelFront, FrontEnd>
     requires { length bytes.now < 2 ^ 32 }
     ensures ok { IfOk result (IsModelFront bytes.now) }
@@ -92,7 +93,7 @@ fn stages_of(alloc: Global, stages: &StageItems) -> Result<Stages, Memory>
     for stage in stages.as_slice() {
         kept.push(Stage {
             number: stage.number as u8,
-            name: stage.name.name.copy(alloc)?,
+            name: stage.name.name.share()?,
         })?;
     }
     Ok(kept)

@@ -1,7 +1,6 @@
 ghost use Rattle.std.specs.Prelude.{◌≡◌, IfOk};
 ghost use Rattle.pc_syntax.specs.Written.{written, not_, and_, or_, implies_, forall_, exists_, bind_};
 
-use super::copying::{TryCopy, copy_list};
 use super::term::{Args, EdgeTerms, Name, Names, NodeTerms, Sort, Word};
 use pc_common::{Memory, Place};
 use std::alloc::Global;
@@ -138,7 +137,8 @@ impl Formula {
         })
     }
 
-    /// A copy in memory of its own. It nests a call for each level, as the drop does. Memory leaves the
+    /// A copy that shares its names and lists with its source, so that it takes memory for each formula
+    /// in it, whatever their lengths. It nests a call for each level, as the drop does. Memory leaves the
     /// source as it is.
     pub fn copy(&self, alloc: Global) -> Result<Formula, Memory>
         ensures { IfOk result (λ f. written f ≡ written self.now) }
@@ -159,36 +159,30 @@ impl Formula {
                 sort,
                 name,
                 body,
-            } => { Formula::forall(alloc, *at, *sort, name.copy(alloc)?, body.copy(alloc)?) }
+            } => { Formula::forall(alloc, *at, *sort, name.share()?, body.copy(alloc)?) }
             Formula::Exists {
                 at,
                 sort,
                 name,
                 body,
-            } => { Formula::exists(alloc, *at, *sort, name.copy(alloc)?, body.copy(alloc)?) }
+            } => { Formula::exists(alloc, *at, *sort, name.share()?, body.copy(alloc)?) }
             Formula::Static { pred, args } => Ok(Formula::Static {
-                pred: pred.copy(alloc)?,
-                args: copy_list(alloc, args)?,
+                pred: pred.share()?,
+                args: args.share()?,
             }),
-            Formula::Nodes(nodes) => Ok(Formula::Nodes(copy_list(alloc, nodes)?)),
-            Formula::Edges(edges) => Ok(Formula::Edges(copy_list(alloc, edges)?)),
+            Formula::Nodes(nodes) => Ok(Formula::Nodes(nodes.share()?)),
+            Formula::Edges(edges) => Ok(Formula::Edges(edges.share()?)),
             Formula::Expand { at, name, args } => Ok(Formula::Expand {
                 at: *at,
-                name: name.copy(alloc)?,
-                args: copy_list(alloc, args)?,
+                name: name.share()?,
+                args: args.share()?,
             }),
             Formula::Bind {
                 at,
                 names,
                 args,
                 body,
-            } => Formula::bind(
-                alloc,
-                *at,
-                copy_list(alloc, names)?,
-                copy_list(alloc, args)?,
-                body.copy(alloc)?,
-            ),
+            } => Formula::bind(alloc, *at, names.share()?, args.share()?, body.copy(alloc)?),
         }
     }
 }

@@ -1,9 +1,11 @@
-use pc_common::{Listed, Place};
+ghost use Rattle.std.specs.Prelude.{◌≡◌, IfOk};
+
+use pc_common::{Memory, Place, Shared};
 
 /// A name's bytes.
-pub type Name = Listed<u8>;
+pub type Name = Shared<u8>;
 
-pub type Names = Listed<Name>;
+pub type Names = Shared<Name>;
 
 /// What a quantifier ranges over: micro-ops in test order, or cores from 0 to the greatest in the test.
 #[derive(Clone, Copy, Debug, PartialEq, Eq)]
@@ -19,7 +21,19 @@ pub struct Word {
     pub at: Place,
 }
 
-pub type Words = Listed<Word>;
+impl Word {
+    /// The same word once more. Takes no memory.
+    pub fn share(&self) -> Result<Word, Memory>
+        ensures { IfOk result (λ word. word ≡ self.now) }
+    {
+        Ok(Word {
+            name: self.name.share()?,
+            at: self.at,
+        })
+    }
+}
+
+pub type Words = Shared<Word>;
 
 /// An argument: a variable or a plain name, or a number.
 #[derive(Drop)]
@@ -28,7 +42,7 @@ pub enum Arg {
     Number(u64, Place),
 }
 
-pub type Args = Listed<Arg>;
+pub type Args = Shared<Arg>;
 
 /// A node as written: a micro-op at a stage, on its own core where no core is given.
 #[derive(Drop)]
@@ -38,7 +52,7 @@ pub struct NodeTerm {
     pub stage: Word,
 }
 
-pub type NodeTerms = Listed<NodeTerm>;
+pub type NodeTerms = Shared<NodeTerm>;
 
 /// An edge as written: its first node happens before its second.
 #[derive(Drop)]
@@ -47,4 +61,4 @@ pub struct EdgeTerm {
     pub to: NodeTerm,
 }
 
-pub type EdgeTerms = Listed<EdgeTerm>;
+pub type EdgeTerms = Shared<EdgeTerm>;

@@ -10,9 +10,7 @@ ghost use Rattle.scope_check.specs.FirstFault.{Answers};
 use super::fault::NameFault;
 use super::scope::Scope;
 use pc_common::Place;
-use pc_syntax::{
-    Arg, Args, ClosedArg, ClosedArgs, MAX_CORE, Names, Pred, Sort, Takes, TryCopy, Word,
-};
+use pc_syntax::{Arg, Args, ClosedArg, ClosedArgs, MAX_CORE, Names, Pred, Sort, Takes, Word};
 use std::alloc::Global;
 
 /// The slot of a variable of the sort that is asked for.
@@ -65,13 +63,8 @@ pub(crate) fn close_core(scope: &Scope<'_>, arg: &Arg) -> Result<ClosedArg, Name
     }
 }
 
-/// An argument where this is taken.
-fn close_argument(
-    alloc: Global,
-    scope: &Scope<'_>,
-    takes: Takes,
-    arg: &Arg,
-) -> Result<ClosedArg, NameFault>
+/// An argument where this is taken. A plain name is shared.
+fn close_argument(scope: &Scope<'_>, takes: Takes, arg: &Arg) -> Result<ClosedArg, NameFault>
     ensures ok { IfOk result (λ closed. (argument_fault scope.now takes arg.now ≡ None) × (closed ≡ closing_of_arg scope.now takes arg.now)) }
     ensures err { IfErr result (Answers (argument_fault scope.now takes arg.now)) }
 {
@@ -80,7 +73,7 @@ fn close_argument(
             Ok(ClosedArg::Slot(variable_slot(scope, Sort::Microop, word)?))
         }
         (Takes::Core, _) => close_core(scope, arg),
-        (Takes::Plain, Arg::Word(word)) => Ok(ClosedArg::Plain(word.name.copy(alloc)?)),
+        (Takes::Plain, Arg::Word(word)) => Ok(ClosedArg::Plain(word.name.share()?)),
         (_, Arg::Number(_, at)) => Err(NameFault::WrongSort { at: *at }),
     }
 }
@@ -99,7 +92,7 @@ pub(crate) fn close_arguments(
 {
     let mut closed = ClosedArgs::new(alloc);
     for k in 0..args.len() {
-        closed.push(close_argument(alloc, scope, pred.takes(k), args.get(k))?)?;
+        closed.push(close_argument(scope, pred.takes(k), args.get(k))?)?;
     }
     Ok(closed)
 }

@@ -12,7 +12,7 @@ ghost use Rattle.scope_check.specs.FirstFault.{Answers};
 
 use super::arguments::close_values;
 use super::fault::NameFault;
-use super::nodes::{close_edges, close_nodes};
+use super::nodes::close_list;
 use super::scope::Scope;
 use super::statics::close_static;
 use pc_common::Place;
@@ -91,10 +91,10 @@ fn close_formula<'a>(
         }
         Formula::Static { pred, args } => close_static(alloc, scope, pred, args),
         Formula::Nodes(nodes) => {
-            Ok(ClosedFormula::Nodes(close_nodes(alloc, stages, scope, nodes)?))
+            Ok(ClosedFormula::Nodes(close_list(alloc, stages, scope, nodes)?))
         }
         Formula::Edges(edges) => {
-            Ok(ClosedFormula::Edges(close_edges(alloc, stages, scope, edges)?))
+            Ok(ClosedFormula::Edges(close_list(alloc, stages, scope, edges)?))
         }
         Formula::Bind {
             at,

@@ -1,6 +1,8 @@
-ghost use Rattle.std.specs.Prelude.{◌≡◌, ◌<◌, [], IfOk, IfErr, None, map, option_map, unwrap_or};
+ghost use Rattle.std.specs.Prelude.{◌≡◌, ◌<◌, List, [], Option, IfOk, IfErr, None, map, option_map, unwrap_or};
+ghost use Rattle.pc_syntax.specs.declared.model.StageItem.{StageItem as SStageItem};
+ghost use Rattle.pc_syntax.specs.Scope.{Binding};
 ghost use Rattle.pc_syntax.specs.Truth.{stage_of};
-ghost use Rattle.pc_syntax.specs.Fault.{first_fault};
+ghost use Rattle.pc_syntax.specs.Fault.{Fault, first_fault};
 ghost use Rattle.pc_syntax.specs.StageFaults.{stages_fault};
 ghost use Rattle.pc_syntax.specs.NameFaults.{stage_name_fault, location_fault, node_fault, edge_fault};
 ghost use Rattle.pc_syntax.specs.Closing.{closing_of_value, closing_of_node, closing_of_edge};
@@ -9,9 +11,9 @@ ghost use Rattle.scope_check.specs.FirstFault.{Answers};
 use super::arguments::{close_core, variable_slot};
 use super::fault::NameFault;
 use super::scope::Scope;
+use pc_common::{Listed, Shared};
 use pc_syntax::{
-    Arg, ClosedArg, ClosedEdge, ClosedEdges, ClosedNode, ClosedNodes, EdgeTerm, EdgeTerms,
-    NodeTerm, NodeTerms, Sort, StageItem, StageItems, Word,
+    Arg, ClosedArg, ClosedEdge, ClosedNode, EdgeTerm, NodeTerm, Sort, StageItem, StageItems, Word,
 };
 use std::alloc::Global;
 
@@ -50,71 +52,68 @@ fn close_location(scope: &Scope<'_>, core: &Option<Arg>) -> Result<Option<Closed
     }
 }
 
-/// A node: its micro-op is judged, then its core, then its stage.
-fn close_node(
-    stages: &StageItems,
-    scope: &Scope<'_>,
-    node: &NodeTerm,
-) -> Result<ClosedNode, NameFault>
-    requires { stages_fault [] stages.now ≡ None }
-    ensures ok { IfOk result (λ closed. (node_fault stages.now scope.now node.now ≡ None) × (closed ≡ closing_of_node stages.now scope.now node.now)) }
-    ensures err { IfErr result (Answers (node_fault stages.now scope.now node.now)) }
-{
-    let op = variable_slot(scope, Sort::Microop, &node.op)?;
-    let core = close_location(scope, &node.core)?;
-    let stage = stage_number(stages, &node.stage)?;
-    Ok(ClosedNode { op, core, stage })
+/// A node or an edge as written.
+pub(crate) trait Term {
+    type Closed: Drop;
+
+    /// Its first fault, among these stages and variables.
+    ghost fault: { List SStageItem → List Binding → Self → Option Fault };
+
+    /// What it is with its names resolved, where it has no fault.
+    ghost closing: { List SStageItem → List Binding → Self → Self.Closed };
+
+    fn close(&self, stages: &StageItems, scope: &Scope<'_>) -> Result<Self::Closed, NameFault>
+        requires { stages_fault [] stages.now ≡ None }
+        ensures ok { IfOk result (λ closed. (fault stages.now scope.now self.now ≡ None) × (closed ≡ closing stages.now scope.now self.now)) }
+        ensures err { IfErr result (Answers (fault stages.now scope.now self.now)) };
 }
 
-/// An edge: its first node is judged, then its second.
-fn close_edge(
-    stages: &StageItems,
-    scope: &Scope<'_>,
-    edge: &EdgeTerm,
-) -> Result<ClosedEdge, NameFault>
-    requires { stages_fault [] stages.now ≡ None }
-    ensures ok { IfOk result (λ closed. (edge_fault stages.now scope.now edge.now ≡ None) × (closed ≡ closing_of_edge stages.now scope.now edge.now)) }
-    ensures err { IfErr result (Answers (edge_fault stages.now scope.now edge.now)) }
-{
-    let from = close_node(stages, scope, &edge.from)?;
-    let to = close_node(stages, scope, &edge.to)?;
-    Ok(ClosedEdge { from, to })
-}
+/// Its micro-op is judged, then its core, then its stage.
+impl Term for NodeTerm {
+    type Closed = ClosedNode;
 
-/// A list of nodes.
-pub(crate) fn close_nodes(
-    alloc: Global,
-    stages: &StageItems,
-    scope: &Scope<'_>,
-    nodes: &NodeTerms,
-) -> Result<ClosedNodes, NameFault>
-    requires { stages_fault [] stages.now ≡ None }
-    ensures ok { let fault = first_fault (node_fault stages.now scope.now) nodes.now in
-        IfOk result (λ closed. (fault ≡ None) × (closed ≡ map (closing_of_node stages.now scope.now) nodes.now)) }
-    ensures err { IfErr result (Answers (first_fault (node_fault stages.now scope.now) nodes.now)) }
-{
-    let mut closed = ClosedNodes::new(alloc);
-    for node in nodes.as_slice() {
-        closed.push(close_node(stages, scope, node)?)?;
+    ghost fault = { node_fault };
+
+    ghost closing = { closing_of_node };
+
+    fn close(&self, stages: &StageItems, scope: &Scope<'_>) -> Result<ClosedNode, NameFault> {
+        let op = variable_slot(scope, Sort::Microop, &self.op)?;
+        let core = close_location(scope, &self.core)?;
+        let stage = stage_number(stages, &self.stage)?;
+        Ok(ClosedNode { op, core, stage })
     }
-    Ok(closed)
 }
 
-/// A list of edges.
-pub(crate) fn close_edges(
+/// Its first node is judged, then its second.
+impl Term for EdgeTerm {
+    type Closed = ClosedEdge;
+
+    ghost fault = { edge_fault };
+
+    ghost closing = { closing_of_edge };
+
+    fn close(&self, stages: &StageItems, scope: &Scope<'_>) -> Result<ClosedEdge, NameFault> {
+        let from = self.from.close(stages, scope)?;
+        let to = self.to.close(stages, scope)?;
+        Ok(ClosedEdge { from, to })
+    }
+}
+
+/// A list of nodes or of edges.
+pub(crate) fn close_list<T: Term>(
     alloc: Global,
     stages: &StageItems,
     scope: &Scope<'_>,
-    edges: &EdgeTerms,
-) -> Result<ClosedEdges, NameFault>
+    terms: &Shared<T>,
+) -> Result<Listed<T::Closed>, NameFault>
     requires { stages_fault [] stages.now ≡ None }
-    ensures ok { let fault = first_fault (edge_fault stages.now scope.now) edges.now in
-        IfOk result (λ closed. (fault ≡ None) × (closed ≡ map (closing_of_edge stages.now scope.now) edges.now)) }
-    ensures err { IfErr result (Answers (first_fault (edge_fault stages.now scope.now) edges.now)) }
+    ensures ok { let fault = first_fault (T.fault stages.now scope.now) terms.now in
+        IfOk result (λ closed. (fault ≡ None) × (closed ≡ map (T.closing stages.now scope.now) terms.now)) }
+    ensures err { IfErr result (Answers (first_fault (T.fault stages.now scope.now) terms.now)) }
 {
-    let mut closed = ClosedEdges::new(alloc);
-    for edge in edges.as_slice() {
-        closed.push(close_edge(stages, scope, edge)?)?;
+    let mut closed = Listed::new(alloc);
+    for term in terms.as_slice() {
+        closed.push(term.close(stages, scope)?)?;
     }
     Ok(closed)
 }

@@ -6,8 +6,8 @@ ghost use Rattle.uspec_parser.specs.Terminals.{Lexeme, lexeme, terminal_of as te
 ghost use Rattle.uspec_parser.specs.Descent.{next, behind, word as word_spec, place as place_spec, number as number_spec, number_place};
 
 use super::terminal::{Terminal, content};
-use pc_common::{Memory, Place};
-use pc_syntax::{Name, Word};
+use pc_common::{Listed, Memory, Place, Shared};
+use pc_syntax::Word;
 use std::alloc::Global;
 use std::marker::Model;
 use uspec_lexer::{FromToken, Token, TokenKind, Tokens};
@@ -123,7 +123,7 @@ fn copied(alloc: Global, bytes: &[u8], at: Place) -> Result<Word, Memory>
     let mut name = Vec::new(alloc);
     name.extend_from_slice(bytes)?;
     Ok(Word {
-        name: Name::from_vec(name),
+        name: Shared::new(Listed::from_vec(name))?,
         at,
     })
 }

@@ -7,8 +7,8 @@ ghost use Rattle.uspec_parser.specs.Descent.{next, behind, place, word, sort_by,
 use super::cursor::Cursor;
 use super::operands::{Joined, connective_of, grouped};
 use super::terminal::Terminal;
-use pc_common::{Memory, Place};
-use pc_syntax::{EdgeTerms, Formula, Name, NodeTerms, Sort};
+use pc_common::{Listed, Memory, Place, Shared};
+use pc_syntax::{Formula, Name, Sort};
 use std::alloc::Global;
 
 /// What a quantifier says before its body.
@@ -34,9 +34,9 @@ impl Cursor<'_> {
     {
         self.skip();
         let edge = self.edge(alloc)?;
-        let mut edges = EdgeTerms::new(alloc);
+        let mut edges = Listed::new(alloc);
         edges.push(edge)?;
-        Ok(Formula::Edges(edges))
+        Ok(Formula::Edges(Shared::new(edges)?))
     }
 
     fn one_node(&mut self, alloc: Global) -> Result<Formula, Memory>
@@ -44,9 +44,9 @@ impl Cursor<'_> {
     {
         self.skip();
         let node = self.node(alloc)?;
-        let mut nodes = NodeTerms::new(alloc);
+        let mut nodes = Listed::new(alloc);
         nodes.push(node)?;
-        Ok(Formula::Nodes(nodes))
+        Ok(Formula::Nodes(Shared::new(nodes)?))
     }
 
     fn edge_list(&mut self, alloc: Global) -> Result<Formula, Memory>

@@ -8,7 +8,7 @@ ghost use Rattle.uspec_parser.specs.Descent.{next, behind, place, is_quoted, Par
 
 use super::cursor::Cursor;
 use super::terminal::Terminal;
-use pc_common::Memory;
+use pc_common::{Listed, Memory, Shared};
 use pc_syntax::{Item, Items, ModelFile, StageItem, StageItems, Words};
 use std::alloc::Global;
 
@@ -23,12 +23,12 @@ impl Cursor<'_> {
     fn parameters(&mut self, alloc: Global) -> Result<Words, Memory>
         ensures { IfOk result (λ ws. Parameters self.old ws self.new) }
     {
-        let mut words = Words::new(alloc);
+        let mut words = Listed::new(alloc);
         while self.is_parameter_next() {
             words.push(self.word(alloc)?)?;
             self.skip();
         }
-        Ok(words)
+        Shared::new(words)
     }
 
     fn stage(&mut self, alloc: Global) -> Result<StageItem, Memory>

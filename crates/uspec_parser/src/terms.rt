@@ -3,7 +3,7 @@ ghost use Rattle.uspec_parser.specs.Descent.{next, begins_argument, behind, argu
 
 use super::cursor::Cursor;
 use super::terminal::Terminal;
-use pc_common::Memory;
+use pc_common::{Listed, Memory, Shared};
 use pc_syntax::{Arg, Args, EdgeTerm, EdgeTerms, NodeTerm, NodeTerms, Word};
 use std::alloc::Global;
 
@@ -36,12 +36,12 @@ impl Cursor<'_> {
     pub(crate) fn arguments(&mut self, alloc: Global) -> Result<Args, Memory>
         ensures { IfOk result (λ args. Arguments self.old args self.new) }
     {
-        let mut args = Args::new(alloc);
+        let mut args = Listed::new(alloc);
         while self.is_argument_next() {
             args.push(self.argument(alloc)?)?;
             self.skip();
         }
-        Ok(args)
+        Shared::new(args)
     }
 
     /// Reads a node's core, if it has one, and its stage.
@@ -122,25 +122,25 @@ impl Cursor<'_> {
     pub(crate) fn nodes(&mut self, alloc: Global) -> Result<NodeTerms, Memory>
         ensures { IfOk result (λ ns. Elements node_spec behind_node self.old ns self.new) }
     {
-        let mut nodes = NodeTerms::new(alloc);
+        let mut nodes = Listed::new(alloc);
         while self.is_next(Terminal::Open) {
             nodes.push(self.node(alloc)?)?;
             self.semicolon();
         }
         self.skip();
-        Ok(nodes)
+        Shared::new(nodes)
     }
 
     /// Reads the edges of a list whose `[` is read already, and its `]`.
     pub(crate) fn edges(&mut self, alloc: Global) -> Result<EdgeTerms, Memory>
         ensures { IfOk result (λ es. Elements edge_spec behind_edge self.old es self.new) }
     {
-        let mut edges = EdgeTerms::new(alloc);
+        let mut edges = Listed::new(alloc);
         while self.is_next(Terminal::Open) {
             edges.push(self.edge(alloc)?)?;
             self.semicolon();
         }
         self.skip();
-        Ok(edges)
+        Shared::new(edges)
     }
 }

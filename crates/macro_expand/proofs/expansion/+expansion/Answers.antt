@@ -4,6 +4,7 @@ use Rattle.pc_syntax.specs.Written.{written, bind_}
 use Rattle.pc_syntax.specs.Sizes.{height_of}
 use Rattle.pc_syntax.specs.Expansion.{parameter_names, expansion_of}
 use Rattle.macro_expand.specs.Tables.{called, before, listed, macro_at}
+use Rattle.macro_expand.proofs.Expansions.{parameter_names_at}
 use Rattle.macro_expand.proofs.MeasureLaws.{lower, expansion_found, expansion_not_found}
 use Rattle.macro_expand.proofs.expansion.+expansion.Goals as goal
 
@@ -16,7 +17,7 @@ expansion-requires t c =
     (ap (called ms) (sym c.as_slice.ensures.value) ∙ c.in-Some.ensures.2) in
     let here = ap (λ f. height_of ms (written f)) c.in-Expand.is in
     let fact : height_of (before (listed c.args.macros.now) callee.number) (written callee.body.now) < t = omega (arith, c.decreases, here, below) in
-    (fact, tt)
+    (fact, c.requires)
 
 pub returns-in_ok-inner-in-Some : goal.returns-in_ok-inner-in-Some
 returns-in_ok-inner-in-Some t c =
@@ -27,11 +28,13 @@ returns-in_ok-inner-in-Some t c =
     let same =
     expansion_found at c.in-Expand.name c.in-Expand.args ms (macro_at callee, inside)
     (ap (called ms) (sym c.as_slice.ensures.value) ∙ c.in-Some.ensures.2) in
+    let names = c.index-names-callee.result in
+    let named = parameter_names_at (listed c.args.macros.now) c.args.names.now callee.number (macro_at callee) names c.requires c.in-Some.ensures.1 c.index-names-callee.is in
     IfOk-weaker c.bound.result
-    (λ f. written f ≡ bind_ at (parameter_names (macro_at callee)) c.in-Expand.args (written c.in_ok-inner-in-Some.inner))
+    (λ f. written f ≡ bind_ at names c.in-Expand.args (written c.in_ok-inner-in-Some.inner))
     (λ f. written f ≡ expansion_of ms (written c.args.formula.now))
     (λ f e.
-    e ∙ ap (bind_ at (parameter_names (macro_at callee)) c.in-Expand.args) c.in_ok-inner-in-Some.ensures
+    e ∙ ap (λ ns. bind_ at ns c.in-Expand.args (written c.in_ok-inner-in-Some.inner)) named ∙ ap (bind_ at (parameter_names (macro_at callee)) c.in-Expand.args) c.in_ok-inner-in-Some.ensures
     ∙ sym same ∙ ap (λ g. expansion_of ms (written g)) (sym c.in-Expand.is))
     c.bound.ensures
 

@@ -5,8 +5,8 @@ use Rattle.macro_expand.specs.Tables.{before, listed, OfAxiom}
 use Rattle.macro_expand.proofs.Expansions.{item_of_axiom}
 use Rattle.macro_expand.proofs.expansion.expand_axioms.Goals as goal
 
-pub expanded-requires : goal.expanded-requires
-expanded-requires c =
+pub expanded-requires-clause-expanded : goal.expanded-requires-clause-expanded
+expanded-requires-clause-expanded c =
     let ms = before (listed c.args.macros.now) (length c.args.macros.now) in
     let P : Written → Type 0 = λ w. IsExpanded (expansion_of ms w) in
     subst (λ x. OfAxiom P (written_item x)) c.in-Axiom.is

@@ -4,7 +4,7 @@ use Rattle.pc_syntax.specs.declared.term.Arg.{Arg}
 use Rattle.uspec_parser.specs.Terminals.{Lexeme}
 use Rattle.uspec_parser.specs.Descent.{Arguments, argument}
 use Rattle.uspec_parser.specs.Descent.Arguments.{ends, goes_on}
-use Rattle.uspec_parser.proofs.Pushed.{pushed}
+use Rattle.uspec_parser.proofs.Pushed.{pushed, all_shared}
 use Rattle.uspec_parser.proofs.cursor.Cursor.arguments.Goals as goal
 
 pub loop-alloc-preserved : goal.loop-alloc-preserved
@@ -17,5 +17,7 @@ loop-alloc-preserved c = λ more rest others.
 
 pub returns : goal.returns
 returns c =
+    let all =
     subst (λ (args : List Arg). Arguments c.args.self.now args c.loop-alloc.self) (append-nil c.loop-alloc.args)
-    (c.loop-alloc.invariant [] c.loop-alloc.self (ends (sym c.is_argument_next.ensures ∙ c.loop-alloc-test.false)))
+    (c.loop-alloc.invariant [] c.loop-alloc.self (ends (sym c.is_argument_next.ensures ∙ c.loop-alloc-test.false))) in
+    all_shared c.new.result c.loop-alloc.args (λ (args : List Arg). Arguments c.args.self.now args c.loop-alloc.self) all c.new.ensures

@@ -5,7 +5,7 @@ use Rattle.uspec_parser.specs.Terminals.{Lexeme}
 use Rattle.uspec_parser.specs.Descent.{next, behind, Elements, node, behind_node, behind_semicolon}
 use Rattle.uspec_parser.specs.Descent.Elements.{ends, goes_on}
 use Rattle.uspec_parser.specs.declared.terminal.Terminal.TheVariants.{Open}
-use Rattle.uspec_parser.proofs.Pushed.{pushed}
+use Rattle.uspec_parser.proofs.Pushed.{pushed, all_shared}
 use Rattle.uspec_parser.proofs.Shorter.{behind_open, node_no_longer, semicolon_no_longer}
 use Rattle.uspec_parser.proofs.cursor.Cursor.nodes.Goals as goal
 
@@ -32,6 +32,8 @@ loop-alloc-preserved c = λ more rest others.
 pub returns : goal.returns
 returns c =
     let none : next c.loop-alloc.self ≡ Open → ⊥ = λ opens. let test = c.is_next.ensures.1 opens in cc in
+    let all =
     subst (λ (xs : List Lexeme). Elements node behind_node c.args.self.now c.loop-alloc.nodes xs) (sym c.skip.ensures)
     (subst (λ (es : List NodeTerm). Elements node behind_node c.args.self.now es (behind c.loop-alloc.self)) (append-nil c.loop-alloc.nodes)
-    (c.loop-alloc.invariant [] (behind c.loop-alloc.self) (ends none)))
+    (c.loop-alloc.invariant [] (behind c.loop-alloc.self) (ends none))) in
+    all_shared c.new.result c.loop-alloc.nodes (λ (es : List NodeTerm). Elements node behind_node c.args.self.now es c.skip.new.self) all c.new.ensures

@@ -4,7 +4,7 @@ use Rattle.pc_syntax.specs.declared.term.Word.{Word}
 use Rattle.uspec_parser.specs.Terminals.{Lexeme}
 use Rattle.uspec_parser.specs.Descent.{Parameters, word}
 use Rattle.uspec_parser.specs.Descent.Parameters.{ends, goes_on}
-use Rattle.uspec_parser.proofs.Pushed.{pushed}
+use Rattle.uspec_parser.proofs.Pushed.{pushed, all_shared}
 use Rattle.uspec_parser.proofs.cursor.Cursor.parameters.Goals as goal
 
 pub loop-alloc-preserved : goal.loop-alloc-preserved
@@ -17,5 +17,7 @@ loop-alloc-preserved c = λ more rest others.
 
 pub returns : goal.returns
 returns c =
+    let all =
     subst (λ (args : List Word). Parameters c.args.self.now args c.loop-alloc.self) (append-nil c.loop-alloc.words)
-    (c.loop-alloc.invariant [] c.loop-alloc.self (ends (sym c.is_parameter_next.ensures ∙ c.loop-alloc-test.false)))
+    (c.loop-alloc.invariant [] c.loop-alloc.self (ends (sym c.is_parameter_next.ensures ∙ c.loop-alloc-test.false))) in
+    all_shared c.new.result c.loop-alloc.words (λ (args : List Word). Parameters c.args.self.now args c.loop-alloc.self) all c.new.ensures
