@@ -23,10 +23,11 @@ use uspec_parser::{MAX_OPENERS, ParseFault, parse_model};
 /// `Refused` comes with the model's first fault: of its bytes, its tokens, its stages, its macros, its
 /// sizes, and then of its names. The size of the file isn't judged.
 ///
-/// Takes time and memory in proportion to the bytes and to the expanded axioms, whose size is at most
-/// 1,000,000. Each name of the text is kept once, and so is each list of arguments as written. Closed
-/// arguments are kept for each use: at most 3 for a predicate, and at most 32 for a binding, one for each
-/// variable.
+/// Takes memory in proportion to the bytes and to the expanded axioms, whose size is at most 1,000,000.
+/// Each name of the text is kept once, and so is each list of arguments as written. Closed arguments are
+/// kept for each use: at most 3 for a predicate, and at most 32 for a binding, one for each variable.
+/// Takes time in proportion to the same, and for each name that is looked up to its length, as often as
+/// there are variables in scope, at most 32, or stages, at most 64.
 pub fn read_model(alloc: Global, bytes: &[u8]) -> Result<ModelFront, FrontEnd>
     requires { length bytes.now < 2 ^ 32 }
     ensures ok { IfOk result (IsModelFront bytes.now) }

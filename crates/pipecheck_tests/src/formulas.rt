@@ -1,8 +1,8 @@
 //! Tokens to trees, and copies of trees. Tokens are numbered from 0.
 use super::shown::show;
 use super::texts::{Pieces, joined, put, put_number};
-use pc_common::{Listed, Memory, Place};
-use pc_syntax::{Arg, Formula, Item, Name, Pred, StageItem, Takes, Word};
+use pc_common::{Listed, Memory, Place, Shared};
+use pc_syntax::{Arg, Formula, Item, Pred, StageItem, Takes, Word};
 use std::alloc::Global;
 use std::test::Fail;
 use uspec_lexer::{Tokens, tokens};
@@ -122,7 +122,7 @@ const ALL_SHOWN: &str =
 
 fn word(alloc: Global, text: &[u8]) -> Result<Word, Memory> {
     Ok(Word {
-        name: Name::from_vec(text.to_vec(alloc)?),
+        name: Shared::new(Listed::from_vec(text.to_vec(alloc)?))?,
         at: Place { offset: 7 },
     })
 }
@@ -132,9 +132,9 @@ fn bound(alloc: Global, body: Formula) -> Result<Formula, Memory> {
     let at = Place { offset: 7 };
     let first = word(alloc, b"a")?;
     let second = word(alloc, b"b")?;
-    let names = Listed::from_vec(vec![in alloc; first.name, second.name]?);
+    let names = Shared::new(Listed::from_vec(vec![in alloc; first.name, second.name]?))?;
     let core = Arg::Word(word(alloc, b"c")?);
-    let args = Listed::from_vec(vec![in alloc; core, Arg::Number(4, at)]?);
+    let args = Shared::new(Listed::from_vec(vec![in alloc; core, Arg::Number(4, at)]?))?;
     Formula::bind(alloc, at, names, args, body)
 }
 

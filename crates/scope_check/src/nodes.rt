@@ -62,6 +62,7 @@ pub(crate) trait Term {
     /// What it is with its names resolved, where it has no fault.
     ghost closing: { List SStageItem → List Binding → Self → Self.Closed };
 
+    /// It with its names resolved. An `Err` is its first fault, unless memory was refused.
     fn close(&self, stages: &StageItems, scope: &Scope<'_>) -> Result<Self::Closed, NameFault>
         requires { stages_fault [] stages.now ≡ None }
         ensures ok { IfOk result (λ closed. (fault stages.now scope.now self.now ≡ None) × (closed ≡ closing stages.now scope.now self.now)) }
