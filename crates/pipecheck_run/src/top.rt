@@ -84,7 +84,7 @@ fn tell<K: Sink>(out: &mut K, answer: &Answer) -> Status
 /// nothing at all with `ReadFault` or `Memory`. With `WriteFault` the first bytes of the answer's text
 /// went out.
 ///
-/// - `idle`: `gen`, and words that are no command, touch no file.
+/// - `idle`: after `gen`, and after words that are no command, the files are as they were.
 /// - `usage` to `usage_text`: `Usage` comes exactly on words that are no command, whatever the memory.
 /// - `read_cause` to `read_due`: `ReadFault` comes only where a call of the files failed, and over
 ///   calm files exactly where a name that is not held is come to: the model's, then the test's, and

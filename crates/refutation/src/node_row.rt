@@ -84,6 +84,7 @@ impl NodeRow {
         requires { length self.old.nodes < self.old.spare }
         ensures { self.new ≡ record { nodes = self.old.nodes ++ key_node key ∷ []; spare = self.old.spare } }
     {
+        // there is room, so no memory can be refused
         let _ = self.nodes.push(key);
     }
 }
