@@ -1,7 +1,9 @@
 -- What the reader has kept of the lines so far.
-use Rattle.std.specs.Prelude.{◌≡◌, List, [], ◌∷◌, ◌++◌, Option, Some, None, map}
+use Rattle.std.specs.Prelude.{◌≡◌, ℕ, List, [], ◌∷◌, ◌++◌, Option, Some, None, map}
 use Rattle.pc_common.specs.declared.place.Place.{Place}
 use Rattle.pc_common.specs.Case.{Expectation}
+use Rattle.pc_common.specs.declared.fault.FaultKind.{FaultKind}
+use Rattle.pc_common.specs.declared.fault.FaultKind.TheVariants.{AgainInitial, AgainFinal}
 use Rattle.pc_case.specs.Plain.{micro_op, dependency, expectation}
 use Rattle.pc_case.specs.declared.stated.Stated.{Stated}
 use Rattle.litmus_reader.specs.Items.{microops_in, heads_in, relationships_in, initial_in, final_in, expectations_in, op_said, dependency_said}
@@ -10,11 +12,18 @@ use Rattle.litmus_reader.specs.declared.item.Microop.{Microop}
 use Rattle.litmus_reader.specs.declared.item.Relationship.{Relationship}
 use Rattle.litmus_reader.specs.declared.item.ValueLine.{ValueLine}
 use Rattle.litmus_reader.specs.declared.item.Item.{Item}
+use Rattle.litmus_reader.specs.declared.kept.When.{When}
+use Rattle.litmus_reader.specs.declared.kept.When.TheVariants.{Initial, Final}
 use Rattle.litmus_reader.specs.declared.kept.Stance.{Stance}
 use Rattle.litmus_reader.specs.declared.kept.Kept.{Kept}
 
 abbrev pub stated_of : ValueLine → Stated
 stated_of v = record { pa = v.pa; value = v.value }
+
+-- the word of the fault where such a value is stated again
+abbrev pub word_of : When → ℕ → ℕ → FaultKind
+word_of Initial = AgainInitial
+word_of Final = AgainFinal
 
 -- the expectation that was stated, if one was
 abbrev pub stances : Option Stance → List (Expectation × Place)

@@ -1,12 +1,11 @@
 ghost use Rattle.std.specs.Prelude.{◌≡◌, ◌≤◌, [], ◌∷◌, ◌++◌, List, length, map, vec_len, IfOk, OnOk};
 ghost use Rattle.pc_common.specs.Case.{Expectation};
 ghost use Rattle.pc_common.specs.declared.place.Place.{Place as PlaceAt};
-ghost use Rattle.pc_common.specs.declared.fault.FaultKind.TheVariants.{AgainInitial, AgainFinal};
 ghost use Rattle.pc_case.specs.Plain.{micro_op, dependency, expectation};
 ghost use Rattle.litmus_reader.specs.Items.{op_said, dependency_said, first_said, case_of};
 ghost use Rattle.litmus_reader.specs.Content.{Never, AgainStated, AgainExpected, IsFaultOf, IsClean};
 ghost use Rattle.litmus_reader.specs.Rows.{Answers};
-ghost use Rattle.litmus_reader.specs.Kept.{stated_of, stances, Keeps, AddsMicroop, AddsRelationship};
+ghost use Rattle.litmus_reader.specs.Kept.{stated_of, word_of, stances, Keeps, AddsMicroop, AddsRelationship};
 ghost use Rattle.litmus_reader.specs.declared.item.ValueLine.{ValueLine as ValueSaid};
 ghost use Rattle.litmus_reader.specs.declared.item.Item.{Item as ItemSaid};
 
@@ -70,33 +69,31 @@ fn dependency_from(heads: &[Head], relationship: Relationship) -> Dependency
     }
 }
 
-fn initial_fault(values: &Values, line: ValueLine) -> Option<Refusal>
-    ensures { (before : List ValueSaid) → values.now ≡ map stated_of before
-        → Answers (AgainStated AgainInitial before line) result }
+/// Which value of an address a line states.
+#[derive(Clone, Copy)]
+enum When {
+    Initial,
+    Final,
+}
+
+/// What is wrong where such a value is stated again.
+fn stated_again(when: When, first: u64, again: u64) -> FaultKind
+    ensures { result ≡ word_of when first again }
 {
-    match values.get(line.pa) {
-        None => None,
-        Some(first) => Some(Refusal {
-            kind: FaultKind::AgainInitial {
-                first,
-                again: line.value,
-            },
-            place: line.at,
-        }),
+    match when {
+        When::Initial => FaultKind::AgainInitial { first, again },
+        When::Final => FaultKind::AgainFinal { first, again },
     }
 }
 
-fn final_fault(values: &Values, line: ValueLine) -> Option<Refusal>
+fn value_fault(when: When, values: &Values, line: ValueLine) -> Option<Refusal>
     ensures { (before : List ValueSaid) → values.now ≡ map stated_of before
-        → Answers (AgainStated AgainFinal before line) result }
+        → Answers (AgainStated (word_of when) before line) result }
 {
     match values.get(line.pa) {
         None => None,
         Some(first) => Some(Refusal {
-            kind: FaultKind::AgainFinal {
-                first,
-                again: line.value,
-            },
+            kind: stated_again(when, first, line.value),
             place: line.at,
         }),
     }
@@ -147,8 +144,8 @@ impl Kept {
         match item {
             Item::Microop(microop) => microop_fault(&self.heads, microop.head),
             Item::Relationship(line) => relationship_fault(&self.heads, line.source, line.target),
-            Item::Initial(line) => initial_fault(&self.initial, *line),
-            Item::Final(line) => final_fault(&self.final_values, *line),
+            Item::Initial(line) => value_fault(When::Initial, &self.initial, *line),
+            Item::Final(line) => value_fault(When::Final, &self.final_values, *line),
             Item::Permitted(at) => expectation_fault(self.stance, *at),
             Item::Forbidden(at) => expectation_fault(self.stance, *at),
         }

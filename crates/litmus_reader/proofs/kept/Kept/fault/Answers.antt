@@ -21,11 +21,11 @@ returns-in-Relationship c = λ before k.
 
 pub returns-in-Initial : goal.returns-in-Initial
 returns-in-Initial c = λ before k.
-    subst (λ (i : Item). Answers (IsFaultOf before i) c.initial_fault.result) (sym c.in-Initial.is) (c.initial_fault.ensures _ k.initial)
+    subst (λ (i : Item). Answers (IsFaultOf before i) c.value_fault.result) (sym c.in-Initial.is) (c.value_fault.ensures _ k.initial)
 
 pub returns-in-Final : goal.returns-in-Final
 returns-in-Final c = λ before k.
-    subst (λ (i : Item). Answers (IsFaultOf before i) c.final_fault.result) (sym c.in-Final.is) (c.final_fault.ensures _ k.final_values)
+    subst (λ (i : Item). Answers (IsFaultOf before i) c.value_fault-in-Final.result) (sym c.in-Final.is) (c.value_fault-in-Final.ensures _ k.final_values)
 
 pub returns-in-Permitted : goal.returns-in-Permitted
 returns-in-Permitted c = λ before k.

@@ -1,18 +1,18 @@
 use Rattle.std.proofs.Common.{List, Some, None, subst}
-use Rattle.pc_common.specs.declared.fault.FaultKind.TheVariants.{AgainFinal}
 use Rattle.pc_case.specs.declared.stated.Stated.{Stated}
+use Rattle.litmus_reader.specs.Kept.{word_of}
 use Rattle.litmus_reader.specs.Values.{IsValueAt}
 use Rattle.litmus_reader.proofs.ValueFacts.{again-stated, again-some}
-use Rattle.litmus_reader.proofs.kept.final_fault.Goals as goal
+use Rattle.litmus_reader.proofs.kept.value_fault.Goals as goal
 
 pub returns-in-None : goal.returns-in-None
 returns-in-None c = λ before are.
-    again-stated AgainFinal before c.args.line
+    again-stated (word_of c.args.when) before c.args.line
     (subst (λ (lines : List Stated). IsValueAt lines c.args.line.pa None) are
     (subst (IsValueAt c.args.values.now c.args.line.pa) c.in-None.is c.get.ensures))
 
 pub returns-in-Some : goal.returns-in-Some
 returns-in-Some c = λ before are.
-    again-some AgainFinal before c.args.line c.in-Some.first
+    rw c.stated_again.ensures (again-some (word_of c.args.when) before c.args.line c.in-Some.first
     (subst (λ (lines : List Stated). IsValueAt lines c.args.line.pa (Some c.in-Some.first)) are
-    (subst (IsValueAt c.args.values.now c.args.line.pa) c.in-Some.is c.get.ensures))
+    (subst (IsValueAt c.args.values.now c.args.line.pa) c.in-Some.is c.get.ensures)))
