@@ -54,7 +54,7 @@ impl Cursor<'_> {
     {
         self.skip();
         self.skip();
-        let edges = self.edges(alloc)?;
+        let edges = self.elements(alloc)?;
         Ok(Formula::Edges(edges))
     }
 
@@ -63,7 +63,7 @@ impl Cursor<'_> {
     {
         self.skip();
         self.skip();
-        let nodes = self.nodes(alloc)?;
+        let nodes = self.elements(alloc)?;
         Ok(Formula::Nodes(nodes))
     }
 

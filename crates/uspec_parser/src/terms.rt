@@ -1,10 +1,11 @@
-ghost use Rattle.std.specs.Prelude.{◌≡◌, ◌↔◌, IsTrue, IfOk, OnOk};
+ghost use Rattle.std.specs.Prelude.{◌≡◌, ◌≤◌, ◌↔◌, List, IsTrue, IfOk, OnOk, length};
+ghost use Rattle.uspec_parser.specs.Terminals.{Lexeme};
 ghost use Rattle.uspec_parser.specs.Descent.{next, begins_argument, behind, argument as argument_spec, Arguments, core_by, stage_by, behind_location_by, node as node_spec, behind_node, behind_label, edge as edge_spec, behind_edge, behind_semicolon, Elements};
 
 use super::cursor::Cursor;
 use super::terminal::Terminal;
 use pc_common::{Listed, Memory, Shared};
-use pc_syntax::{Arg, Args, EdgeTerm, EdgeTerms, NodeTerm, NodeTerms, Word};
+use pc_syntax::{Arg, Args, EdgeTerm, NodeTerm, Word};
 use std::alloc::Global;
 
 impl Cursor<'_> {
@@ -118,29 +119,50 @@ impl Cursor<'_> {
         }
     }
 
-    /// Reads the nodes of a list whose `[` is read already, and its `]`.
-    pub(crate) fn nodes(&mut self, alloc: Global) -> Result<NodeTerms, Memory>
-        ensures { IfOk result (λ ns. Elements node_spec behind_node self.old ns self.new) }
+    /// Reads the elements of a list whose `[` is read already, and its `]`.
+    pub(crate) fn elements<E: Element>(&mut self, alloc: Global) -> Result<Shared<E>, Memory>
+        ensures { IfOk result (λ es. Elements E.one E.behind_one self.old es self.new) }
     {
-        let mut nodes = Listed::new(alloc);
+        let mut elements = Listed::new(alloc);
         while self.is_next(Terminal::Open) {
-            nodes.push(self.node(alloc)?)?;
+            elements.push(E::read(self, alloc)?)?;
             self.semicolon();
         }
         self.skip();
-        Shared::new(nodes)
+        Shared::new(elements)
     }
+}
 
-    /// Reads the edges of a list whose `[` is read already, and its `]`.
-    pub(crate) fn edges(&mut self, alloc: Global) -> Result<EdgeTerms, Memory>
-        ensures { IfOk result (λ es. Elements edge_spec behind_edge self.old es self.new) }
-    {
-        let mut edges = Listed::new(alloc);
-        while self.is_next(Terminal::Open) {
-            edges.push(self.edge(alloc)?)?;
-            self.semicolon();
-        }
-        self.skip();
-        Shared::new(edges)
+/// What a list of a formula may have: nodes, or edges.
+pub(crate) trait Element: Drop {
+    /// The element that begins the tokens.
+    ghost one: { List Lexeme → Self };
+
+    /// The tokens behind it.
+    ghost behind_one: { List Lexeme → List Lexeme };
+
+    fn read(cursor: &mut Cursor<'_>, alloc: Global) -> Result<Self, Memory>
+        ensures value { IfOk result (λ e. e ≡ one cursor.old) }
+        ensures rest { OnOk result (cursor.new ≡ behind_one cursor.old) }
+        ensures shorter { OnOk result (length cursor.new ≤ length (behind cursor.old)) };
+}
+
+impl Element for NodeTerm {
+    ghost one = { node_spec };
+
+    ghost behind_one = { behind_node };
+
+    fn read(cursor: &mut Cursor<'_>, alloc: Global) -> Result<NodeTerm, Memory> {
+        cursor.node(alloc)
+    }
+}
+
+impl Element for EdgeTerm {
+    ghost one = { edge_spec };
+
+    ghost behind_one = { behind_edge };
+
+    fn read(cursor: &mut Cursor<'_>, alloc: Global) -> Result<EdgeTerm, Memory> {
+        cursor.edge(alloc)
     }
 }
