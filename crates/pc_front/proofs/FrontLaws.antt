@@ -24,10 +24,17 @@ use Rattle.pc_syntax.proofs.NoFault.{none_first, none_second, none_where}
 use Rattle.uspec_lexer.specs.Fault.{IsRefusal}
 use Rattle.uspec_lexer.specs.declared.fault.LexFault.{LexFault}
 use Rattle.uspec_lexer.specs.declared.fault.LexFault.TheVariants.{Lexical as a_lexical_fault, Memory as no_memory}
+use Rattle.uspec_lexer.specs.Token.{Token}
+use Rattle.uspec_lexer.specs.Spells.{Spells}
+use Rattle.uspec_parser.specs.Marks.{IsMarkedModel}
+use Rattle.uspec_parser.specs.Answers.{terminals, IsRefusal as IsParseRefusal}
+use Rattle.uspec_parser.specs.declared.fault.ParseFault.{ParseFault}
+use Rattle.uspec_parser.specs.declared.fault.ParseFault.TheVariants.{Syntax as a_syntax_fault, Depth as a_depth_fault, Memory as no_memory_to_parse}
 use Rattle.macro_expand.specs.Faults.{AreExpansions}
 use Rattle.scope_check.specs.FirstFault.{IsNoneOr}
-use Rattle.pc_front.specs.ModelFront.{ModelOf, lexical, said, closed_axiom, IsModelEnd}
-use Rattle.pc_front.specs.ModelSteps.{end_of, lexical_told, axiom_fault, closing_of_axiom}
+use Rattle.pc_front.specs.ModelFront.{ModelOf, lexical, syntax, depth, said, closed_axiom, IsModelEnd}
+use Rattle.pc_front.specs.Ends.{end_of, lexical_end, parse_end}
+use Rattle.pc_front.specs.ModelSteps.{axiom_fault, closing_of_axiom}
 
 -- a stage that is not refused has a number of one byte
 numbers_below : (earlier stages : List StageItem) (k : ℕ) (s : StageItem) → stages_fault earlier stages ≡ None → k < length stages
@@ -139,6 +146,13 @@ front_end bytes m of None is = tt
 front_end bytes m of (Some f) is = (refl, said of is)
 
 -- a fault of the bytes, as it is told
-pub lexical_end : (bytes : List ℕ) (fault : LexFault) → IsRefusal bytes fault → IsModelEnd bytes (end_of (lexical_told fault))
-lexical_end bytes (a_lexical_fault place) is = (refl, lexical is)
-lexical_end bytes no_memory is = tt
+pub lexical_told : (bytes : List ℕ) (fault : LexFault) → IsRefusal bytes fault → IsModelEnd bytes (lexical_end fault)
+lexical_told bytes (a_lexical_fault place) is = (refl, lexical is)
+lexical_told bytes no_memory is = tt
+
+-- a fault of the tokens, as it is told
+pub parse_told : (bytes : List ℕ) (ts : List Token) (fault : ParseFault) → Spells bytes ts
+    → IsParseRefusal IsMarkedModel (terminals ts) fault → IsModelEnd bytes (parse_end bytes ts fault)
+parse_told bytes ts (a_syntax_fault k) spelled is = (refl, syntax spelled is refl)
+parse_told bytes ts (a_depth_fault k) spelled is = (refl, depth spelled is refl)
+parse_told bytes ts no_memory_to_parse spelled is = tt

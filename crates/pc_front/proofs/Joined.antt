@@ -25,7 +25,8 @@ use Rattle.pc_ground.proofs.UnfoldedClosing.{closed_tree}
 use Rattle.pc_ground.specs.declared.front.Front.{Front}
 use Rattle.pc_front.specs.declared.model_front.FrontEnd.{FrontEnd}
 use Rattle.pc_front.specs.declared.model_front.FrontEnd.TheVariants.{Refused, Memory}
-use Rattle.pc_front.specs.Front.{SaysModel, IsFirstFault, in_model, in_test, IsFrontOf, IsEnd, test_end_of}
+use Rattle.pc_front.specs.Front.{SaysModel, IsFirstFault, in_model, in_test, IsFrontOf, IsEnd}
+use Rattle.pc_front.specs.Ends.{case_end}
 use Rattle.pc_ground.specs.Rows.{rows_of}
 use Rattle.pc_ground.specs.GroundTree.{closed_ground_tree}
 use Rattle.pc_ground.specs.Stages.{plain_stage, plain_axioms, numbers_of, AreStages, AxiomsWithin}
@@ -78,7 +79,7 @@ model_end model test (Refused fault) is =
 model_end model test Memory is = tt
 
 -- beside a model without fault, the first fault of a test is that of the two files
-pub test_end : (model test : List ℕ) (m : WrittenModel) (fault : CaseFault) → SaysModel model m → IsRefusal test fault → IsEnd model test (test_end_of fault)
+pub test_end : (model test : List ℕ) (m : WrittenModel) (fault : CaseFault) → SaysModel model m → IsRefusal test fault → IsEnd model test (case_end fault)
 test_end model test m (a_lexical_fault at) says is = in_test says (record { found = a_lexical_fault at; first = is; told = refl })
 test_end model test m (a_syntax_fault at) says is = in_test says (record { found = a_syntax_fault at; first = is; told = refl })
 test_end model test m (a_fault_of_content kind at) says is =

@@ -71,11 +71,3 @@ pub record SayFront (model test : List ℕ) (front : Front) : Type 0 where
 abbrev pub IsEnd : List ℕ → List ℕ → FrontEnd → Type 0
 IsEnd model test (Refused fault) = IsFirstFault model test fault
 IsEnd model test Memory = ⊤
-
--- the end that a fault of a test is told by; without one, memory was refused
-abbrev pub end_told : Option InputFault → FrontEnd
-end_told None = Memory
-end_told (Some fault) = Refused fault
-
-abbrev pub test_end_of : CaseFault → FrontEnd
-test_end_of fault = end_told (told_fault fault)

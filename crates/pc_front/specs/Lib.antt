@@ -1,3 +1,4 @@
+pub mod Ends
 pub mod Front
 pub mod Laws
 pub mod ModelFront

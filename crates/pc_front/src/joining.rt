@@ -2,15 +2,15 @@ ghost use Rattle.std.specs.Prelude.{◌≡◌, ◌^◌, ◌<◌, length, map, If
 ghost use Rattle.pc_ground.specs.Stages.{plain_stage, plain_axioms, numbers_of, AreStages, AxiomsWithin};
 ghost use Rattle.pc_ground.specs.Rows.{rows_of};
 ghost use Rattle.pc_ground.specs.GroundTree.{closed_ground_tree};
-ghost use Rattle.pc_front.specs.Front.{SayFront, IsEnd, test_end_of};
+ghost use Rattle.pc_front.specs.Front.{SayFront, IsEnd};
 
 use super::model_front::{FrontEnd, ModelFront};
 use super::reading::read_model;
 use grounder::ground;
-use litmus_reader::{CaseFault, read_case};
+use litmus_reader::read_case;
 use normal_form::{normalise, number};
 use pc_case::Case;
-use pc_common::{FaultKind, InputFault, Memory, Which};
+use pc_common::Memory;
 use pc_ground::{Axioms, Flat, Front};
 use std::alloc::Global;
 
@@ -26,13 +26,8 @@ pub fn front(alloc: Global, model_bytes: &[u8], test_bytes: &[u8]) -> Result<Fro
     ensures err { IfErr result (IsEnd model_bytes.now test_bytes.now) }
 {
     let model = read_model(alloc, model_bytes)?;
-    match read_case(alloc, test_bytes) {
-        Ok(case) => match joined(alloc, model, case) {
-            Ok(front) => Ok(front),
-            Err(Memory) => Err(FrontEnd::Memory),
-        },
-        Err(fault) => Err(test_end(fault)),
-    }
+    let case = read_case(alloc, test_bytes)?;
+    Ok(joined(alloc, model, case)?)
 }
 
 /// The model's part and the case, with the ground tree and its numbers.
@@ -59,21 +54,4 @@ fn tree_of(alloc: Global, case: &Case, axioms: &Axioms) -> Result<Flat, Memory>
 {
     let ground = ground(alloc, case, axioms.as_slice())?;
     normalise(alloc, &ground)
-}
-
-/// The end that a fault of a test is told by.
-fn test_end(fault: CaseFault) -> FrontEnd
-    ensures { result ≡ test_end_of fault }
-{
-    let (kind, place) = match fault {
-        CaseFault::Lexical(place) => (FaultKind::Lexical, place),
-        CaseFault::Syntax(place) => (FaultKind::Syntax, place),
-        CaseFault::Content(kind, place) => (kind, place),
-        CaseFault::Memory => return FrontEnd::Memory,
-    };
-    FrontEnd::Refused(InputFault {
-        file: Which::Test,
-        place,
-        kind,
-    })
 }

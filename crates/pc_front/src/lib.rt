@@ -1,9 +1,10 @@
 //! From the bytes of a model and a test to the ground tree, or the exact first fault.
 //!
-//! `read_model` joins the readers of a whole model: tokens, tree, macros, names. `front` adds the test,
+//! `read_model` joins the readers of a whole model: tokens, tree, stages, macros, names. `front` adds the test,
 //! and goes on to what search and checker work on: the ground tree, in flat rows, with its node numbers.
 #![tactic(auto)]
 
+mod faults;
 mod joining;
 mod laws;
 mod model_front;

@@ -1,22 +1,23 @@
 ghost use Rattle.std.specs.Prelude.{◌≡◌, ◌<◌, ◌^◌, [], Some, None, length, map, IfOk, IfErr};
 ghost use Rattle.pc_syntax.specs.Written.{written_model};
-ghost use Rattle.pc_syntax.specs.Fault.{first_fault};
+ghost use Rattle.pc_syntax.specs.Fault.{Fault, first_fault};
 ghost use Rattle.pc_syntax.specs.StageFaults.{stages_fault, first_stage_fault};
-ghost use Rattle.macro_expand.specs.Faults.{fault_told as macro_fault_told};
-ghost use Rattle.scope_check.specs.FirstFault.{fault_told as name_fault_told, Answers};
+ghost use Rattle.scope_check.specs.FirstFault.{Answers};
 ghost use Rattle.pc_ground.specs.Stages.{plain_stage, plain_axioms};
 ghost use Rattle.pc_front.specs.ModelFront.{ModelOf, IsModelFront, IsModelEnd, stage_said};
-ghost use Rattle.pc_front.specs.ModelSteps.{end_of, lexical_told, axiom_fault, AreClosings};
+ghost use Rattle.pc_front.specs.ModelSteps.{axiom_fault, AreClosings};
+ghost use Rattle.pc_front.specs.Ends.{end_of};
 
+use super::faults::{in_model, no_tree};
 use super::model_front::{FrontEnd, ModelFront};
-use macro_expand::{MacroFault, expand, stage_faults};
-use pc_common::{FaultKind, InputFault, Listed, Memory, Place, Which};
+use macro_expand::{expand, stage_faults};
+use pc_common::{Listed, Memory};
 use pc_ground::{Axioms, Stage, Stages};
 use pc_syntax::{Expanded, ModelFile, StageItems};
 use scope_check::{NameFault, close};
 use std::alloc::Global;
-use uspec_lexer::{LexFault, tokens};
-use uspec_parser::{MAX_OPENERS, ParseFault, parse_model};
+use uspec_lexer::tokens;
+use uspec_parser::parse_model;
 
 /// The stages and the closed axioms of a whole model.
 ///
@@ -26,29 +27,19 @@ use uspec_parser::{MAX_OPENERS, ParseFault, parse_model};
 /// Takes memory in proportion to the bytes and to the expanded axioms, whose size is at most 1,000,000.
 /// Each name of the text is kept once, and so is each list of arguments as written. Closed arguments are
 /// kept for each use: at most 3 for a predicate, and at most 32 for a binding, one for each variable.
-/// Takes time in proportion to the same, and for each name that is looked up to its length, as often as
-/// there are variables in scope, at most 32, or stages, at most 64.
+/// Takes time in proportion to the same. Beside this, each name of a variable is compared with those in
+/// scope, at most 32, and each name of a stage with those of the stages, at most 64.
 pub fn read_model(alloc: Global, bytes: &[u8]) -> Result<ModelFront, FrontEnd>
     requires { length bytes.now < 2 ^ 32 }
     ensures ok { IfOk result (IsModelFront bytes.now) }
     ensures err { IfErr result (IsModelEnd bytes.now) }
 {
     let model = parsed(alloc, bytes)?;
-    if let Some((kind, place)) = stage_faults(&model) {
-        return Err(refused(kind, place));
-    }
-    let expanded = match expand(alloc, &model) {
-        Ok(expanded) => expanded,
-        Err(fault) => return Err(macro_refused(fault)),
-    };
-    let axioms = match close_axioms(alloc, &model, &expanded) {
-        Ok(axioms) => axioms,
-        Err(fault) => return Err(name_refused(fault)),
-    };
-    match stages_of(alloc, &model.stages) {
-        Ok(stages) => Ok(ModelFront { stages, axioms }),
-        Err(Memory) => Err(FrontEnd::Memory),
-    }
+    check_stages(&model)?;
+    let expanded = expand(alloc, &model)?;
+    let axioms = close_axioms(alloc, &model, &expanded)?;
+    let stages = stages_of(alloc, &model.stages)?;
+    Ok(ModelFront { stages, axioms })
 }
 
 /// The model as written.
@@ -57,18 +48,21 @@ fn parsed(alloc: Global, bytes: &[u8]) -> Result<ModelFile, FrontEnd>
     ensures ok { IfOk result (λ m. ModelOf bytes.now (written_model m)) }
     ensures err { IfErr result (IsModelEnd bytes.now) }
 {
-    let tokens = match tokens(alloc, bytes) {
-        Ok(tokens) => tokens,
-        Err(fault) => return Err(lexical_refused(fault)),
-    };
+    let tokens = tokens(alloc, bytes)?;
     match parse_model(alloc, &tokens) {
         Ok(model) => Ok(model),
-        Err(ParseFault::Syntax(k)) => Err(refused(FaultKind::Syntax, tokens.place(bytes, k))),
-        Err(ParseFault::Depth(k)) => {
-            let limit = u64::from(MAX_OPENERS);
-            Err(refused(FaultKind::Depth { limit }, tokens.place(bytes, k)))
-        }
-        Err(ParseFault::Memory) => Err(FrontEnd::Memory),
+        Err(fault) => Err(no_tree(bytes, &tokens, fault)),
+    }
+}
+
+/// Passes a model without a stage fault, and refuses another with its first one.
+fn check_stages(model: &ModelFile) -> Result<(), FrontEnd>
+    ensures ok { IfOk result (λ _. first_stage_fault (written_model model.now) ≡ None) }
+    ensures err { IfErr result (λ end. (fault : Fault) × (first_stage_fault (written_model model.now) ≡ Some fault) × (end ≡ end_of (Some fault))) }
+{
+    match stage_faults(model) {
+        None => Ok(()),
+        Some((kind, place)) => Err(in_model(kind, place)),
     }
 }
 
@@ -98,60 +92,4 @@ fn stages_of(alloc: Global, stages: &StageItems) -> Result<Stages, Memory>
         })?;
     }
     Ok(kept)
-}
-
-fn refused(kind: FaultKind, place: Place) -> FrontEnd
-    ensures { result ≡ end_of (Some (kind, place)) }
-{
-    FrontEnd::Refused(InputFault {
-        file: Which::Model,
-        place,
-        kind,
-    })
-}
-
-fn lexical_refused(fault: LexFault) -> FrontEnd
-    ensures { result ≡ end_of (lexical_told fault) }
-{
-    match fault {
-        LexFault::Lexical(place) => refused(FaultKind::Lexical, place),
-        LexFault::Memory => FrontEnd::Memory,
-    }
-}
-
-fn macro_refused(fault: MacroFault) -> FrontEnd
-    ensures { result ≡ end_of (macro_fault_told fault) }
-{
-    match fault {
-        MacroFault::Again { at, first, again } => {
-            refused(FaultKind::MacroAgain { first, again }, at)
-        }
-        MacroFault::ParameterAgain { at, first, again } => {
-            refused(FaultKind::ParameterAgain { first, again }, at)
-        }
-        MacroFault::Unknown { at } => refused(FaultKind::MacroUnknown, at),
-        MacroFault::Arguments { at, found, wanted } => {
-            refused(FaultKind::MacroArguments { found, wanted }, at)
-        }
-        MacroFault::TooDeep { at, limit } => refused(FaultKind::TooDeep { limit }, at),
-        MacroFault::TooBig { at, limit } => refused(FaultKind::TooBig { limit }, at),
-        MacroFault::Memory => FrontEnd::Memory,
-    }
-}
-
-fn name_refused(fault: NameFault) -> FrontEnd
-    ensures { result ≡ end_of (name_fault_told fault) }
-{
-    match fault {
-        NameFault::Unbound { at } => refused(FaultKind::Unbound, at),
-        NameFault::WrongSort { at } => refused(FaultKind::WrongSort, at),
-        NameFault::UnknownPredicate { at } => refused(FaultKind::PredicateUnknown, at),
-        NameFault::Arity { at, found, wanted } => refused(FaultKind::Arity { found, wanted }, at),
-        NameFault::UnknownStage { at } => refused(FaultKind::StageUnknown, at),
-        NameFault::CoreNumber { at, number } => refused(FaultKind::CoreNumber { number }, at),
-        NameFault::TooManyVariables { at, limit } => {
-            refused(FaultKind::TooManyVariables { limit }, at)
-        }
-        NameFault::Memory => FrontEnd::Memory,
-    }
 }

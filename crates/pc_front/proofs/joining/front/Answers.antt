@@ -1,11 +1,18 @@
-use Rattle.std.proofs.Common.{rules, sym, subst}
-use Rattle.pc_front.specs.declared.model_front.FrontEnd.{FrontEnd}
-use Rattle.pc_front.specs.Front.{IsEnd}
+use Rattle.std.proofs.Common.{rules}
+use Rattle.std.proofs.lemmas.Result.{err_from_is_err_and}
 use Rattle.pc_front.proofs.Joined.{axioms_within, are_stages, model_end, test_end, front_is}
 use Rattle.pc_front.proofs.joining.front.Goals as goal
 
 pub returns-in_err-model-clause-err : goal.returns-in_err-model-clause-err
 returns-in_err-model-clause-err c = search (rules, model_end)
+
+pub returns-in_err-case-clause-err : goal.returns-in_err-case-clause-err
+returns-in_err-case-clause-err c =
+    let end = err_from_is_err_and c.from_residual-in_err-case.result c.from_residual-in_err-case.ensures.1 in
+    let ok = c.in_ok-model.ensures.ok in
+    rw (end.1, end.2)
+    (test_end c.args.model_bytes.now c.args.test_bytes.now ok.0 c.in_err-case.field-0.0
+    (record { model = ok.1; no_fault = ok.2.no_fault }) c.in_err-case.ensures.err)
 
 pub joined-requires-clause-named : goal.joined-requires-clause-named
 joined-requires-clause-named c =
@@ -15,19 +22,13 @@ pub joined-requires-clause-within : goal.joined-requires-clause-within
 joined-requires-clause-within c =
     let ok = c.in_ok-model.ensures.ok in axioms_within ok.0 ok.2.no_fault c.in_ok-model.model ok.2
 
-pub returns-in-Ok-joined-clause-ok : goal.returns-in-Ok-joined-clause-ok
-returns-in-Ok-joined-clause-ok c =
+pub returns-clause-ok : goal.returns-clause-ok
+returns-clause-ok c =
     let ok = c.in_ok-model.ensures.ok in
-    let parts = c.in-Ok-joined.ensures in record {
+    let parts = c.in_ok-joined.ensures in record {
       m = ok.0;
-      c = c.in-Ok.case;
+      c = c.in_ok-case.case;
       says_model = record { model = ok.1; no_fault = ok.2.no_fault };
-      says_test = c.in-Ok.ensures.ok;
-      front_of = front_is ok.0 c.in-Ok.case c.in_ok-model.model c.in-Ok-joined.front ok.2 parts.0 parts.1 parts.2;
+      says_test = c.in_ok-case.ensures.ok;
+      front_of = front_is ok.0 c.in_ok-case.case c.in_ok-model.model c.in_ok-joined.field-0 ok.2 parts.0 parts.1 parts.2;
     }
-
-pub returns-in-Err-clause-err : goal.returns-in-Err-clause-err
-returns-in-Err-clause-err c =
-    let ok = c.in_ok-model.ensures.ok in
-    subst (λ (e : FrontEnd). IsEnd c.args.model_bytes.now c.args.test_bytes.now e) (sym c.test_end.ensures)
-    (test_end c.args.model_bytes.now c.args.test_bytes.now ok.0 c.in-Err.fault (record { model = ok.1; no_fault = ok.2.no_fault }) c.in-Err.ensures.err)

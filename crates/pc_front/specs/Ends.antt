@@ -1,0 +1,53 @@
+-- The ends that faults are told by.
+use Rattle.std.specs.Prelude.{ℕ, List, Option, Some, None}
+use Rattle.pc_common.specs.declared.fault.FaultKind.TheVariants.{Lexical, Syntax, Depth}
+use Rattle.pc_common.specs.declared.fault.InputFault.{InputFault}
+use Rattle.pc_common.specs.declared.fault.Which.TheVariants.{Model}
+use Rattle.pc_common.specs.declared.place.Place.{Place}
+use Rattle.uspec_lexer.specs.Token.{Token, token_place}
+use Rattle.uspec_lexer.specs.declared.fault.LexFault.{LexFault}
+use Rattle.uspec_lexer.specs.declared.fault.LexFault.TheVariants.{Lexical as a_lexical_fault, Memory as no_memory}
+use Rattle.uspec_parser.specs.declared.level.TheConstants.{MAX_OPENERS}
+use Rattle.uspec_parser.specs.declared.fault.ParseFault.{ParseFault}
+use Rattle.uspec_parser.specs.declared.fault.ParseFault.TheVariants.{Syntax as a_syntax_fault, Depth as a_depth_fault, Memory as no_memory_to_parse}
+use Rattle.pc_syntax.specs.Fault.{Fault}
+use Rattle.macro_expand.specs.Faults.{fault_told as macro_fault_told}
+use Rattle.macro_expand.specs.declared.fault.MacroFault.{MacroFault}
+use Rattle.scope_check.specs.FirstFault.{fault_told as name_fault_told}
+use Rattle.scope_check.specs.declared.fault.NameFault.{NameFault}
+use Rattle.litmus_reader.specs.declared.fault.CaseFault.{CaseFault}
+use Rattle.pc_front.specs.declared.model_front.FrontEnd.{FrontEnd}
+use Rattle.pc_front.specs.declared.model_front.FrontEnd.TheVariants.{Refused, Memory}
+use Rattle.pc_front.specs.Front.{fault_at, told_fault}
+
+-- the first fault of a model; without one, memory was refused
+abbrev pub end_of : Option Fault → FrontEnd
+end_of None = Memory
+end_of (Some (kind, place)) = Refused (fault_at Model kind place)
+
+abbrev pub lexical_end : LexFault → FrontEnd
+lexical_end (a_lexical_fault place) = Refused (fault_at Model Lexical place)
+lexical_end no_memory = Memory
+
+abbrev pub place_of : List ℕ → List Token → ℕ → Place
+place_of bytes ts k = record { offset = token_place bytes ts k }
+
+-- the fault of a parser tells the number of a token
+abbrev pub parse_end : List ℕ → List Token → ParseFault → FrontEnd
+parse_end bytes ts (a_syntax_fault k) = Refused (fault_at Model Syntax (place_of bytes ts k))
+parse_end bytes ts (a_depth_fault k) = Refused (fault_at Model (Depth MAX_OPENERS) (place_of bytes ts k))
+parse_end bytes ts no_memory_to_parse = Memory
+
+abbrev pub macro_end : MacroFault → FrontEnd
+macro_end fault = end_of (macro_fault_told fault)
+
+abbrev pub name_end : NameFault → FrontEnd
+name_end fault = end_of (name_fault_told fault)
+
+-- the first fault of a test; without one, memory was refused
+abbrev pub end_told : Option InputFault → FrontEnd
+end_told None = Memory
+end_told (Some fault) = Refused fault
+
+abbrev pub case_end : CaseFault → FrontEnd
+case_end fault = end_told (told_fault fault)
