@@ -6,7 +6,8 @@ use Rattle.pc_common.specs.World.{Node}
 use Rattle.pc_common.specs.Lines.{Names, node, edge, node_text, line_words}
 use Rattle.pc_ground.specs.NodeForm.{IsNodeIn, AreReadable}
 use Rattle.pc_ground.proofs.Cuts.{one_cut}
-use Rattle.cert_check.proofs.Bytes.{node_lacks, a_space}
+use Rattle.pc_ground.proofs.Outside.{a_space}
+use Rattle.cert_check.proofs.Bytes.{node_lacks}
 
 one_node_text : (names : Names) (a b : Node) → line_words names (node a) ≡ line_words names (node b) → node_text names a ≡ node_text names b
 one_node_text names a b e =

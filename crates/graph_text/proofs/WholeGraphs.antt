@@ -19,7 +19,7 @@ use Rattle.graph_text.specs.OpenGraphs.{PlainGraph, Follows, Takes, Refuses}
 use Rattle.graph_text.specs.FirstLines.{heads, tails, no_lines}
 use Rattle.graph_text.specs.GraphReading.{IsGraphIn, AreLinesOf, AreGraphLines, IsTakenBy, IsTextOf, plain_graph}
 use Rattle.graph_text.proofs.LinesOf.{graph_line_cases, nodes_in, edges_in, nodes_are, edges_are, nodes_with, edges_with}
-use Rattle.graph_text.proofs.Spaces.{form_lacks, form_on_one_line, lacking_on_line, words_apart, node_words_are, edge_words_are}
+use Rattle.graph_text.proofs.Spaces.{form_spaceless, form_on_one_line, lacking_on_line, words_apart, node_words_are, edge_words_are}
 
 -- each is a graph's line of these names
 abbrev AreIn : Names → List Line → Type 0
@@ -58,7 +58,7 @@ module _ (names : Names) (readable : AreReadable names) where
       let ends = (cut_is space (line_words names (edge_line a b)) (codes "edge") (ends_words names a b) (codes "edge") (ends_words names c d)
       (refl, edge_words_are names a b) (refl, e ∙ edge_words_are names c d)).1 in
       let same = cut_is space (ends_words names a b) (node_text names a) (node_text names b) (node_text names c) (node_text names d)
-      (form_lacks (node_text names a) (readable.form a f.0), refl) (form_lacks (node_text names c) (readable.form c g.0), ends) in
+      (form_spaceless (node_text names a) (readable.form a f.0), refl) (form_spaceless (node_text names c) (readable.form c g.0), ends) in
       ap (λ x. edge_line x b) (readable.apart a c f.0 g.0 same.0) ∙ ap (λ x. edge_line c x) (readable.apart b d f.1 g.1 same.1)
 
   same_line : (k l : Line) → IsGraphLineIn names k → IsGraphLineIn names l → line_words names k ≡ line_words names l → k ≡ l

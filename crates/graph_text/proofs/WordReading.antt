@@ -12,7 +12,7 @@ use Rattle.pc_ground.specs.NodeWords.{Lacks, IsCut}
 use Rattle.pc_ground.proofs.Cuts.{cut_is}
 use Rattle.graph_text.specs.GraphTexts.{space, as_node, as_edge, both_ends, IsGraphLineIn, AreEndsForm, AreEndsIn, ends_words, IsGraphForm, of_node, of_edge, ReadsLine, AnswersLine, ReadsEnds, AnswersEnds}
 use Rattle.graph_text.proofs.LinesOf.{graph_line_cases}
-use Rattle.graph_text.proofs.Spaces.{has_mark, form_lacks, words_apart, node_words_are, edge_words_are}
+use Rattle.graph_text.proofs.Spaces.{has_mark, form_spaceless, words_apart, node_words_are, edge_words_are}
 
 -- each node of these names whose text the word is, is the one that was read
 abbrev pub IsAgain : Names → List ℕ → Result NodeKey LineFault → Type 0
@@ -21,7 +21,7 @@ IsAgain names word r = (a : Node) → IsNodeIn names a → word ≡ node_text na
 -- two words, a space between
 module _ (names : Names) (words from to : List ℕ) (cut : IsCut space words from to) where
   ends_form : (f : AreEndsForm words) → (f.from ≡ from) × (f.to ≡ to)
-  ends_form f = cut_is space words f.from f.to from to (form_lacks f.from f.from_form, f.is) cut
+  ends_form f = cut_is space words f.from f.to from to (form_spaceless f.from f.from_form, f.is) cut
 
   from_ends_form : AreEndsForm words → IsNodeForm from
   from_ends_form f = (let P : List ℕ → Type 0 = λ w. IsNodeForm w in subst P (ends_form f).0 f.from_form)
@@ -32,7 +32,7 @@ module _ (names : Names) (words from to : List ℕ) (cut : IsCut space words fro
   module _ (readable : AreReadable names) where
     ends_texts : (a b : Node) → AreEndsIn names a b → words ≡ ends_words names a b → (from ≡ node_text names a) × (to ≡ node_text names b)
     ends_texts a b inside is =
-        cut_is space words from to (node_text names a) (node_text names b) cut (form_lacks (node_text names a) (readable.form a inside.0), is)
+        cut_is space words from to (node_text names a) (node_text names b) cut (form_spaceless (node_text names a) (readable.form a inside.0), is)
 
     -- a word that was read, or names nothing, has the form of a node's text
     read_form : (word : List ℕ) (k : NodeKey) → Reads names word (Ok k) → IsNodeForm word

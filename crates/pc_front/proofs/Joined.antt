@@ -33,7 +33,7 @@ use Rattle.pc_ground.specs.Stages.{plain_stage, plain_axioms, numbers_of, AreSta
 use Rattle.pc_front.specs.declared.model_front.ModelFront.{ModelFront}
 use Rattle.pc_front.specs.ModelFront.{ModelOf, stage_said, closed_axiom, IsModelFrontOf, IsModelEnd}
 use Rattle.pc_front.proofs.FrontLaws.{names_expanded}
-use Rattle.pc_front.proofs.StagesKept.{named, stages_kept}
+use Rattle.pc_front.proofs.StagesKept.{stages_kept}
 
 numbers_same : (ss : List StageItem) → numbers_of (map stage_said ss) ≡ stage_numbers ss
 numbers_same [] = refl
@@ -70,7 +70,7 @@ module _ (m : WrittenModel) (no_fault : first_model_fault m ≡ None) where
     pub are_stages : {bytes : List ℕ} → ModelOf bytes m → AreStages (map plain_stage front.stages)
     are_stages of =
         subst AreStages (sym is.stages)
-        (stages_kept m.stages no_stage_fault (λ k s at. named s.name.name (stage_is_named of.tokens m of.tree k s at)))
+        (stages_kept m.stages no_stage_fault (λ k s at. stage_is_named of.tokens m of.tree k s at))
 
 -- the first fault of a model is that of the two files
 pub model_end : (model test : List ℕ) (e : FrontEnd) → IsModelEnd model e → IsEnd model test e

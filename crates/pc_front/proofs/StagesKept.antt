@@ -9,8 +9,8 @@ use Rattle.pc_common.specs.Names.{same_name}
 use Rattle.pc_syntax.specs.StageFaults.{stage_numbered, stage_called, number_fault, number_again, name_again, stage_fault, stages_fault}
 use Rattle.pc_syntax.proofs.NoFault.{none_first, none_second, none_where}
 use Rattle.macro_expand.proofs.Names.{is_same}
-use Rattle.uspec_lexer.specs.Bytes.{is_name as is_spelled_as_name}
-use Rattle.pc_ground.specs.Stages.{AreStages, is_name}
+use Rattle.uspec_lexer.specs.Bytes.{is_name}
+use Rattle.pc_ground.specs.Stages.{AreStages}
 use Rattle.pc_front.specs.ModelFront.{stage_said}
 
 abbrev In : {X : Type 0} → X → List X → Type 0
@@ -106,12 +106,6 @@ numbers earlier (x ∷ ss) zero s f at =
     omega (arith, most, same)
 numbers earlier (x ∷ ss) (suc k) s f at =
     numbers (earlier ++ x ∷ []) ss k s (none_second (stage_fault earlier x) (stages_fault (earlier ++ x ∷ []) ss) f) at
-
--- the names of the grammar are those of certificates
-pub named : (bs : List ℕ) → IsTrue (is_spelled_as_name bs) → IsTrue (is_name bs)
-unfolding is_spelled_as_name
-named [] h = cc
-named (b ∷ bs) h = h
 
 -- what is said of a stage
 from_map : (ss : List StageItem) (k : ℕ) (p : StageName) → slice_get (map stage_said ss) k ≡ Some p

@@ -1,16 +1,16 @@
 -- Words that are cut at a byte.
-use Rattle.std.proofs.Common.{◌≡◌, ℕ, ◌-◌, ◌≤◌, subst, Bool, true, false, ◌||◌, ◌==◌, List, [], ◌∷◌, ◌++◌, length, get_or, take, drop, refl, sym, ◌∙◌, ap, arith, eq-eqb, append_assoc}
+use Rattle.std.proofs.Common.{◌≡◌, ℕ, ◌-◌, subst, Bool, true, false, ◌||◌, ◌==◌, List, [], ◌∷◌, ◌++◌, length, take, drop, refl, sym, ◌∙◌, ap, eq-eqb, append_assoc}
 use Rattle.std.specs.Prelude.{codes}
-use Rattle.std.specs.List.{list_any, list_all}
+use Rattle.std.specs.List.{list_any}
 use Rattle.std.specs.Str.{all_ascii_digits}
 use Rattle.std.specs.Char.{is_ascii_digit}
 use Rattle.std.proofs.lemmas.Bool.{ne_eqb}
 use Rattle.std.proofs.lemmas.List.{length-drop}
 use Rattle.std.proofs.Math.Seq.{take-length}
+use Rattle.uspec_lexer.specs.Bytes.{is_name}
 use Rattle.pc_ground.specs.Decimals.{IsDecimal}
 use Rattle.pc_ground.specs.NodeForm.{IsNodeForm}
 use Rattle.pc_ground.specs.declared.node_words.NodeWords.{NodeWords}
-use Rattle.pc_ground.specs.Stages.{is_letter, is_name_byte, is_name}
 use Rattle.pc_ground.specs.NodeWords.{Lacks, IsCut, AreWords}
 use Rattle.std.specs.Fmt.{decimal}
 use Rattle.pc_ground.proofs.Bools.{and_first, and_second, or_none, not_both}
@@ -156,11 +156,6 @@ words_of word g n core stage w c dg dn dc name is = record {
 
 pub all_left : (j : ℕ) (word : List ℕ) → take (length word - j) (drop j word) ≡ drop j word
 all_left j word = ap (λ n. take n (drop j word)) (sym (length-drop j word)) ∙ take-length (drop j word)
-
--- is_name, a byte before the others
-pub name_from : (bytes : List ℕ) (rest : Bool) → 1 ≤ length bytes → is_letter (get_or bytes 0 0) ≡ true → rest ≡ list_all is_name_byte (drop 1 bytes) → rest ≡ is_name bytes
-name_from [] rest some first is = absurd (omega (arith, some))
-name_from (c ∷ cs) rest some first is = is ∙ rw first refl
 
 -- the words of a node's text as its cuts, and as its form
 pub words_cuts : {word : List ℕ} {w : NodeWords} → AreWords word w → Cuts word (decimal w.g) (decimal w.n) (decimal w.core) w.stage.now

@@ -3,6 +3,7 @@ pub mod Nodes
 pub mod KeyNumbers
 pub mod Decimals
 pub mod Cuts
+pub mod Outside
 pub mod StageWalks
 pub mod OpWalks
 pub mod NodeReading

@@ -6,7 +6,8 @@ use Rattle.pc_common.specs.Case.{MicroOp}
 use Rattle.pc_common.specs.World.{Node}
 use Rattle.pc_common.specs.Lines.{StageName, Names}
 use Rattle.pc_case.specs.Kept.{IsKept, IsNamed}
-use Rattle.pc_ground.specs.Stages.{is_name, AreStages}
+use Rattle.uspec_lexer.specs.Bytes.{is_name}
+use Rattle.pc_ground.specs.Stages.{AreStages}
 use Rattle.pc_ground.specs.declared.node_words.NodeWords.{NodeWords}
 
 abbrev pub Lacks : ℕ → List ℕ → Type 0

@@ -1,6 +1,5 @@
 -- The stages of a model: their numbers and names, and that axioms name no others.
-use Rattle.std.specs.Prelude.{ℕ, ◌≡◌, ◌<◌, Bool, false, List, [], ◌∷◌, Some, map, slice_get, nat_le, ◌==◌, ◌&&◌, ◌||◌, IsTrue}
-use Rattle.std.specs.List.{list_all}
+use Rattle.std.specs.Prelude.{ℕ, ◌≡◌, ◌<◌, List, [], ◌∷◌, Some, map, slice_get, IsTrue}
 use Rattle.std.specs.Coded.{le_prop}
 use Rattle.std.proofs.Math.Nat.{ℕ_set}
 use Rattle.std.proofs.Math.Bool.{Bool-set}
@@ -8,6 +7,7 @@ use Rattle.pc_common.specs.Lines.{StageName}
 use Rattle.pc_syntax.specs.declared.closed.Closed.{Closed}
 use Rattle.pc_syntax.specs.Closed.{PlainClosed, plain_closed}
 use Rattle.pc_syntax.specs.StagesWithin.{StagesWithin, StagesWithin-prop}
+use Rattle.uspec_lexer.specs.Bytes.{is_name}
 use Rattle.pc_ground.specs.declared.stage.Stage.{Stage}
 
 abbrev pub plain_stage : Stage → StageName
@@ -15,19 +15,6 @@ plain_stage s = (s.number, s.name)
 
 abbrev pub plain_axioms : List Closed → List PlainClosed
 plain_axioms axioms = map (λ a. plain_closed a.body) axioms
-
--- A to Z, a to z
-abbrev pub is_letter : ℕ → Bool
-is_letter c = (nat_le 0x41 c && nat_le c 0x5A) || (nat_le 0x61 c && nat_le c 0x7A)
-
--- a letter, a digit, `_` or `'`
-abbrev pub is_name_byte : ℕ → Bool
-is_name_byte c = is_letter c || (nat_le 0x30 c && nat_le c 0x39) || (c == 0x5F) || (c == 0x27)
-
--- a letter, and then name bytes
-abbrev pub is_name : List ℕ → Bool
-is_name [] = false
-is_name (c ∷ cs) = is_letter c && list_all is_name_byte cs
 
 -- each number is below 64 and each name is one, and no two stages have one number or one name
 pub record AreStages (stages : List StageName) : Type 0 where

@@ -1,10 +1,9 @@
 ghost use Rattle.std.specs.Prelude.{◌≡◌, MatchOption};
-ghost use Rattle.std.specs.List.{list_all};
-ghost use Rattle.pc_ground.specs.Stages.{is_name as is_a_name, is_letter, is_name_byte};
 ghost use Rattle.pc_ground.specs.NodeForm.{IsNodeForm};
 ghost use Rattle.pc_ground.specs.NodeWords.{Lacks, IsCut, AreWords};
 
 use super::decimal::decimal_value;
+use uspec_lexer::is_name;
 
 /// The parts of a node's text, g.n@core:Stage.
 #[derive(Clone, Copy)]
@@ -25,37 +24,6 @@ fn cut(word: &[u8], mark: u8) -> Option<(&[u8], &[u8])>
         }
     }
     None
-}
-
-/// A to Z, a to z.
-fn is_ascii_letter(byte: u8) -> bool
-    ensures { result ≡ is_letter byte }
-{
-    byte.is_ascii_uppercase() || byte.is_ascii_lowercase()
-}
-
-/// A letter, a digit, `_` or `'`.
-fn is_byte_of_name(byte: u8) -> bool
-    ensures { result ≡ is_name_byte byte }
-{
-    is_ascii_letter(byte) || byte.is_ascii_digit() || byte == b'_' || byte == b'\''
-}
-
-/// Whether all of the bytes are letters, digits, `_` or `'`.
-fn are_of_name(bytes: &[u8]) -> bool
-    ensures { result ≡ list_all is_name_byte bytes.now }
-{
-    bytes.iter().all(|byte| is_byte_of_name(*byte))
-}
-
-/// Whether the bytes are a name: a letter, and then letters, digits, `_` or `'`.
-fn is_name(bytes: &[u8]) -> bool
-    ensures { result ≡ is_a_name bytes.now }
-{
-    match bytes {
-        [] => false,
-        [first, rest @ ..] => is_ascii_letter(*first) && are_of_name(rest),
-    }
 }
 
 /// The parts of a word that has the form of a node's text, whatever it names; None where it has not.

@@ -1,16 +1,15 @@
 -- Lines that are cut at their spaces.
 use Rattle.std.proofs.Common.{◌≡◌, ℕ, ◌+◌, ◌-◌, ◌<◌, ◌≤◌, length, get_or, take, drop, Bool, true, false, ◌||◌, ◌==◌, List, [], ◌∷◌, ◌++◌, refl, sym, ◌∙◌, ap, subst}
 use Rattle.std.specs.Prelude.{All}
-use Rattle.std.specs.List.{list_any, list_all, join_with_byte}
-use Rattle.std.proofs.lemmas.Bool.{ne_eqb}
+use Rattle.std.specs.List.{list_any, join_with_byte}
 use Rattle.std.proofs.lemmas.List.{append-nil, drop_more, take_all, take-append-drop}
 use Rattle.std.proofs.lemmas.List.Elements.{All-head, All-tail, All-weaker}
 use Rattle.std.proofs.lemmas.List.Splits.{join_with_byte-slice_split}
 use Rattle.pc_ground.specs.NodeForm.{IsNodeForm}
 use Rattle.pc_ground.specs.NodeWords.{Lacks}
-use Rattle.pc_ground.specs.Stages.{is_letter, is_name_byte, is_name}
-use Rattle.pc_ground.proofs.Bools.{and_first, and_second, or_none, not_both}
-use Rattle.pc_ground.proofs.Cuts.{decimal_lacks, form_grouped, all_left}
+use Rattle.pc_ground.proofs.Bools.{or_none}
+use Rattle.pc_ground.proofs.Cuts.{all_left}
+use Rattle.pc_ground.proofs.Outside.{a_space, form_lacks}
 use Rattle.refutation.specs.Words.{spaced, words}
 
 lacks_head : (m c : ℕ) (cs : List ℕ) → Lacks m (c ∷ cs) → (c == m) ≡ false
@@ -22,10 +21,6 @@ lacks_head m c cs h = or_left (c == m) (list_any (λ d. d == m) cs) h
 
 lacks_tail : (m c : ℕ) (cs : List ℕ) → Lacks m (c ∷ cs) → Lacks m cs
 lacks_tail m c cs h = or_none (c == m) (list_any (λ d. d == m) cs) h
-
-lacks_both : (m : ℕ) (xs ys : List ℕ) → Lacks m xs → Lacks m ys → Lacks m (xs ++ ys)
-lacks_both m [] ys h k = k
-lacks_both m (x ∷ xs) ys h k = rw (lacks_head m x xs h) (lacks_both m xs ys (lacks_tail m x xs h) k)
 
 -- the last word, and the first of several
 pub words_last : (xs : List ℕ) → Lacks 32 xs → words xs ≡ xs ∷ []
@@ -52,32 +47,12 @@ line_spaced line w ws e = sym (join_with_byte-slice_split 32 line) ∙ ap (join_
 pub line_alone : (line w : List ℕ) → words line ≡ w ∷ [] → line ≡ w
 line_alone line w e = line_spaced line w [] e ∙ append-nil w
 
-letter_lacks : (c : ℕ) (cs : List ℕ) → is_letter c ≡ true → Lacks 32 cs → Lacks 32 (c ∷ cs)
-letter_lacks c cs is h = rw (ne_eqb c 32 (λ same. not_both (is_letter c) is (ap is_letter same))) h
-
-bytes_lack : (cs : List ℕ) → list_all is_name_byte cs ≡ true → Lacks 32 cs
-bytes_lack [] h = refl
-bytes_lack (c ∷ cs) h =
-    let first = and_first (is_name_byte c) (list_all is_name_byte cs) h in
-    let differs : (c ≡ 32 → ⊥) = λ same. not_both (is_name_byte c) first (ap is_name_byte same) in
-    rw (ne_eqb c 32 differs) (bytes_lack cs (and_second (is_name_byte c) (list_all is_name_byte cs) h))
-
-name_lacks : (name : List ℕ) → is_name name ≡ true → Lacks 32 name
-name_lacks [] h = cc
-name_lacks (c ∷ cs) h =
-    letter_lacks c cs (and_first (is_letter c) (list_all is_name_byte cs) h) (bytes_lack cs (and_second (is_letter c) (list_all is_name_byte cs) h))
-
 -- no node's text has a space
-pub form_lacks : (word : List ℕ) → IsNodeForm word → Lacks 32 word
-form_lacks word f =
-    let P : List ℕ → Type 0 = λ xs. Lacks 32 xs in
-    subst P (sym (f.is ∙ form_grouped f.g f.n f.core f.stage))
-    (lacks_both 32 f.g (46 ∷ (f.n ++ 64 ∷ (f.core ++ 58 ∷ f.stage))) (decimal_lacks 32 f.g refl f.g_number)
-    (lacks_both 32 f.n (64 ∷ (f.core ++ 58 ∷ f.stage)) (decimal_lacks 32 f.n refl f.n_number)
-    (lacks_both 32 f.core (58 ∷ f.stage) (decimal_lacks 32 f.core refl f.core_number) (name_lacks f.stage f.stage_name))))
+pub form_spaceless : (word : List ℕ) → IsNodeForm word → Lacks 32 word
+form_spaceless = form_lacks 32 a_space
 
 pub forms_lack : (ws : List (List ℕ)) → All IsNodeForm ws → All (Lacks 32) ws
-forms_lack ws all = All-weaker IsNodeForm (Lacks 32) form_lacks ws all
+forms_lack ws all = All-weaker IsNodeForm (Lacks 32) form_spaceless ws all
 
 -- a line that is cut at its first space, and one that has none
 pub words_cut : (line : List ℕ) (at : ℕ) → at < length line → get_or line at 0 ≡ 32 → Lacks 32 (take at line)

@@ -15,7 +15,7 @@ use Rattle.refutation.specs.Steps.{step_line, IsStepIn, HasItsNodes}
 use Rattle.refutation.specs.Words.{spaced, words}
 use Rattle.refutation.specs.StepWords.{step_words, AreWordsOf, AreOfForm, of_split, of_cycle, of_path, of_absence, of_falsity}
 use Rattle.refutation.specs.Reading.{HasSmallPosition, IsLineOf, IsStepForm, a_split, a_cycle, a_path, an_absence, a_falsity}
-use Rattle.refutation.proofs.LineWords.{words_spaced, line_spaced, form_lacks, forms_lack}
+use Rattle.refutation.proofs.LineWords.{words_spaced, line_spaced, form_spaceless, forms_lack}
 
 nodes_spaced : (names : Names) (nodes : List Node) → nodes_text names nodes ≡ spaced (map (node_text names) nodes)
 nodes_spaced names [] = refl
@@ -25,7 +25,7 @@ nodes_spaced names (a ∷ more) = ap (λ r. (codes " " ++ node_text names a) ++ 
 texts_lack : (names : Names) → AreReadable names → (nodes : List Node) → All (IsNodeIn names) nodes → All (Lacks 32) (map (node_text names) nodes)
 texts_lack names readable nodes inside =
     All-map (Lacks 32) (node_text names) nodes
-    (All-weaker (IsNodeIn names) (λ a. Lacks 32 (node_text names a)) (λ a i. form_lacks (node_text names a) (readable.form a i)) nodes inside)
+    (All-weaker (IsNodeIn names) (λ a. Lacks 32 (node_text names a)) (λ a i. form_spaceless (node_text names a) (readable.form a i)) nodes inside)
 
 number_lacks : (p : ℕ) → p ≤ 18446744073709551615 → Lacks 32 (decimal p)
 number_lacks p small = decimal_lacks 32 (decimal p) refl (p, (small, refl))
@@ -80,7 +80,7 @@ form_of_line line (a_cycle a more f fs is) =
 form_of_line line (a_path a b more f g fs is) =
     let all = All-cons IsNodeForm a (b ∷ more) f (All-cons IsNodeForm b more g fs) in
     of_path a b more all (ap words is ∙ words_spaced (codes "path") (a ∷ b ∷ more) refl (forms_lack (a ∷ b ∷ more) all))
-form_of_line line (an_absence a f is) = of_absence a f (ap words is ∙ two_words (codes "absent") a refl (form_lacks a f))
+form_of_line line (an_absence a f is) = of_absence a f (ap words is ∙ two_words (codes "absent") a refl (form_spaceless a f))
 form_of_line line (a_falsity is) = of_falsity (ap words is)
 
 pub line_of_form : (line : List ℕ) → AreOfForm (words line) → IsStepForm line

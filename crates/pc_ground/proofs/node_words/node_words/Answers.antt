@@ -14,7 +14,7 @@ returns-in_err-core c =
 pub returns-then-not-is_name : goal.returns-then-not-is_name
 returns-then-not-is_name c =
     no_name (cuts c.args.word.now c.in_ok-g.g.now c.in_ok-n.n.now c.in_ok-core.core.now c.in_ok-core.stage.now c.in_ok-g.rest.now c.in_ok-n.rest.now
-    c.in_ok-g.ensures c.in_ok-n.ensures c.in_ok-core.ensures) (sym c.is_name.ensures ∙ c.if-not-is_name.true)
+    c.in_ok-g.ensures c.in_ok-n.ensures c.in_ok-core.ensures) (sym c.is_name.ensures.value ∙ c.if-not-is_name.true)
 
 pub returns-in_err-decimal_value : goal.returns-in_err-decimal_value
 returns-in_err-decimal_value c =
