@@ -1,11 +1,9 @@
-use Rattle.std.proofs.lemmas.Result.{err_from_is_err_and}
+use Rattle.std.proofs.Common.{rules}
 use Rattle.pc_front.proofs.FrontLaws.{lexical_told, parse_told}
 use Rattle.pc_front.proofs.reading.parsed.Goals as goal
 
 pub returns-in_err-tokens-clause-err : goal.returns-in_err-tokens-clause-err
-returns-in_err-tokens-clause-err c =
-    let end = err_from_is_err_and c.from_residual.result c.from_residual.ensures.1 in
-    rw (end.1, end.2) (lexical_told c.args.bytes.now c.in_err-tokens.field-0.0 c.in_err-tokens.ensures.err)
+returns-in_err-tokens-clause-err c = search (rules, lexical_told)
 
 pub returns-clause-err : goal.returns-clause-err
 returns-clause-err c =
