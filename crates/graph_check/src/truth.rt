@@ -1,5 +1,6 @@
 ghost use Rattle.std.specs.Prelude.{◌≡◌, ◌<◌, length};
 ghost use Rattle.pc_common.specs.World.{Node, World};
+ghost use Rattle.pc_syntax.specs.declared.limits.TheConstants.{MAX_VARIABLES};
 ghost use Rattle.pc_syntax.specs.Closed.{plain_closed, closed_forall, closed_exists, closed_nodes, closed_edges, closed_bind, closed_true, closed_satisfies};
 ghost use Rattle.pc_syntax.specs.IsClosed.{IsClosed, FitNodes, FitEdges, with_sort};
 ghost use Rattle.pc_ground.specs.Stages.{plain_axioms};
@@ -56,7 +57,7 @@ fn is_true(case: &Case, order: &Order, env: &Env, formula: &ClosedFormula) -> bo
 /// Whether the body of a quantifier is true at each value of its range.
 #[cycle(walk)]
 fn is_true_for_all(case: &Case, order: &Order, env: &Env, sort: Sort, body: &ClosedFormula) -> bool
-    requires room { length env.now.items < 32 }
+    requires room { length env.now.items < MAX_VARIABLES }
     requires closed { IsClosed (with_sort (scope_of env.now.items) sort) (plain_closed body.now) }
     requires range { AreInRange case.now env.now.items }
     ensures { (w : World Node) → Tells order.now.nodes order.now.reach w → result ≡ closed_true case.now w (meanings env.now.items) (closed_forall sort (plain_closed body.now)) }
@@ -74,7 +75,7 @@ fn is_true_for_all(case: &Case, order: &Order, env: &Env, sort: Sort, body: &Clo
 /// Whether the body of a quantifier is true at some value of its range.
 #[cycle(walk)]
 fn is_true_for_some(case: &Case, order: &Order, env: &Env, sort: Sort, body: &ClosedFormula) -> bool
-    requires room { length env.now.items < 32 }
+    requires room { length env.now.items < MAX_VARIABLES }
     requires closed { IsClosed (with_sort (scope_of env.now.items) sort) (plain_closed body.now) }
     requires range { AreInRange case.now env.now.items }
     ensures { (w : World Node) → Tells order.now.nodes order.now.reach w → result ≡ closed_true case.now w (meanings env.now.items) (closed_exists sort (plain_closed body.now)) }

@@ -1,4 +1,5 @@
 ghost use Rattle.std.specs.Prelude.{◌≡◌, ◌<◌, length, IfOk};
+ghost use Rattle.pc_syntax.specs.declared.limits.TheConstants.{MAX_VARIABLES};
 ghost use Rattle.pc_syntax.specs.Closed.{plain_closed, closed_bind};
 ghost use Rattle.pc_syntax.specs.IsClosed.{IsClosed, with_sort};
 ghost use Rattle.pc_ground.specs.PlainGround.{plain_ground, simplified};
@@ -99,7 +100,7 @@ fn ground_range(
     sort: Sort,
     body: &ClosedFormula,
 ) -> Result<Ground, Memory>
-    requires room { length env.now.items < 32 }
+    requires room { length env.now.items < MAX_VARIABLES }
     requires closed { IsClosed (with_sort (scope_of env.now.items) sort) (plain_closed body.now) }
     requires range { AreInRange case.now env.now.items }
     ensures { IfOk result (λ g. plain_ground g ≡ said_over connective case.now env.now.items sort (plain_closed body.now)) }

@@ -1,5 +1,6 @@
 ghost use Rattle.std.specs.Prelude.{◌≡◌, ◌<◌, ◌≤◌, ◌+◌, ◌++◌, ◌∷◌, [], length, map, take, Some};
 ghost use Rattle.pc_common.specs.Case.{Case as PlainCase};
+ghost use Rattle.pc_syntax.specs.declared.limits.TheConstants.{MAX_VARIABLES};
 ghost use Rattle.pc_syntax.specs.declared.term.Sort.TheVariants.{Microop};
 ghost use Rattle.pc_syntax.specs.Closed.{meaning_of, value_at, closed_value};
 ghost use Rattle.pc_syntax.specs.declared.pred.Takes.TheVariants.{Core as takes_core};
@@ -65,7 +66,7 @@ pub fn copy_of(env: &Env) -> Env
 
 /// Binds a quantifier's variable to its next value: `inside` begins with the slots outside.
 pub fn bind_next(env: &Env, inside: &mut Env, value: Bound)
-    requires room { length env.now.items < 32 }
+    requires room { length env.now.items < MAX_VARIABLES }
     requires begins { take (length env.now.items) inside.old.items ≡ env.now.items }
     ensures items { inside.new.items ≡ env.now.items ++ value ∷ [] }
     ensures begins { take (length env.now.items) inside.new.items ≡ env.now.items }
@@ -78,7 +79,7 @@ pub fn bind_next(env: &Env, inside: &mut Env, value: Bound)
 #[tactic(auto, using(crate::proofs::Walked::value_there, crate::proofs::SlotLaws::slot_more))]
 pub fn with_values(env: &Env, args: &ClosedArgs) -> Env
     requires values { HaveValues (scope_of env.now.items) args.now }
-    requires room { length env.now.items + length args.now ≤ 32 }
+    requires room { length env.now.items + length args.now ≤ MAX_VARIABLES }
     ensures meanings { meanings result.items ≡ meanings env.now.items ++ map (closed_value (meanings env.now.items)) args.now }
     ensures scope { scope_of result.items ≡ with_sorts (scope_of env.now.items) args.now }
     ensures range { (c : PlainCase) → AreInRange c env.now.items → AreInRange c result.items }
