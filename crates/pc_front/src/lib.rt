@@ -7,10 +7,12 @@
 mod faults;
 mod joining;
 mod laws;
+mod limits;
 mod model_front;
 mod reading;
 
 pub use joining::front;
 pub use laws::{model_or_fault, no_model_fault, one_model, one_model_fault};
+pub use limits::MAX_FILE;
 pub use model_front::{FrontEnd, ModelFront};
 pub use reading::read_model;

@@ -6,6 +6,7 @@ use Rattle.pc_common.specs.LineColumn.{line_of, column_of}
 use Rattle.pc_common.specs.Case.{Case}
 use Rattle.pc_common.specs.Faults.{Rose}
 use Rattle.pc_common.specs.Reads.{Reads}
+use Rattle.pc_front.specs.declared.limits.TheConstants.{MAX_FILE}
 use Rattle.pc_common.specs.declared.fault.InputFault.{InputFault}
 use Rattle.pc_common.specs.declared.fault.Which.{Which}
 use Rattle.pc_common.specs.declared.fault.Which.TheVariants.{Model, Test}
@@ -92,10 +93,10 @@ refused_answers : (holds : Contents) (i : Inputs) (mb tb : List ℕ) (r : Refusa
 refused_answers holds i mb tb r d rm rt =
     refusal_answers holds i (bytes_of r.fault.file mb tb) r.fault r (in_bytes rm rt d.0) (held_in holds i mb tb r.fault.file rm rt) refl d.1.0 d.1.1
 
-pub read_of : (holds : Contents) (name bytes : List ℕ) → holds name ≡ Some bytes → length bytes ≤ 1048576 → IsRead holds name bytes
+pub read_of : (holds : Contents) (name bytes : List ℕ) → holds name ≡ Some bytes → length bytes ≤ MAX_FILE → IsRead holds name bytes
 read_of holds name bytes held within = record { held = held; within = within }
 
-pub large_of : (holds : Contents) (name : List ℕ) → (bytes : List ℕ) × (holds name ≡ Some bytes) × (1048576 < length bytes) → IsTooLarge holds name
+pub large_of : (holds : Contents) (name : List ℕ) → (bytes : List ℕ) × (holds name ≡ Some bytes) × (MAX_FILE < length bytes) → IsTooLarge holds name
 large_of holds name l = record { bytes = l.0; held = l.1; past = l.2 }
 
 -- one call that reads, and then another

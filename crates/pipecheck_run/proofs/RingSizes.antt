@@ -6,6 +6,7 @@ use Rattle.std.proofs.Math.Nat.{mod-le}
 use Rattle.std.specs.Prelude.{codes}
 use Rattle.std.specs.Fmt.{decimal}
 use Rattle.std.specs.List.{flat_map, range_with_len}
+use Rattle.pc_front.specs.declared.limits.TheConstants.{MAX_FILE}
 use Rattle.gen_texts.specs.Ring.{op_line, core_lines, ring_test}
 
 lengths : (a b c d e f g h i j k : List ℕ)
@@ -44,7 +45,7 @@ cores_short n a (suc k) few =
 three_parts : (a b c : List ℕ) → length (a ++ b ++ c) ≡ length a + length b + length c
 three_parts a b c = simp length-append
 
-pub ring_short : (n : ℕ) → n ≤ 16 → length (ring_test n) ≤ 1048576
+pub ring_short : (n : ℕ) → n ≤ 16 → length (ring_test n) ≤ MAX_FILE
 ring_short n few =
     let all : length (ring_test n) ≡ 15 + length (flat_map (core_lines n) (range_with_len 0 n)) + 11 =
     three_parts (codes "Litmus \"ring\".\n") (flat_map (core_lines n) (range_with_len 0 n)) (codes "Forbidden.\n") in

@@ -2,6 +2,7 @@
 use Rattle.std.specs.Prelude.{◌≡◌, ◌⊎◌, ℕ, ◌<◌, ◌≤◌, List, Option, Some, None, length}
 use Rattle.pc_common.specs.Case.{Case}
 use Rattle.pc_common.specs.declared.fault.FaultKind.TheVariants.{TooLarge}
+use Rattle.pc_front.specs.declared.limits.TheConstants.{MAX_FILE}
 use Rattle.pc_common.specs.declared.place.Place.{Place}
 use Rattle.pc_common.specs.declared.fault.InputFault.{InputFault}
 use Rattle.pc_common.specs.declared.fault.Which.{Which}
@@ -11,10 +12,6 @@ use Rattle.litmus_reader.specs.Answer.{CaseOf}
 use Rattle.pc_front.specs.Front.{SaysModel, IsFirstFault as IsFaultOf, fault_at}
 use Rattle.pipecheck_run.specs.Command.{Inputs}
 
--- how many bytes a model or a test may have
-abbrev pub file_limit : ℕ
-file_limit = 1048576
-
 -- what a name holds, by name
 abbrev pub Contents : Type 0
 Contents = List ℕ → Option (List ℕ)
@@ -22,18 +19,18 @@ Contents = List ℕ → Option (List ℕ)
 -- the file is held and within the limit
 pub record IsRead (holds : Contents) (name bytes : List ℕ) : Type 0 where
   pub held : holds name ≡ Some bytes
-  pub within : length bytes ≤ file_limit
+  pub within : length bytes ≤ MAX_FILE
 
 pub record IsTooLarge (holds : Contents) (name : List ℕ) : Type 0 where
   pub bytes : List ℕ
   pub held : holds name ≡ Some bytes
-  pub past : file_limit < length bytes
+  pub past : MAX_FILE < length bytes
 
 abbrev pub start : Place
 start = record { offset = 0 }
 
 abbrev pub too_large : Which → InputFault
-too_large file = fault_at file (TooLarge file_limit) start
+too_large file = fault_at file (TooLarge MAX_FILE) start
 
 -- the first fault: size as the files are read, the model's first; then that of the bytes of the two
 pub data IsFirstFault (holds : Contents) (i : Inputs) : InputFault → Type 0 where

@@ -1,4 +1,5 @@
 ghost use Rattle.std.specs.Prelude.{◌≡◌, ◌≤◌, length, MatchResult};
+ghost use Rattle.pc_front.specs.declared.limits.TheConstants.{MAX_FILE};
 ghost use Rattle.pc_front.specs.Front.{fault_at, SayFront};
 ghost use Rattle.pipecheck_run.specs.Parsed.{named};
 ghost use Rattle.pipecheck_run.specs.Inputs.{start};
@@ -9,12 +10,9 @@ use super::answer::Answer;
 use super::command::Inputs;
 use super::refusal::placed;
 use pc_common::{FaultKind, Files, InputFault, Place, ReadEnd, Which, read_all};
-use pc_front::{FrontEnd, front};
+use pc_front::{FrontEnd, MAX_FILE, front};
 use pc_ground::Front;
 use std::alloc::Global;
-
-/// How many bytes a model or a test may have.
-const FILE_LIMIT: usize = 1_048_576;
 
 /// A fault that stands at the first byte of a file.
 fn at_start(file: Which, kind: FaultKind) -> InputFault
@@ -35,7 +33,7 @@ fn ended(file: Which, end: ReadEnd) -> Answer
         ReadEnd::ReadFault => Answer::ReadFault,
         ReadEnd::Memory => Answer::Memory,
         ReadEnd::TooLarge => {
-            let limit = FILE_LIMIT as u64;
+            let limit = MAX_FILE as u64;
             Answer::Refused(placed(at_start(file, FaultKind::TooLarge { limit }), b""))
         }
     }
@@ -53,8 +51,8 @@ fn bytes_of<'a>(file: Which, model: &'a [u8], test: &'a [u8]) -> &'a [u8]
 
 /// The front of the bytes of the two files, or the answer where they say none.
 pub(crate) fn front_of(alloc: Global, model: &[u8], test: &[u8]) -> Result<Front, Answer>
-    requires model_short { length model.now ≤ 1048576 }
-    requires test_short { length test.now ≤ 1048576 }
+    requires model_short { length model.now ≤ MAX_FILE }
+    requires test_short { length test.now ≤ MAX_FILE }
     ensures { MatchResult result (SayFront model.now test.now) (IsFrontEnd model.now test.now) }
 {
     match front(alloc, model, test) {
@@ -77,11 +75,11 @@ pub(crate) fn read_inputs<F: Files>(
         (HasFront F.told F.holds F.calm F.faults (named inputs.entry) files.old files.new)
         (EndsAt F.told F.holds F.calm F.faults (named inputs.entry) files.old files.new) }
 {
-    let model = match read_all(alloc, files, inputs.model, FILE_LIMIT) {
+    let model = match read_all(alloc, files, inputs.model, MAX_FILE) {
         Ok(bytes) => bytes,
         Err(end) => return Err(ended(Which::Model, end)),
     };
-    let test = match read_all(alloc, files, inputs.test, FILE_LIMIT) {
+    let test = match read_all(alloc, files, inputs.test, MAX_FILE) {
         Ok(bytes) => bytes,
         Err(end) => return Err(ended(Which::Test, end)),
     };

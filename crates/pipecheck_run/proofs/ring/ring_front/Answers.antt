@@ -1,4 +1,5 @@
 use Rattle.std.proofs.Common.{◌≤◌, ◌∙◌, ℕ, List, length, sym, subst}
+use Rattle.pc_front.specs.declared.limits.TheConstants.{MAX_FILE}
 use Rattle.gen_texts.specs.Ring.{ring_model, ring_test}
 use Rattle.pipecheck_run.proofs.RingSizes.{ring_short}
 use Rattle.pipecheck_run.proofs.RingTold.{front_moved}
@@ -6,7 +7,7 @@ use Rattle.pipecheck_run.proofs.ring.ring_front.Goals as goal
 
 pub front_of-requires-clause-test_short : goal.front_of-requires-clause-test_short
 front_of-requires-clause-test_short c =
-    let P : List ℕ → Type 0 = λ t. length t ≤ 1048576 in
+    let P : List ℕ → Type 0 = λ t. length t ≤ MAX_FILE in
     subst P (sym (c.deref-in-Ok.ensures.value ∙ c.in-Ok.ensures.1)) (ring_short c.args.n c.requires.1)
 
 pub returns-in-Ok : goal.returns-in-Ok
