@@ -25,6 +25,8 @@ mod pieces;
 #[cfg(test)]
 mod predicates;
 #[cfg(test)]
+mod showing;
+#[cfg(test)]
 mod shown;
 #[cfg(test)]
 mod shown_closed;
