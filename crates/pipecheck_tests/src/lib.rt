@@ -19,6 +19,8 @@ mod models;
 #[cfg(test)]
 mod names;
 #[cfg(test)]
+mod nodes;
+#[cfg(test)]
 mod outside;
 #[cfg(test)]
 mod pieces;

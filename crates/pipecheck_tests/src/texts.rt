@@ -1,5 +1,7 @@
 //! What several tables need: texts put together, and texts read as far as a test asks.
 use pc_common::{Bytes, Calls, Held, HeldFile, Memory};
+use pc_front::{FrontEnd, front};
+use pc_ground::Front;
 use pc_syntax::ModelFile;
 use std::alloc::Global;
 use uspec_lexer::tokens;
@@ -35,6 +37,15 @@ pub(crate) fn written_model(alloc: Global, text: &[u8]) -> Option<ModelFile> {
     }
     let tokens = tokens(alloc, text).ok()?;
     parse_model(alloc, &tokens).ok()
+}
+
+/// What both files say, or why they say nothing.
+pub(crate) fn front_of(alloc: Global, model: &str, test: &str) -> Result<Front, FrontEnd> {
+    let (model, test) = (model.as_bytes(), test.as_bytes());
+    if model.len() > 1_048_576 || test.len() > 1_048_576 {
+        return Err(FrontEnd::Memory);
+    }
+    front(alloc, model, test)
 }
 
 fn bytes(alloc: Global, text: &str) -> Result<Bytes, Memory> {

@@ -1,8 +1,8 @@
 //! Ground trees as rows in preorder, and the numbers of their nodes.
-use super::texts::{put, put_number};
+use super::texts::{front_of, put, put_number};
 use example_texts::{EITHER_ORDER, EMPTY, FAR_CORE, NO_EDGES, SOME_OP, TWO_CORES, TWO_FORBIDDEN};
 use pc_common::{FaultKind, InputFault, Memory, Place, Which};
-use pc_front::{FrontEnd, front};
+use pc_front::FrontEnd;
 use pc_ground::{Flat, Front, Literal, NodeKey, Numbering, RowKind};
 use std::alloc::Global;
 use std::test::Fail;
@@ -129,14 +129,6 @@ fn are_shown(alloc: Global, front: &Front, rows: &str, nodes: &str) -> Result<bo
         put(&mut want, piece.as_bytes())?;
     }
     Ok(out.as_slice() == want.as_slice())
-}
-
-fn front_of(alloc: Global, model: &str, test: &str) -> Result<Front, FrontEnd> {
-    let (model, test) = (model.as_bytes(), test.as_bytes());
-    if model.len() > 1_048_576 || test.len() > 1_048_576 {
-        return Err(FrontEnd::Memory);
-    }
-    front(alloc, model, test)
 }
 
 #[test]
