@@ -8,6 +8,28 @@ use example_texts::{
 use pc_common::Status;
 use std::test::Fail;
 
+/// Neither of two choices has a side that is closed at once.
+const BOTH_OPEN: &str = "StageName 0 \"S\". StageName 1 \"T\". StageName 2 \"U\".
+Axiom \"x\": forall microops \"i\",
+  (AddEdge ((i, S), (i, T)) \\/ AddEdge ((i, S), (i, U)))
+  /\\ (AddEdges [((i, T), (i, S)); ((i, U), (i, S))]
+    \\/ AddEdges [((i, T), (i, U)); ((i, U), (i, S))]).
+";
+
+/// Both choices have one side that is closed at once.
+const BOTH_HALF_OPEN: &str = "StageName 0 \"S\". StageName 1 \"T\". StageName 2 \"U\".
+Axiom \"x\": forall microops \"i\", AddEdge ((i, S), (i, T))
+  /\\ (AddEdge ((i, T), (i, S)) \\/ AddEdge ((i, T), (i, U)))
+  /\\ (AddEdge ((i, T), (i, S)) \\/ AddEdge ((i, U), (i, S))).
+";
+
+/// Of the first choice no side is closed at once, of the second both are.
+const SECOND_CLOSED: &str = "StageName 0 \"S\". StageName 1 \"T\". StageName 2 \"U\".
+Axiom \"x\": forall microops \"i\", AddEdge ((i, S), (i, T))
+  /\\ (AddEdge ((i, U), (i, S)) \\/ AddEdge ((i, T), (i, U)))
+  /\\ (AddEdge ((i, T), (i, S)) \\/ AddEdges [((i, T), (i, U)); ((i, U), (i, S))]).
+";
+
 /// A model and a test, and how a check of them ends.
 const VERDICTS: &[(&'static str, &'static str, Status, &'static str)] = &[
     (
@@ -111,6 +133,26 @@ const VERDICTS: &[(&'static str, &'static str, Status, &'static str)] = &[
         TWO,
         Status::Observable,
         "observable\ntest permitted: ok\nend\n",
+    ),
+    // of two choices with equally many open sides the one at the lower position is split
+    (
+        BOTH_OPEN,
+        ONE,
+        Status::Unobservable,
+        "unobservable\ntest unstated\nsplit 1\nsplit 4\ncycle 0.0@0:S 0.0@0:T\ncycle 0.0@0:S 0.0@0:T 0.0@0:U\nsplit 4\ncycle 0.0@0:S 0.0@0:U\ncycle 0.0@0:S 0.0@0:U\nend\n",
+    ),
+    (
+        BOTH_HALF_OPEN,
+        ONE,
+        Status::Unobservable,
+        "unobservable\ntest unstated\nsplit 3\ncycle 0.0@0:S 0.0@0:T\nsplit 6\ncycle 0.0@0:S 0.0@0:T\ncycle 0.0@0:S 0.0@0:T 0.0@0:U\nend\n",
+    ),
+    // a choice with a closed side goes before an open one at a lower position
+    (
+        SECOND_CLOSED,
+        ONE,
+        Status::Unobservable,
+        "unobservable\ntest unstated\nsplit 6\ncycle 0.0@0:S 0.0@0:T\ncycle 0.0@0:S 0.0@0:T 0.0@0:U\nend\n",
     ),
 ];
 
