@@ -173,11 +173,13 @@ fn is_held(sink: &MemSink, text: &[u8], taken: usize, faults: u64) -> bool {
     taken <= text.len() && sink.taken() == &text[..taken] && sink.faults() == faults
 }
 
-/// 10,000 bytes: 0 to 250, over and over.
+/// 10,000 bytes: 0 to 249, over and over.
 fn long_text(alloc: Global) -> Result<Vec<u8>, Memory> {
     let mut text = Vec::new(alloc);
-    for k in 0..10_000 {
-        text.push((k % 251) as u8)?;
+    for _ in 0..40 {
+        for k in 0..250 {
+            text.push(k)?;
+        }
     }
     Ok(text)
 }
