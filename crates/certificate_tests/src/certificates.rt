@@ -1,8 +1,8 @@
 //! Certificates judged by the checker, whole and in pieces.
 ghost use Rattle.std.specs.Prelude.{◌<◌};
 
-use super::examples::{EITHER_ORDER, ORDERED, STORE_BUFFER, STORE_BUFFERING, TWO, TWO_FORBIDDEN};
 use cert_check::{Checked, Checker, check_text};
+use example_texts::{EITHER_ORDER, ORDERED, STORE_BUFFER, STORE_BUFFERING, TWO, TWO_FORBIDDEN};
 use pc_common::Memory;
 use pc_front::front;
 use pc_ground::Front;

@@ -7,8 +7,6 @@
 #[cfg(test)]
 mod certificates;
 #[cfg(test)]
-mod examples;
-#[cfg(test)]
 mod generating;
 #[cfg(test)]
 mod running;

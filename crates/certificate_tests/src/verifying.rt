@@ -1,8 +1,8 @@
 //! The command verify: a text judged against a model and a test, whoever made it.
 use super::certificates::JUDGED;
-use super::examples::{ORDERED, TWO};
 use super::running::ends_over;
 use cert_check::Checked;
+use example_texts::{ORDERED, TWO};
 use pc_common::{Memory, Status};
 use std::alloc::Global;
 use std::test::Fail;

@@ -1,46 +1,12 @@
 //! The top call: from words and files to a status and a text.
 use super::texts::{calls, held};
+use example_texts::{BOTH_ORDERS, EMPTY, ITSELF, ONE, ORDERED, TWO, TWO_FORBIDDEN};
 use pc_common::{
     Bytes, Calls, Held, HeldFile, MemFiles, MemSink, Memory, Status, SureFiles, SureSink,
 };
 use pipecheck_run::run;
 use std::alloc::Global;
 use std::test::Fail;
-
-const ORDERED: &str = "StageName 0 \"S\".
-Axiom \"PO\": forall microops \"i\", forall microops \"j\",
-  ProgramOrder i j => AddEdge ((i, S), (j, S), \"po\").
-";
-
-const REVERSE: &str = "StageName 0 \"S\".
-Axiom \"PO\": forall microops \"i\", forall microops \"j\",
-  ProgramOrder i j => AddEdge ((i, S), (j, S), \"po\").
-Axiom \"rev\": forall microops \"i\", forall microops \"j\",
-  ProgramOrder i j => AddEdge ((j, S), (i, S), \"rev\").
-";
-
-const ITSELF: &str = "StageName 0 \"S\".
-Axiom \"self\": forall microops \"i\", AddEdge ((i, S), (i, S), \"\").
-";
-
-const EMPTY: &str = "Litmus \"e\".
-";
-
-const ONE: &str = "Litmus \"o\".
-Microop 0 0 0 0 (Write (VA 0 0) (PA 0 0) (Data 1)).
-";
-
-const TWO: &str = "Litmus \"t\".
-Microop 0 0 0 0 (Write (VA 0 0) (PA 0 0) (Data 1)).
-Microop 1 0 0 0 (Write (VA 0 0) (PA 0 0) (Data 2)).
-Permitted.
-";
-
-const TWO_FORBIDDEN: &str = "Litmus \"t\".
-Microop 0 0 0 0 (Write (VA 0 0) (PA 0 0) (Data 1)).
-Microop 1 0 0 0 (Write (VA 0 0) (PA 0 0) (Data 2)).
-Forbidden.
-";
 
 const SEEN: &str = "observable
 test permitted: ok
@@ -122,8 +88,8 @@ const CHECKS: &[(&'static str, &'static str, Status, &'static str)] = &[
         "observable\ntest unstated\nend\n",
     ),
     (ORDERED, TWO, Status::Observable, SEEN),
-    (REVERSE, TWO_FORBIDDEN, Status::Unobservable, CYCLE),
-    (REVERSE, TWO, Status::Unobservable, STRICTER),
+    (BOTH_ORDERS, TWO_FORBIDDEN, Status::Unobservable, CYCLE),
+    (BOTH_ORDERS, TWO, Status::Unobservable, STRICTER),
     (
         ITSELF,
         ONE,
@@ -313,7 +279,7 @@ const ANSWERED: &[Answered] = &[
         text: SEEN,
     },
     Answered {
-        model: REVERSE,
+        model: BOTH_ORDERS,
         test: TWO_FORBIDDEN,
         text: CYCLE,
     },

@@ -19,11 +19,15 @@ mod models;
 #[cfg(test)]
 mod names;
 #[cfg(test)]
+mod nodes;
+#[cfg(test)]
 mod outside;
 #[cfg(test)]
 mod pieces;
 #[cfg(test)]
 mod predicates;
+#[cfg(test)]
+mod showing;
 #[cfg(test)]
 mod shown;
 #[cfg(test)]

@@ -1,144 +1,127 @@
 //! Stages, macros, and axioms with each macro in its place.
 use super::shown::show;
-use super::texts::{put, written_model};
+use super::texts::{is_refused_at, put, written_model};
 use macro_expand::{MacroFault, expand, stage_faults};
 use pc_common::{FaultKind, Memory, Place};
 use pc_syntax::{Expanded, ModelFile};
 use std::alloc::Global;
 use std::test::Fail;
 
-/// Stages, and their first fault with its place.
-const STAGES: &[(&'static str, Option<(FaultKind, Place)>)] = &[
-    ("", None),
-    ("StageName 63 \"S\". StageName 0 \"T\".", None),
-    (
-        "StageName 64 \"S\".",
-        Some((FaultKind::StageNumber { number: 64 }, Place { offset: 10 })),
-    ),
-    (
-        "StageName 1 \"S\". StageName 1 \"T\".",
-        Some((
-            FaultKind::StageAgain {
-                first: Place { offset: 10 },
-                again: Place { offset: 27 },
-            },
-            Place { offset: 27 },
-        )),
-    ),
-    (
-        "StageName 1 \"S\". StageName 2 \"S\".",
-        Some((
-            FaultKind::StageAgain {
-                first: Place { offset: 12 },
-                again: Place { offset: 29 },
-            },
-            Place { offset: 29 },
-        )),
-    ),
-    // of one stage the number is judged first, and stages stand anywhere
-    (
-        "StageName 1 \"S\". StageName 1 \"S\".",
-        Some((
-            FaultKind::StageAgain {
-                first: Place { offset: 10 },
-                again: Place { offset: 27 },
-            },
-            Place { offset: 27 },
-        )),
-    ),
-    (
-        "StageName 1 \"S\". Axiom \"x\": True. StageName 1 \"T\".",
-        Some((
-            FaultKind::StageAgain {
-                first: Place { offset: 10 },
-                again: Place { offset: 44 },
-            },
-            Place { offset: 44 },
-        )),
-    ),
-];
+/// Stages without a fault.
+const STAGES: &[&'static str] = &["", "StageName 63 \"S\". StageName 0 \"T\"."];
 
 #[test]
-fn a_stage_has_a_number_and_a_name_of_its_own(rt: HostRuntime) -> Result<(), Fail> {
-    for (text, want) in STAGES {
+fn stages_differ_in_number_and_name(rt: HostRuntime) -> Result<(), Fail> {
+    for text in STAGES {
         let model = written_model(rt.alloc(), text.as_bytes()).ok_or("no model")?;
-        assert_eq!(rt; stage_faults(&model), *want, "{text}");
+        assert!(rt; stage_faults(&model).is_none(), "{text}");
     }
     Ok(())
 }
 
-/// A model, and its axioms as `show` writes them, an axiom a line, or its fault.
-const MODELS: &[(&'static str, Result<&'static str, MacroFault>)] = &[
-    ("", Ok("")),
-    ("Axiom \"x\": ~True.", Ok("Not(True)\n")),
+/// Stages, and the places of a number or a name and of the same once more, which is their first fault.
+const STAGES_AGAIN: &[(&'static str, u32, u32)] = &[
+    ("StageName 1 \"S\". StageName 1 \"T\".", 10, 27),
+    ("StageName 1 \"S\". StageName 2 \"S\".", 12, 29),
+    // of one stage the number is judged first, and stages stand anywhere
+    ("StageName 1 \"S\". StageName 1 \"S\".", 10, 27),
+    (
+        "StageName 1 \"S\". Axiom \"x\": True. StageName 1 \"T\".",
+        10,
+        44,
+    ),
+];
+
+#[test]
+fn a_stage_has_a_number_and_a_name_of_its_own(rt: HostRuntime) {
+    for (text, first, again) in STAGES_AGAIN {
+        let kind = FaultKind::StageAgain {
+            first: Place { offset: *first },
+            again: Place { offset: *again },
+        };
+        assert!(rt; is_refused_at(rt.alloc(), text, *again, kind), "{text}");
+    }
+}
+
+/// A model, and its axioms as `show` writes them, an axiom a line.
+const EXPANDED: &[(&'static str, &'static str)] = &[
+    ("", ""),
+    ("Axiom \"x\": ~True.", "Not(True)\n"),
     (
         "DefineMacro \"m\": ~True. Axiom \"x\": ExpandMacro m.",
-        Ok("Bind(=: Not(True))\n"),
+        "Bind(=: Not(True))\n",
     ),
     // an axiom before its macro, and a macro in a macro
     (
         "Axiom \"x\": ExpandMacro n /\\ True.
 DefineMacro \"m\" \"a\" \"b\": SameMicroop a b.
 DefineMacro \"n\": ~ExpandMacro m i 3.",
-        Ok("And(Bind(=: Not(Bind(a b = i 3: SameMicroop a b))), True)\n"),
+        "And(Bind(=: Not(Bind(a b = i 3: SameMicroop a b))), True)\n",
     ),
     (
         "DefineMacro \"m\" \"a\": IsAnyRead a.
 Axiom \"x\": ExpandMacro m i. Axiom \"y\": ~ExpandMacro m j.",
-        Ok("Bind(a = i: IsAnyRead a)\nNot(Bind(a = j: IsAnyRead a))\n"),
+        "Bind(a = i: IsAnyRead a)\nNot(Bind(a = j: IsAnyRead a))\n",
     ),
     // a macro that no axiom reaches is not expanded
     (
         "DefineMacro \"a\": True /\\ True. DefineMacro \"b\": ExpandMacro a /\\ ExpandMacro a.
 Axiom \"x\": True.",
-        Ok("True\n"),
+        "True\n",
+    ),
+];
+
+/// A model, and the place and the kind of its first fault.
+const FAULTS: &[(&'static str, u32, FaultKind)] = &[
+    (
+        "StageName 64 \"S\".",
+        10,
+        FaultKind::StageNumber { number: 64 },
     ),
     // a macro sees the macros before it only, and an axiom all of them
     (
         "DefineMacro \"m\": ExpandMacro m.",
-        Err(MacroFault::Unknown {
-            at: Place { offset: 29 },
-        }),
+        29,
+        FaultKind::MacroUnknown,
     ),
     (
         "DefineMacro \"m\": ExpandMacro n. DefineMacro \"n\": True.",
-        Err(MacroFault::Unknown {
-            at: Place { offset: 29 },
-        }),
+        29,
+        FaultKind::MacroUnknown,
     ),
     (
         "Axiom \"x\": ExpandMacro m. DefineMacro \"m\": True. DefineMacro \"m\" \"a\": True.",
-        Err(MacroFault::Again {
-            at: Place { offset: 61 },
+        61,
+        FaultKind::MacroAgain {
             first: Place { offset: 38 },
             again: Place { offset: 61 },
-        }),
+        },
     ),
     // of two macros of one name the first counts, and the axiom stands before the second
     (
         "Axiom \"x\": ExpandMacro m 1. DefineMacro \"m\": True. DefineMacro \"m\" \"a\": True.",
-        Err(MacroFault::Arguments {
-            at: Place { offset: 23 },
+        23,
+        FaultKind::MacroArguments {
             found: 1,
             wanted: 0,
-        }),
+        },
     ),
     // of a macro the name is judged, then the parameters, then the body
     (
         "DefineMacro \"m\": True. DefineMacro \"m\" \"a\" \"a\": ExpandMacro n.",
-        Err(MacroFault::Again {
-            at: Place { offset: 35 },
+        35,
+        FaultKind::MacroAgain {
             first: Place { offset: 12 },
             again: Place { offset: 35 },
-        }),
+        },
     ),
     (
         "DefineMacro \"m\" \"a\" \"b\" \"a\": ExpandMacro n.",
-        Err(MacroFault::ParameterAgain {
-            at: Place { offset: 24 },
+        24,
+        FaultKind::ParameterAgain {
             first: Place { offset: 16 },
             again: Place { offset: 24 },
-        }),
+        },
     ),
 ];
 
@@ -150,23 +133,26 @@ fn show_axioms(out: &mut Vec<u8>, axioms: &[Expanded]) -> Result<(), Memory> {
     Ok(())
 }
 
-fn show_expanded(out: &mut Vec<u8>, alloc: Global, model: &ModelFile) -> Result<(), MacroFault> {
+/// Whether the model's axioms are shown so.
+fn is_expanded_so(alloc: Global, model: &ModelFile, shown: &str) -> Result<bool, MacroFault> {
     let axioms = expand(alloc, model)?;
-    show_axioms(out, axioms.as_slice())?;
+    let mut out = Vec::new(alloc);
+    show_axioms(&mut out, axioms.as_slice())?;
+    Ok(out.as_slice() == shown.as_bytes())
+}
+
+#[test]
+fn each_macro_stands_in_its_place(rt: HostRuntime) -> Result<(), Fail> {
+    for (text, shown) in EXPANDED {
+        let model = written_model(rt.alloc(), text.as_bytes()).ok_or("no model")?;
+        assert!(rt; is_expanded_so(rt.alloc(), &model, shown)?, "{text}");
+    }
     Ok(())
 }
 
 #[test]
-fn each_macro_stands_in_its_place_or_the_first_fault_is_named(rt: HostRuntime) -> Result<(), Fail> {
-    for (text, want) in MODELS {
-        let model = written_model(rt.alloc(), text.as_bytes()).ok_or("no model")?;
-        let mut out = Vec::new(rt.alloc());
-        let is_answer = match (show_expanded(&mut out, rt.alloc(), &model), want) {
-            (Ok(()), Ok(shown)) => out.as_slice() == shown.as_bytes(),
-            (Err(fault), Err(wanted)) => fault == *wanted,
-            _ => false,
-        };
-        assert!(rt; is_answer, "{text}");
+fn the_first_fault_of_stages_and_macros_is_told(rt: HostRuntime) {
+    for (text, offset, kind) in FAULTS {
+        assert!(rt; is_refused_at(rt.alloc(), text, *offset, *kind), "{text}");
     }
-    Ok(())
 }

@@ -1,8 +1,8 @@
-//! Files, sinks, places and statuses.
+//! Files, sinks, rooms in front of sinks, places and statuses.
 use super::texts::{calls, held};
 use pc_common::{
-    MemFiles, MemSink, Memory, Place, ReadEnd, Status, SureFiles, SureSink, line_col, read_all,
-    write_all,
+    MemFiles, MemSink, Memory, Place, ReadEnd, Room, Status, SureFiles, SureSink, line_col,
+    read_all, write_all,
 };
 use std::alloc::Global;
 use std::test::Fail;
@@ -123,6 +123,76 @@ fn a_sink_takes_what_its_room_and_its_calls_let_through(rt: HostRuntime) -> Resu
         assert!(rt;
             is_taken_as(&mut sink, text, *faults),
             "{text} in {room} by {step}"
+        );
+    }
+    Ok(())
+}
+
+/// The lengths of the pieces that are put into a room, how often it is flushed then, the calls of the sink that
+/// fail, how many bytes the sink holds then, and how many calls failed.
+const ROOMS: &[(&'static [usize], u8, &'static [u64], usize, u64)] = &[
+    // an empty room is flushed without a call
+    (&[], 1, &[1], 0, 0),
+    // pieces that fill the room wait, also with an empty one behind them, and one byte more hands them on
+    (&[4000, 96], 0, &[1], 0, 0),
+    (&[4096, 0], 0, &[1], 0, 0),
+    (&[4000, 96, 1], 0, &[2], 4096, 0),
+    (&[4000, 96, 1], 1, &[3], 4097, 0),
+    (&[4096], 1, &[2], 4096, 0),
+    // a piece that is longer than the room
+    (&[4097], 0, &[2], 4096, 0),
+    (&[10_000], 0, &[3], 8192, 0),
+    (&[10_000], 1, &[4], 10_000, 0),
+    // what went out does not go out again
+    (&[5], 2, &[2], 5, 0),
+    // what a failing call did not take waits on, and of a piece that fails what the room had space for
+    (&[5], 1, &[1], 0, 1),
+    (&[5], 2, &[1], 5, 1),
+    (&[5000], 0, &[1], 0, 1),
+    (&[5000], 1, &[1], 4096, 1),
+];
+
+/// Puts the next bytes of the text, in pieces of these lengths, and flushes; whether no call failed.
+fn is_put(sink: &mut MemSink, text: &[u8], pieces: &[usize], flushes: u8) -> bool {
+    let mut room = Room::new(sink);
+    let mut rest = text;
+    let mut is_put = true;
+    for length in pieces {
+        let length = rest.len().min(*length);
+        is_put = room.put(&rest[..length]).is_ok() && is_put;
+        rest = &rest[length..];
+    }
+    for _ in 0..flushes {
+        is_put = room.flush().is_ok() && is_put;
+    }
+    is_put
+}
+
+/// Whether the sink then holds so many bytes of the text, and so many calls failed.
+fn is_held(sink: &MemSink, text: &[u8], taken: usize, faults: u64) -> bool {
+    taken <= text.len() && sink.taken() == &text[..taken] && sink.faults() == faults
+}
+
+/// 10,000 bytes: 0 to 249, over and over.
+fn long_text(alloc: Global) -> Result<Vec<u8>, Memory> {
+    let mut text = Vec::new(alloc);
+    for _ in 0..40 {
+        for k in 0..250 {
+            text.push(k)?;
+        }
+    }
+    Ok(text)
+}
+
+#[test]
+fn a_room_hands_on_what_it_has_no_space_for(rt: HostRuntime) -> Result<(), Fail> {
+    let text = long_text(rt.alloc())?;
+    for (pieces, flushes, fails, taken, faults) in ROOMS {
+        let mut sink = MemSink::new(rt.alloc(), 10_000, calls(rt.alloc(), fails)?)?;
+        let is_put = is_put(&mut sink, &text, pieces, *flushes);
+        assert!(rt;
+            is_put == (*faults == 0) && is_held(&sink, &text, *taken, *faults),
+            "{taken} bytes after {flushes} flushes, {faults} faults"
         );
     }
     Ok(())

@@ -1,143 +1,97 @@
 //! A written formula as a text of its own, outside before inside: `And(True, Not(IsAnyRead i))`.
+use super::showing::{Shown, show_args, show_core, show_edge, show_list, show_sort};
 use super::texts::{put, put_number};
 use pc_common::Memory;
 use pc_syntax::{Arg, EdgeTerm, Formula, Name, NodeTerm, Sort};
 
-fn show_arg(out: &mut Vec<u8>, arg: &Arg) -> Result<(), Memory> {
-    match arg {
-        Arg::Word(word) => put(out, word.name.as_slice()),
-        Arg::Number(number, _) => put_number(out, *number),
+impl Shown for Arg {
+    fn show(&self, out: &mut Vec<u8>) -> Result<(), Memory> {
+        match self {
+            Arg::Word(word) => put(out, word.name.as_slice()),
+            Arg::Number(number, _) => put_number(out, *number),
+        }
     }
 }
 
 /// `i:S`, or `i@c:S` with a core.
-fn show_node(out: &mut Vec<u8>, node: &NodeTerm) -> Result<(), Memory> {
-    put(out, node.op.name.as_slice())?;
-    if let Some(core) = &node.core {
-        put(out, b"@")?;
-        show_arg(out, core)?;
-    }
-    put(out, b":")?;
-    put(out, node.stage.name.as_slice())
-}
-
-fn show_nodes(out: &mut Vec<u8>, nodes: &[NodeTerm]) -> Result<(), Memory> {
-    put(out, b"Nodes[")?;
-    for node in nodes {
-        show_node(out, node)?;
-        put(out, b";")?;
-    }
-    put(out, b"]")
-}
-
-fn show_edges(out: &mut Vec<u8>, edges: &[EdgeTerm]) -> Result<(), Memory> {
-    put(out, b"Edges[")?;
-    for edge in edges {
-        show_node(out, &edge.from)?;
-        put(out, b">")?;
-        show_node(out, &edge.to)?;
-        put(out, b";")?;
-    }
-    put(out, b"]")
-}
-
-/// A name and the arguments behind it.
-fn show_words(out: &mut Vec<u8>, name: &[u8], args: &[Arg]) -> Result<(), Memory> {
-    put(out, name)?;
-    for arg in args {
-        put(out, b" ")?;
-        show_arg(out, arg)?;
-    }
-    Ok(())
-}
-
-pub(crate) fn show_sort(out: &mut Vec<u8>, sort: Sort) -> Result<(), Memory> {
-    match sort {
-        Sort::Microop => put(out, b"microop"),
-        Sort::Core => put(out, b"core"),
+impl Shown for NodeTerm {
+    fn show(&self, out: &mut Vec<u8>) -> Result<(), Memory> {
+        put(out, self.op.name.as_slice())?;
+        show_core(out, self.core.as_ref())?;
+        put(out, self.stage.name.as_slice())
     }
 }
 
-/// `microop i, `, what stands in front of a quantifier's body.
-fn show_variable(out: &mut Vec<u8>, sort: Sort, name: &[u8]) -> Result<(), Memory> {
-    show_sort(out, sort)?;
+impl Shown for EdgeTerm {
+    fn show(&self, out: &mut Vec<u8>) -> Result<(), Memory> {
+        show_edge(out, &self.from, &self.to)
+    }
+}
+
+/// `Forall(microop i, `, what stands in front of a quantifier's body.
+fn show_variable(
+    out: &mut Vec<u8>,
+    quantifier: &[u8],
+    sort: Sort,
+    name: &[u8],
+) -> Result<(), Memory> {
+    show_sort(out, quantifier, sort)?;
     put(out, b" ")?;
     put(out, name)?;
     put(out, b", ")
 }
 
-/// `a b = i 3: `, what stands in front of a binding's body.
+/// `Bind(a b = i 3: `, what stands in front of a binding's body.
 fn show_binding(out: &mut Vec<u8>, names: &[Name], args: &[Arg]) -> Result<(), Memory> {
+    put(out, b"Bind(")?;
     for name in names {
         put(out, name.as_slice())?;
         put(out, b" ")?;
     }
-    show_words(out, b"=", args)?;
+    show_args(out, b"=", args)?;
     put(out, b": ")
 }
 
-pub(crate) fn show(out: &mut Vec<u8>, formula: &Formula) -> Result<(), Memory> {
+/// What stands in front of the formulas inside, or the whole of a formula that has none.
+fn show_front(out: &mut Vec<u8>, formula: &Formula) -> Result<(), Memory> {
     match formula {
-        Formula::Not(body) => {
-            put(out, b"Not(")?;
-            show(out, body)?;
+        Formula::Not(_) => put(out, b"Not("),
+        Formula::And(_, _) => put(out, b"And("),
+        Formula::Or(_, _) => put(out, b"Or("),
+        Formula::Implies(_, _) => put(out, b"Implies("),
+        Formula::Forall { sort, name, .. } => {
+            show_variable(out, b"Forall", *sort, name.as_slice())
         }
-        Formula::And(left, right) => {
-            put(out, b"And(")?;
-            show(out, left)?;
-            put(out, b", ")?;
-            show(out, right)?;
+        Formula::Exists { sort, name, .. } => {
+            show_variable(out, b"Exists", *sort, name.as_slice())
         }
-        Formula::Or(left, right) => {
-            put(out, b"Or(")?;
-            show(out, left)?;
-            put(out, b", ")?;
-            show(out, right)?;
+        Formula::Bind { names, args, .. } => {
+            show_binding(out, names.as_slice(), args.as_slice())
         }
-        Formula::Implies(left, right) => {
-            put(out, b"Implies(")?;
-            show(out, left)?;
-            put(out, b", ")?;
-            show(out, right)?;
-        }
-        Formula::Forall {
-            sort,
-            name,
-            body,
-            ..
-        } => {
-            put(out, b"Forall(")?;
-            show_variable(out, *sort, name.as_slice())?;
-            show(out, body)?;
-        }
-        Formula::Exists {
-            sort,
-            name,
-            body,
-            ..
-        } => {
-            put(out, b"Exists(")?;
-            show_variable(out, *sort, name.as_slice())?;
-            show(out, body)?;
-        }
-        Formula::Bind {
-            names,
-            args,
-            body,
-            ..
-        } => {
-            put(out, b"Bind(")?;
-            show_binding(out, names.as_slice(), args.as_slice())?;
-            show(out, body)?;
-        }
-        Formula::Static { pred, args } => {
-            return show_words(out, pred.name.as_slice(), args.as_slice());
-        }
-        Formula::Nodes(nodes) => return show_nodes(out, nodes.as_slice()),
-        Formula::Edges(edges) => return show_edges(out, edges.as_slice()),
+        Formula::Static { pred, args } => show_args(out, pred.name.as_slice(), args.as_slice()),
+        Formula::Nodes(nodes) => show_list(out, b"Nodes", nodes.as_slice()),
+        Formula::Edges(edges) => show_list(out, b"Edges", edges.as_slice()),
         Formula::Expand { name, args, .. } => {
             put(out, b"Expand ")?;
-            return show_words(out, name.name.as_slice(), args.as_slice());
+            show_args(out, name.name.as_slice(), args.as_slice())
+        }
+    }
+}
+
+/// Writes the formula.
+pub(crate) fn show(out: &mut Vec<u8>, formula: &Formula) -> Result<(), Memory> {
+    show_front(out, formula)?;
+    match formula {
+        Formula::Static { .. } | Formula::Nodes(_) | Formula::Edges(_) | Formula::Expand { .. } =>
+            return Ok(()),
+        Formula::Not(body)
+        | Formula::Forall { body, .. }
+        | Formula::Exists { body, .. }
+        | Formula::Bind { body, .. } => show(out, body)?,
+        Formula::And(left, right) | Formula::Or(left, right) | Formula::Implies(left, right) => {
+            show(out, left)?;
+            put(out, b", ")?;
+            show(out, right)?;
         }
     }
     put(out, b")")

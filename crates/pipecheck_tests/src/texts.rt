@@ -1,5 +1,8 @@
 //! What several tables need: texts put together, and texts read as far as a test asks.
-use pc_common::{Bytes, Calls, Held, HeldFile, Memory};
+use example_texts::EMPTY;
+use pc_common::{Bytes, Calls, FaultKind, Held, HeldFile, InputFault, Memory, Place, Which};
+use pc_front::{FrontEnd, front};
+use pc_ground::Front;
 use pc_syntax::ModelFile;
 use std::alloc::Global;
 use uspec_lexer::tokens;
@@ -35,6 +38,25 @@ pub(crate) fn written_model(alloc: Global, text: &[u8]) -> Option<ModelFile> {
     }
     let tokens = tokens(alloc, text).ok()?;
     parse_model(alloc, &tokens).ok()
+}
+
+/// What both files say, or why they say nothing.
+pub(crate) fn front_of(alloc: Global, model: &str, test: &str) -> Result<Front, FrontEnd> {
+    let (model, test) = (model.as_bytes(), test.as_bytes());
+    if model.len() > 1_048_576 || test.len() > 1_048_576 {
+        return Err(FrontEnd::Memory);
+    }
+    front(alloc, model, test)
+}
+
+/// Whether the model is refused, its first fault being this.
+pub(crate) fn is_refused_at(alloc: Global, model: &str, offset: u32, kind: FaultKind) -> bool {
+    let fault = InputFault {
+        file: Which::Model,
+        place: Place { offset },
+        kind,
+    };
+    front_of(alloc, model, EMPTY).err() == Some(FrontEnd::Refused(fault))
 }
 
 fn bytes(alloc: Global, text: &str) -> Result<Bytes, Memory> {

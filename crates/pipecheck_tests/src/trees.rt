@@ -1,32 +1,11 @@
 //! Ground trees as rows in preorder, and the numbers of their nodes.
-use super::texts::{put, put_number};
+use super::texts::{front_of, put, put_number};
+use example_texts::{EITHER_ORDER, EMPTY, FAR_CORE, NO_EDGES, SOME_OP, TWO_CORES, TWO_FORBIDDEN};
 use pc_common::{FaultKind, InputFault, Memory, Place, Which};
-use pc_front::{FrontEnd, front};
+use pc_front::FrontEnd;
 use pc_ground::{Flat, Front, Literal, NodeKey, Numbering, RowKind};
 use std::alloc::Global;
 use std::test::Fail;
-
-const NO_CASE: &str = "StageName 0 \"S\".
-Axiom \"x\": exists microop \"i\", True.
-";
-
-const NO_EDGES: &str = "StageName 0 \"S\".
-Axiom \"l\": forall microops \"i\", True /\\ IsAnyWrite i => AddEdges [].
-";
-
-const EITHER: &str = "StageName 0 \"S\".
-StageName 1 \"T\".
-Axiom \"either\": forall microops \"i\", forall microops \"j\", ProgramOrder i j =>
-  AddEdge ((i, S), (j, S), \"\") \\/ AddEdge ((j, S), (i, S), \"\").
-Axiom \"late\": forall microops \"i\", forall microops \"j\", ProgramOrder i j =>
-  ~EdgeExists ((i, S), (j, S), \"\") /\\ AddEdge ((i, S), (i, T), \"\")
-  /\\ ~EdgeExists ((j, S), (i, T), \"\").
-";
-
-const FAR: &str = "StageName 0 \"S\".
-Axiom \"far\": forall microops \"i\", NodeExists (i, (5, S)) /\\ ~OnCore 5 i
-  /\\ NodeExists (i, S).
-";
 
 const RING: &str = "StageName 0 \"S\".
 Axiom \"PO\": forall microops \"i\", forall microops \"j\",
@@ -36,20 +15,6 @@ Axiom \"RF\": forall microops \"i\", IsAnyRead i => exists microop \"w\",
   /\\ AddEdge ((w, S), (i, S), \"rf\") /\\ forall microops \"v\",
   IsAnyWrite v /\\ SamePhysicalAddress v i /\\ ~SameMicroop v w =>
   AddEdge ((v, S), (w, S), \"co\") \\/ AddEdge ((i, S), (v, S), \"fr\").
-";
-
-const EMPTY: &str = "Litmus \"e\".
-";
-
-const TWO: &str = "Litmus \"t\".
-Microop 0 0 0 0 (Write (VA 0 0) (PA 0 0) (Data 1)).
-Microop 1 0 0 0 (Write (VA 0 0) (PA 0 0) (Data 2)).
-Forbidden.
-";
-
-const CORES: &str = "Litmus \"c\".
-Microop 0 0 0 0 (Fence).
-Microop 1 1 1 0 (Fence).
 ";
 
 const RING_OF_TWO: &str = "Litmus \"ring\".
@@ -64,19 +29,19 @@ Forbidden.
 /// with their skips, `~` for a denial, and a node as MICRO-OP@CORE:STAGE, all by number.
 const ROWS: &[(&'static str, &'static str, &'static str, &'static str)] = &[
     ("", EMPTY, "True", ""),
-    (NO_CASE, EMPTY, "False", ""),
+    (SOME_OP, EMPTY, "False", ""),
     // a list of no members is true, and a constant is left only where it is the whole
-    (NO_EDGES, TWO, "True", ""),
+    (NO_EDGES, TWO_FORBIDDEN, "True", ""),
     (
-        EITHER,
-        TWO,
+        EITHER_ORDER,
+        TWO_FORBIDDEN,
         "And9 Or3 0@0:0>1@0:0 1@0:0>0@0:0 And5 ~0@0:0>1@0:0 And3 0@0:0>0@0:1 ~1@0:0>0@0:1",
         "0@0:0 1@0:0 0@0:1",
     ),
     // a core that no micro-op is on, and that no test names
     (
-        FAR,
-        CORES,
+        FAR_CORE,
+        TWO_CORES,
         "And7 And3 0@5:0 0@0:0 And3 1@5:0 1@1:0",
         "0@5:0 0@0:0 1@5:0 1@1:0",
     ),
@@ -164,14 +129,6 @@ fn are_shown(alloc: Global, front: &Front, rows: &str, nodes: &str) -> Result<bo
         put(&mut want, piece.as_bytes())?;
     }
     Ok(out.as_slice() == want.as_slice())
-}
-
-fn front_of(alloc: Global, model: &str, test: &str) -> Result<Front, FrontEnd> {
-    let (model, test) = (model.as_bytes(), test.as_bytes());
-    if model.len() > 1_048_576 || test.len() > 1_048_576 {
-        return Err(FrontEnd::Memory);
-    }
-    front(alloc, model, test)
 }
 
 #[test]

@@ -1,164 +1,39 @@
 //! Whole models: the verdict with its certificate, line by line.
 use super::checking::{ends_over, words};
+use example_texts::{
+    BOTH_ORDERS, CAPTURED, EITHER_ORDER, EMPTY, FAR_CORE, FIRST_IS_LAST, IN_ORDER, ITSELF, JOINED,
+    LAST_WRITE, MESSAGE_PASSING, NO_EDGES, ONE, ORDERED, SOME_OP, STORE_BUFFER, STORE_BUFFERING,
+    TURNED_BACK, TWO, TWO_CORES, TWO_FORBIDDEN, UNORDERED,
+};
 use pc_common::Status;
 use std::test::Fail;
 
-const NOTHING: &str = "";
-
-const EMPTY: &str = "Litmus \"e\".
+/// Neither of two choices has a side that is closed at once.
+const BOTH_OPEN: &str = "StageName 0 \"S\". StageName 1 \"T\". StageName 2 \"U\".
+Axiom \"x\": forall microops \"i\",
+  (AddEdge ((i, S), (i, T)) \\/ AddEdge ((i, S), (i, U)))
+  /\\ (AddEdges [((i, T), (i, S)); ((i, U), (i, S))]
+    \\/ AddEdges [((i, T), (i, U)); ((i, U), (i, S))]).
 ";
 
-const SOME_OP: &str = "StageName 0 \"S\".
-Axiom \"x\": exists microop \"i\", True.
+/// Both choices have one side that is closed at once.
+const BOTH_HALF_OPEN: &str = "StageName 0 \"S\". StageName 1 \"T\". StageName 2 \"U\".
+Axiom \"x\": forall microops \"i\", AddEdge ((i, S), (i, T))
+  /\\ (AddEdge ((i, T), (i, S)) \\/ AddEdge ((i, T), (i, U)))
+  /\\ (AddEdge ((i, T), (i, S)) \\/ AddEdge ((i, U), (i, S))).
 ";
 
-const ORDERED: &str = "StageName 0 \"S\".
-Axiom \"PO\": forall microops \"i\", forall microops \"j\",
-  ProgramOrder i j => AddEdge ((i, S), (j, S), \"po\").
-";
-
-const TWO: &str = "Litmus \"t\".
-Microop 0 0 0 0 (Write (VA 0 0) (PA 0 0) (Data 1)).
-Microop 1 0 0 0 (Write (VA 0 0) (PA 0 0) (Data 2)).
-Permitted.
-";
-
-const BOTH_ORDERS: &str = "StageName 0 \"S\".
-Axiom \"PO\": forall microops \"i\", forall microops \"j\",
-  ProgramOrder i j => AddEdge ((i, S), (j, S), \"po\").
-Axiom \"rev\": forall microops \"i\", forall microops \"j\",
-  ProgramOrder i j => AddEdge ((j, S), (i, S), \"rev\").
-";
-
-const TWO_FORBIDDEN: &str = "Litmus \"t\".
-Microop 0 0 0 0 (Write (VA 0 0) (PA 0 0) (Data 1)).
-Microop 1 0 0 0 (Write (VA 0 0) (PA 0 0) (Data 2)).
-Forbidden.
-";
-
-const ITSELF: &str = "StageName 0 \"S\".
-Axiom \"self\": forall microops \"i\", AddEdge ((i, S), (i, S), \"\").
-";
-
-const ONE: &str = "Litmus \"o\".
-Microop 0 0 0 0 (Write (VA 0 0) (PA 0 0) (Data 1)).
-";
-
-const CAPTURED: &str = "DefineMacro \"other\" \"a\": exists microop \"w\", ~SameMicroop w a.
-Axiom \"x\": forall microops \"w\", ExpandMacro other w.
-";
-
-const EITHER_ORDER: &str = "StageName 0 \"S\".
-StageName 1 \"T\".
-Axiom \"either\": forall microops \"i\", forall microops \"j\", ProgramOrder i j =>
-  AddEdge ((i, S), (j, S), \"\") \\/ AddEdge ((j, S), (i, S), \"\").
-Axiom \"late\": forall microops \"i\", forall microops \"j\", ProgramOrder i j =>
-  ~EdgeExists ((i, S), (j, S), \"\") /\\ AddEdge ((i, S), (i, T), \"\")
-  /\\ ~EdgeExists ((j, S), (i, T), \"\").
-";
-
-const JOINED: &str = "StageName 0 \"S\".
-StageName 1 \"T\".
-StageName 2 \"U\".
-Axiom \"p\": forall microops \"i\",
-  AddEdges [((i, S), (i, T), \"\"); ((i, T), (i, U), \"\");]
-  /\\ ~EdgeExists ((i, S), (i, U), \"\").
-";
-
-const UNORDERED: &str = "StageName 0 \"S\".
-Axiom \"two\": forall microops \"i\", forall microops \"j\", ProgramOrder i j =>
-  NodesExist [(i, S); (j, S)] /\\ ~EdgeExists ((i, S), (j, S))
-  /\\ ~EdgeExists ((j, S), (i, S)).
-";
-
-const IN_ORDER: &str = "StageName 0 \"Exec\".
-StageName 1 \"Mem\".
-Axiom \"path\": forall microops \"i\", AddEdge ((i, Exec), (i, Mem), \"path\").
-Axiom \"PO\": forall microops \"i\", forall microops \"j\", ProgramOrder i j =>
-  AddEdges [((i, Exec), (j, Exec), \"po\"); ((i, Mem), (j, Mem), \"po\")].
-Axiom \"read\": forall microops \"i\", IsAnyRead i =>
-  (DataFromInitialStateAtPA i /\\ forall microops \"v\",
-    IsAnyWrite v /\\ SamePhysicalAddress v i => AddEdge ((i, Mem), (v, Mem), \"fr\"))
-  \\/ exists microop \"w\", IsAnyWrite w /\\ SamePhysicalAddress w i /\\ SameData w i
-    /\\ AddEdge ((w, Mem), (i, Mem), \"rf\") /\\ forall microops \"v\",
-    IsAnyWrite v /\\ SamePhysicalAddress v i /\\ ~SameMicroop v w =>
-    AddEdge ((v, Mem), (w, Mem), \"co\") \\/ AddEdge ((i, Mem), (v, Mem), \"fr\").
-";
-
-const MESSAGE_PASSING: &str = "Litmus \"mp\".
-Microop 0 0 0 0 (Write (VA 0 0) (PA 0 0) (Data 1)).
-Microop 1 0 0 0 (Write (VA 1 0) (PA 1 0) (Data 1)).
-Microop 2 1 1 0 (Read (VA 1 0) (PA 1 0) (Data 1)).
-Microop 3 1 1 0 (Read (VA 0 0) (PA 0 0) (Data 0)).
-Forbidden.
-";
-
-const STORE_BUFFER: &str = "StageName 0 \"Exec\".
-StageName 1 \"Mem\".
-Axiom \"path\": forall microops \"i\", IsAnyWrite i =>
-  AddEdge ((i, Exec), (i, Mem), \"path\").
-Axiom \"PO\": forall microops \"i\", forall microops \"j\", ProgramOrder i j =>
-  AddEdge ((i, Exec), (j, Exec), \"po\").
-Axiom \"drain\": forall microops \"i\", forall microops \"j\",
-  ProgramOrder i j /\\ IsAnyWrite i /\\ IsAnyWrite j =>
-  AddEdge ((i, Mem), (j, Mem), \"drain\").
-Axiom \"read\": forall microops \"i\", IsAnyRead i =>
-  (DataFromInitialStateAtPA i /\\ forall microops \"v\",
-    IsAnyWrite v /\\ SamePhysicalAddress v i => AddEdge ((i, Exec), (v, Mem), \"fr\"))
-  \\/ exists microop \"w\", IsAnyWrite w /\\ SamePhysicalAddress w i /\\ SameData w i
-    /\\ AddEdge ((w, Mem), (i, Exec), \"rf\") /\\ forall microops \"v\",
-    IsAnyWrite v /\\ SamePhysicalAddress v i /\\ ~SameMicroop v w =>
-    AddEdge ((v, Mem), (w, Mem), \"co\") \\/ AddEdge ((i, Exec), (v, Mem), \"fr\").
-";
-
-const STORE_BUFFERING: &str = "Litmus \"sb\".
-Microop 0 0 0 0 (Write (VA 0 0) (PA 0 0) (Data 1)).
-Microop 1 0 0 0 (Read (VA 1 0) (PA 1 0) (Data 0)).
-Microop 2 1 1 0 (Write (VA 1 0) (PA 1 0) (Data 1)).
-Microop 3 1 1 0 (Read (VA 0 0) (PA 0 0) (Data 0)).
-Forbidden.
-";
-
-const LAST_WRITE: &str = "StageName 0 \"S\".
-Axiom \"PO\": forall microops \"i\", forall microops \"j\",
-  ProgramOrder i j => AddEdge ((i, S), (j, S), \"po\").
-Axiom \"final\": forall microops \"w\", DataFromFinalStateAtPA w =>
-  forall microops \"v\", SamePhysicalAddress v w /\\ ~SameMicroop v w =>
-  AddEdge ((v, S), (w, S), \"\").
-";
-
-const FIRST_IS_LAST: &str = "Litmus \"t\".
-Microop 0 0 0 0 (Write (VA 0 0) (PA 0 0) (Data 1)).
-Microop 1 0 0 0 (Write (VA 0 0) (PA 0 0) (Data 2)).
-Permitted.
-Final (PA 0 0) 1.
-";
-
-const FAR_CORE: &str = "StageName 0 \"S\".
-Axiom \"far\": forall microops \"i\", NodeExists (i, (5, S)) /\\ ~OnCore 5 i
-  /\\ NodeExists (i, S).
-";
-
-const TWO_CORES: &str = "Litmus \"c\".
-Microop 0 0 0 0 (Fence).
-Microop 1 1 1 0 (Fence).
-";
-
-const TURNED_BACK: &str = "StageName 0 \"S\".
-StageName 1 \"T\".
-Axiom \"b\": forall microops \"i\", (AddEdge ((i, S), (i, T))
-  \\/ AddEdge ((i, T), (i, S))) /\\ (AddEdge ((i, T), (i, S))
-  \\/ AddEdge ((i, S), (i, S)) \\/ AddEdge ((i, T), (i, T))).
-";
-
-const NO_EDGES: &str = "StageName 0 \"S\".
-Axiom \"l\": forall microops \"i\", True /\\ IsAnyWrite i => AddEdges [].
+/// Of the first choice no side is closed at once, of the second both are.
+const SECOND_CLOSED: &str = "StageName 0 \"S\". StageName 1 \"T\". StageName 2 \"U\".
+Axiom \"x\": forall microops \"i\", AddEdge ((i, S), (i, T))
+  /\\ (AddEdge ((i, U), (i, S)) \\/ AddEdge ((i, T), (i, U)))
+  /\\ (AddEdge ((i, T), (i, S)) \\/ AddEdges [((i, T), (i, U)); ((i, U), (i, S))]).
 ";
 
 /// A model and a test, and how a check of them ends.
 const VERDICTS: &[(&'static str, &'static str, Status, &'static str)] = &[
     (
-        NOTHING,
+        "",
         EMPTY,
         Status::Observable,
         "observable\ntest unstated\nend\n",
@@ -258,6 +133,26 @@ const VERDICTS: &[(&'static str, &'static str, Status, &'static str)] = &[
         TWO,
         Status::Observable,
         "observable\ntest permitted: ok\nend\n",
+    ),
+    // of two choices with equally many open sides the one at the lower position is split
+    (
+        BOTH_OPEN,
+        ONE,
+        Status::Unobservable,
+        "unobservable\ntest unstated\nsplit 1\nsplit 4\ncycle 0.0@0:S 0.0@0:T\ncycle 0.0@0:S 0.0@0:T 0.0@0:U\nsplit 4\ncycle 0.0@0:S 0.0@0:U\ncycle 0.0@0:S 0.0@0:U\nend\n",
+    ),
+    (
+        BOTH_HALF_OPEN,
+        ONE,
+        Status::Unobservable,
+        "unobservable\ntest unstated\nsplit 3\ncycle 0.0@0:S 0.0@0:T\nsplit 6\ncycle 0.0@0:S 0.0@0:T\ncycle 0.0@0:S 0.0@0:T 0.0@0:U\nend\n",
+    ),
+    // a choice with a closed side goes before an open one at a lower position
+    (
+        SECOND_CLOSED,
+        ONE,
+        Status::Unobservable,
+        "unobservable\ntest unstated\nsplit 6\ncycle 0.0@0:S 0.0@0:T\ncycle 0.0@0:S 0.0@0:T 0.0@0:U\nend\n",
     ),
 ];
 

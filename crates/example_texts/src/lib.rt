@@ -1,0 +1,15 @@
+//! Small models and litmus tests that the tables of the crates of tests judge.
+//!
+//! They are constants alone, in a crate of their own, so that each text stands once.
+#![tactic(auto)]
+
+mod litmus;
+mod models;
+
+pub use litmus::{
+    EMPTY, FIRST_IS_LAST, MESSAGE_PASSING, ONE, STORE_BUFFERING, TWO, TWO_CORES, TWO_FORBIDDEN,
+};
+pub use models::{
+    BOTH_ORDERS, CAPTURED, EITHER_ORDER, FAR_CORE, IN_ORDER, ITSELF, JOINED, LAST_WRITE, NO_EDGES,
+    ORDERED, SOME_OP, STORE_BUFFER, TURNED_BACK, UNORDERED,
+};
