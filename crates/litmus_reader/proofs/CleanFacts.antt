@@ -15,6 +15,7 @@ use Rattle.pc_case.specs.Stated.{IsStatedOnce, AreWithin}
 use Rattle.pc_case.specs.Plain.{page_at, address_at}
 use Rattle.litmus_reader.specs.Items.{microop_of, relationship_of, initial_of, final_of, microops_in, heads_in, relationships_in, initial_in, final_in, kind_said, touch_said, op_said, place_in, dependency_said, value_said}
 use Rattle.litmus_reader.specs.Content.{Never, First, OverCore, OverMany, SplitFrom, DuplicateOf, SomeEarlier, Unknown, AgainStated, MicroopFault, IsFaultOf, IsClean}
+use Rattle.litmus_reader.specs.declared.limits.TheConstants.{MAX_CORE, MAX_OPS}
 use Rattle.litmus_reader.specs.declared.item.Head.{Head}
 use Rattle.litmus_reader.specs.declared.item.Action.{Action}
 use Rattle.litmus_reader.specs.declared.item.Action.TheVariants.{Read as reads, Write as writes, Fence as fences}
@@ -72,15 +73,15 @@ module _ (heads : List Head) (h : Head) (never : Never (MicroopFault heads h)) w
   abbrev later : FaultKind → Place → Type 0
   later = First (SomeEarlier heads (SplitFrom h)) (SomeEarlier heads (DuplicateOf h))
 
-  pub core_fits : h.core.value ≤ 63
+  pub core_fits : h.core.value ≤ MAX_CORE
   core_fits =
-      let no : 63 < h.core.value → ⊥ = λ over. never-first (OverCore h) (First (OverMany heads h) later) never (CoreNumber h.core.value) h.core.at (over, refl, refl) in
+      let no : MAX_CORE < h.core.value → ⊥ = λ over. never-first (OverCore h) (First (OverMany heads h) later) never (CoreNumber h.core.value) h.core.at (over, refl, refl) in
       omega arith
 
-  pub room : length heads < 64
+  pub room : length heads < MAX_OPS
   room =
       let others = never-others (OverCore h) (First (OverMany heads h) later) never in
-      let no : 64 ≤ length heads → ⊥ = λ many. never-first (OverMany heads h) later others (TooManyOps 64) h.at (many, refl, refl) in
+      let no : MAX_OPS ≤ length heads → ⊥ = λ many. never-first (OverMany heads h) later others (TooManyOps MAX_OPS) h.at (many, refl, refl) in
       omega arith
 
   pub no_duplicate : (e : Head) → Contains heads e → e.g.value ≡ h.g.value → e.n ≡ h.n → ⊥
@@ -88,8 +89,8 @@ module _ (heads : List Head) (h : Head) (never : Never (MicroopFault heads h)) w
       let others = never-others (OverMany heads h) later (never-others (OverCore h) (First (OverMany heads h) later) never) in
       never-others (SomeEarlier heads (SplitFrom h)) (SomeEarlier heads (DuplicateOf h)) others (DuplicateOp e.g.at h.g.at) h.g.at (e, c, (g, n, refl, refl))
 
--- at most 64 micro-ops
-few_step : (b : List Item) (i : Item) → IsClean b → Never (IsFaultOf b i) → length (heads_in b) ≤ 64 → length (heads_in (b ++ i ∷ [])) ≤ 64
+-- at most as many micro-ops as a test may have
+few_step : (b : List Item) (i : Item) → IsClean b → Never (IsFaultOf b i) → length (heads_in b) ≤ MAX_OPS → length (heads_in (b ++ i ∷ [])) ≤ MAX_OPS
 few_step b (microop m) clean never few =
     omega (arith, room (heads_in b) m.head never, ap length (added_head b m), length-append (heads_in b) (m.head ∷ []))
 few_step b (relationship r) clean never few = omega (arith, ap length (same_heads b (relationship r) refl))
@@ -98,18 +99,18 @@ few_step b (final v) clean never few = omega (arith, ap length (same_heads b (fi
 few_step b (permitted at) clean never few = omega (arith, ap length (same_heads b (permitted at) refl))
 few_step b (forbidden at) clean never few = omega (arith, ap length (same_heads b (forbidden at) refl))
 
-pub few : (items : List Item) → IsClean items → length (heads_in items) ≤ 64
-few = each_clean (λ items. length (heads_in items) ≤ 64) (omega arith) few_step
+pub few : (items : List Item) → IsClean items → length (heads_in items) ≤ MAX_OPS
+few = each_clean (λ items. length (heads_in items) ≤ MAX_OPS) (omega arith) few_step
 
--- cores of at most 63
+-- cores up to the greatest one
 abbrev AreCores : List Head → Type 0
-AreCores hs = (h : Head) → Contains hs h → h.core.value ≤ 63
+AreCores hs = (h : Head) → Contains hs h → h.core.value ≤ MAX_CORE
 
 cores_step : (b : List Item) (i : Item) → IsClean b → Never (IsFaultOf b i) → AreCores (heads_in b) → AreCores (heads_in (b ++ i ∷ []))
 cores_step b (microop m) clean never all = λ h c.
     elim (Contains-push_cases (heads_in b) m.head h (subst (λ (hs : List Head). Contains hs h) (added_head b m) c)) [
       | inl d ↦ all h d
-      | inr e ↦ subst (λ (x : Head). x.core.value ≤ 63) e (core_fits (heads_in b) m.head never)
+      | inr e ↦ subst (λ (x : Head). x.core.value ≤ MAX_CORE) e (core_fits (heads_in b) m.head never)
     ]
 cores_step b (relationship r) clean never all = subst AreCores (sym (same_heads b (relationship r) refl)) all
 cores_step b (initial v) clean never all = subst AreCores (sym (same_heads b (initial v) refl)) all

@@ -8,6 +8,7 @@ use Rattle.pc_common.specs.declared.fault.FaultKind.TheVariants.{CoreNumber, Too
 use Rattle.pc_common.specs.Case.{Expectation}
 use Rattle.litmus_reader.specs.Items.{heads_in, initial_in, final_in, expectations_in}
 use Rattle.litmus_reader.specs.Content.{Never, First, OverCore, OverMany, SplitFrom, DuplicateOf, SomeEarlier, Unknown, AgainStated, AgainExpected, MicroopFault, IsFaultOf, IsClean, IsContentFault}
+use Rattle.litmus_reader.specs.declared.limits.TheConstants.{MAX_CORE, MAX_OPS}
 use Rattle.litmus_reader.specs.declared.item.Head.{Head}
 use Rattle.litmus_reader.specs.declared.item.End.{End}
 use Rattle.litmus_reader.specs.declared.item.ValueLine.{ValueLine}
@@ -75,9 +76,9 @@ op before h =
     let splits = SomeEarlier before (SplitFrom h) in
     let duplicates = SomeEarlier before (DuplicateOf h) in
     first (OverCore h) (First (OverMany before h) (First splits duplicates))
-    (single (63 < h.core.value) (CoreNumber h.core.value) h.core.at (less 63 h.core.value))
+    (single (MAX_CORE < h.core.value) (CoreNumber h.core.value) h.core.at (less MAX_CORE h.core.value))
     (first (OverMany before h) (First splits duplicates)
-    (single (64 ≤ length before) (TooManyOps 64) h.at (at_most 64 (length before)))
+    (single (MAX_OPS ≤ length before) (TooManyOps MAX_OPS) h.at (at_most MAX_OPS (length before)))
     (first splits duplicates (some_in (SplitFrom h) (split h) before) (some_in (DuplicateOf h) (duplicate h) before)))
 
 -- a micro-op is the end of a relationship, or none is

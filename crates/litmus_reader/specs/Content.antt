@@ -6,6 +6,7 @@ use Rattle.pc_common.specs.declared.fault.FaultKind.{FaultKind}
 use Rattle.pc_common.specs.declared.fault.FaultKind.TheVariants.{CoreNumber, TooManyOps, SplitInstruction, DuplicateOp, OpUnknown, AgainInitial, AgainFinal, AgainExpectation}
 use Rattle.pc_common.specs.Case.{Expectation}
 use Rattle.litmus_reader.specs.Items.{heads_in, initial_in, final_in, expectations_in}
+use Rattle.litmus_reader.specs.declared.limits.TheConstants.{MAX_CORE, MAX_OPS}
 use Rattle.litmus_reader.specs.declared.item.Head.{Head}
 use Rattle.litmus_reader.specs.declared.item.End.{End}
 use Rattle.litmus_reader.specs.declared.item.ValueLine.{ValueLine}
@@ -20,13 +21,13 @@ Never Row = (kind : FaultKind) (at : Place) → ¬ Row kind at
 abbrev pub First : (FaultKind → Place → Type 0) → (FaultKind → Place → Type 0) → FaultKind → Place → Type 0
 First Row Others kind at = Row kind at ⊎ (Never Row × Others kind at)
 
--- the core is over 63: at the core
+-- the core is over the greatest one: at the core
 abbrev pub OverCore : Head → FaultKind → Place → Type 0
-OverCore h kind at = (63 < h.core.value) × (kind ≡ CoreNumber h.core.value) × (at ≡ h.core.at)
+OverCore h kind at = (MAX_CORE < h.core.value) × (kind ≡ CoreNumber h.core.value) × (at ≡ h.core.at)
 
--- 64 micro-ops stand before: at `Microop`
+-- as many micro-ops as a test may have stand before: at `Microop`
 abbrev pub OverMany : List Head → Head → FaultKind → Place → Type 0
-OverMany before h kind at = (64 ≤ length before) × (kind ≡ TooManyOps 64) × (at ≡ h.at)
+OverMany before h kind at = (MAX_OPS ≤ length before) × (kind ≡ TooManyOps MAX_OPS) × (at ≡ h.at)
 
 -- the earlier micro-op has this g and another core, or else another thread: at what differs
 abbrev pub SplitFrom : Head → Head → FaultKind → Place → Type 0

@@ -2,6 +2,7 @@ ghost use Rattle.std.specs.Prelude.{◌≡◌, ◌≤◌, [], ◌∷◌, ◌++�
 ghost use Rattle.pc_common.specs.Case.{Expectation};
 ghost use Rattle.pc_common.specs.declared.place.Place.{Place as PlaceAt};
 ghost use Rattle.pc_case.specs.Plain.{micro_op, dependency, expectation};
+ghost use Rattle.litmus_reader.specs.declared.limits.TheConstants.{MAX_CORE, MAX_OPS};
 ghost use Rattle.litmus_reader.specs.Items.{op_said, dependency_said, first_said, case_of};
 ghost use Rattle.litmus_reader.specs.Content.{Never, AgainStated, AgainExpected, IsFaultOf, IsClean};
 ghost use Rattle.litmus_reader.specs.Rows.{Answers};
@@ -36,7 +37,7 @@ pub(crate) struct Kept {
 }
 
 fn op_from(microop: Microop) -> Op
-    requires { microop.head.core.value ≤ 63 }
+    requires { microop.head.core.value ≤ MAX_CORE }
     ensures { micro_op result ≡ op_said microop }
 {
     let (access, memop) = match microop.action {
@@ -59,7 +60,7 @@ fn op_from(microop: Microop) -> Op
 
 #[tactic(auto, using(crate::proofs::KeptFacts::place_in_within))]
 fn dependency_from(heads: &[Head], relationship: Relationship) -> Dependency
-    requires { length heads.now ≤ 64 }
+    requires { length heads.now ≤ MAX_OPS }
     ensures { dependency result ≡ dependency_said heads.now relationship }
 {
     Dependency {
@@ -152,7 +153,7 @@ impl Kept {
     }
 
     fn add_microop(&mut self, microop: Microop) -> Result<(), Memory>
-        requires { microop.head.core.value ≤ 63 }
+        requires { microop.head.core.value ≤ MAX_CORE }
         ensures { OnOk result (AddsMicroop self.old self.new microop) }
     {
         self.heads.push(microop.head)?;
@@ -160,7 +161,7 @@ impl Kept {
     }
 
     fn add_relationship(&mut self, relationship: Relationship) -> Result<(), Memory>
-        requires { vec_len self.old.heads ≤ 64 }
+        requires { vec_len self.old.heads ≤ MAX_OPS }
         ensures { OnOk result (AddsRelationship self.old self.new relationship) }
     {
         let line = dependency_from(&self.heads, relationship);

@@ -4,14 +4,9 @@ ghost use Rattle.litmus_reader.specs.Content.{First, OverCore, OverMany, SplitFr
 ghost use Rattle.litmus_reader.specs.Rows.{Answers};
 
 use super::item::{End, Head};
+use super::limits::{MAX_CORE, MAX_OPS};
 use super::refusal::Refusal;
 use pc_common::FaultKind;
-
-/// The greatest core number.
-const LAST_CORE: u64 = 63;
-
-/// How many micro-ops a test may have.
-const MOST_OPS: usize = 64;
 
 /// The fault of a micro-op behind the micro-ops of these heads.
 pub(crate) fn microop_fault(before: &[Head], head: Head) -> Option<Refusal>
@@ -33,7 +28,7 @@ pub(crate) fn microop_fault(before: &[Head], head: Head) -> Option<Refusal>
 fn core_number(head: Head) -> Option<Refusal>
     ensures { Answers (OverCore head) result }
 {
-    if head.core.value <= LAST_CORE {
+    if head.core.value <= MAX_CORE {
         return None;
     }
     Some(Refusal {
@@ -47,12 +42,12 @@ fn core_number(head: Head) -> Option<Refusal>
 fn too_many_ops(before: &[Head], head: Head) -> Option<Refusal>
     ensures { Answers (OverMany before.now head) result }
 {
-    if before.len() < MOST_OPS {
+    if before.len() < MAX_OPS {
         return None;
     }
     Some(Refusal {
         kind: FaultKind::TooManyOps {
-            limit: MOST_OPS as u64,
+            limit: MAX_OPS as u64,
         },
         place: head.at,
     })

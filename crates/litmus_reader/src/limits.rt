@@ -1,0 +1,5 @@
+/// The greatest number of a core in a test.
+pub const MAX_CORE: u64 = 63;
+
+/// How many micro-ops a test may have.
+pub const MAX_OPS: usize = 64;
