@@ -1,6 +1,6 @@
 -- Words that are cut at a byte.
 use Rattle.std.proofs.Common.{◌≡◌, ℕ, ◌-◌, subst, Bool, true, false, ◌||◌, ◌==◌, List, [], ◌∷◌, ◌++◌, length, take, drop, refl, sym, ◌∙◌, ap, eq-eqb, append_assoc}
-use Rattle.std.specs.Prelude.{codes}
+use Rattle.std.specs.Prelude.{codes, IsTrue}
 use Rattle.std.specs.List.{list_any}
 use Rattle.std.specs.Str.{all_ascii_digits}
 use Rattle.std.specs.Char.{is_ascii_digit}
@@ -141,12 +141,11 @@ no_core {word} {g} {n} {core} {stage} c other f = (let P : List ℕ → Type 0 =
 
 -- the words of a word that is cut so
 pub words_of : (word g n core stage : List ℕ) (w : NodeWords) → Cuts word g n core stage → IsDecimal g w.g → IsDecimal n w.n → IsDecimal core w.core
-    → is_name stage ≡ true → w.stage.now ≡ stage → AreWords word w
-words_of word g n core stage w c dg dn dc name is = record {
+    → w.stage.now ≡ stage → AreWords word w
+words_of word g n core stage w c dg dn dc is = record {
   g = dg.0;
   n = dn.0;
   core = dc.0;
-  stage = ap is_name is ∙ name;
   is = c.is ∙ ap (λ xs. xs ++ 46 ∷ (n ++ 64 ∷ (core ++ 58 ∷ stage))) dg.1
       ∙ ap (λ xs. decimal w.g ++ 46 ∷ (xs ++ 64 ∷ (core ++ 58 ∷ stage))) dn.1
       ∙ ap (λ xs. decimal w.g ++ 46 ∷ (decimal w.n ++ 64 ∷ (xs ++ 58 ∷ stage))) dc.1
@@ -166,8 +165,8 @@ words_cuts {word} {w} h = record {
   is = h.is ∙ form_grouped (decimal w.g) (decimal w.n) (decimal w.core) w.stage.now;
 }
 
-pub words_form : {word : List ℕ} {w : NodeWords} → AreWords word w → IsNodeForm word
-words_form {word} {w} h = record {
+pub words_form : {word : List ℕ} {w : NodeWords} → AreWords word w → IsTrue (is_name w.stage.now) → IsNodeForm word
+words_form {word} {w} h name = record {
   g = decimal w.g;
   n = decimal w.n;
   core = decimal w.core;
@@ -175,6 +174,6 @@ words_form {word} {w} h = record {
   g_number = (w.g, (h.g, refl));
   n_number = (w.n, (h.n, refl));
   core_number = (w.core, (h.core, refl));
-  stage_name = h.stage;
+  stage_name = name;
   is = h.is;
 }

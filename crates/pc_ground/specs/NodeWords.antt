@@ -1,12 +1,11 @@
 -- The parts that a node's text is cut into.
-use Rattle.std.specs.Prelude.{ℕ, ◌≡◌, ◌≤◌, ◌++◌, ◌==◌, false, List, ◌∷◌, Some, codes, slice_get, IsTrue}
+use Rattle.std.specs.Prelude.{ℕ, ◌≡◌, ◌≤◌, ◌++◌, ◌==◌, false, List, ◌∷◌, Some, codes, slice_get}
 use Rattle.std.specs.List.{list_any}
 use Rattle.std.specs.Fmt.{decimal}
 use Rattle.pc_common.specs.Case.{MicroOp}
 use Rattle.pc_common.specs.World.{Node}
 use Rattle.pc_common.specs.Lines.{StageName, Names}
 use Rattle.pc_case.specs.Kept.{IsKept, IsNamed}
-use Rattle.uspec_lexer.specs.Bytes.{is_name}
 use Rattle.pc_ground.specs.Stages.{AreStages}
 use Rattle.pc_ground.specs.declared.node_words.NodeWords.{NodeWords}
 
@@ -17,12 +16,11 @@ Lacks mark bytes = list_any (λ c. c == mark) bytes ≡ false
 abbrev pub IsCut : ℕ → List ℕ → List ℕ → List ℕ → Type 0
 IsCut mark word front back = Lacks mark front × (word ≡ front ++ mark ∷ back)
 
--- the word is these three numbers and this name
+-- the word is these three numbers, and this behind them
 pub record AreWords (word : List ℕ) (w : NodeWords) : Type 0 where
   pub g : w.g ≤ 18446744073709551615
   pub n : w.n ≤ 18446744073709551615
   pub core : w.core ≤ 18446744073709551615
-  pub stage : IsTrue (is_name w.stage.now)
   pub is : word ≡ decimal w.g ++ codes "." ++ decimal w.n ++ codes "@" ++ decimal w.core ++ codes ":" ++ w.stage.now
 
 -- a stage of this number and name is listed

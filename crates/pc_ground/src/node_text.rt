@@ -18,6 +18,7 @@ use itoa::Buffer;
 use pc_case::{Case, OpId};
 use pc_common::{Failed, Room, Sink};
 use std::marker::Model;
+use uspec_lexer::is_name;
 
 /// How many core numbers there are, from 0.
 const CORES: u64 = 64;
@@ -124,7 +125,8 @@ impl<'a> NodeText<'a> {
     }
 
     /// The node that the word is the text of: `Malformed` where it has no form g.n@core:Stage, `Foreign` where it
-    /// has and names no micro-op of the test, no core 0 to 63 or no stage of the model. Takes no memory.
+    /// has and names no micro-op of the test, no core 0 to 63 or no stage of the model. Takes no memory. The bytes of
+    /// its stage are judged only where the word names no node.
     pub fn read(&self, word: &[u8]) -> Result<NodeKey, LineFault>
         ensures read { Reads self.now word.now result }
         ensures readable { AreReadable self.now }
@@ -136,7 +138,8 @@ impl<'a> NodeText<'a> {
         };
         match self.named(&words) {
             Some(key) => Ok(key),
-            None => Err(LineFault::Foreign),
+            None if is_name(words.stage) => Err(LineFault::Foreign),
+            None => Err(LineFault::Malformed),
         }
     }
 

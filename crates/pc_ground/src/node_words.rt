@@ -3,7 +3,6 @@ ghost use Rattle.pc_ground.specs.NodeForm.{IsNodeForm};
 ghost use Rattle.pc_ground.specs.NodeWords.{Lacks, IsCut, AreWords};
 
 use super::decimal::decimal_value;
-use uspec_lexer::is_name;
 
 /// The parts of a node's text, g.n@core:Stage.
 #[derive(Clone, Copy)]
@@ -26,16 +25,13 @@ fn cut(word: &[u8], mark: u8) -> Option<(&[u8], &[u8])>
     None
 }
 
-/// The parts of a word that has the form of a node's text, whatever it names; None where it has not.
+/// The parts of a word that has the form of a node's text, but that its stage need be no name; None where it has not.
 pub(crate) fn node_words(word: &[u8]) -> Option<NodeWords<'_>>
     ensures { MatchOption result (IsNodeForm word.now → ⊥) (λ w. AreWords word.now w) }
 {
     let (g, rest) = cut(word, b'.')?;
     let (n, rest) = cut(rest, b'@')?;
     let (core, stage) = cut(rest, b':')?;
-    if !is_name(stage) {
-        return None;
-    }
     Some(NodeWords {
         g: decimal_value(g)?,
         n: decimal_value(n)?,

@@ -1,5 +1,4 @@
-use Rattle.std.proofs.Common.{sym, ◌∙◌}
-use Rattle.pc_ground.proofs.Cuts.{cuts, no_second, no_third, no_name, no_g, no_n, no_core}
+use Rattle.pc_ground.proofs.Cuts.{cuts, no_second, no_third, no_g, no_n, no_core}
 use Rattle.pc_ground.proofs.node_words.node_words.Goals as goal
 
 pub returns-in_err-n : goal.returns-in_err-n
@@ -10,11 +9,6 @@ pub returns-in_err-core : goal.returns-in_err-core
 returns-in_err-core c =
     rw c.from_residual-in_err-core.ensures
     (no_third c.args.word.now c.in_ok-g.g.now c.in_ok-n.n.now c.in_ok-g.rest.now c.in_ok-n.rest.now c.in_ok-g.ensures c.in_ok-n.ensures c.in_err-core.ensures)
-
-pub returns-then-not-is_name : goal.returns-then-not-is_name
-returns-then-not-is_name c =
-    no_name (cuts c.args.word.now c.in_ok-g.g.now c.in_ok-n.n.now c.in_ok-core.core.now c.in_ok-core.stage.now c.in_ok-g.rest.now c.in_ok-n.rest.now
-    c.in_ok-g.ensures c.in_ok-n.ensures c.in_ok-core.ensures) (sym c.is_name.ensures.value ∙ c.if-not-is_name.true)
 
 pub returns-in_err-decimal_value : goal.returns-in_err-decimal_value
 returns-in_err-decimal_value c =

@@ -1,6 +1,6 @@
 use Rattle.std.proofs.Common.{sym, ◌∙◌}
 use Rattle.pc_ground.specs.Keys.{key_node}
-use Rattle.pc_ground.proofs.Cuts.{words_form}
+use Rattle.pc_ground.proofs.Cuts.{words_form, words_cuts, no_name}
 use Rattle.pc_ground.proofs.NodeReading.{readable, named_text, named_in, named_by, formed}
 use Rattle.pc_ground.proofs.node_text.NodeText.read.Goals as goal
 
@@ -27,7 +27,7 @@ returns-in-Some-named-clause-again c = λ a inside is.
 
 pub returns-in-None-clause-read : goal.returns-in-None-clause-read
 returns-in-None-clause-read c = (
-  words_form c.in-Some.ensures,
+  words_form c.in-Some.ensures (sym c.is_name.ensures.value ∙ c.if-is_name.true),
   λ a inside is. c.in-None.ensures a inside.core_in_range
       (named_by c.args.self.now c.args.word.now c.in-Some.words a c.show_kept.ensures.small c.show_kept.ensures.stages c.in-Some.ensures inside is),
 )
@@ -38,4 +38,15 @@ returns-in-None-clause-readable c = readable c.args.self.now c.show_kept.ensures
 pub returns-in-None-clause-again : goal.returns-in-None-clause-again
 returns-in-None-clause-again c = λ a inside is.
     c.in-None.ensures a inside.core_in_range
+    (named_by c.args.self.now c.args.word.now c.in-Some.words a c.show_kept.ensures.small c.show_kept.ensures.stages c.in-Some.ensures inside is)
+
+pub returns-in-None-2-clause-read : goal.returns-in-None-2-clause-read
+returns-in-None-2-clause-read c = no_name (words_cuts c.in-Some.ensures) (sym c.is_name.ensures.value ∙ c.if-is_name.false)
+
+pub returns-in-None-2-clause-readable : goal.returns-in-None-2-clause-readable
+returns-in-None-2-clause-readable c = readable c.args.self.now c.show_kept.ensures
+
+pub returns-in-None-2-clause-again : goal.returns-in-None-2-clause-again
+returns-in-None-2-clause-again c = λ a inside is.
+    c.in-None-2.ensures a inside.core_in_range
     (named_by c.args.self.now c.args.word.now c.in-Some.words a c.show_kept.ensures.small c.show_kept.ensures.stages c.in-Some.ensures inside is)
