@@ -15,7 +15,7 @@ use Rattle.pc_case.specs.Stated.{IsStatedOnce, AreWithin}
 use Rattle.pc_case.specs.Plain.{page_at, address_at}
 use Rattle.litmus_reader.specs.Items.{microop_of, relationship_of, initial_of, final_of, microops_in, heads_in, relationships_in, initial_in, final_in, kind_said, touch_said, op_said, place_in, dependency_said, value_said}
 use Rattle.litmus_reader.specs.Content.{Never, First, OverCore, OverMany, SplitFrom, DuplicateOf, SomeEarlier, Unknown, AgainStated, MicroopFault, IsFaultOf, IsClean}
-use Rattle.litmus_reader.specs.declared.limits.TheConstants.{MAX_CORE, MAX_OPS}
+use Rattle.pc_common.specs.declared.limits.TheConstants.{MAX_CORE, MAX_OPS}
 use Rattle.litmus_reader.specs.declared.item.Head.{Head}
 use Rattle.litmus_reader.specs.declared.item.Action.{Action}
 use Rattle.litmus_reader.specs.declared.item.Action.TheVariants.{Read as reads, Write as writes, Fence as fences}

@@ -6,7 +6,7 @@ use Rattle.pc_common.specs.declared.fault.FaultKind.{FaultKind}
 use Rattle.pc_common.specs.declared.fault.FaultKind.TheVariants.{CoreNumber, TooManyOps, SplitInstruction, DuplicateOp, OpUnknown, AgainInitial, AgainFinal, AgainExpectation}
 use Rattle.pc_common.specs.Case.{Expectation}
 use Rattle.litmus_reader.specs.Items.{heads_in, initial_in, final_in, expectations_in}
-use Rattle.litmus_reader.specs.declared.limits.TheConstants.{MAX_CORE, MAX_OPS}
+use Rattle.pc_common.specs.declared.limits.TheConstants.{MAX_CORE, MAX_OPS}
 use Rattle.litmus_reader.specs.declared.item.Head.{Head}
 use Rattle.litmus_reader.specs.declared.item.End.{End}
 use Rattle.litmus_reader.specs.declared.item.ValueLine.{ValueLine}

@@ -2,7 +2,7 @@ ghost use Rattle.std.specs.Prelude.{◌≡◌, ◌≤◌, [], ◌∷◌, ◌++�
 ghost use Rattle.pc_common.specs.Case.{Expectation};
 ghost use Rattle.pc_common.specs.declared.place.Place.{Place as PlaceAt};
 ghost use Rattle.pc_case.specs.Plain.{micro_op, dependency, expectation};
-ghost use Rattle.litmus_reader.specs.declared.limits.TheConstants.{MAX_CORE, MAX_OPS};
+ghost use Rattle.pc_common.specs.declared.limits.TheConstants.{MAX_CORE, MAX_OPS};
 ghost use Rattle.litmus_reader.specs.Items.{op_said, dependency_said, first_said, case_of};
 ghost use Rattle.litmus_reader.specs.Content.{Never, AgainStated, AgainExpected, IsFaultOf, IsClean};
 ghost use Rattle.litmus_reader.specs.Rows.{Answers};

@@ -28,7 +28,6 @@ mod fault;
 mod item;
 mod kept;
 mod laws;
-mod limits;
 mod phrase;
 mod read;
 mod reading;
@@ -40,5 +39,4 @@ mod values;
 
 pub use fault::CaseFault;
 pub use laws::{case_or_fault, faults_within, no_fault, one_case, one_fault};
-pub use limits::{MAX_CORE, MAX_OPS};
 pub use read::read_case;

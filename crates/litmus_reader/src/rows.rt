@@ -4,9 +4,8 @@ ghost use Rattle.litmus_reader.specs.Content.{First, OverCore, OverMany, SplitFr
 ghost use Rattle.litmus_reader.specs.Rows.{Answers};
 
 use super::item::{End, Head};
-use super::limits::{MAX_CORE, MAX_OPS};
 use super::refusal::Refusal;
-use pc_common::FaultKind;
+use pc_common::{FaultKind, MAX_CORE, MAX_OPS};
 
 /// The fault of a micro-op behind the micro-ops of these heads.
 pub(crate) fn microop_fault(before: &[Head], head: Head) -> Option<Refusal>

@@ -1,5 +1,6 @@
-ghost use Rattle.std.specs.Prelude.{◌≡◌, ◌≤◌, ◌<◌, ◌++◌, ℕ, List, MatchOption, Some, length, map, slice_get};
+ghost use Rattle.std.specs.Prelude.{◌≡◌, ◌+◌, ◌≤◌, ◌<◌, ◌++◌, ℕ, List, MatchOption, Some, length, map, slice_get};
 ghost use Rattle.pc_common.specs.World.{Node};
+ghost use Rattle.pc_common.specs.declared.limits.TheConstants.{MAX_CORE};
 ghost use Rattle.pc_common.specs.Lines.{node_text, stage_name as name_of_stage};
 ghost use Rattle.pc_common.specs.Room.{Puts};
 ghost use Rattle.pc_common.specs.Writes.{Writes};
@@ -16,12 +17,9 @@ use super::node_words::{NodeWords, node_words};
 use super::stage::Stages;
 use itoa::Buffer;
 use pc_case::{Case, OpId};
-use pc_common::{Failed, Room, Sink};
+use pc_common::{Failed, MAX_CORE, Room, Sink};
 use std::marker::Model;
 use uspec_lexer::is_name;
-
-/// How many core numbers there are, from 0.
-const CORES: u64 = 64;
 
 /// What the nodes of a front are written and read by: its test's micro-ops and its model's stages.
 #[derive(Drop)]
@@ -159,7 +157,7 @@ impl<'a> NodeText<'a> {
 
     /// The node that these words name, None where they name none.
     fn named(&self, words: &NodeWords<'_>) -> Option<NodeKey>
-        ensures { MatchOption result ((a : Node) → a.core < 64 → NamesNode self.now words.now a → ⊥) (λ key. NamesNode self.now words.now (key_node key)) }
+        ensures { MatchOption result ((a : Node) → a.core < MAX_CORE + 1 → NamesNode self.now words.now a → ⊥) (λ key. NamesNode self.now words.now (key_node key)) }
     {
         let front = self.front;
         let id = OpId {
@@ -168,7 +166,7 @@ impl<'a> NodeText<'a> {
         };
         let op = front.case.find(id)?;
         let stage = stage_named(&front.stages, words.stage)?;
-        if words.core >= CORES {
+        if words.core > MAX_CORE {
             return None;
         }
         Some(NodeKey {

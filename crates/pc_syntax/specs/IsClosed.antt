@@ -2,7 +2,8 @@
 use Rattle.std.specs.Prelude.{◌≡◌, ℕ, ◌<◌, ◌≤◌, ◌+◌, List, [], ◌∷◌, ◌++◌, Option, Some, None, length, map, slice_get, unwrap_or}
 use Rattle.std.specs.Coded.{Coded-set, coded_option, le_prop}
 use Rattle.pc_syntax.specs.contracts.term.Sort as sort_row
-use Rattle.pc_syntax.specs.declared.limits.TheConstants.{MAX_CORE, MAX_STAGE, MAX_VARIABLES}
+use Rattle.pc_common.specs.declared.limits.TheConstants.{MAX_CORE}
+use Rattle.pc_syntax.specs.declared.limits.TheConstants.{MAX_STAGE, MAX_VARIABLES}
 use Rattle.pc_syntax.specs.declared.term.Sort.{Sort}
 use Rattle.pc_syntax.specs.declared.term.Sort.TheVariants.{Microop, Core}
 use Rattle.pc_syntax.specs.declared.closed_term.ClosedArg.{ClosedArg}

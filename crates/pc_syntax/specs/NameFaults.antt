@@ -5,7 +5,8 @@ use Rattle.std.specs.Option.{option_or}
 use Rattle.pc_common.specs.Names.{same_name}
 use Rattle.pc_common.specs.declared.place.Place.{Place}
 use Rattle.pc_common.specs.declared.fault.FaultKind.TheVariants.{PredicateUnknown, Arity, Unbound, WrongSort, CoreNumber, StageUnknown, TooManyVariables}
-use Rattle.pc_syntax.specs.declared.limits.TheConstants.{MAX_CORE, MAX_VARIABLES}
+use Rattle.pc_common.specs.declared.limits.TheConstants.{MAX_CORE}
+use Rattle.pc_syntax.specs.declared.limits.TheConstants.{MAX_VARIABLES}
 use Rattle.pc_syntax.specs.declared.term.Sort.{Sort}
 use Rattle.pc_syntax.specs.declared.term.Sort.TheVariants.{Microop, Core}
 use Rattle.pc_syntax.specs.declared.term.Word.{Word}

@@ -3,7 +3,7 @@ use Rattle.std.specs.Prelude.{ℕ, ◌+◌, ◌<◌, Bool, List, [], ◌∷◌, 
 use Rattle.std.specs.List.{flat_map}
 use Rattle.pc_common.specs.Case.{MicroOp, Case}
 use Rattle.pc_common.specs.World.{Node, World, IsWorld}
-use Rattle.pc_syntax.specs.declared.limits.TheConstants.{MAX_CORE}
+use Rattle.pc_common.specs.declared.limits.TheConstants.{MAX_CORE}
 use Rattle.pc_syntax.specs.Written.{Written, MacroAt, WrittenItem, axiom_, macro_, stage_numbers, WrittenModel}
 use Rattle.pc_syntax.specs.Truth.{Setting, are_true}
 

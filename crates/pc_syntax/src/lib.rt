@@ -24,7 +24,7 @@ pub use closed_formula::ClosedFormula;
 pub use closed_term::{ClosedArg, ClosedArgs, ClosedEdge, ClosedEdges, ClosedNode, ClosedNodes};
 pub use expanded::Expanded;
 pub use formula::Formula;
-pub use limits::{MAX_CORE, MAX_HEIGHT, MAX_SIZE, MAX_STAGE, MAX_VARIABLES};
+pub use limits::{MAX_HEIGHT, MAX_SIZE, MAX_STAGE, MAX_VARIABLES};
 pub use model::{Item, Items, ModelFile, StageItem, StageItems};
 pub use pred::{Pred, Takes};
 pub use term::{

@@ -1,9 +1,6 @@
 /// The greatest number of a stage.
 pub const MAX_STAGE: u64 = 63;
 
-/// The greatest number of a core.
-pub const MAX_CORE: u64 = 63;
-
 /// How many variables may be in scope at a place of a formula.
 pub const MAX_VARIABLES: usize = 32;
 

@@ -9,8 +9,8 @@ ghost use Rattle.scope_check.specs.FirstFault.{Answers};
 
 use super::fault::NameFault;
 use super::scope::Scope;
-use pc_common::Place;
-use pc_syntax::{Arg, Args, ClosedArg, ClosedArgs, MAX_CORE, Names, Pred, Sort, Takes, Word};
+use pc_common::{MAX_CORE, Place};
+use pc_syntax::{Arg, Args, ClosedArg, ClosedArgs, Names, Pred, Sort, Takes, Word};
 use std::alloc::Global;
 
 /// The slot of a variable of the sort that is asked for.

@@ -18,7 +18,7 @@ pub invariant_of-result : goal.invariant_of-result
 invariant_of-result c = record {
   in_range = (
     omega (arith, slice_get_within c.self.inside.front.now.case.ops c.in_ok-op.op c.in_ok-op.ensures.0 c.in_ok-op.ensures.1, c.self.invariant.1.few),
-    c.if-words-ge-CORES.false,
+    omega (arith, c.if-words-gt-MAX_CORE.false),
     c.self.inside.front.now.named.numbers c.in_ok-stage.ensures.0 (c.in_ok-stage.stage, c.args.words.now.stage.now) c.in_ok-stage.ensures.1,
   );
 }

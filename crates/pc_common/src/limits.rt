@@ -1,4 +1,4 @@
-/// The greatest number of a core in a test.
+/// The greatest number of a core, in a model and in a test.
 pub const MAX_CORE: u64 = 63;
 
 /// How many micro-ops a test may have.
