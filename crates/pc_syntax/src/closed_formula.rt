@@ -1,6 +1,7 @@
 ghost use Rattle.std.specs.Prelude.{◌≡◌, IfOk};
 ghost use Rattle.pc_syntax.specs.Closed.{plain_closed, closed_not, closed_and, closed_or, closed_implies, closed_forall, closed_exists, closed_bind};
 
+use super::boxed::boxes;
 use super::closed_term::{ClosedArgs, ClosedEdges, ClosedNodes};
 use super::pred::Pred;
 use super::term::Sort;
@@ -57,7 +58,8 @@ impl ClosedFormula {
     ) -> Result<ClosedFormula, Memory>
         ensures { IfOk result (λ f. plain_closed f ≡ closed_and (plain_closed left) (plain_closed right)) }
     {
-        Ok(ClosedFormula::And(Box::new(alloc, left)?, Box::new(alloc, right)?))
+        let (left, right) = boxes(alloc, left, right)?;
+        Ok(ClosedFormula::And(left, right))
     }
 
     /// `left \/ right`.
@@ -68,7 +70,8 @@ impl ClosedFormula {
     ) -> Result<ClosedFormula, Memory>
         ensures { IfOk result (λ f. plain_closed f ≡ closed_or (plain_closed left) (plain_closed right)) }
     {
-        Ok(ClosedFormula::Or(Box::new(alloc, left)?, Box::new(alloc, right)?))
+        let (left, right) = boxes(alloc, left, right)?;
+        Ok(ClosedFormula::Or(left, right))
     }
 
     /// `left => right`.
@@ -79,7 +82,8 @@ impl ClosedFormula {
     ) -> Result<ClosedFormula, Memory>
         ensures { IfOk result (λ f. plain_closed f ≡ closed_implies (plain_closed left) (plain_closed right)) }
     {
-        Ok(ClosedFormula::Implies(Box::new(alloc, left)?, Box::new(alloc, right)?))
+        let (left, right) = boxes(alloc, left, right)?;
+        Ok(ClosedFormula::Implies(left, right))
     }
 
     /// `forall`, whose variable takes the next slot in `body`.

@@ -1,6 +1,7 @@
 ghost use Rattle.std.specs.Prelude.{◌≡◌, IfOk};
-ghost use Rattle.pc_syntax.specs.Written.{written, not_, and_, or_, implies_, forall_, exists_, bind_};
+ghost use Rattle.pc_syntax.specs.Written.{written, not_, and_, or_, implies_, forall_, exists_, static_, expand_, bind_};
 
+use super::boxed::boxes;
 use super::term::{Args, EdgeTerms, Name, Names, NodeTerms, Sort, Word};
 use pc_common::{Memory, Place};
 use std::alloc::Global;
@@ -62,21 +63,24 @@ impl Formula {
     pub fn conjunction(alloc: Global, left: Formula, right: Formula) -> Result<Formula, Memory>
         ensures { IfOk result (λ f. written f ≡ and_ (written left) (written right)) }
     {
-        Ok(Formula::And(Box::new(alloc, left)?, Box::new(alloc, right)?))
+        let (left, right) = boxes(alloc, left, right)?;
+        Ok(Formula::And(left, right))
     }
 
     /// `left \/ right`.
     pub fn disjunction(alloc: Global, left: Formula, right: Formula) -> Result<Formula, Memory>
         ensures { IfOk result (λ f. written f ≡ or_ (written left) (written right)) }
     {
-        Ok(Formula::Or(Box::new(alloc, left)?, Box::new(alloc, right)?))
+        let (left, right) = boxes(alloc, left, right)?;
+        Ok(Formula::Or(left, right))
     }
 
     /// `left => right`.
     pub fn implication(alloc: Global, left: Formula, right: Formula) -> Result<Formula, Memory>
         ensures { IfOk result (λ f. written f ≡ implies_ (written left) (written right)) }
     {
-        Ok(Formula::Implies(Box::new(alloc, left)?, Box::new(alloc, right)?))
+        let (left, right) = boxes(alloc, left, right)?;
+        Ok(Formula::Implies(left, right))
     }
 
     /// `forall sort "name", body`, `at` being the place of `forall`.
@@ -140,49 +144,115 @@ impl Formula {
     /// A copy that shares its names and lists with its source, so that it takes memory for each formula
     /// in it, whatever their lengths. It nests a call for each level, as the drop does. Memory leaves the
     /// source as it is.
+    #[cycle(copy)]
     pub fn copy(&self, alloc: Global) -> Result<Formula, Memory>
         ensures { IfOk result (λ f. written f ≡ written self.now) }
     {
         match self {
             Formula::Not(body) => Formula::negation(alloc, body.copy(alloc)?),
             Formula::And(left, right) => {
-                Formula::conjunction(alloc, left.copy(alloc)?, right.copy(alloc)?)
+                let (left, right) = copy_both(alloc, left, right)?;
+                Formula::conjunction(alloc, left, right)
             }
             Formula::Or(left, right) => {
-                Formula::disjunction(alloc, left.copy(alloc)?, right.copy(alloc)?)
+                let (left, right) = copy_both(alloc, left, right)?;
+                Formula::disjunction(alloc, left, right)
             }
             Formula::Implies(left, right) => {
-                Formula::implication(alloc, left.copy(alloc)?, right.copy(alloc)?)
+                let (left, right) = copy_both(alloc, left, right)?;
+                Formula::implication(alloc, left, right)
             }
             Formula::Forall {
                 at,
                 sort,
                 name,
                 body,
-            } => { Formula::forall(alloc, *at, *sort, name.share()?, body.copy(alloc)?) }
+            } => {
+                let (name, body) = copy_named(alloc, name, body)?;
+                Formula::forall(alloc, *at, *sort, name, body)
+            }
             Formula::Exists {
                 at,
                 sort,
                 name,
                 body,
-            } => { Formula::exists(alloc, *at, *sort, name.share()?, body.copy(alloc)?) }
-            Formula::Static { pred, args } => Ok(Formula::Static {
-                pred: pred.share()?,
-                args: args.share()?,
-            }),
+            } => {
+                let (name, body) = copy_named(alloc, name, body)?;
+                Formula::exists(alloc, *at, *sort, name, body)
+            }
+            Formula::Static { pred, args } => shared_static(pred, args),
             Formula::Nodes(nodes) => Ok(Formula::Nodes(nodes.share()?)),
             Formula::Edges(edges) => Ok(Formula::Edges(edges.share()?)),
-            Formula::Expand { at, name, args } => Ok(Formula::Expand {
-                at: *at,
-                name: name.share()?,
-                args: args.share()?,
-            }),
+            Formula::Expand { at, name, args } => shared_expand(*at, name, args),
             Formula::Bind {
                 at,
                 names,
                 args,
                 body,
-            } => Formula::bind(alloc, *at, names.share()?, args.share()?, body.copy(alloc)?),
+            } => {
+                let (names, args, body) = copy_bound(alloc, names, args, body)?;
+                Formula::bind(alloc, *at, names, args, body)
+            }
         }
     }
+}
+
+/// A copy of each of two formulas.
+#[cycle(copy)]
+fn copy_both(alloc: Global, left: &Formula, right: &Formula) -> Result<(Formula, Formula), Memory>
+    ensures left { IfOk result (λ both. written both.0 ≡ written left.now) }
+    ensures right { IfOk result (λ both. written both.1 ≡ written right.now) }
+{
+    let left = left.copy(alloc)?;
+    Ok((left, right.copy(alloc)?))
+}
+
+/// A quantifier's name, shared, and a copy of its body.
+#[cycle(copy)]
+fn copy_named(alloc: Global, name: &Name, body: &Formula) -> Result<(Name, Formula), Memory>
+    ensures name { IfOk result (λ named. named.0 ≡ name.now) }
+    ensures body { IfOk result (λ named. written named.1 ≡ written body.now) }
+{
+    let name = name.share()?;
+    Ok((name, body.copy(alloc)?))
+}
+
+/// The same predicate of the same arguments.
+fn shared_static(pred: &Word, args: &Args) -> Result<Formula, Memory>
+    ensures { IfOk result (λ f. written f ≡ static_ pred.now args.now) }
+{
+    let pred = pred.share()?;
+    Ok(Formula::Static {
+        pred,
+        args: args.share()?,
+    })
+}
+
+/// The same macro at the same arguments.
+fn shared_expand(at: Place, name: &Word, args: &Args) -> Result<Formula, Memory>
+    ensures { IfOk result (λ f. written f ≡ expand_ at name.now args.now) }
+{
+    let name = name.share()?;
+    Ok(Formula::Expand {
+        at,
+        name,
+        args: args.share()?,
+    })
+}
+
+/// A binding's names and arguments, shared, and a copy of its body.
+#[cycle(copy)]
+fn copy_bound(
+    alloc: Global,
+    names: &Names,
+    args: &Args,
+    body: &Formula,
+) -> Result<(Names, Args, Formula), Memory>
+    ensures names { IfOk result (λ bound. bound.0 ≡ names.now) }
+    ensures args { IfOk result (λ bound. bound.1 ≡ args.now) }
+    ensures body { IfOk result (λ bound. written bound.2 ≡ written body.now) }
+{
+    let names = names.share()?;
+    let args = args.share()?;
+    Ok((names, args, body.copy(alloc)?))
 }

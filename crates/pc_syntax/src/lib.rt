@@ -8,6 +8,7 @@
 #![tactic(auto)]
 
 mod bound;
+mod boxed;
 mod closed;
 mod closed_formula;
 mod closed_term;
