@@ -71,11 +71,9 @@ module _ (model : ModelFile) (items : List Item) (value : items ≡ model.items)
       (subst (λ xs. All (OfAxiom (λ w. IsExpanded (expansion_of (macros_of (written_model model)) w))) (map written_item xs)) (sym value)
       (axioms_are_expanded (written_model model) no_macro_fault))
 
-  pub same_size_fault : (n : ℕ) → n ≡ length table
-      → sizes_fault (before (listed table) n) 0 (map written_item items) ≡ first_size_fault (written_model model)
-  same_size_fault n whole =
-      ap (λ k. sizes_fault (before (listed table) k) 0 (map written_item items)) whole
-      ∙ ap (λ ms. sizes_fault ms 0 (map written_item items)) sees_all
+  pub same_size_fault : sizes_fault (before (listed table) (length table)) 0 (map written_item items) ≡ first_size_fault (written_model model)
+  same_size_fault =
+      ap (λ ms. sizes_fault ms 0 (map written_item items)) sees_all
       ∙ ap (λ xs. sizes_fault (macros_of (written_model model)) 0 (map written_item xs)) value
 
   pub all_expansions : (es : List Expanded)

@@ -1,15 +1,14 @@
 ghost use Rattle.std.specs.Prelude.{◌≡◌, All, IfOk, map, length};
 ghost use Rattle.std.specs.List.{flat_map};
-ghost use Rattle.pc_syntax.specs.Written.{written, written_item};
+ghost use Rattle.pc_syntax.specs.Written.{written, written_item, bind_};
 ghost use Rattle.pc_syntax.specs.Observable.{axiom_of};
 ghost use Rattle.pc_syntax.specs.Expansion.{expansion_of, parameter_names, IsExpanded};
 ghost use Rattle.macro_expand.specs.Tables.{before, listed, OfAxiom};
 
 use super::macros::Macros;
 use super::parameter_names::names_of_macros;
-use super::parts::{bound, of_part, of_parts};
-use pc_common::Memory;
-use pc_syntax::{Expanded, Formula, Item, Names};
+use pc_common::{Memory, Place};
+use pc_syntax::{Args, Expanded, Formula, Item, Names};
 use std::alloc::Global;
 
 /// A copy of a formula that may name the first `earlier` macros, with each expansion a binding of its
@@ -18,6 +17,7 @@ use std::alloc::Global;
 /// the macros' parameters.
 ///
 /// It nests a call for each connective, quantifier and expansion above an atom.
+#[cycle(walk)]
 fn expansion(
     alloc: Global,
     macros: &Macros<'_>,
@@ -29,29 +29,108 @@ fn expansion(
     ensures { IfOk result (λ f. written f ≡ expansion_of (before (listed macros.now) earlier) (written formula.now)) }
 {
     match formula {
-        Formula::Not(body)
-        | Formula::Forall { body, .. }
-        | Formula::Exists { body, .. }
-        | Formula::Bind { body, .. } => {
+        Formula::Not(body) => {
+            Formula::negation(alloc, expansion(alloc, macros, names, earlier, body)?)
+        }
+        Formula::And(left, right) => {
+            let (left, right) = expansions(alloc, macros, names, earlier, left, right)?;
+            Formula::conjunction(alloc, left, right)
+        }
+        Formula::Or(left, right) => {
+            let (left, right) = expansions(alloc, macros, names, earlier, left, right)?;
+            Formula::disjunction(alloc, left, right)
+        }
+        Formula::Implies(left, right) => {
+            let (left, right) = expansions(alloc, macros, names, earlier, left, right)?;
+            Formula::implication(alloc, left, right)
+        }
+        Formula::Forall {
+            at,
+            sort,
+            name,
+            body,
+        } => {
+            let name = name.share()?;
             let body = expansion(alloc, macros, names, earlier, body)?;
-            of_part(alloc, formula, body)
+            Formula::forall(alloc, *at, *sort, name, body)
         }
-        Formula::And(left, right) | Formula::Or(left, right) | Formula::Implies(left, right) => {
-            let left = expansion(alloc, macros, names, earlier, left)?;
-            let right = expansion(alloc, macros, names, earlier, right)?;
-            of_parts(alloc, formula, left, right)
+        Formula::Exists {
+            at,
+            sort,
+            name,
+            body,
+        } => {
+            let name = name.share()?;
+            let body = expansion(alloc, macros, names, earlier, body)?;
+            Formula::exists(alloc, *at, *sort, name, body)
         }
+        Formula::Bind {
+            at,
+            names: bound,
+            args,
+            body,
+        } => { binding(alloc, macros, names, earlier, *at, bound, args, body) }
         Formula::Static { .. } | Formula::Nodes(_) | Formula::Edges(_) => formula.copy(alloc),
         Formula::Expand { at, name, args } => {
             match macros.called(name.name.as_slice(), earlier) {
                 Some(callee) => {
-                    let inner = expansion(alloc, macros, names, callee.number, callee.body)?;
-                    bound(alloc, *at, &names[callee.number], args, inner)
+                    let bound = &names[callee.number];
+                    binding(
+                        alloc,
+                        macros,
+                        names,
+                        callee.number,
+                        *at,
+                        bound,
+                        args,
+                        callee.body,
+                    )
                 }
                 None => formula.copy(alloc),
             }
         }
     }
+}
+
+/// A binding of `bound` over a copy of a formula that may name the first `earlier` macros. It shares its
+/// names and arguments.
+#[cycle(walk)]
+fn binding(
+    alloc: Global,
+    macros: &Macros<'_>,
+    names: &[Names],
+    earlier: usize,
+    at: Place,
+    bound: &Names,
+    args: &Args,
+    body: &Formula,
+) -> Result<Formula, Memory>
+    requires { names.now ≡ map parameter_names (listed macros.now) }
+    ensures { IfOk result (λ f. written f ≡ bind_ at bound.now args.now (expansion_of (before (listed macros.now) earlier) (written body.now))) }
+{
+    let bound = bound.share()?;
+    let args = args.share()?;
+    let body = expansion(alloc, macros, names, earlier, body)?;
+    Formula::bind(alloc, at, bound, args, body)
+}
+
+/// The same of two formulas.
+#[cycle(walk)]
+fn expansions(
+    alloc: Global,
+    macros: &Macros<'_>,
+    names: &[Names],
+    earlier: usize,
+    left: &Formula,
+    right: &Formula,
+) -> Result<(Formula, Formula), Memory>
+    requires { names.now ≡ map parameter_names (listed macros.now) }
+    ensures { let ms = before (listed macros.now) earlier in
+        IfOk result (λ both. (written both.0 ≡ expansion_of ms (written left.now)) × (written both.1 ≡ expansion_of ms (written right.now))) }
+{
+    let left = expansion(alloc, macros, names, earlier, left)?;
+    let right = expansion(alloc, macros, names, earlier, right)?;
+    Ok((left, right))
 }
 
 /// An axiom's body, which may name any macro, with its macros expanded.

@@ -11,7 +11,6 @@ mod macros;
 mod measure;
 mod parameter_names;
 mod parameters;
-mod parts;
 mod sizes;
 mod stages;
 mod top;

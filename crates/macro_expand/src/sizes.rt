@@ -51,7 +51,7 @@ fn measure(macros: &Macros<'_>, measures: &[Measure], formula: &Formula) -> Meas
 }
 
 /// The measures of all macros' bodies, each once.
-pub(crate) fn measure_macros(alloc: Global, macros: &Macros<'_>) -> Result<Vec<Measure>, Memory>
+fn measure_macros(alloc: Global, macros: &Macros<'_>) -> Result<Vec<Measure>, Memory>
     ensures { IfOk result (λ measures. AreMeasures (listed macros.now) measures.items × (length measures.items ≡ length macros.now)) }
 {
     let mut measures = Vec::new(alloc);
@@ -103,8 +103,8 @@ fn check_item_size(
     }
 }
 
-/// Whether the axioms are within the limits. Nothing is expanded for it.
-pub(crate) fn check_sizes(
+/// Whether the axioms are within the limits, `measures` being those of all macros.
+fn check_measured(
     macros: &Macros<'_>,
     measures: &[Measure],
     items: &[Item],
@@ -117,4 +117,16 @@ pub(crate) fn check_sizes(
         total = check_item_size(macros, measures, item, total)?;
     }
     Ok(())
+}
+
+/// Whether the axioms are within the limits. Nothing is expanded for it.
+pub(crate) fn check_sizes(
+    alloc: Global,
+    macros: &Macros<'_>,
+    items: &[Item],
+) -> Result<(), MacroFault>
+    ensures { Judges (sizes_fault (before (listed macros.now) (length macros.now)) 0 (map written_item items.now)) result }
+{
+    let measures = measure_macros(alloc, macros)?;
+    check_measured(macros, &measures, items)
 }

@@ -1,12 +1,15 @@
-ghost use Rattle.std.specs.Prelude.{IfOk, IfErr};
-ghost use Rattle.pc_syntax.specs.Written.{written_model};
+ghost use Rattle.std.specs.Prelude.{◌≡◌, IfOk, IfErr, map};
+ghost use Rattle.std.specs.List.{flat_map};
+ghost use Rattle.pc_syntax.specs.Written.{written_model, written_item};
+ghost use Rattle.pc_syntax.specs.Observable.{macro_of};
+ghost use Rattle.macro_expand.specs.Tables.{listed, first_of_names};
 ghost use Rattle.macro_expand.specs.Faults.{IsExpandable, AreExpansions, IsFirstMacroFault};
 
 use super::expansion::expand_axioms;
 use super::fault::MacroFault;
 use super::items::check_items;
 use super::macros::Macros;
-use super::sizes::{check_sizes, measure_macros};
+use super::sizes::check_sizes;
 use pc_syntax::{Expanded, ModelFile};
 use std::alloc::Global;
 
@@ -22,11 +25,22 @@ pub fn expand(alloc: Global, model: &ModelFile) -> Result<Vec<Expanded>, MacroFa
     ensures ok { IfOk result (λ axioms. IsExpandable (written_model model.now) × AreExpansions (written_model model.now) axioms.items) }
     ensures err { IfErr result (λ fault. IsFirstMacroFault (written_model model.now) fault) }
 {
+    let macros = Macros::of(alloc, model.items.as_slice())?;
+    expand_with(alloc, &macros, model)
+}
+
+/// The same, where `macros` has the first of each name.
+fn expand_with(
+    alloc: Global,
+    macros: &Macros<'_>,
+    model: &ModelFile,
+) -> Result<Vec<Expanded>, MacroFault>
+    requires { listed macros.now ≡ first_of_names (flat_map macro_of (map written_item model.now.items)) }
+    ensures ok { IfOk result (λ axioms. IsExpandable (written_model model.now) × AreExpansions (written_model model.now) axioms.items) }
+    ensures err { IfErr result (λ fault. IsFirstMacroFault (written_model model.now) fault) }
+{
     let items = model.items.as_slice();
-    let macros = Macros::of(alloc, items)?;
-    check_items(alloc, &macros, items)?;
-    let measures = measure_macros(alloc, &macros)?;
-    check_sizes(&macros, &measures, items)?;
-    let axioms = expand_axioms(alloc, &macros, items)?;
-    Ok(axioms)
+    check_items(alloc, macros, items)?;
+    check_sizes(alloc, macros, items)?;
+    Ok(expand_axioms(alloc, macros, items)?)
 }

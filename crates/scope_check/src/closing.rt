@@ -1,4 +1,4 @@
-ghost use Rattle.std.specs.Prelude.{◌≡◌, [], IfOk, IfErr, None};
+ghost use Rattle.std.specs.Prelude.{◌≡◌, [], IfOk, IfErr, Ok, None};
 ghost use Rattle.std.specs.Option.{option_or};
 ghost use Rattle.pc_syntax.specs.Scope.{quantified_in};
 ghost use Rattle.pc_syntax.specs.Written.{written, bind_, stage_numbers, written_model};
@@ -9,13 +9,14 @@ ghost use Rattle.pc_syntax.specs.Closed.{plain_closed};
 ghost use Rattle.pc_syntax.specs.Closing.{IsClosingOf};
 ghost use Rattle.pc_syntax.specs.StagesWithin.{StagesWithin};
 ghost use Rattle.scope_check.specs.FirstFault.{Answers};
+ghost use Rattle.scope_check.specs.declared.fault.NameFault.TheVariants.{Memory as refused};
 
 use super::arguments::close_values;
 use super::fault::NameFault;
 use super::nodes::close_list;
 use super::scope::Scope;
 use super::statics::close_static;
-use pc_common::Place;
+use pc_common::{Memory, Place};
 use pc_syntax::{
     Args, Closed, ClosedFormula, Expanded, Formula, ModelFile, Name, Names, Sort, StageItems,
 };
@@ -54,22 +55,19 @@ fn close_formula<'a>(
     match formula {
         Formula::Not(body) => {
             let body = close_formula(alloc, stages, scope, body)?;
-            Ok(ClosedFormula::negation(alloc, body)?)
+            made(ClosedFormula::negation(alloc, body))
         }
         Formula::And(left, right) => {
-            let left = close_formula(alloc, stages, scope, left)?;
-            let right = close_formula(alloc, stages, scope, right)?;
-            Ok(ClosedFormula::conjunction(alloc, left, right)?)
+            let (left, right) = close_both(alloc, stages, scope, left, right)?;
+            made(ClosedFormula::conjunction(alloc, left, right))
         }
         Formula::Or(left, right) => {
-            let left = close_formula(alloc, stages, scope, left)?;
-            let right = close_formula(alloc, stages, scope, right)?;
-            Ok(ClosedFormula::disjunction(alloc, left, right)?)
+            let (left, right) = close_both(alloc, stages, scope, left, right)?;
+            made(ClosedFormula::disjunction(alloc, left, right))
         }
         Formula::Implies(left, right) => {
-            let left = close_formula(alloc, stages, scope, left)?;
-            let right = close_formula(alloc, stages, scope, right)?;
-            Ok(ClosedFormula::implication(alloc, left, right)?)
+            let (left, right) = close_both(alloc, stages, scope, left, right)?;
+            made(ClosedFormula::implication(alloc, left, right))
         }
         Formula::Forall {
             at,
@@ -78,7 +76,7 @@ fn close_formula<'a>(
             body,
         } => {
             let body = close_quantified(alloc, stages, scope, *at, *sort, name, body)?;
-            Ok(ClosedFormula::forall(alloc, *sort, body)?)
+            made(ClosedFormula::forall(alloc, *sort, body))
         }
         Formula::Exists {
             at,
@@ -87,7 +85,7 @@ fn close_formula<'a>(
             body,
         } => {
             let body = close_quantified(alloc, stages, scope, *at, *sort, name, body)?;
-            Ok(ClosedFormula::exists(alloc, *sort, body)?)
+            made(ClosedFormula::exists(alloc, *sort, body))
         }
         Formula::Static { pred, args } => close_static(alloc, scope, pred, args),
         Formula::Nodes(nodes) => {
@@ -104,6 +102,35 @@ fn close_formula<'a>(
         } => { close_binding(alloc, stages, scope, *at, names, args, body) }
         Formula::Expand { .. } => unreachable!(),
     }
+}
+
+/// A formula that was made, unless memory was refused.
+fn made(formula: Result<ClosedFormula, Memory>) -> Result<ClosedFormula, NameFault>
+    ensures ok { IfOk result (λ closed. formula ≡ Ok closed) }
+    ensures err { IfErr result (λ fault. fault ≡ refused) }
+{
+    Ok(formula?)
+}
+
+/// Closes two formulas in a scope, the left one first.
+#[cycle(walk)]
+fn close_both<'a>(
+    alloc: Global,
+    stages: &StageItems,
+    scope: &Scope<'a>,
+    left: &'a Formula,
+    right: &'a Formula,
+) -> Result<(ClosedFormula, ClosedFormula), NameFault>
+    requires stages { stages_fault [] stages.now ≡ None }
+    requires expanded { IsExpanded (written left.now) × IsExpanded (written right.now) }
+    ensures ok { IfOk result (λ both. IsClosingOf stages.now scope.now (written left.now) (plain_closed both.0)
+        × IsClosingOf stages.now scope.now (written right.now) (plain_closed both.1)) }
+    ensures err { IfErr result (Answers (option_or (name_fault stages.now [] scope.now (written left.now))
+        (name_fault stages.now [] scope.now (written right.now)))) }
+{
+    let left = close_formula(alloc, stages, scope, left)?;
+    let right = close_formula(alloc, stages, scope, right)?;
+    Ok((left, right))
 }
 
 /// The body of a quantifier at `at`, after the number of variables in it.

@@ -2,7 +2,7 @@ use Rattle.std.proofs.Common.{◌≡◌, ◌≤◌, length, map, drop}
 use Rattle.pc_syntax.specs.Written.{written_item}
 use Rattle.pc_syntax.specs.Sizes.{sizes_fault}
 use Rattle.macro_expand.specs.Tables.{before, listed}
-use Rattle.macro_expand.proofs.sizes.check_sizes.Given as goal
+use Rattle.macro_expand.proofs.sizes.check_measured.Given as goal
 
 abbrev pub invariant-loop-item : goal.invariant-loop-item
 invariant-loop-item l =
