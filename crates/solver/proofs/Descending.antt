@@ -1,5 +1,5 @@
 -- One turn of a descent, and its end.
-use Rattle.std.proofs.Common.{◌≡◌, ◌≤◌, ◌<◌, ℕ, Bool, true, false, ◌+◌, List, [], ◌∷◌, ◌++◌, take, reverse, length, refl, sym, ap, ◌∙◌, subst, arith, append_assoc}
+use Rattle.std.proofs.Common.{◌≡◌, ◌≤◌, ◌<◌, ℕ, ◌+◌, List, [], ◌∷◌, ◌++◌, take, reverse, length, refl, sym, ap, ◌∙◌, subst, arith, append_assoc}
 use Rattle.std.specs.Prelude.{All}
 use Rattle.std.proofs.lemmas.List.{reverse-append, length-map}
 use Rattle.pc_common.specs.World.{Node}
@@ -18,7 +18,7 @@ use Rattle.solver.specs.Places.{reached, IsOr, IsCandidate, AreChildren}
 use Rattle.solver.specs.Leaves.{IsClashBelow}
 use Rattle.solver.specs.Opens.{positions, waiting, IsLater, AreLater, opens, IsKept, IsSame}
 use Rattle.solver.specs.Weights.{weight}
-use Rattle.solver.specs.Descents.{HasDescended, IsLonger, HasMore}
+use Rattle.solver.specs.Descents.{IsLonger, HasMore}
 use Rattle.solver.specs.declared.asserted.Asserted.{Asserted}
 use Rattle.solver.specs.declared.later.Later.{Later}
 use Rattle.solver.proofs.Running.{open_partial, reached_at}
@@ -111,8 +111,3 @@ advanced nodes t g h i here there ls ms ss us l p c kept candidate e same e_ther
     let less = lighter_split t here ls ms l p candidate c children count side pushed in
     let Q : List Asserted → Type 0 = λ xs. weight t (opens t (positions xs ++ reached t c.0) xs ms) < weight t (opens t (positions here) here ls) in
     (subst (λ xs. P xs c.0) (sym e_there) (subst (P here) (sym places.0) next), subst Q (sym e_there) less)
-
-pub descended_less : (nodes : List Node) (t : Tree ℕ) (m n : ℕ) (g : Graph) (here : List Asserted) (ls : List Later) (ss : List (Step Node)) (b : Bool) → m < n
-    → HasDescended nodes t (m + 1) g here ls ss b → HasDescended nodes t n g here ls ss b
-descended_less nodes t m n g here ls ss true less h = (h.0, omega (arith, h.1, less))
-descended_less nodes t m n g here ls ss false less h = h

@@ -13,3 +13,4 @@ pub mod Shown
 pub mod Searched
 pub mod Answers
 pub mod Turns
+pub mod Found

@@ -1,15 +1,19 @@
-ghost use Rattle.std.specs.Prelude.{◌≡◌, ◌<◌, ◌^◌, ℕ, [], All, IfOk, length, map};
+ghost use Rattle.std.specs.Prelude.{◌≡◌, ◌<◌, ◌≤◌, ◌+◌, ◌^◌, ℕ, [], Some, All, IfOk, length, map};
 ghost use Rattle.pc_ground.specs.Keys.{key_node};
+ghost use Rattle.pc_ground.specs.Tree.{never};
+ghost use Rattle.pc_ground.specs.Numbers.{AreDistinct};
+ghost use Rattle.pc_ground.specs.Refutes.{subtree_at};
 ghost use Rattle.solver.specs.Spelled.{spelled, IsSpelled};
 ghost use Rattle.solver.specs.Below.{IsRowBelow};
 ghost use Rattle.solver.specs.Places.{IsCandidate};
 ghost use Rattle.solver.specs.Opens.{positions, opens, IsKept};
 ghost use Rattle.solver.specs.Weights.{weight};
-ghost use Rattle.solver.specs.Descents.{HasDescended, HasMore};
+ghost use Rattle.solver.specs.Descents.{HasMore};
+ghost use Rattle.solver.specs.Found.{IsFound, found_weight};
 
 use super::asserted::Asserted;
 use super::choose::{children, choose};
-use super::descend::descend;
+use super::find::{Found, find};
 use super::later::Later;
 use order_graph::OrderGraph;
 use pc_common::Memory;
@@ -19,8 +23,7 @@ use std::alloc::Global;
 use std::sync::ledger::Ledger;
 use undo_trail::Steps;
 
-/// Splits the chosen candidate and goes on with its left side, while the right side waits. True where a
-/// branch is open then.
+/// Splits the chosen candidate and goes on with its left side, while the right side waits.
 pub(crate) fn advance<L: Ledger>(
     alloc: Global,
     keys: &[NodeKey],
@@ -31,16 +34,19 @@ pub(crate) fn advance<L: Ledger>(
     later: &mut Vec<Later>,
     refutation: &mut Refutation,
     steps: &mut Steps<L>,
-) -> Result<bool, Memory>
+) -> Result<Found, Memory>
     requires tree { IsSpelled rows.now }
+    requires few { length keys.now ≤ 262144 }
+    requires distinct { AreDistinct (map key_node keys.now) }
     requires below { All (IsRowBelow (length keys.now)) rows.now }
+    requires no_false { (p : ℕ) → subtree_at (spelled rows.now) p ≡ Some never → ⊥ }
     requires some { 0 < length candidates.now }
     requires candidates { All (IsCandidate (spelled rows.now) (positions asserted.old.items)) candidates.now }
     requires small { All (λ p. p < 2 ^ 63) candidates.now }
     requires kept { IsKept (map key_node keys.now) (spelled rows.now) graph.old asserted.old.items later.old.items refutation.old [] }
-    ensures descended { IfOk result (λ is_open. HasDescended (map key_node keys.now) (spelled rows.now)
-        (weight (spelled rows.now) (opens (spelled rows.now) (positions asserted.old.items) asserted.old.items later.old.items))
-        graph.new asserted.new.items later.new.items refutation.new is_open) }
+    ensures found { IfOk result (IsFound (map key_node keys.now) rows.now graph.new asserted.new.items later.new.items refutation.new) }
+    ensures lighter { IfOk result (λ found. found_weight rows.now asserted.new.items later.new.items found
+        < 1 + weight (spelled rows.now) (opens (spelled rows.now) (positions asserted.old.items) asserted.old.items later.old.items)) }
     ensures longer { IfOk result (λ _. HasMore refutation.old refutation.new) }
 {
     let _steps_so_far = refutation.len();
@@ -50,8 +56,7 @@ pub(crate) fn advance<L: Ledger>(
     let count = asserted.len();
     later.push(Later { count, mark, side })?;
     refutation.push_split(p as u64)?;
-    let is_open = descend(
+    find(
         alloc, keys, rows, left, graph, asserted, later, refutation, steps,
-    )?;
-    Ok(is_open)
+    )
 }

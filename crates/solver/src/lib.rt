@@ -18,6 +18,7 @@ mod candidates;
 mod choose;
 mod descend;
 mod enter;
+mod find;
 mod flags;
 mod later;
 mod leaf;

@@ -13,13 +13,13 @@ ghost use Rattle.solver.specs.Opens.{positions, IsKept};
 ghost use Rattle.solver.specs.Weights.{weight};
 ghost use Rattle.solver.specs.Descents.{HasMore};
 ghost use Rattle.solver.specs.Searched.{IsSearching, branches_of};
+ghost use Rattle.solver.specs.Found.{IsFound, found_weight};
 ghost use Rattle.solver.specs.Turns.{IsTurn, IsTurnOf, GoesOn, turn_weight};
 
 use super::advance::advance;
-use super::answer::{Answer, graph_of};
+use super::answer::Answer;
 use super::asserted::Asserted;
-use super::candidates::candidates;
-use super::descend::descend;
+use super::find::{Found, find};
 use super::later::Later;
 use super::numbers::{keys_by_number, number_rows};
 use super::rows::row_at;
@@ -65,9 +65,8 @@ pub enum Turn {
     Done(Answer),
 }
 
-/// Hands out what stands after a descent: a branch is open. With no candidate on it all is true in the
-/// graph's world.
-pub(crate) fn settle(
+/// Hands out what was found.
+fn settle(
     alloc: Global,
     keys: Vec<NodeKey>,
     rows: Vec<Row<u32>>,
@@ -75,34 +74,32 @@ pub(crate) fn settle(
     asserted: Vec<Asserted>,
     later: Vec<Later>,
     refutation: Refutation,
-) -> Result<Turn, Memory>
+    found: Found,
+) -> Turn
     requires tree { IsSpelled rows.items }
     requires few { length keys.items ≤ 262144 }
     requires distinct { AreDistinct (map key_node keys.items) }
     requires below { All (IsRowBelow (length keys.items)) rows.items }
     requires no_false { (p : ℕ) → subtree_at (spelled rows.items) p ≡ Some never → ⊥ }
-    requires kept { IsKept (map key_node keys.items) (spelled rows.items) graph asserted.items later.items refutation [] }
-    ensures turn { IfOk result (IsTurn (map key_node keys.items) rows.items) }
-    ensures weight { IfOk result (λ turn. turn_weight turn ≤ 1 + weight (spelled rows.items) (branches_of rows.items asserted.items later.items)) }
-    ensures steps { IfOk result (GoesOn (λ old new. new ≡ old) refutation) }
+    requires found { IsFound (map key_node keys.items) rows.items graph asserted.items later.items refutation found }
+    ensures turn { IsTurn (map key_node keys.items) rows.items result }
+    ensures weight { turn_weight result ≡ found_weight rows.items asserted.items later.items found }
+    ensures steps { GoesOn (λ old new. new ≡ old) refutation result }
 {
-    let _asserted_so_far = graph.len();
-    let found = candidates(alloc, &rows, &graph, &asserted)?;
-    let _root = row_at(&rows, 0);
-    if found.is_empty() {
-        let graph = graph_of(alloc, &keys, &graph)?;
-        return Ok(Turn::Done(Answer::Observable(graph)));
+    match found {
+        Found::Closed => Turn::Done(Answer::Unobservable(refutation)),
+        Found::Whole(shown) => Turn::Done(Answer::Observable(shown)),
+        Found::Open(candidates) => Turn::More(Search {
+            alloc,
+            keys,
+            rows,
+            graph,
+            asserted,
+            later,
+            refutation,
+            candidates,
+        }),
     }
-    Ok(Turn::More(Search {
-        alloc,
-        keys,
-        rows,
-        graph,
-        asserted,
-        later,
-        refutation,
-        candidates: found,
-    }))
 }
 
 /// Enters the root: what is handed out first.
@@ -132,7 +129,7 @@ fn start<L: Ledger>(
     }
     let mut asserted = Vec::new(alloc);
     let mut later = Vec::new(alloc);
-    let is_open = descend(
+    let found = find(
         alloc,
         &keys,
         &rows,
@@ -143,10 +140,7 @@ fn start<L: Ledger>(
         &mut refutation,
         steps,
     )?;
-    if !is_open {
-        return Ok(Turn::Done(Answer::Unobservable(refutation)));
-    }
-    settle(alloc, keys, rows, graph, asserted, later, refutation)
+    Ok(settle(alloc, keys, rows, graph, asserted, later, refutation, found))
 }
 
 impl Search {
@@ -204,7 +198,7 @@ impl Search {
             mut refutation,
             candidates,
         } = self;
-        let is_open = advance(
+        let found = advance(
             alloc,
             &keys,
             &rows,
@@ -215,9 +209,6 @@ impl Search {
             &mut refutation,
             steps,
         )?;
-        if !is_open {
-            return Ok(Turn::Done(Answer::Unobservable(refutation)));
-        }
-        settle(alloc, keys, rows, graph, asserted, later, refutation)
+        Ok(settle(alloc, keys, rows, graph, asserted, later, refutation, found))
     }
 }

@@ -1,0 +1,86 @@
+use Rattle.std.proofs.Common.{◌≡◌, map, sym, ◌∙◌, subst, length, ap, arith, List, [], ℕ, Bool, eqb-true}
+use Rattle.std.specs.Prelude.{All}
+use Rattle.std.proofs.lemmas.List.{nil_from_length, length-map, append-nil}
+use Rattle.pc_ground.specs.Keys.{key_node}
+use Rattle.pc_ground.proofs.FlatRows.{size_pos}
+use Rattle.order_graph.specs.Ways.{IsBelow}
+use Rattle.solver.specs.declared.asserted.Asserted.{Asserted}
+use Rattle.solver.specs.Spelled.{spelled}
+use Rattle.solver.specs.Places.{IsCandidate, AreChosen}
+use Rattle.solver.specs.Below.{IsRowBelow}
+use Rattle.solver.specs.Opens.{positions, opens}
+use Rattle.solver.specs.Weights.{weight}
+use Rattle.solver.specs.Descents.{HasDescended}
+use Rattle.solver.proofs.Entering.{length_spelled}
+use Rattle.solver.proofs.Settling.{positions_inside, witness, candidates_small, not_zero}
+use Rattle.solver.proofs.find.find.Goals as goal
+
+pub row_at-root-requires : goal.row_at-root-requires
+row_at-root-requires g c = omega (arith, length_spelled c.args.rows.now c.requires.tree, size_pos (spelled c.args.rows.now))
+
+pub candidates-requires-clause-below : goal.candidates-requires-clause-below
+candidates-requires-clause-below g c =
+    let H : Bool → Type 0 = HasDescended (map key_node c.args.keys.now) (spelled c.args.rows.now) _ c.descend.new.graph c.descend.new.asserted.items
+    c.descend.new.later.items c.descend.new.refutation in
+    let descended = subst H c.if-not-is_open.false c.in_ok-is_open.ensures.descended in
+    let P : ℕ → Type 0 = λ n. All (IsRowBelow n) c.args.rows.now in
+    subst P (sym (descended.0.all_nodes ∙ length-map c.args.keys.now key_node)) c.requires.below
+
+pub candidates-requires-clause-inside : goal.candidates-requires-clause-inside
+candidates-requires-clause-inside g c =
+    let H : Bool → Type 0 = HasDescended (map key_node c.args.keys.now) (spelled c.args.rows.now) _ c.descend.new.graph c.descend.new.asserted.items
+    c.descend.new.later.items c.descend.new.refutation in
+    let descended = subst H c.if-not-is_open.false c.in_ok-is_open.ensures.descended in
+    rw c.deref.ensures.value
+    (positions_inside (map key_node c.args.keys.now) c.args.rows.now c.descend.new.graph c.descend.new.asserted.items c.descend.new.later.items c.descend.new.refutation
+    c.requires.tree descended.0)
+
+pub graph_of-requires : goal.graph_of-requires
+graph_of-requires g c =
+    let H : Bool → Type 0 = HasDescended (map key_node c.args.keys.now) (spelled c.args.rows.now) _ c.descend.new.graph c.descend.new.asserted.items
+    c.descend.new.later.items c.descend.new.refutation in
+    let descended = subst H c.if-not-is_open.false c.in_ok-is_open.ensures.descended in
+    let all = descended.0.all_nodes ∙ length-map c.args.keys.now key_node in
+    let P : ℕ → Type 0 = λ n. All (IsBelow n) c.descend.new.graph.literals in
+    record { all = all; few = c.requires.few; below = subst P all c.len-asserted_so_far.ensures.graph.below }
+
+pub returns-then-is_empty-clause-found : goal.returns-then-is_empty-clause-found
+returns-then-is_empty-clause-found g c =
+    let H : Bool → Type 0 = HasDescended (map key_node c.args.keys.now) (spelled c.args.rows.now) _ c.descend.new.graph c.descend.new.asserted.items
+    c.descend.new.later.items c.descend.new.refutation in
+    let descended = subst H c.if-not-is_open.false c.in_ok-is_open.ensures.descended in
+    let nodes = map key_node c.args.keys.now in
+    let rows = c.args.rows.now in
+    let here = c.descend.new.asserted.items in
+    let empty : c.in_ok-found.found.items ≡ [] = nil_from_length c.in_ok-found.found.items
+    (let e = eqb-true _ 0 (sym c.is_empty.ensures ∙ c.if-is_empty.true) in omega (arith, e)) in
+    let A : List Asserted → Type 0 = λ xs. AreChosen (spelled rows) (positions xs) in
+    witness nodes (length c.args.keys.now) rows c.descend.new.graph here c.descend.new.later.items c.descend.new.refutation c.in_ok-shown.shown
+    (sym (length-map c.args.keys.now key_node)) c.requires.tree c.requires.distinct c.requires.below c.requires.no_false descended.0
+    c.len-asserted_so_far.ensures.graph (subst A c.deref.ensures.value (c.in_ok-found.ensures.none empty)) c.in_ok-shown.ensures.nodes c.in_ok-shown.ensures.edges
+
+pub returns-clause-found : goal.returns-clause-found
+returns-clause-found g c =
+    let H : Bool → Type 0 = HasDescended (map key_node c.args.keys.now) (spelled c.args.rows.now) _ c.descend.new.graph c.descend.new.asserted.items
+    c.descend.new.later.items c.descend.new.refutation in
+    let descended = subst H c.if-not-is_open.false c.in_ok-is_open.ensures.descended in
+    let rows = c.args.rows.now in
+    let here = c.descend.new.asserted.items in
+    let found = c.in_ok-found.found.items in
+    let A : List Asserted → Type 0 = λ xs. All (IsCandidate (spelled rows) (positions xs)) found in
+    let all = subst A c.deref.ensures.value c.in_ok-found.ensures.all in record {
+      kept = descended.0;
+      some = (let some = not_zero _ c.is_empty.result c.is_empty.ensures c.if-is_empty.false in omega (arith, some));
+      all = all;
+      small = candidates_small rows (positions here) found c.requires.tree c.row_at-root.ensures.bound all;
+    }
+
+pub returns-clause-lighter : goal.returns-clause-lighter
+returns-clause-lighter g c =
+    let H : Bool → Type 0 = HasDescended (map key_node c.args.keys.now) (spelled c.args.rows.now) _ c.descend.new.graph c.descend.new.asserted.items
+    c.descend.new.later.items c.descend.new.refutation in
+    let descended = subst H c.if-not-is_open.false c.in_ok-is_open.ensures.descended in
+    let t = spelled c.args.rows.now in
+    let here = c.descend.new.asserted.items in
+    let same = ap (λ ps. weight t (opens t ps here c.descend.new.later.items)) (append-nil (positions here)) in
+    omega (arith, descended.1, same)
