@@ -13,11 +13,12 @@ use Rattle.ll_grammar.proofs.Meanings.{Each, meaning, derives-begin, derives-end
 use Rattle.ll_grammar.proofs.Meanings.Each.{none, class, part}
 use Rattle.uspec_lexer.specs.Token.{Token, Kind}
 use Rattle.litmus_reader.specs.Expected.{Expected, a_word, word_at, a_number, number_at, a_text, a_symbol, Is, Spell}
-use Rattle.litmus_reader.specs.Syntax.{spelled_page, spelled_data, spelled_memop, spelled_access, spelled_item, spelled_items, spelled_test, open_, close_, dot, arrow, IsTest}
+use Rattle.litmus_reader.specs.Syntax.{spelled_page, spelled_data, spelled_memop, spelled_access, spelled_head, spelled_item, spelled_items, spelled_test, open_, close_, dot, arrow, IsTest}
 use Rattle.litmus_reader.specs.Terminals.{word_terminal, symbol_terminal, kind_terminal, terminal_of, is_name}
 use Rattle.litmus_reader.specs.Phrases.{behind, may_end, deep, rules}
 use Rattle.litmus_reader.specs.declared.item.Numeral.{Numeral}
 use Rattle.litmus_reader.specs.declared.item.Head.{Head}
+use Rattle.litmus_reader.specs.declared.item.End.{End}
 use Rattle.litmus_reader.specs.declared.item.Action.{Action}
 use Rattle.litmus_reader.specs.declared.item.Action.TheVariants.{Read as read, Write as write, Fence as fence}
 use Rattle.litmus_reader.specs.declared.item.ValueLine.{ValueLine}
@@ -202,72 +203,80 @@ items_value c item s own spells _ _ (part {cs = xs} {ds = ys} page (class (class
     )
 items_value c item s own spells _ _ (part page (class (class (part others none)))) [] e = absurd (cc)
 
+-- g n "->" g n ".", and whatever stands behind
+ends_of : (ts : List Token) (cs : List Terminal) → map terminal_of ts ≡ Number ∷ Number ∷ Arrow ∷ Number ∷ Number ∷ Dot ∷ cs
+    → (source : End) × (target : End) × (rest : List Token) × (map terminal_of rest ≡ cs)
+    × ((es : List Expected) → Spell es rest
+    → Spell (number_at source.g ∷ a_number source.n ∷ arrow ∷ number_at target.g ∷ a_number target.n ∷ dot ∷ es) ts)
+ends_of (g1 ∷ n1 ∷ a ∷ g2 ∷ n2 ∷ d ∷ rest) cs e =
+    let (sg, is_sg) = is_number_at g1 cc in
+    let (sn, is_sn) = is_number n1 cc in
+    let (tg, is_tg) = is_number_at g2 cc in
+    let (tn, is_tn) = is_number n2 cc in
+    let is_arrow : Is arrow a = is_symbol a Arrow refl (λ h. cc) cc in
+    let ends : Is dot d = is_dot d cc in
+    (record { g = sg; n = sn }, record { g = tg; n = tn }, rest, cc, λ es s. (is_sg, (is_sn, (is_arrow, (is_tg, (is_tn, (ends, s)))))))
+ends_of ts cs e = absurd (cc)
+
 items_relationship : Keeps Items Relationship
     (Part AnyName ∷ Class Number ∷ Class Number ∷ Class Arrow ∷ Class Number ∷ Class Number ∷ Class Dot ∷ Part Items ∷ [])
 items_relationship _ _ (part {cs = xs} {ds = ys} kind (class (class (class (class (class (class (part {cs = cs} others none)))))))) (t ∷ ts) e =
     let (us, vs, same, here, behind) = map-part terminal_of ts xs ys cc in
     let (w, s) = kind us here in
-    let (g1, vs1, same1, here1, behind1) = map-head terminal_of vs Number (Number ∷ Arrow ∷ Number ∷ Number ∷ Dot ∷ (cs ++ [])) behind in
-    let (n1, vs2, same2, here2, behind2) = map-head terminal_of vs1 Number (Arrow ∷ Number ∷ Number ∷ Dot ∷ (cs ++ [])) behind1 in
-    let (a, vs3, same3, here3, behind3) = map-head terminal_of vs2 Arrow (Number ∷ Number ∷ Dot ∷ (cs ++ [])) behind2 in
-    let (g2, vs4, same4, here4, behind4) = map-head terminal_of vs3 Number (Number ∷ Dot ∷ (cs ++ [])) behind3 in
-    let (n2, vs5, same5, here5, behind5) = map-head terminal_of vs4 Number (Dot ∷ (cs ++ [])) behind4 in
-    let (d, vs6, same6, here6, behind6) = map-head terminal_of vs5 Dot (cs ++ []) behind5 in
-    let (sg, is_sg) = is_number_at g1 here1 in
-    let (sn, is_sn) = is_number n1 here2 in
-    let (tg, is_tg) = is_number_at g2 here4 in
-    let (tn, is_tn) = is_number n2 here5 in
-    let (is, q) = others vs6 (behind6 ∙ append-nil cs) in
-    let all : us ++ (g1 ∷ n1 ∷ a ∷ g2 ∷ n2 ∷ d ∷ vs6) ≡ ts = cc in (
-      relationship (record { kind = w; source = record { g = sg; n = sn }; target = record { g = tg; n = tn } }) ∷ is,
+    let (source, target, rest, left, spells) = ends_of vs (cs ++ []) behind in
+    let (is, q) = others rest (left ∙ append-nil cs) in
+    let ends : List Expected = number_at source.g ∷ a_number source.n ∷ arrow ∷ number_at target.g ∷ a_number target.n ∷ dot ∷ spelled_items is in (
+      relationship (record { kind = w; source = source; target = target }) ∷ is,
       (
         is_word t Relationship refl (λ h. cc) cc,
-        subst (Spell (a_word w ∷ number_at sg ∷ a_number sn ∷ arrow ∷ number_at tg ∷ a_number tn ∷ dot ∷ spelled_items is)) all
-            (spell-append (a_word w ∷ []) (number_at sg ∷ a_number sn ∷ arrow ∷ number_at tg ∷ a_number tn ∷ dot ∷ spelled_items is) us (g1 ∷ n1 ∷ a ∷ g2 ∷ n2 ∷ d ∷ vs6) s
-            (is_sg, (is_sn, (is_symbol a Arrow refl (λ h. cc) here3, (is_tg, (is_tn, (is_dot d here6, q))))))),
+        subst (Spell (a_word w ∷ ends)) (sym same) (spell-append (a_word w ∷ []) ends us vs s (spells (spelled_items is) q)),
       ),
     )
 items_relationship _ _ (part kind (class (class (class (class (class (class (part others none)))))))) [] e = absurd (cc)
 
-items_microop : Keeps Items Microop
-    (Class Number ∷ Class Number ∷ Class Number ∷ Class Number ∷ Class Open ∷ Part Access ∷ Class Close ∷ Class Dot ∷ Part Items ∷ [])
-items_microop _ _ (class (class (class (class (class (part {cs = xs} {ds = ys} access (class (class (part {cs = cs} others none))))))))) (t ∷ g ∷ c ∷ h ∷ n ∷ o ∷ ts) e =
-    let (us, vs, same, here, behind) = map-part terminal_of ts xs ys cc in
-    let (types, action, s) = access us here in
-    let (z, vs1, same1, here1, behind1) = map-head terminal_of vs Close (Dot ∷ (cs ++ [])) behind in
-    let (d, vs2, same2, here2, behind2) = map-head terminal_of vs1 Dot (cs ++ []) behind1 in
+-- Microop g core thread n "(", and whatever stands behind
+head_of : (ts : List Token) (cs : List Terminal) → map terminal_of ts ≡ Microop ∷ Number ∷ Number ∷ Number ∷ Number ∷ Open ∷ cs
+    → (head : Head) × (rest : List Token) × (map terminal_of rest ≡ cs)
+    × ((es : List Expected) → Spell es rest → Spell (spelled_head head ++ (open_ ∷ es)) ts)
+head_of (t ∷ g ∷ c ∷ h ∷ n ∷ o ∷ rest) cs e =
     let (ng, is_g) = is_number_at g cc in
     let (nc, is_c) = is_number_at c cc in
     let (nh, is_h) = is_number_at h cc in
     let (nn, is_n) = is_number n cc in
-    let (is, q) = others vs2 (behind2 ∙ append-nil cs) in
-    let all : us ++ (z ∷ d ∷ vs2) ≡ ts = cc in
-    let head : Head = record { at = place_of t; g = ng; core = nc; thread = nh; n = nn } in (
-      microop (record { head = head; types = types; action = action }) ∷ is,
-      (
-        is_word_at t Microop refl (λ h. cc) cc,
-        (
-          is_g,
-          (
-            is_c,
-            (
-              is_h,
-              (
-                is_n,
-                (
-                  is_open o cc,
-                  subst (λ (es : List Expected). Spell es ts) (sym (append_assoc (spelled_access types action) (close_ ∷ dot ∷ []) (spelled_items is)))
-                      (subst (Spell (spelled_access types action ++ (close_ ∷ dot ∷ spelled_items is))) all
-                      (spell-append (spelled_access types action) (close_ ∷ dot ∷ spelled_items is) us (z ∷ d ∷ vs2) s
-                      (is_close z here1, (is_dot d here2, q)))),
-                ),
-              ),
-            ),
-          ),
-        ),
-      ),
+    let begins : Is (word_at (codes "Microop") (place_of t)) t = is_word_at t Microop refl (λ h. cc) cc in
+    let opens : Is open_ o = is_open o cc in (
+      record { at = place_of t; g = ng; core = nc; thread = nh; n = nn },
+      rest,
+      cc,
+      λ es s. (begins, (is_g, (is_c, (is_h, (is_n, (opens, s)))))),
     )
-items_microop _ _ (class (class (class (class (class (part access (class (class (part others none))))))))) ts e = absurd (cc)
+head_of ts cs e = absurd (cc)
+
+-- ")" ".", and whatever stands behind
+closed_of : (ts : List Token) (cs : List Terminal) → map terminal_of ts ≡ Close ∷ Dot ∷ cs
+    → (rest : List Token) × (map terminal_of rest ≡ cs) × ((es : List Expected) → Spell es rest → Spell (close_ ∷ dot ∷ es) ts)
+closed_of (z ∷ d ∷ rest) cs e =
+    let closes : Is close_ z = is_close z cc in
+    let ends : Is dot d = is_dot d cc in
+    (rest, cc, λ es s. (closes, (ends, s)))
+closed_of ts cs e = absurd (cc)
+
+items_microop : Keeps Items Microop
+    (Class Number ∷ Class Number ∷ Class Number ∷ Class Number ∷ Class Open ∷ Part Access ∷ Class Close ∷ Class Dot ∷ Part Items ∷ [])
+items_microop _ _ (class (class (class (class (class (part {cs = xs} {ds = ys} access (class (class (part {cs = cs} others none))))))))) ts e =
+    let (head, inner, left, begins) = head_of ts (xs ++ ys) e in
+    let (us, vs, same, here, behind) = map-part terminal_of inner xs ys left in
+    let (types, action, s) = access us here in
+    let (rest, after, closes) = closed_of vs (cs ++ []) behind in
+    let (is, q) = others rest (after ∙ append-nil cs) in
+    let line : List Expected = spelled_access types action in
+    let more : List Expected = spelled_items is in
+    let spells : Spell (line ++ (close_ ∷ dot ∷ more)) inner =
+    subst (Spell (line ++ (close_ ∷ dot ∷ more))) (sym same) (spell-append line (close_ ∷ dot ∷ more) us vs s (closes more q)) in (
+      microop (record { head = head; types = types; action = action }) ∷ is,
+      begins ((line ++ (close_ ∷ dot ∷ [])) ++ more)
+          (subst (λ (es : List Expected). Spell es inner) (sym (append_assoc line (close_ ∷ dot ∷ []) more)) spells),
+    )
 
 test_litmus : Keeps Test Litmus (Class Text ∷ Class Dot ∷ Part Items ∷ [])
 test_litmus _ _ (class (class (part {cs = cs} others none))) (t ∷ x ∷ d ∷ ts) e =

@@ -7,8 +7,11 @@ use Rattle.uspec_lexer.specs.Token.{Token}
 use Rattle.litmus_reader.specs.Expected.{Expected, Spell}
 use Rattle.litmus_reader.specs.Syntax.{spelled_item, spelled_items, IsTestOf, IsTest}
 use Rattle.litmus_reader.specs.Content.{Never, IsFaultOf, IsClean, IsContentFault}
-use Rattle.litmus_reader.specs.Kept.{Keeps}
+use Rattle.litmus_reader.specs.Answer.{IsContentRefusal}
+use Rattle.litmus_reader.specs.Kept.{Keeps, IsLineRefusal}
 use Rattle.litmus_reader.specs.Reading.{BeginsAt, SomeItemAt, IsItemAt}
+use Rattle.litmus_reader.specs.declared.fault.CaseFault.{CaseFault}
+use Rattle.litmus_reader.specs.declared.fault.CaseFault.TheVariants.{Lexical, Syntax, Content, Memory}
 use Rattle.litmus_reader.specs.declared.item.Item.{Item}
 use Rattle.litmus_reader.specs.declared.item.Item.TheVariants.{Microop as microop, Relationship as relationship, Initial as initial, Final as final, Permitted as permitted, Forbidden as forbidden}
 use Rattle.litmus_reader.specs.declared.kept.Kept.{Kept}
@@ -107,7 +110,7 @@ reached-next {ts} r item to s new never keeps = record {
   keeps = keeps;
 }
 
-pub fault-of : {ts : List Token} {at : ℕ} {k : Kept} (r : Reached ts at k) (item : Item) (to : ℕ) (s : Said ts at r.rest item to)
+fault-of : {ts : List Token} {at : ℕ} {k : Kept} (r : Reached ts at k) (item : Item) (to : ℕ) (s : Said ts at r.rest item to)
     → (kind : FaultKind) (place : Place) → IsFaultOf r.before item kind place
     → (items : List Item) × IsTestOf items ts × IsContentFault items kind place
 fault-of r item to s kind place here = (
@@ -122,6 +125,13 @@ fault-of r item to s kind place here = (
     here = here;
   },
 )
+
+pub refusal-of : {ts : List Token} {at : ℕ} {k : Kept} (r : Reached ts at k) (item : Item) (to : ℕ) (s : Said ts at r.rest item to)
+    → (fault : CaseFault) → IsLineRefusal r.before item fault → IsContentRefusal ts fault
+refusal-of r item to s (Content kind place) here = fault-of r item to s kind place here
+refusal-of r item to s Memory here = tt
+refusal-of r item to s (Lexical place) here = absurd here
+refusal-of r item to s (Syntax place) here = absurd here
 
 none_left : (rest : List Item) → Spell (spelled_items rest) [] → rest ≡ []
 none_left [] s = refl

@@ -1,5 +1,5 @@
 -- What the reader has kept of the lines so far.
-use Rattle.std.specs.Prelude.{◌≡◌, ℕ, List, [], ◌∷◌, ◌++◌, Option, Some, None, map}
+use Rattle.std.specs.Prelude.{◌≡◌, ℕ, ⊤, List, [], ◌∷◌, ◌++◌, Option, Some, None, map}
 use Rattle.pc_common.specs.declared.place.Place.{Place}
 use Rattle.pc_common.specs.Case.{Expectation}
 use Rattle.pc_common.specs.declared.fault.FaultKind.{FaultKind}
@@ -7,6 +7,11 @@ use Rattle.pc_common.specs.declared.fault.FaultKind.TheVariants.{AgainInitial, A
 use Rattle.pc_case.specs.Plain.{micro_op, dependency, expectation}
 use Rattle.pc_case.specs.declared.stated.Stated.{Stated}
 use Rattle.litmus_reader.specs.Items.{microops_in, heads_in, relationships_in, initial_in, final_in, expectations_in, op_said, dependency_said}
+use Rattle.uspec_lexer.specs.Token.{Token}
+use Rattle.litmus_reader.specs.Syntax.{IsTestOf}
+use Rattle.litmus_reader.specs.Content.{IsFaultOf, IsClean}
+use Rattle.litmus_reader.specs.declared.fault.CaseFault.{CaseFault}
+use Rattle.litmus_reader.specs.declared.fault.CaseFault.TheVariants.{Lexical, Syntax, Content, Memory}
 use Rattle.litmus_reader.specs.declared.item.Head.{Head}
 use Rattle.litmus_reader.specs.declared.item.Microop.{Microop}
 use Rattle.litmus_reader.specs.declared.item.Relationship.{Relationship}
@@ -56,3 +61,14 @@ pub record AddsRelationship (old new : Kept) (r : Relationship) : Type 0 where
   pub initial : new.initial ≡ old.initial
   pub final_values : new.final_values ≡ old.final_values
   pub stance : new.stance ≡ old.stance
+
+-- the tokens are a test of clean lines, and these are kept
+abbrev pub KeepsTest : List Token → Kept → Type 0
+KeepsTest ts k = (items : List Item) × IsTestOf items ts × IsClean items × Keeps k items
+
+-- why a line is not kept behind these: its fault, or want of memory
+abbrev pub IsLineRefusal : List Item → Item → CaseFault → Type 0
+IsLineRefusal before item (Content kind place) = IsFaultOf before item kind place
+IsLineRefusal before item Memory = ⊤
+IsLineRefusal before item (Lexical place) = ⊥
+IsLineRefusal before item (Syntax place) = ⊥

@@ -1,4 +1,4 @@
-ghost use Rattle.std.specs.Prelude.{◌≡◌, ◌≤◌, [], ◌∷◌, ◌++◌, List, length, map, vec_len, IfOk, OnOk};
+ghost use Rattle.std.specs.Prelude.{◌≡◌, ◌≤◌, [], ◌∷◌, ◌++◌, List, length, map, vec_len, IfOk, IfErr, OnOk};
 ghost use Rattle.pc_common.specs.Case.{Expectation};
 ghost use Rattle.pc_common.specs.declared.place.Place.{Place as PlaceAt};
 ghost use Rattle.pc_case.specs.Plain.{micro_op, dependency, expectation};
@@ -6,15 +6,16 @@ ghost use Rattle.pc_common.specs.declared.limits.TheConstants.{MAX_CORE, MAX_OPS
 ghost use Rattle.litmus_reader.specs.Items.{op_said, dependency_said, first_said, case_of};
 ghost use Rattle.litmus_reader.specs.Content.{Never, AgainStated, AgainExpected, IsFaultOf, IsClean};
 ghost use Rattle.litmus_reader.specs.Rows.{Answers};
-ghost use Rattle.litmus_reader.specs.Kept.{stated_of, word_of, stances, Keeps, AddsMicroop, AddsRelationship};
+ghost use Rattle.litmus_reader.specs.Kept.{stated_of, word_of, stances, Keeps, AddsMicroop, AddsRelationship, IsLineRefusal};
 ghost use Rattle.litmus_reader.specs.declared.item.ValueLine.{ValueLine as ValueSaid};
 ghost use Rattle.litmus_reader.specs.declared.item.Item.{Item as ItemSaid};
 
+use super::fault::CaseFault;
 use super::item::{Action, Head, Item, Microop, Relationship, ValueLine};
 use super::refusal::Refusal;
 use super::rows::{microop_fault, place_of, relationship_fault};
 use super::values::Values;
-use pc_case::{Access, Case, Dependencies, Dependency, Expect, Op, OpId, Ops};
+use pc_case::{Access, Case, Dependencies, Dependency, Expect, Op, OpId, Ops, StatedValues};
 use pc_common::{FaultKind, Listed, Memory, Place};
 use std::alloc::Global;
 
@@ -139,7 +140,7 @@ impl Kept {
     }
 
     /// The fault of a line behind those so far.
-    pub(crate) fn fault(&self, item: &Item) -> Option<Refusal>
+    fn fault(&self, item: &Item) -> Option<Refusal>
         ensures { (before : List ItemSaid) → Keeps self.now before → Answers (IsFaultOf before item.now) result }
     {
         match item {
@@ -168,8 +169,22 @@ impl Kept {
         self.dependencies.push(line)
     }
 
-    /// Keeps one more line. After an `Err` the lines are not to be read on.
-    pub(crate) fn add(&mut self, item: Item) -> Result<(), Memory>
+    /// Keeps one more line, or names its fault. After an `Err` the lines are not to be read on.
+    pub(crate) fn keep(&mut self, item: Item) -> Result<(), CaseFault>
+        requires { (before : List ItemSaid) × Keeps self.old before × IsClean before }
+        ensures ok { OnOk result ((before : List ItemSaid) → Keeps self.old before → IsClean before
+            → Never (IsFaultOf before item) × Keeps self.new (before ++ item ∷ [])) }
+        ensures err { IfErr result (λ e. (before : List ItemSaid) → Keeps self.old before → IsLineRefusal before item e) }
+    {
+        if let Some(refusal) = self.fault(&item) {
+            return Err(CaseFault::Content(refusal.kind, refusal.place));
+        }
+        self.add(item)?;
+        Ok(())
+    }
+
+    /// Keeps one more line, which has no fault.
+    fn add(&mut self, item: Item) -> Result<(), Memory>
         requires { (before : List ItemSaid) × Keeps self.old before × IsClean before × Never (IsFaultOf before item) }
         ensures { OnOk result ((before : List ItemSaid) → Keeps self.old before → IsClean before
             → Never (IsFaultOf before item) → Keeps self.new (before ++ item ∷ [])) }
@@ -196,13 +211,22 @@ impl Kept {
         }
     }
 
+    /// The values that the lines state before and after the test.
+    fn values(&self, alloc: Global) -> Result<(StatedValues, StatedValues), Memory>
+        ensures { IfOk result (λ r. (r.0 ≡ self.now.initial) × (r.1 ≡ self.now.final_values)) }
+    {
+        Ok((
+            self.initial.listed(alloc)?,
+            self.final_values.listed(alloc)?,
+        ))
+    }
+
     /// The case that the lines say.
     pub(crate) fn into_case(self, alloc: Global) -> Result<Case, Memory>
         requires { (items : List ItemSaid) × Keeps self items × IsClean items }
         ensures { IfOk result (λ c. (items : List ItemSaid) → Keeps self items → IsClean items → c ≡ case_of items) }
     {
-        let initial = self.initial.listed(alloc)?;
-        let final_values = self.final_values.listed(alloc)?;
+        let (initial, final_values) = self.values(alloc)?;
         let expect = expect_of(self.stance);
         Case::full(
             alloc,

@@ -1,5 +1,7 @@
-ghost use Rattle.std.specs.Prelude.{◌<◌, ◌^◌, length, IfOk, IfErr};
+ghost use Rattle.std.specs.Prelude.{◌<◌, ◌^◌, [], length, IfOk, IfErr, OnOk};
+ghost use Rattle.uspec_lexer.specs.Spells.{Spells};
 ghost use Rattle.litmus_reader.specs.Syntax.{IsTest};
+ghost use Rattle.litmus_reader.specs.Kept.{Keeps, KeepsTest};
 ghost use Rattle.litmus_reader.specs.Answer.{CaseOf, IsRefusal, CaseIn, IsContentRefusal};
 
 use super::fault::CaseFault;
@@ -21,14 +23,21 @@ pub fn read_case(alloc: Global, bytes: &[u8]) -> Result<Case, CaseFault>
     ensures err { IfErr result (IsRefusal bytes.now) }
 {
     let tokens = tokens(alloc, bytes)?;
-    if let Some(k) = syntax_fault(alloc, &tokens)? {
-        return Err(CaseFault::Syntax(tokens.place(bytes, k)));
-    }
-    case_of_test(alloc, &tokens)
+    case_of_tokens(alloc, bytes, &tokens)
 }
 
-/// How many tokens stand before the first line: `Litmus`, its text and a dot.
-const TITLE: usize = 3;
+/// The case of the tokens of these bytes.
+fn case_of_tokens(alloc: Global, bytes: &[u8], tokens: &Tokens<'_>) -> Result<Case, CaseFault>
+    requires spelled { Spells bytes.now tokens.now }
+    requires few { length bytes.now < 2 ^ 32 }
+    ensures ok { IfOk result (CaseOf bytes.now) }
+    ensures err { IfErr result (IsRefusal bytes.now) }
+{
+    if let Some(k) = syntax_fault(alloc, tokens)? {
+        return Err(CaseFault::Syntax(tokens.place(bytes, k)));
+    }
+    case_of_test(alloc, tokens)
+}
 
 /// The case of tokens that are a test.
 fn case_of_test(alloc: Global, tokens: &Tokens<'_>) -> Result<Case, CaseFault>
@@ -37,14 +46,25 @@ fn case_of_test(alloc: Global, tokens: &Tokens<'_>) -> Result<Case, CaseFault>
     ensures err { IfErr result (IsContentRefusal tokens.now) }
 {
     let mut kept = Kept::new(alloc);
+    read_lines(alloc, tokens, &mut kept)?;
+    Ok(kept.into_case(alloc)?)
+}
+
+/// How many tokens stand before the first line: `Litmus`, its text and a dot.
+const TITLE: usize = 3;
+
+/// Keeps the lines of tokens that are a test.
+fn read_lines(alloc: Global, tokens: &Tokens<'_>, kept: &mut Kept) -> Result<(), CaseFault>
+    requires test { IsTest tokens.now }
+    requires first { Keeps kept.old [] }
+    ensures ok { OnOk result (KeepsTest tokens.now kept.new) }
+    ensures err { IfErr result (IsContentRefusal tokens.now) }
+{
     let mut at = TITLE;
     while at < tokens.len() {
         let (item, next) = item_at(alloc, tokens, at)?;
-        if let Some(refusal) = kept.fault(&item) {
-            return Err(CaseFault::Content(refusal.kind, refusal.place));
-        }
-        kept.add(item)?;
+        kept.keep(item)?;
         at = next;
     }
-    Ok(kept.into_case(alloc)?)
+    Ok(())
 }

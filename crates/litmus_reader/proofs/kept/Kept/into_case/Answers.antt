@@ -46,12 +46,12 @@ full-requires-clause-within c =
 pub full-requires-clause-initial_once : goal.full-requires-clause-initial_once
 full-requires-clause-initial_once c =
     let (items, keeps, clean) = c.requires in
-    subst IsStatedOnce (sym (said c.in_ok-initial.initial c.args.self.initial (initial_in items) c.in_ok-initial.ensures keeps.initial)) (initial_once items clean)
+    subst IsStatedOnce (sym (said c.in_ok-initial.initial c.args.self.initial (initial_in items) c.in_ok-initial.ensures.0 keeps.initial)) (initial_once items clean)
 
 pub full-requires-clause-final_once : goal.full-requires-clause-final_once
 full-requires-clause-final_once c =
     let (items, keeps, clean) = c.requires in
-    subst IsStatedOnce (sym (said c.in_ok-final_values.final_values c.args.self.final_values (final_in items) c.in_ok-final_values.ensures keeps.final_values)) (final_once items clean)
+    subst IsStatedOnce (sym (said c.in_ok-initial.final_values c.args.self.final_values (final_in items) c.in_ok-initial.ensures.1 keeps.final_values)) (final_once items clean)
 
 pub returns : goal.returns
 returns c =
@@ -59,8 +59,8 @@ returns c =
     (λ case is items keeps clean.
     let ops = keeps.ops in
     let dependencies = dependencies_said c.args.self items keeps in
-    let initial = said c.in_ok-initial.initial c.args.self.initial (initial_in items) c.in_ok-initial.ensures keeps.initial in
-    let final = said c.in_ok-final_values.final_values c.args.self.final_values (final_in items) c.in_ok-final_values.ensures keeps.final_values in
+    let initial = said c.in_ok-initial.initial c.args.self.initial (initial_in items) c.in_ok-initial.ensures.0 keeps.initial in
+    let final = said c.in_ok-initial.final_values c.args.self.final_values (final_in items) c.in_ok-initial.ensures.1 keeps.final_values in
     let stance = c.expect_of-expect.ensures ∙ ap first_said keeps.stance in
     is ∙ (λ i. record { ops = ops i; dependencies = dependencies i; initial = initial i; final = final i; expectation = stance i }))
     c.full.ensures

@@ -1,6 +1,6 @@
 use Rattle.std.proofs.Common.{◌-◌, length}
 use Rattle.litmus_reader.proofs.Walk.{Reached}
-use Rattle.litmus_reader.proofs.read.case_of_test.Given as goal
+use Rattle.litmus_reader.proofs.read.read_lines.Given as goal
 
 abbrev pub invariant-loop-at : goal.invariant-loop-at
 invariant-loop-at l = Reached l.tokens l.at l.kept
