@@ -4,7 +4,7 @@ use pc_common::Memory;
 use std::alloc::Global;
 
 /// Two values, each in a box of its own.
-pub fn boxes<T>(alloc: Global, left: T, right: T) -> Result<(Box<T>, Box<T>), Memory>
+pub(crate) fn boxes<T>(alloc: Global, left: T, right: T) -> Result<(Box<T>, Box<T>), Memory>
 where
     T: Drop,
     ensures left { IfOk result (λ both. both.0.value ≡ left) }
