@@ -1,11 +1,10 @@
 -- One step of the descent over formulas, as the code takes it.
 use Rattle.std.proofs.Common.{◌≡◌, Bool, List, [], ◌∷◌, ◌++◌, Result, Ok, Err, IfOk, refl, sym, subst, ap, ◌∙◌}
-use Rattle.pc_common.specs.declared.place.Place.{Place}
-use Rattle.pc_syntax.specs.declared.term.Sort.{Sort}
 use Rattle.pc_syntax.specs.Written.{Written, written, not_}
 use Rattle.uspec_parser.specs.Terminals.{Lexeme}
 use Rattle.uspec_parser.specs.Operands.{Operands, joined, grouped}
 use Rattle.uspec_parser.specs.Grouping.{joins, operands_before}
+use Rattle.uspec_parser.specs.declared.formulas.Head.{Head}
 use Rattle.uspec_parser.specs.declared.operands.Joined.{Joined}
 use Rattle.uspec_parser.proofs.Grouping.{operands_before-push}
 use Rattle.uspec_parser.specs.Syntax.{quantified}
@@ -18,9 +17,9 @@ pub ok_map : {X E : Type 0} (r : Result X E) (P Q : X → Type 0) → IfOk r P �
 ok_map (Ok x) P Q p f = f x p
 ok_map (Err e) P Q p f = p
 
-pub negated : (xs ys rest : List Lexeme) (w v : Written) → next xs ≡ Not → ys ≡ behind xs → Operand ys w rest → v ≡ w → Operand xs (not_ v) rest
-negated xs ys rest w v e left u same =
-    subst (λ (z : Written). Operand xs (not_ z) rest) (sym same)
+pub negated : (xs ys rest : List Lexeme) (w v : Written) → next xs ≡ Not → ys ≡ behind xs → Operand ys w rest → v ≡ not_ w → Operand xs v rest
+negated xs ys rest w v e left u made =
+    subst (λ (z : Written). Operand xs z rest) (sym made)
     (Operand.negated (ap start e) (subst (λ (zs : List Lexeme). Operand zs w rest) left u))
 
 abbrev pub RowOf : List Lexeme → Written → List Lexeme → Type 0
@@ -33,15 +32,13 @@ bracketed xs ys rest end w e left (l, r, same) last =
     (subst (λ (zs : List Lexeme). Operand xs (grouped l) zs) (sym last)
     (Operand.bracketed (ap start e) (subst (λ (zs : List Lexeme). Row zs l rest) left r)))
 
-pub bound : (universal : Bool) (xs ys rest : List Lexeme) (w v : Written) (at : Place) (sort : Sort) (name : List ℕ)
-    → start (next xs) ≡ quantifier universal → ys ≡ behind (behind (behind (behind xs)))
-    → at ≡ place xs → sort ≡ sort_by (next (behind xs)) → name ≡ (word (behind (behind xs))).name
-    → RowOf ys w rest → v ≡ w → Operand xs (quantified universal at sort name v) rest
-bound universal xs ys rest w v at sort name e left at_is sort_is name_is (l, r, same) body =
-    let one : quantified universal (place xs) (sort_by (next (behind xs))) (word (behind (behind xs))).name (grouped l)
-    ≡ quantified universal at sort name v = cc in
-    subst (λ (z : Written). Operand xs z rest) one
-    (Operand.bound universal e (subst (λ (zs : List Lexeme). Row zs l rest) left r))
+pub bound : (universal : Bool) (xs rest : List Lexeme) (w v : Written) (h : Head) → start (next xs) ≡ quantifier universal
+    → h ≡ record { at = place xs; sort = sort_by (next (behind xs)); name = (word (behind (behind xs))).name }
+    → RowOf (behind (behind (behind (behind xs)))) w rest → v ≡ quantified universal h.at h.sort h.name w → Operand xs v rest
+bound universal xs rest w v h e is (l, r, same) made =
+    let one = ap (λ (g : Head). quantified universal g.at g.sort g.name (grouped l)) (sym is)
+    ∙ ap (quantified universal h.at h.sort h.name) (sym same) ∙ sym made in
+    subst (λ (z : Written). Operand xs z rest) one (Operand.bound universal e r)
 
 start-none : (t : Terminal) → (t ≡ Not → ⊥) → (t ≡ Open → ⊥) → (t ≡ Forall → ⊥) → (t ≡ Exists → ⊥) → start t ≡ no_opener
 start-none Not n o f e = absurd (n refl)

@@ -134,7 +134,7 @@ impl Cursor<'_> {
             Terminal::Not => {
                 self.skip();
                 let inner = self.operand(alloc)?;
-                Ok(Formula::Not(Box::new(alloc, inner)?))
+                Formula::negation(alloc, inner)
             }
             Terminal::Open => {
                 self.skip();
@@ -143,27 +143,30 @@ impl Cursor<'_> {
                 Ok(inner)
             }
             Terminal::Forall => {
-                let head = self.head(alloc)?;
-                let body = self.formula(alloc)?;
-                Ok(Formula::Forall {
-                    at: head.at,
-                    sort: head.sort,
-                    name: head.name,
-                    body: Box::new(alloc, body)?,
-                })
+                let (head, body) = self.quantified(alloc)?;
+                Formula::forall(alloc, head.at, head.sort, head.name, body)
             }
             Terminal::Exists => {
-                let head = self.head(alloc)?;
-                let body = self.formula(alloc)?;
-                Ok(Formula::Exists {
-                    at: head.at,
-                    sort: head.sort,
-                    name: head.name,
-                    body: Box::new(alloc, body)?,
-                })
+                let (head, body) = self.quantified(alloc)?;
+                Formula::exists(alloc, head.at, head.sort, head.name, body)
             }
             _ => self.atom(alloc),
         }
+    }
+
+    /// Reads a quantifier up to its comma, and its body.
+    #[cycle(formula)]
+    fn quantified(&mut self, alloc: Global) -> Result<(Head, Formula), Memory>
+        requires { IsTrue (is_placed (next self.old)) }
+        ensures head { IfOk result (λ q. q.0 ≡ record {
+          at = place self.old;
+          sort = sort_by (next (behind self.old));
+          name = (word (behind (behind self.old))).name;
+        }) }
+        ensures body { IfOk result (λ q. (l : Operands) × Row (behind (behind (behind (behind self.old)))) l self.new × (written q.1 ≡ grouped_spec l)) }
+    {
+        let head = self.head(alloc)?;
+        Ok((head, self.formula(alloc)?))
     }
 
     /// Reads a list of operands and groups it. Calls nest as deep as openers do, and no deeper.

@@ -1,6 +1,6 @@
 ghost use Rattle.std.specs.Prelude.{◌≡◌, IfOk, MatchOption, Some, None};
-ghost use Rattle.pc_syntax.specs.Written.{written, and_, or_, implies_};
-ghost use Rattle.uspec_parser.specs.Operands.{conjoins, disjoins, implies, only, or_now, before as before_spec, whole as whole_spec, grouped as grouped_spec};
+ghost use Rattle.pc_syntax.specs.Written.{written};
+ghost use Rattle.uspec_parser.specs.Operands.{conjoins, disjoins, implies, only, or_now, implies_now, before as before_spec, whole as whole_spec, grouped as grouped_spec};
 ghost use Rattle.uspec_parser.specs.Grouping.{joins, operands_before, written_option, written_grouping};
 ghost use Rattle.uspec_parser.specs.Descent.{connective as connective_spec};
 
@@ -47,30 +47,11 @@ struct Grouping {
 }
 
 impl Grouping {
-    fn disjunction(
-        alloc: Global,
-        now: Formula,
-        disjoined: Option<Formula>,
-    ) -> Result<Formula, Memory>
-        ensures { IfOk result (λ f. written f ≡ or_now (written now) (written_option disjoined)) }
-    {
-        match disjoined {
-            Some(rest) => Ok(Formula::Or(Box::new(alloc, now)?, Box::new(alloc, rest)?)),
-            None => Ok(now),
-        }
-    }
-
     fn whole(self, alloc: Global) -> Result<Formula, Memory>
         ensures { IfOk result (λ f. written f ≡ whole_spec (written_grouping self)) }
     {
-        let disjunction = Grouping::disjunction(alloc, self.now, self.disjoined)?;
-        match self.implied {
-            Some(rest) => Ok(Formula::Implies(
-                Box::new(alloc, disjunction)?,
-                Box::new(alloc, rest)?,
-            )),
-            None => Ok(disjunction),
-        }
+        let disjunction = disjunction(alloc, self.now, self.disjoined)?;
+        implication(alloc, disjunction, self.implied)
     }
 
     /// The same behind an operand and a `/\`.
@@ -78,7 +59,7 @@ impl Grouping {
         ensures { IfOk result (λ g. written_grouping g ≡ before_spec (written operand) conjoins (written_grouping self)) }
     {
         Ok(Grouping {
-            now: Formula::And(Box::new(alloc, operand)?, Box::new(alloc, self.now)?),
+            now: Formula::conjunction(alloc, operand, self.now)?,
             disjoined: self.disjoined,
             implied: self.implied,
         })
@@ -90,7 +71,7 @@ impl Grouping {
     {
         Ok(Grouping {
             now: operand,
-            disjoined: Some(Grouping::disjunction(alloc, self.now, self.disjoined)?),
+            disjoined: Some(disjunction(alloc, self.now, self.disjoined)?),
             implied: self.implied,
         })
     }
@@ -115,6 +96,26 @@ impl Grouping {
             Connective::Or => self.behind_or(alloc, joined.operand),
             Connective::Implies => self.behind_implies(alloc, joined.operand),
         }
+    }
+}
+
+/// A conjunction with what stands behind its `\/`, if it has one.
+fn disjunction(alloc: Global, now: Formula, disjoined: Option<Formula>) -> Result<Formula, Memory>
+    ensures { IfOk result (λ f. written f ≡ or_now (written now) (written_option disjoined)) }
+{
+    match disjoined {
+        Some(rest) => Formula::disjunction(alloc, now, rest),
+        None => Ok(now),
+    }
+}
+
+/// A disjunction with what stands behind its `=>`, if it has one.
+fn implication(alloc: Global, now: Formula, implied: Option<Formula>) -> Result<Formula, Memory>
+    ensures { IfOk result (λ f. written f ≡ implies_now (written now) (written_option implied)) }
+{
+    match implied {
+        Some(rest) => Formula::implication(alloc, now, rest),
+        None => Ok(now),
     }
 }
 

@@ -1,42 +1,43 @@
 use Rattle.std.proofs.Common.{◌≡◌, ◌<◌, true, false, List, length, sym, subst, ap, ◌∙◌, arith}
-use Rattle.pc_syntax.specs.Written.{written}
+use Rattle.pc_syntax.specs.Written.{written, not_, forall_, exists_}
 use Rattle.uspec_parser.specs.Terminals.{Lexeme}
 use Rattle.uspec_parser.specs.Operands.{only, joined, grouped}
 use Rattle.uspec_parser.specs.Grouping.{joins, operands_before}
-use Rattle.uspec_parser.specs.declared.formulas.Head.{Head}
 use Rattle.uspec_parser.specs.declared.operands.Joined.{Joined}
 use Rattle.uspec_parser.specs.Descent.{start, next, connective, Atom, Operand, Row, Tail}
 use Rattle.uspec_parser.proofs.Shorter.{operand_no_longer, behind_connective, behind_no_longer}
 use Rattle.uspec_parser.proofs.Steps.{row_pushed, ok_map, negated, bracketed, bound, atom, RowOf}
 use Rattle.uspec_parser.proofs.cursor.Cursor.+formula.Goals as goal
 
-pub operand-returns-in_ok-new-in-Not : goal.operand-returns-in_ok-new-in-Not
-operand-returns-in_ok-new-in-Not t c =
-    negated c.args.self.now c.skip.new.self c.operand.new.self (written c.in_ok-inner-in-Not.inner) (written c.in_ok-new-in-Not.field-0.value)
-    (sym c.next.ensures ∙ c.in-Not.is) c.skip.ensures c.in_ok-inner-in-Not.ensures (ap written c.in_ok-new-in-Not.ensures.ok)
+pub operand-returns-in_ok-inner-in-Not : goal.operand-returns-in_ok-inner-in-Not
+operand-returns-in_ok-inner-in-Not t c =
+    let inner = written c.in_ok-inner-in-Not.inner in
+    ok_map c.negation.result (λ f. written f ≡ not_ inner) (λ f. Operand c.args.self.now (written f) c.operand.new.self) c.negation.ensures
+    (λ f e. negated c.args.self.now c.skip.new.self c.operand.new.self inner (written f)
+    (sym c.next.ensures ∙ c.in-Not.is) c.skip.ensures c.in_ok-inner-in-Not.ensures e)
 
 pub operand-returns-in_ok-inner-in-Open : goal.operand-returns-in_ok-inner-in-Open
 operand-returns-in_ok-inner-in-Open t c =
     bracketed c.args.self.now c.skip-in-Open.new.self c.formula.new.self c.skip-in-Open-2.new.self (written c.in_ok-inner-in-Open.inner)
     (sym c.next.ensures ∙ c.in-Open.is) c.skip-in-Open.ensures c.in_ok-inner-in-Open.ensures c.skip-in-Open-2.ensures
 
-pub operand-returns-in_ok-new-in-Forall : goal.operand-returns-in_ok-new-in-Forall
-operand-returns-in_ok-new-in-Forall t c =
-    let head = c.in_ok-head-in-Forall.head in
-    let is = c.in_ok-head-in-Forall.ensures.head in
-    bound true c.args.self.now c.head.new.self c.formula-in-Forall.new.self (written c.in_ok-body-in-Forall.body) (written c.in_ok-new-in-Forall.field-0.value)
-    head.at head.sort head.name (ap start (sym c.next.ensures ∙ c.in-Forall.is)) c.in_ok-head-in-Forall.ensures.rest
-    (ap (λ (h : Head). h.at) is) (ap (λ (h : Head). h.sort) is) (ap (λ (h : Head). h.name) is)
-    c.in_ok-body-in-Forall.ensures (ap written c.in_ok-new-in-Forall.ensures.ok)
+pub operand-returns-in_ok-head-in-Forall : goal.operand-returns-in_ok-head-in-Forall
+operand-returns-in_ok-head-in-Forall t c =
+    let h = c.in_ok-head-in-Forall.head in
+    let body = written c.in_ok-head-in-Forall.body in
+    ok_map c.forall.result (λ f. written f ≡ forall_ h.at h.sort h.name body) (λ f. Operand c.args.self.now (written f) c.quantified.new.self)
+    c.forall.ensures
+    (λ f e. bound true c.args.self.now c.quantified.new.self body (written f) h (ap start (sym c.next.ensures ∙ c.in-Forall.is))
+    c.in_ok-head-in-Forall.ensures.head c.in_ok-head-in-Forall.ensures.body e)
 
-pub operand-returns-in_ok-new-in-Exists : goal.operand-returns-in_ok-new-in-Exists
-operand-returns-in_ok-new-in-Exists t c =
-    let head = c.in_ok-head-in-Exists.head in
-    let is = c.in_ok-head-in-Exists.ensures.head in
-    bound false c.args.self.now c.head-in-Exists.new.self c.formula-in-Exists.new.self (written c.in_ok-body-in-Exists.body) (written c.in_ok-new-in-Exists.field-0.value)
-    head.at head.sort head.name (ap start (sym c.next.ensures ∙ c.in-Exists.is)) c.in_ok-head-in-Exists.ensures.rest
-    (ap (λ (h : Head). h.at) is) (ap (λ (h : Head). h.sort) is) (ap (λ (h : Head). h.name) is)
-    c.in_ok-body-in-Exists.ensures (ap written c.in_ok-new-in-Exists.ensures.ok)
+pub operand-returns-in_ok-head-in-Exists : goal.operand-returns-in_ok-head-in-Exists
+operand-returns-in_ok-head-in-Exists t c =
+    let h = c.in_ok-head-in-Exists.head in
+    let body = written c.in_ok-head-in-Exists.body in
+    ok_map c.exists.result (λ f. written f ≡ exists_ h.at h.sort h.name body) (λ f. Operand c.args.self.now (written f) c.quantified-in-Exists.new.self)
+    c.exists.ensures
+    (λ f e. bound false c.args.self.now c.quantified-in-Exists.new.self body (written f) h (ap start (sym c.next.ensures ∙ c.in-Exists.is))
+    c.in_ok-head-in-Exists.ensures.head c.in_ok-head-in-Exists.ensures.body e)
 
 pub operand-returns-in_default : goal.operand-returns-in_default
 operand-returns-in_default t c =

@@ -7,10 +7,13 @@ use Rattle.uspec_parser.specs.Descent.{Row, Tail}
 use Rattle.uspec_parser.proofs.cursor.Cursor.+formula.Given as goal
 
 abbrev pub decreases-formula : goal.decreases-formula
-decreases-formula l = 2 * length l.self.now + 1
+decreases-formula l = 3 * length l.self.now + 2
 
 abbrev pub decreases-operand : goal.decreases-operand
-decreases-operand l = 2 * length l.self.now
+decreases-operand l = 3 * length l.self.now + 1
+
+abbrev pub decreases-quantified : goal.decreases-quantified
+decreases-quantified l = 3 * length l.self.now
 
 -- the list to come from the last operand on, behind those that were read, is all
 abbrev pub invariant-formula-loop-connective : goal.invariant-formula-loop-connective
