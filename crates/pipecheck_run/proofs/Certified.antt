@@ -23,10 +23,13 @@ pub tree_unobservable : (m : WrittenModel) (c : Case) (text : List ℕ) → IsCe
 tree_unobservable m c text t (w, of_both, satisfied) =
     refutation_sound (ground_tree m c) t.certificate.steps t.certificate.refutes w of_both.0 (sym (ground_tree_true m c w) ∙ satisfied)
 
+pub one_verdict : is_observable ≡ is_unobservable → ⊥
+one_verdict e = cc
+
 pub certified_true : {m : WrittenModel} {c : Case} {status : Status} {text : List ℕ} → IsCertified m c status text
     → (status ≡ is_observable → Observable m c) × (status ≡ is_unobservable → Observable m c → ⊥)
-certified_true {m} {c} {text = text} (seen graph) = (λ e. graph_observable m c text graph, λ e. cc)
-certified_true {m} {c} {text = text} (unseen tree) = (λ e. cc, λ e. tree_unobservable m c text tree)
+certified_true {m} {c} {text = text} (seen graph) = (λ e. graph_observable m c text graph, λ e. absurd (one_verdict e))
+certified_true {m} {c} {text = text} (unseen tree) = (λ e. absurd (one_verdict (sym e)), λ e. tree_unobservable m c text tree)
 
 pub certified_due : {m : WrittenModel} {c : Case} {status : Status} {text : List ℕ} → IsCertified m c status text
     → (Observable m c → status ≡ is_observable) × ((Observable m c → ⊥) → status ≡ is_unobservable)

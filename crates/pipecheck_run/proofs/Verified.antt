@@ -2,7 +2,7 @@
 use Rattle.std.proofs.Common.{◌≡◌, ◌⊎◌, inl, inr, ℕ, ◌≤◌, ◌<◌, ◌+◌, List, [], ◌++◌, Option, Some, length, refl, sym, ◌∙◌, ap, subst, arith, length-append}
 use Rattle.std.proofs.lemmas.Bool.{cases_order}
 use Rattle.pc_common.specs.Case.{Case}
-use Rattle.pc_common.specs.declared.status.Status.TheVariants.{Observable as is_observable, Unobservable as is_unobservable}
+use Rattle.pc_common.specs.declared.status.Status.TheVariants.{Observable as is_observable, Unobservable as is_unobservable, CertRefused as is_cert_refused}
 use Rattle.pc_common.specs.Lines.{observable, unobservable}
 use Rattle.pc_syntax.specs.Written.{WrittenModel}
 use Rattle.pc_syntax.specs.Observable.{Observable}
@@ -16,14 +16,20 @@ use Rattle.pipecheck_run.specs.Certificates.{question_by}
 use Rattle.pipecheck_run.specs.verify.Told.{told_status}
 use Rattle.pipecheck_run.specs.verify.Reading.{TookFile}
 use Rattle.pipecheck_run.proofs.Fed.{append_nil}
-use Rattle.pipecheck_run.proofs.Certified.{graph_observable, tree_unobservable}
+use Rattle.pipecheck_run.proofs.Certified.{graph_observable, tree_unobservable, one_verdict}
+
+refused_seen : is_cert_refused ≡ is_observable → ⊥
+refused_seen e = cc
+
+refused_unseen : is_cert_refused ≡ is_unobservable → ⊥
+refused_unseen e = cc
 
 pub verified_true : (m : WrittenModel) (c : Case) (text : List ℕ) (found : Checked) → Verified (question_by m c) text found
     → (told_status found ≡ is_observable → Observable m c) × (told_status found ≡ is_unobservable → Observable m c → ⊥)
-verified_true m c text found (seen short graph) = (λ e. graph_observable m c text graph, λ e. cc)
-verified_true m c text found (unseen short tree) = (λ e. cc, λ e. tree_unobservable m c text tree)
-verified_true m c text found (too_long long) = (λ e. cc, λ e. cc)
-verified_true m c text found (refused n short is) = (λ e. cc, λ e. cc)
+verified_true m c text found (seen short graph) = (λ e. graph_observable m c text graph, λ e. absurd (one_verdict e))
+verified_true m c text found (unseen short tree) = (λ e. absurd (one_verdict (sym e)), λ e. tree_unobservable m c text tree)
+verified_true m c text found (too_long long) = (λ e. absurd (refused_seen e), λ e. absurd (refused_unseen e))
+verified_true m c text found (refused n short is) = (λ e. absurd (refused_seen e), λ e. absurd (refused_unseen e))
 
 -- a text is refused at one line
 one_line : (q : Question) (text : List ℕ) (n k : ℕ) → IsRefusedAt q text n → IsRefusedAt q text k → n ≡ k
