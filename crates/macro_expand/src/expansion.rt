@@ -130,6 +130,22 @@ impl<'a> Expander<'a> {
         let body = self.expansion(self.macros.len(), body)?;
         Ok(Expanded { body })
     }
+
+    /// The axioms among the items, in order, with their macros expanded.
+    fn axioms(&self, items: &[Item]) -> Result<Vec<Expanded>, Memory>
+        requires names { self.now.names.now ≡ map parameter_names (listed self.now.macros.now) }
+        requires expanded { All (OfAxiom (λ w. IsExpanded (expansion_of (before (listed self.now.macros.now) (length self.now.macros.now)) w))) (map written_item items.now) }
+        ensures { IfOk result (λ axioms. map (λ e. written e.body) axioms.items
+            ≡ map (expansion_of (before (listed self.now.macros.now) (length self.now.macros.now))) (flat_map axiom_of (map written_item items.now))) }
+    {
+        let mut axioms = Vec::new(self.alloc);
+        for item in items {
+            if let Item::Axiom { body, .. } = item {
+                axioms.push(self.expanded(body)?)?;
+            }
+        }
+        Ok(axioms)
+    }
 }
 
 /// The axioms among the items, in order, with their macros expanded.
@@ -148,11 +164,5 @@ pub(crate) fn expand_axioms(
         macros,
         names: &names,
     };
-    let mut axioms = Vec::new(alloc);
-    for item in items {
-        if let Item::Axiom { body, .. } = item {
-            axioms.push(expander.expanded(body)?)?;
-        }
-    }
-    Ok(axioms)
+    expander.axioms(items)
 }
