@@ -2,7 +2,7 @@ use Rattle.std.proofs.Common.{◌≡◌, ◌<◌, ◌+◌, ◌*◌, get_or, sym,
 use Rattle.std.proofs.lemmas.Result.{IfOk-weaker}
 use Rattle.pc_syntax.specs.Written.{written, bind_}
 use Rattle.pc_syntax.specs.Sizes.{height_of}
-use Rattle.pc_syntax.specs.Expansion.{parameter_names, expansion_of}
+use Rattle.pc_syntax.specs.Expansion.{expansion_of}
 use Rattle.macro_expand.specs.Tables.{called, before, listed, macro_at}
 use Rattle.macro_expand.proofs.Expansions.{parameter_names_at}
 use Rattle.macro_expand.proofs.MeasureLaws.{lower, expansion_found, expansion_not_found}
