@@ -22,10 +22,10 @@ use Rattle.macro_expand.specs.Laws.{ExpansionKeepsTruth, ExpansionsSatisfy}
 use Rattle.macro_expand.specs.Tables.{before, macro_at, listed, OfAxiom}
 
 -- the names of the parameters of the macro at k
-pub parameter_names_at : (ms : List MacroAt) (names : List (List (List ℕ))) (k : ℕ) (m : MacroAt) (found : List (List ℕ))
-    → names ≡ map parameter_names ms → slice_get ms k ≡ Some m → found ≡ get_or names k found → found ≡ parameter_names m
-parameter_names_at ms names k m found are here is =
-    is ∙ get_or_from_slice_get names k (parameter_names m) found
+pub parameter_names_at : (ms : List MacroAt) (names : List (List (List ℕ))) (k : ℕ) (m : MacroAt) (other : List (List ℕ))
+    → names ≡ map parameter_names ms → slice_get ms k ≡ Some m → get_or names k other ≡ parameter_names m
+parameter_names_at ms names k m other are here =
+    get_or_from_slice_get names k (parameter_names m) other
     (ap (λ xs. slice_get xs k) are ∙ slice_get-map parameter_names ms k ∙ ap (option_map parameter_names) here)
 
 pub latest_first : (ms : List Macro) → before (listed ms) (length ms) ≡ reverse (listed ms)

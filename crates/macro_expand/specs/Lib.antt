@@ -1,4 +1,5 @@
 pub mod Faults
 pub mod Tables
 pub mod Measures
+pub mod Parts
 pub mod Laws

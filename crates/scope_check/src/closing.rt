@@ -174,5 +174,5 @@ fn close_binding<'a>(
     let values = close_values(alloc, scope, names, args)?;
     let inside = scope.bound(at, names, args)?;
     let body = close_formula(alloc, stages, &inside, body)?;
-    Ok(ClosedFormula::bind(alloc, values, body)?)
+    made(ClosedFormula::bind(alloc, values, body))
 }

@@ -1,4 +1,4 @@
-use Rattle.std.proofs.Common.{refl, sym, ◌∙◌}
+use Rattle.std.proofs.Common.{sym, ◌∙◌}
 use Rattle.macro_expand.proofs.Expansions.{no_macro_fault, ready, same_size_fault, all_expansions}
 use Rattle.macro_expand.proofs.top.expand_with.Goals as goal
 
