@@ -1,6 +1,7 @@
 ghost use Rattle.std.specs.Prelude.{◌≡◌, ◌^◌, ◌<◌, length, map, IfOk, IfErr};
 ghost use Rattle.pc_ground.specs.Stages.{plain_stage, plain_axioms, numbers_of, AreStages, AxiomsWithin};
 ghost use Rattle.pc_ground.specs.Rows.{rows_of};
+ghost use Rattle.pc_ground.specs.Numbers.{numbered};
 ghost use Rattle.pc_ground.specs.GroundTree.{closed_ground_tree};
 ghost use Rattle.pc_front.specs.Front.{SayFront, IsEnd};
 
@@ -11,7 +12,7 @@ use litmus_reader::read_case;
 use normal_form::{normalise, number};
 use pc_case::Case;
 use pc_common::Memory;
-use pc_ground::{Axioms, Flat, Front};
+use pc_ground::{Axioms, Flat, Front, Numbering};
 use std::alloc::Global;
 
 /// What the bytes of a model and of a test say together: the test's case, the model's stages, its axioms
@@ -36,16 +37,36 @@ fn joined(alloc: Global, model: ModelFront, case: Case) -> Result<Front, Memory>
     requires within { AxiomsWithin (numbers_of (map plain_stage model.stages)) (plain_axioms model.axioms) }
     ensures { IfOk result (λ f. (f.case ≡ case) × (f.stages ≡ model.stages) × (f.axioms ≡ model.axioms)) }
 {
-    let tree = tree_of(alloc, &case, &model.axioms)?;
-    let numbering = number(alloc, &tree)?;
+    let (tree, numbering) = grounded(alloc, &case, &model.axioms)?;
+    Ok(whole(case, model, tree, numbering))
+}
+
+/// All that the two files say.
+fn whole(case: Case, model: ModelFront, tree: Flat, numbering: Numbering) -> Front
+    requires named { AreStages (map plain_stage model.stages) }
+    requires within { AxiomsWithin (numbers_of (map plain_stage model.stages)) (plain_axioms model.axioms) }
+    requires tree { tree ≡ rows_of (closed_ground_tree case (plain_axioms model.axioms)) }
+    requires numbered { numbering ≡ numbered (closed_ground_tree case (plain_axioms model.axioms)) }
+    ensures { (result.case ≡ case) × (result.stages ≡ model.stages) × (result.axioms ≡ model.axioms) }
+{
     let ModelFront { stages, axioms } = model;
-    Ok(Front {
+    Front {
         case,
         stages,
         axioms,
         tree,
         numbering,
-    })
+    }
+}
+
+/// The ground tree of closed axioms in a case, and the numbers of its nodes.
+fn grounded(alloc: Global, case: &Case, axioms: &Axioms) -> Result<(Flat, Numbering), Memory>
+    ensures tree { IfOk result (λ made. made.0 ≡ rows_of (closed_ground_tree case.now (plain_axioms axioms.now))) }
+    ensures numbered { IfOk result (λ made. made.1 ≡ numbered (closed_ground_tree case.now (plain_axioms axioms.now))) }
+{
+    let tree = tree_of(alloc, case, axioms)?;
+    let numbering = number(alloc, &tree)?;
+    Ok((tree, numbering))
 }
 
 /// The ground tree of closed axioms in a case.

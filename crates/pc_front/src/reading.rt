@@ -1,10 +1,14 @@
-ghost use Rattle.std.specs.Prelude.{◌≡◌, ◌<◌, ◌^◌, [], Some, None, length, map, IfOk, IfErr};
+ghost use Rattle.std.specs.Prelude.{◌≡◌, ◌<◌, ◌^◌, ℕ, List, [], Some, None, length, map, IfOk, IfErr};
 ghost use Rattle.pc_syntax.specs.Written.{written_model};
 ghost use Rattle.pc_syntax.specs.Fault.{Fault, first_fault};
+ghost use Rattle.pc_syntax.specs.NameFaults.{first_name_fault};
+ghost use Rattle.pc_syntax.specs.ModelFault.{first_model_fault};
+ghost use Rattle.pc_syntax.specs.Observable.{axioms_of};
 ghost use Rattle.pc_syntax.specs.StageFaults.{stages_fault, first_stage_fault};
+ghost use Rattle.uspec_lexer.specs.Spells.{Spells};
 ghost use Rattle.scope_check.specs.FirstFault.{Answers};
 ghost use Rattle.pc_ground.specs.Stages.{plain_stage, plain_axioms};
-ghost use Rattle.pc_front.specs.ModelFront.{ModelOf, IsModelFront, IsModelEnd, stage_said};
+ghost use Rattle.pc_front.specs.ModelFront.{ModelOf, IsModelFront, IsModelFrontOf, IsModelEnd, stage_said, closed_axiom};
 ghost use Rattle.pc_front.specs.ModelSteps.{axiom_fault, AreClosings};
 ghost use Rattle.pc_front.specs.Ends.{end_of};
 
@@ -16,7 +20,7 @@ use pc_ground::{Axioms, Stage, Stages};
 use pc_syntax::{Expanded, ModelFile, StageItems};
 use scope_check::{NameFault, close};
 use std::alloc::Global;
-use uspec_lexer::tokens;
+use uspec_lexer::{Tokens, tokens};
 use uspec_parser::parse_model;
 
 /// The stages and the closed axioms of a whole model.
@@ -35,11 +39,31 @@ pub fn read_model(alloc: Global, bytes: &[u8]) -> Result<ModelFront, FrontEnd>
     ensures err { IfErr result (IsModelEnd bytes.now) }
 {
     let model = parsed(alloc, bytes)?;
-    check_stages(&model)?;
-    let expanded = expand(alloc, &model)?;
-    let axioms = close_axioms(alloc, &model, &expanded)?;
+    judged(alloc, &model)
+}
+
+/// The stages and the closed axioms of a model as written.
+fn judged(alloc: Global, model: &ModelFile) -> Result<ModelFront, FrontEnd>
+    ensures ok { IfOk result (IsModelFrontOf (written_model model.now)) }
+    ensures err { IfErr result (λ end. (bytes : List ℕ) → ModelOf bytes (written_model model.now) → IsModelEnd bytes end) }
+{
+    check_stages(model)?;
+    let axioms = closed_axioms(alloc, model)?;
     let stages = stages_of(alloc, &model.stages)?;
     Ok(ModelFront { stages, axioms })
+}
+
+/// The axioms of a model that has no stage fault, expanded and closed.
+fn closed_axioms(alloc: Global, model: &ModelFile) -> Result<Axioms, FrontEnd>
+    requires { first_stage_fault (written_model model.now) ≡ None }
+    ensures no_fault { IfOk result (λ _. first_model_fault (written_model model.now) ≡ None) }
+    ensures no_name_fault { IfOk result (λ _. first_name_fault (written_model model.now) ≡ None) }
+    ensures axioms { IfOk result (λ closed. plain_axioms closed ≡ map (closed_axiom (written_model model.now)) (axioms_of (written_model model.now))) }
+    ensures err { IfErr result (λ end. (bytes : List ℕ) → ModelOf bytes (written_model model.now) → IsModelEnd bytes end) }
+{
+    let expanded = expand(alloc, model)?;
+    let axioms = close_axioms(alloc, model, &expanded)?;
+    Ok(axioms)
 }
 
 /// The model as written.
@@ -49,9 +73,19 @@ fn parsed(alloc: Global, bytes: &[u8]) -> Result<ModelFile, FrontEnd>
     ensures err { IfErr result (IsModelEnd bytes.now) }
 {
     let tokens = tokens(alloc, bytes)?;
-    match parse_model(alloc, &tokens) {
+    model_of(alloc, bytes, &tokens)
+}
+
+/// The model as written, from its tokens.
+fn model_of(alloc: Global, bytes: &[u8], tokens: &Tokens<'_>) -> Result<ModelFile, FrontEnd>
+    requires short { length bytes.now < 2 ^ 32 }
+    requires spelled { Spells bytes.now tokens.now }
+    ensures ok { IfOk result (λ m. ModelOf bytes.now (written_model m)) }
+    ensures err { IfErr result (IsModelEnd bytes.now) }
+{
+    match parse_model(alloc, tokens) {
         Ok(model) => Ok(model),
-        Err(fault) => Err(no_tree(bytes, &tokens, fault)),
+        Err(fault) => Err(no_tree(bytes, tokens, fault)),
     }
 }
 

@@ -262,14 +262,13 @@ first_kept nodes t g here ls ss all literals marks none_here none_later none_ste
     subst (λ x. A here ls x) (sym none_steps) (subst (λ x. A here x []) (sym none_later) (subst (λ x. A x [] []) (sym none_here) first))
 
 -- the refutation of False
-pub false_refuted : (nodes : List Node) (t : Tree ℕ) (ss : List (Step Node)) → t ≡ never → ss ≡ false_step ∷ [] → IsRefutation (named nodes t) ss × IsUnsatisfied (named nodes t)
+pub false_refuted : (nodes : List Node) (t : Tree ℕ) (ss : List (Step Node)) → t ≡ never → ss ≡ false_step ∷ [] → IsRefutation (named nodes t) ss
 false_refuted nodes t ss e f =
     let T = named nodes t in
     let is_never : T ≡ never = ap (named nodes) e in
     let run : IsPartial T (false_step ∷ []) [] = (a_falsity is_never, refl) in
     let P : List (Step Node) → Type 0 = IsRefutation T in
-    let closed : IsRefutation T ss = subst P (sym f) run in
-    (closed, refutation_sound T ss closed)
+    subst P (sym f) run
 
 pub turn_of : (had nodes : List Node) (rows : List (Row ℕ)) (t : Tree Node) (turn : Turn) → had ≡ nodes → named had (spelled rows) ≡ t → IsTurn had rows turn → IsTurnOf nodes t turn
 turn_of had nodes rows t (More s) e f h =

@@ -1,8 +1,9 @@
 -- What a search finds on its open branches.
-use Rattle.std.specs.Prelude.{ℕ, ◌<◌, ◌+◌, ◌^◌, List, [], All, length}
+use Rattle.std.specs.Prelude.{ℕ, ◌≡◌, ◌<◌, ◌+◌, ◌^◌, List, [], Some, All, length}
 use Rattle.pc_common.specs.World.{Node}
 use Rattle.pc_ground.specs.declared.row.Row.{Row}
-use Rattle.pc_ground.specs.Refutes.{Step, IsPartial}
+use Rattle.pc_ground.specs.Tree.{never}
+use Rattle.pc_ground.specs.Refutes.{Step, subtree_at, IsPartial}
 use Rattle.order_graph.specs.State.{Graph}
 use Rattle.solver.specs.Spelled.{spelled}
 use Rattle.solver.specs.Named.{named}
@@ -18,6 +19,7 @@ use Rattle.solver.specs.declared.find.Found.TheVariants.{Closed, Whole, Open}
 
 -- the first open branch has these candidates
 pub record IsUndecided (nodes : List Node) (rows : List (Row ℕ)) (graph : Graph) (asserted : List Asserted) (later : List Later) (steps : List (Step Node)) (candidates : List ℕ) : Type 0 where
+  pub no_false : (p : ℕ) → subtree_at (spelled rows) p ≡ Some never → ⊥
   pub kept : IsKept nodes (spelled rows) graph asserted later steps []
   pub some : 0 < length candidates
   pub all : All (IsCandidate (spelled rows) (positions asserted)) candidates

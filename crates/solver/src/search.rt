@@ -80,7 +80,6 @@ fn settle(
     requires few { length keys.items ≤ 262144 }
     requires distinct { AreDistinct (map key_node keys.items) }
     requires below { All (IsRowBelow (length keys.items)) rows.items }
-    requires no_false { (p : ℕ) → subtree_at (spelled rows.items) p ≡ Some never → ⊥ }
     requires found { IsFound (map key_node keys.items) rows.items graph asserted.items later.items refutation found }
     ensures turn { IsTurn (map key_node keys.items) rows.items result }
     ensures weight { turn_weight result ≡ found_weight rows.items asserted.items later.items found }
@@ -102,7 +101,41 @@ fn settle(
     }
 }
 
-/// Enters the root: what is handed out first.
+/// Enters the root. Where it is False, one leaf closes its branch.
+fn find_first<L: Ledger>(
+    alloc: Global,
+    keys: &[NodeKey],
+    rows: &[Row<u32>],
+    graph: &mut OrderGraph,
+    asserted: &mut Vec<Asserted>,
+    later: &mut Vec<Later>,
+    refutation: &mut Refutation,
+    steps: &mut Steps<L>,
+) -> Result<Found, Memory>
+    requires tree { IsSpelled rows.now }
+    requires few { length keys.now ≤ 262144 }
+    requires distinct { AreDistinct (map key_node keys.now) }
+    requires below { All (IsRowBelow (length keys.now)) rows.now }
+    requires folded { IsFolded (spelled rows.now) }
+    requires nodes { graph.old.nodes ≡ length keys.now }
+    requires literals { graph.old.literals ≡ [] }
+    requires marks { graph.old.marks ≡ [] }
+    requires asserted { asserted.old.items ≡ [] }
+    requires later { later.old.items ≡ [] }
+    requires steps { refutation.old ≡ [] }
+    ensures { IfOk result (IsFound (map key_node keys.now) rows.now graph.new asserted.new.items later.new.items refutation.new) }
+{
+    let root = row_at(rows, 0);
+    if let RowKind::False = root.kind {
+        refutation.close_leaf(Step::False)?;
+        return Ok(Found::Closed);
+    }
+    find(
+        alloc, keys, rows, 0, graph, asserted, later, refutation, steps,
+    )
+}
+
+/// Enters the root, and hands out what was found first.
 fn start<L: Ledger>(
     alloc: Global,
     keys: Vec<NodeKey>,
@@ -122,25 +155,21 @@ fn start<L: Ledger>(
     requires steps { refutation ≡ [] }
     ensures { IfOk result (IsTurn (map key_node keys.items) rows.items) }
 {
-    let root = row_at(&rows, 0);
-    if let RowKind::False = root.kind {
-        refutation.close_leaf(Step::False)?;
-        return Ok(Turn::Done(Answer::Unobservable(refutation)));
-    }
     let mut asserted = Vec::new(alloc);
     let mut later = Vec::new(alloc);
-    let found = find(
+    let found = find_first(
         alloc,
         &keys,
         &rows,
-        0,
         &mut graph,
         &mut asserted,
         &mut later,
         &mut refutation,
         steps,
     )?;
-    Ok(settle(alloc, keys, rows, graph, asserted, later, refutation, found))
+    Ok(settle(
+        alloc, keys, rows, graph, asserted, later, refutation, found,
+    ))
 }
 
 impl Search {

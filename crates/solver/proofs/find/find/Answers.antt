@@ -69,6 +69,7 @@ returns-clause-found g c =
     let found = c.in_ok-found.found.items in
     let A : List Asserted → Type 0 = λ xs. All (IsCandidate (spelled rows) (positions xs)) found in
     let all = subst A c.deref.ensures.value c.in_ok-found.ensures.all in record {
+      no_false = c.requires.no_false;
       kept = descended.0;
       some = (let some = not_zero _ c.is_empty.result c.is_empty.ensures c.if-is_empty.false in omega (arith, some));
       all = all;

@@ -1,0 +1,23 @@
+use Rattle.std.proofs.Common.{Some, sym, ◌∙◌, ap}
+use Rattle.std.proofs.lemmas.Result.{err_from_is_err_and}
+use Rattle.pc_syntax.specs.Closed.{closed_satisfies}
+use Rattle.pc_syntax.specs.Written.{written_model}
+use Rattle.pc_front.proofs.FrontLaws.{stage_first, satisfied_alike, front_end}
+use Rattle.pc_front.proofs.reading.judged.Goals as goal
+
+pub returns-in_err-check_stages-clause-err : goal.returns-in_err-check_stages-clause-err
+returns-in_err-check_stages-clause-err c =
+    let m = written_model c.args.model.now in
+    let end = err_from_is_err_and c.from_residual.result c.from_residual.ensures.1 in
+    let (fault, is, told) = c.in_err-check_stages.ensures.err in
+    rw (end.1, end.2, told) (λ bytes of. front_end bytes m of (Some fault) (stage_first m fault is))
+
+pub returns-clause-ok : goal.returns-clause-ok
+returns-clause-ok c =
+    let m = written_model c.args.model.now in
+    let made = c.in_ok-axioms.ensures in record {
+      no_fault = made.no_fault;
+      stages = c.in_ok-stages.ensures;
+      axioms = made.axioms;
+      true_alike = λ x w. satisfied_alike m made.no_name_fault x w ∙ ap (λ as_. closed_satisfies as_ x w) (sym made.axioms);
+    }
