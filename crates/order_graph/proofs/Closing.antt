@@ -3,7 +3,8 @@ use Rattle.std.proofs.Common.{◌≡◌, ℕ, ◌+◌, ◌*◌, ◌<◌, ◌≤�
 use Rattle.std.proofs.lemmas.Bool.{cases_eq, cases_lt}
 use Rattle.undo_trail.specs.Kept.{Kept, bit_now, Extends, HasSet}
 use Rattle.undo_trail.proofs.ExtendsLaws.{extends_same, extends_then, extends_more}
-use Rattle.order_graph.specs.Rows.{leads_to, with_edge}
+use Rattle.pc_ground.specs.declared.literal.Literal.TheVariants.{Edge}
+use Rattle.order_graph.specs.Rows.{leads_to, with_edge, pair_row, present_row, missing_row, HasEntered, IsSized}
 
 or_false : (x : Bool) → (x || false) ≡ x
 or_false true = refl
@@ -84,3 +85,26 @@ set_here v w r c s d rh dh =
 
 pub set_there : (v w : Kept) (r c : ℕ) → HasSet v w r c → (q d : ℕ) → (q ≡ r → ⊥) → q < v.rows → d < 64 * v.words → bit_now w q d ≡ bit_now v q d
 set_there v w r c s q d n qh dh = s q d qh dh ∙ ap (λ z. if z && (d == c) then true else bit_now v q d) (ne_eqb q r n)
+
+-- the edge is closed over, and then both its ends are present
+pub edge_entered : (n : ℕ) (v w u z : Kept) (a b : ℕ) → IsSized n v → a < n → b < n
+    → ((x y : ℕ) → x < n → y < 64 * v.words → bit_now w x y ≡ with_edge v a b x y)
+    → ((q d : ℕ) → n ≤ q → q < v.rows → d < 64 * v.words → bit_now w q d ≡ bit_now v q d)
+    → w.rows ≡ v.rows → w.words ≡ v.words → u.rows ≡ w.rows → u.words ≡ w.words
+    → HasSet w u (present_row n) a → HasSet u z (present_row n) b → HasEntered n (Edge a b) v z
+edge_entered n v w u z a b (rows, columns, few) ah bh closed others wr ww ur uw one two =
+    let there : (q d : ℕ) → (q ≡ present_row n → ⊥) → q < v.rows → d < 64 * v.words → bit_now z q d ≡ bit_now w q d =
+    λ q d no qh dh.
+    set_there u z (present_row n) b two q d no (omega arith) (omega arith) ∙ set_there w u (present_row n) a one q d no (omega arith) (omega arith) in
+    let here : (d : ℕ) → d < n → bit_now z (present_row n) d ≡ (bit_now v (present_row n) d || (d == a) || (d == b)) =
+    λ d dh.
+    set_here u z (present_row n) b two d (omega arith) (omega arith)
+    ∙ ap (λ bit. bit || (d == b)) (set_here w u (present_row n) a one d (omega arith) (omega arith)
+    ∙ ap (λ bit. bit || (d == a)) (others (present_row n) d (omega arith) (omega arith) (omega arith))) in
+    record {
+      reach = λ x y xh yh. there x y (λ e. absurd (omega arith)) (omega arith) yh ∙ closed x y xh yh;
+      pairs = λ x y xh yh. there (pair_row n x) y (λ e. absurd (omega arith)) (omega arith) yh ∙ others (pair_row n x) y (omega arith) (omega arith) yh;
+      present = here;
+      missing = λ x xh.
+          there (missing_row n) x (λ e. absurd (omega arith)) (omega arith) (omega arith) ∙ others (missing_row n) x (omega arith) (omega arith) (omega arith);
+    }
