@@ -1,5 +1,4 @@
 pub mod Faults
 pub mod Tables
 pub mod Measures
-pub mod Parts
 pub mod Laws
