@@ -11,7 +11,6 @@ use Rattle.uspec_parser.specs.Syntax.{quantified}
 use Rattle.uspec_parser.specs.Descent.{next, behind, word, place, sort_by, Atom, quantifier, no_opener, start, Operand, Row}
 use Rattle.uspec_parser.specs.declared.terminal.Terminal.{Terminal}
 use Rattle.uspec_parser.specs.declared.terminal.Terminal.TheVariants.{Not, Open, Forall, Exists}
-use Rattle.std.proofs.Common.{ℕ}
 
 pub ok_map : {X E : Type 0} (r : Result X E) (P Q : X → Type 0) → IfOk r P → ((x : X) → P x → Q x) → IfOk r Q
 ok_map (Ok x) P Q p f = f x p
