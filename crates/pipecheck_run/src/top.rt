@@ -120,5 +120,7 @@ pub fn run<F: Files, K: Sink>(alloc: Global, words: &[String], files: &mut F, ou
         → IsDue (map string_bytes words.now) (F.holds files.old) result }
 {
     let answer = decide(alloc, words, files);
-    tell(out, &answer)
+    let status = tell(out, &answer);
+    drop(answer);
+    status
 }

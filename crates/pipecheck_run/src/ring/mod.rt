@@ -41,7 +41,11 @@ pub(crate) fn generate(alloc: Global, n: u8) -> Answer
         Err(end) => return end,
     };
     match verdict_on(alloc, front) {
-        Ok(verdict) => Answer::Generated(report_of(n, &verdict)),
+        Ok(verdict) => {
+            let report = report_of(n, &verdict);
+            drop(verdict);
+            Answer::Generated(report)
+        }
         Err(Memory) => Answer::Memory,
     }
 }

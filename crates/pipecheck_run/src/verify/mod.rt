@@ -44,5 +44,7 @@ pub(crate) fn verify<F: Files>(
         Ok(front) => front,
         Err(end) => return end,
     };
-    told(check_file(alloc, &front, certificate, files))
+    let checked = check_file(alloc, &front, certificate, files);
+    drop(front);
+    told(checked)
 }

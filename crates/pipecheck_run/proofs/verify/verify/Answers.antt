@@ -8,5 +8,5 @@ returns-in-Err g c = end_answers_verify (g.met.F.Files.calm_told c.args.files.no
 pub returns : goal.returns
 returns g c =
     rw (← c.told.ensures) at
-    (file_answers_verify (g.met.F.Files.calm_told c.args.files.now) (named c.args.inputs) c.args.certificate.now c.in-Ok.ensures c.check_file.ensures.keeps
-    c.check_file.result c.check_file.ensures.verified c.check_file.ensures.cause c.check_file.ensures.missing)
+    (file_answers_verify (g.met.F.Files.calm_told c.args.files.now) (named c.args.inputs) c.args.certificate.now c.in-Ok.ensures c.check_file-checked.ensures.keeps
+    c.check_file-checked.result c.check_file-checked.ensures.verified c.check_file-checked.ensures.cause c.check_file-checked.ensures.missing)
