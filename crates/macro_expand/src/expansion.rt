@@ -24,7 +24,7 @@ impl<'a> Expander<'a> {
     /// its macro's parameters over the macro's body. The body is never written into: it stays as it is
     /// below its binding, so that no name in it is captured. The copy shares all names and lists.
     ///
-    /// It nests a call for each connective, quantifier and expansion above an atom.
+    /// It nests at most two calls for each connective, quantifier and expansion above an atom.
     #[cycle(walk)]
     fn expansion(&self, earlier: usize, formula: &Formula) -> Result<Formula, Memory>
         requires { self.now.names.now ≡ map parameter_names (listed self.now.macros.now) }

@@ -19,8 +19,8 @@ use std::alloc::Global;
 /// Sizes and heights are known before anything is expanded, so that a model past a limit takes time and
 /// memory in proportion to its text alone. The axioms share their names and lists with the model, so that
 /// each connective, quantifier, binding and atom of theirs takes the same memory, whatever the lengths of
-/// these. An axiom is of height 512 at most when it is expanded, and its expansion nests one call more
-/// than that at most.
+/// these. An axiom is of height 512 at most when it is expanded, and its expansion nests at most two calls
+/// for each level of that, and one more.
 pub fn expand(alloc: Global, model: &ModelFile) -> Result<Vec<Expanded>, MacroFault>
     ensures ok { IfOk result (λ axioms. IsExpandable (written_model model.now) × AreExpansions (written_model model.now) axioms.items) }
     ensures err { IfErr result (λ fault. IsFirstMacroFault (written_model model.now) fault) }

@@ -26,8 +26,8 @@ use std::alloc::Global;
 /// predicates. An `Err` is the axiom's first name fault, unless memory was refused.
 ///
 /// The model has no stage fault, so its stages are at most 64 and have numbers from 0 to 63. Of the
-/// model nothing but these is read. It nests a call for each connective, quantifier and binding above an
-/// atom, which in a model without faults are at most 512.
+/// model nothing but these is read. It nests at most two calls for each connective, quantifier and binding
+/// above an atom, which in a model without faults are at most 512.
 #[tactic(auto, using(crate::proofs::Closings::closing_stages))]
 pub fn close(alloc: Global, model: &ModelFile, axiom: &Expanded) -> Result<Closed, NameFault>
     requires { first_stage_fault (written_model model.now) ≡ None }
