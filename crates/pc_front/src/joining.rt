@@ -3,6 +3,7 @@ ghost use Rattle.pc_ground.specs.Stages.{plain_stage, plain_axioms, numbers_of, 
 ghost use Rattle.pc_ground.specs.Rows.{rows_of};
 ghost use Rattle.pc_ground.specs.Numbers.{numbered};
 ghost use Rattle.pc_ground.specs.GroundTree.{closed_ground_tree};
+ghost use Rattle.pc_front.specs.declared.model_front.FrontEnd.TheVariants.{Memory as no_memory};
 ghost use Rattle.pc_front.specs.Front.{SayFront, IsEnd};
 
 use super::model_front::{FrontEnd, ModelFront};
@@ -28,14 +29,15 @@ pub fn front(alloc: Global, model_bytes: &[u8], test_bytes: &[u8]) -> Result<Fro
 {
     let model = read_model(alloc, model_bytes)?;
     let case = read_case(alloc, test_bytes)?;
-    Ok(joined(alloc, model, case)?)
+    joined(alloc, model, case)
 }
 
 /// The model's part and the case, with the ground tree and its numbers.
-fn joined(alloc: Global, model: ModelFront, case: Case) -> Result<Front, Memory>
+fn joined(alloc: Global, model: ModelFront, case: Case) -> Result<Front, FrontEnd>
     requires named { AreStages (map plain_stage model.stages) }
     requires within { AxiomsWithin (numbers_of (map plain_stage model.stages)) (plain_axioms model.axioms) }
-    ensures { IfOk result (λ f. (f.case ≡ case) × (f.stages ≡ model.stages) × (f.axioms ≡ model.axioms)) }
+    ensures ok { IfOk result (λ f. (f.case ≡ case) × (f.stages ≡ model.stages) × (f.axioms ≡ model.axioms)) }
+    ensures err { IfErr result (λ end. end ≡ no_memory) }
 {
     let (tree, numbering) = grounded(alloc, &case, &model.axioms)?;
     Ok(whole(case, model, tree, numbering))

@@ -8,6 +8,8 @@ use Rattle.pc_common.specs.Chain.{Leads}
 use Rattle.pc_ground.specs.declared.literal.Literal.{Literal}
 use Rattle.pc_ground.specs.declared.literal.Literal.TheVariants.{Node, Edge, NoNode, NoEdge}
 use Rattle.pc_ground.specs.declared.row.Row.{Row}
+use Rattle.pc_ground.specs.declared.row.RowKind.{RowKind}
+use Rattle.pc_ground.specs.declared.row.RowKind.TheVariants.{Lit}
 use Rattle.pc_ground.specs.Tree.{Tree, always, never, leaf, both, either, size_of}
 use Rattle.pc_ground.specs.Rows.{rows_of}
 use Rattle.pc_ground.specs.Literals.{Joins, IsPresent, as_node, as_start, as_end}
@@ -18,11 +20,14 @@ use Rattle.pc_ground.proofs.Walks.{walk_side, walk_turn, walk_within}
 use Rattle.pc_ground.proofs.StageWalks.{some_same}
 use Rattle.order_graph.specs.Clashes.{IsCycle, IsClash}
 use Rattle.order_graph.specs.State.{Graph}
+use Rattle.order_graph.specs.Adding.{IsAdded}
+use Rattle.order_graph.specs.declared.clash.Added.{Added}
+use Rattle.order_graph.specs.declared.clash.Added.TheVariants.{Kept as was_kept, Clash as clashed}
 use Rattle.order_graph.specs.declared.clash.Clash.{Clash}
 use Rattle.order_graph.specs.declared.clash.Clash.TheVariants.{Cycle, Path, Absent}
 use Rattle.solver.specs.Spelled.{spelled, IsSpelled}
 use Rattle.solver.specs.Places.{reached}
-use Rattle.solver.specs.Opens.{positions, IsFurther}
+use Rattle.solver.specs.Opens.{positions, IsFurther, HasAddedRow}
 use Rattle.solver.specs.declared.asserted.Asserted.{Asserted}
 use Rattle.solver.proofs.Running.{reached_at}
 
@@ -191,3 +196,15 @@ stride_pos rows p r flat at =
     let there = row_subtree (spelled rows) p r (ap (λ xs. slice_get xs p) (sym flat) ∙ at) in
     let P : Row ℕ → Type 0 = λ x. 0 < stride x in
     subst P there.2 (root_stride there.0)
+
+-- what was added is what the row asserts
+pub row_added : (old new : Graph) (l : Literal ℕ) (r : Row ℕ) (a : Added) → r.kind ≡ Lit l → IsAdded old l new a → HasAddedRow r old new a
+row_added old new l r was_kept e h =
+    let K : RowKind ℕ → Type 0 = λ kind. new.literals ≡ old.literals ++ literals_of_kind kind in
+    let first : take (length old.literals) new.literals ≡ old.literals =
+    ap (take (length old.literals)) h.0.literals ∙ take-append-le (length old.literals) old.literals (l ∷ []) (omega arith) ∙ kept_same old.literals in
+    (record { same_nodes = h.0.same_nodes; same_marks = h.0.marks; literals = first }, subst K (sym e) h.0.literals)
+row_added old new l r (clashed k) e h =
+    let F : Graph → Type 0 = IsFurther old in
+    let K : RowKind ℕ → Type 0 = λ kind. IsClash (old.literals ++ literals_of_kind kind) k in
+    (subst F (sym h.0) (further_same old), subst K (sym e) h.1)

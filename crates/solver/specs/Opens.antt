@@ -8,6 +8,8 @@ use Rattle.pc_ground.specs.Walks.{literals_of_kind}
 use Rattle.order_graph.specs.State.{Graph}
 use Rattle.order_graph.specs.Clashes.{IsClash}
 use Rattle.order_graph.specs.declared.clash.Clash.{Clash}
+use Rattle.order_graph.specs.declared.clash.Added.{Added}
+use Rattle.order_graph.specs.declared.clash.Added.TheVariants.{Kept as was_kept, Clash as clashed}
 use Rattle.solver.specs.Named.{named}
 use Rattle.solver.specs.Places.{reached}
 use Rattle.solver.specs.declared.asserted.Asserted.{Asserted}
@@ -54,6 +56,11 @@ pub record IsFurther (old new : Graph) : Type 0 where
 abbrev pub HasEntered : Tree ℕ → ℕ → List Asserted → Graph → List Asserted → Option Clash → Type 0
 HasEntered t part old graph new None = (positions new ≡ positions old ++ reached t part) × (graph.literals ≡ literals_of t (positions new))
 HasEntered t part old graph new (Some k) = IsClash (literals_of t (positions old ++ reached t part)) k
+
+-- what came of asserting the literal of a row, if it is one's: it is the last one, or it clashes with those before
+abbrev pub HasAddedRow : Row ℕ → Graph → Graph → Added → Type 0
+HasAddedRow r old new was_kept = IsFurther old new × (new.literals ≡ old.literals ++ literals_of_kind r.kind)
+HasAddedRow r old new (clashed k) = IsFurther old new × IsClash (old.literals ++ literals_of_kind r.kind) k
 
 -- what came of asserting one row: its literal is the last one, or it clashes with those before
 abbrev pub HasEnteredRow : Row ℕ → ℕ → Graph → List Asserted → Graph → List Asserted → Option Clash → Type 0

@@ -90,6 +90,15 @@ fn named_edges(alloc: Global, keys: &[NodeKey], pairs: &[(u32, u32)]) -> Result<
     Ok(edges)
 }
 
+/// The asserted edges, each once.
+fn shown_edges(alloc: Global, keys: &[NodeKey], graph: &OrderGraph) -> Result<Edges, Memory>
+    requires below { All (IsBelow (length keys.now)) graph.now.literals }
+    ensures { IfOk result (λ edges. AreEdges (map key_node keys.now) graph.now.literals (map key_edge edges)) }
+{
+    let pairs = edge_pairs(alloc, graph)?;
+    named_edges(alloc, keys, pairs.as_slice())
+}
+
 /// The graph of what is asserted: the present nodes by number, then the edges.
 pub(crate) fn graph_of(alloc: Global, keys: &[NodeKey], graph: &OrderGraph) -> Result<Graph, Memory>
     requires all { graph.now.nodes ≡ length keys.now }
@@ -99,7 +108,6 @@ pub(crate) fn graph_of(alloc: Global, keys: &[NodeKey], graph: &OrderGraph) -> R
     ensures edges { IfOk result (λ g. AreEdges (map key_node keys.now) graph.now.literals (graph_edges g)) }
 {
     let nodes = present_nodes(alloc, keys, graph)?;
-    let pairs = edge_pairs(alloc, graph)?;
-    let edges = named_edges(alloc, keys, pairs.as_slice())?;
+    let edges = shown_edges(alloc, keys, graph)?;
     Ok(Graph { nodes, edges })
 }

@@ -1,5 +1,5 @@
 /// A position of the tree that is asserted on the first open branch.
-#[derive(Clone, Copy, Debug)]
+#[derive(Clone, Copy)]
 pub(crate) struct Asserted {
     pub(crate) position: usize,
 }

@@ -4,7 +4,7 @@ ghost use Rattle.pc_ground.specs.Refutes.{literals_of};
 ghost use Rattle.order_graph.specs.State.{IsCut};
 ghost use Rattle.solver.specs.Spelled.{spelled, IsSpelled};
 ghost use Rattle.solver.specs.Below.{IsRowBelow};
-ghost use Rattle.solver.specs.Opens.{positions, IsFurther, HasEntered, HasEnteredRow};
+ghost use Rattle.solver.specs.Opens.{positions, IsFurther, HasEntered, HasAddedRow, HasEnteredRow};
 
 use super::asserted::Asserted;
 use super::rows::row_at;
@@ -13,6 +13,21 @@ use pc_common::Memory;
 use pc_ground::{Literal, Row, RowKind};
 use std::sync::ledger::Ledger;
 use undo_trail::Steps;
+
+/// Asserts the literal of a row, if it is one's.
+fn add_row<L: Ledger>(
+    row: Row<u32>,
+    graph: &mut OrderGraph,
+    steps: &mut Steps<L>,
+) -> Result<Added, Memory>
+    requires below { IsRowBelow graph.old.nodes row }
+    ensures { IfOk result (HasAddedRow row graph.old graph.new) }
+{
+    match row.kind {
+        RowKind::Lit(literal) => graph.assert_literal(literal, steps),
+        _ => Ok(Added::Kept),
+    }
+}
 
 /// Asserts the literal of a row, if it is one's, and then its position.
 fn enter_row<L: Ledger>(
@@ -26,10 +41,8 @@ fn enter_row<L: Ledger>(
     ensures further { IfOk result (λ _. IsFurther graph.old graph.new) }
     ensures entered { IfOk result (λ found. HasEnteredRow row position graph.old asserted.old.items graph.new asserted.new.items found) }
 {
-    if let RowKind::Lit(literal) = row.kind {
-        if let Added::Clash(clash) = graph.assert_literal(literal, steps)? {
-            return Ok(Some(clash));
-        }
+    if let Added::Clash(clash) = add_row(row, graph, steps)? {
+        return Ok(Some(clash));
     }
     asserted.push(Asserted { position })?;
     Ok(None)

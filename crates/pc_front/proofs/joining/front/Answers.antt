@@ -1,5 +1,8 @@
-use Rattle.std.proofs.Common.{rules}
-use Rattle.std.proofs.lemmas.Result.{err_from_is_err_and}
+use Rattle.std.proofs.Common.{◌≡◌, rules, sym, subst}
+use Rattle.std.proofs.lemmas.Result.{err_from_is_err_and, IfOk-weaker, IfErr-weaker}
+use Rattle.pc_front.specs.declared.model_front.FrontEnd.{FrontEnd}
+use Rattle.pc_front.specs.declared.model_front.FrontEnd.TheVariants.{Memory}
+use Rattle.pc_front.specs.Front.{SayFront, IsEnd}
 use Rattle.pc_front.proofs.Joined.{axioms_within, are_stages, model_end, test_end, front_is}
 use Rattle.pc_front.proofs.joining.front.Goals as goal
 
@@ -24,11 +27,19 @@ joined-requires-clause-within c =
 
 pub returns-clause-ok : goal.returns-clause-ok
 returns-clause-ok c =
+    let model = c.in_ok-model.model in
+    let case = c.in_ok-case.case in
     let ok = c.in_ok-model.ensures.ok in
-    let parts = c.in_ok-joined.ensures in record {
+    IfOk-weaker c.joined.result (λ f. (f.case ≡ case) × (f.stages ≡ model.stages) × (f.axioms ≡ model.axioms)) (SayFront c.args.model_bytes.now c.args.test_bytes.now)
+    (λ f parts. record {
       m = ok.0;
-      c = c.in_ok-case.case;
+      c = case;
       says_model = record { model = ok.1; no_fault = ok.2.no_fault };
       says_test = c.in_ok-case.ensures.ok;
-      front_of = front_is ok.0 c.in_ok-case.case c.in_ok-model.model c.in_ok-joined.field-0 ok.2 parts.0 parts.1 parts.2;
-    }
+      front_of = front_is ok.0 case model f ok.2 parts.0 parts.1 parts.2;
+    }) c.joined.ensures.ok
+
+pub returns-clause-err : goal.returns-clause-err
+returns-clause-err c =
+    let E : FrontEnd → Type 0 = IsEnd c.args.model_bytes.now c.args.test_bytes.now in
+    IfErr-weaker c.joined.result (λ end. end ≡ Memory) E (λ end is. subst E (sym is) tt) c.joined.ensures.err

@@ -20,15 +20,30 @@ pub push_split-requires : goal.push_split-requires
 push_split-requires g c =
     one_open (map key_node c.args.keys.now) (spelled c.args.rows.now) c.args.graph.now c.args.asserted.now.items c.args.later.now.items c.args.refutation.now [] c.requires.kept
 
-pub find-requires-clause-kept : goal.find-requires-clause-kept
-find-requires-clause-kept g c =
+pub children-left-requires-clause-is_or : goal.children-left-requires-clause-is_or
+children-left-requires-clause-is_or g c =
+    let candidate = All-contains (IsCandidate (spelled c.args.rows.now) (positions c.args.asserted.now.items)) c.args.candidates.now c.in_ok-p.p
+    c.requires.candidates c.in_ok-p.ensures.found in
+    (candidate.left, candidate.right, candidate.is_or)
+
+pub find-requires : goal.find-requires
+find-requires g c =
     let t = spelled c.args.rows.now in
     let here = c.args.asserted.now.items in
-    (advanced (map key_node c.args.keys.now) t c.args.graph.now c.mark-mark.new.self c.choose.new.graph here c.choose.new.asserted.items c.args.later.now.items
+    let next =
+    advanced (map key_node c.args.keys.now) t c.args.graph.now c.mark-mark.new.self c.choose.new.graph here c.choose.new.asserted.items c.args.later.now.items
     c.push.new.self.items c.args.refutation.now c.push_split.new.self _ c.in_ok-p.p c.children-left.result c.requires.kept
     (All-contains (IsCandidate t (positions here)) c.args.candidates.now c.in_ok-p.p c.requires.candidates c.in_ok-p.ensures.found)
     c.mark-mark.ensures.graph c.in_ok-p.ensures.graph c.in_ok-p.ensures.asserted c.children-left.ensures.places
-    (omega (arith, c.len-count.ensures, ap length c.in_ok-p.ensures.asserted)) c.mark-mark.ensures.place refl c.in_ok-push.ensures.items c.in_ok-push_split.ensures).0
+    (omega (arith, c.len-count.ensures, ap length c.in_ok-p.ensures.asserted)) c.mark-mark.ensures.place refl c.in_ok-push.ensures.items c.in_ok-push_split.ensures in record {
+      tree = c.requires.tree;
+      part = c.children-left.ensures.left_in;
+      few = c.requires.few;
+      distinct = c.requires.distinct;
+      below = c.requires.below;
+      no_false = c.requires.no_false;
+      kept = next.0;
+    }
 
 pub returns-clause-lighter : goal.returns-clause-lighter
 returns-clause-lighter g c =

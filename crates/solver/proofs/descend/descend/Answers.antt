@@ -38,6 +38,18 @@ returns-in_default-pop-clause-descended g c =
     c.loop-clash.invariant.kept (clash_closes nodes t (positions here ++ reached t c.loop-clash.part) c.in-Some.clash clash) c.in_ok-close.ensures
     (nil_from_length c.loop-clash.later.items (let h = rw c.in_default-pop.is at c.pop.ensures.cases in omega (arith, h.0)))
 
+pub returns-in_default-pop-clause-longer : goal.returns-in_default-pop-clause-longer
+returns-in_default-pop-clause-longer g c =
+    longer_push c.args.refutation.now c.loop-clash.refutation c.close.new.refutation (clash_step (map key_node c.args.keys.now) c.in-Some.clash)
+    c.loop-clash.invariant.longer c.in_ok-close.ensures
+
+pub go_back-requires : goal.go_back-requires
+go_back-requires g c =
+    let t = spelled c.args.rows.now in
+    let is_later = next_inside (map key_node c.args.keys.now) t c.loop-clash.graph c.loop-clash.asserted.items c.loop-clash.later.items c.pop.new.self.items
+    c.loop-clash.refutation c.in-Some-pop.next (reached t c.loop-clash.part) c.loop-clash.invariant.kept c.in-Some-pop.ensures.items in
+    omega (arith, is_later.live, ap length c.in_ok-clash.ensures.further.same_marks)
+
 pub loop-clash-preserved : goal.loop-clash-preserved
 loop-clash-preserved g c =
     let nodes = map key_node c.args.keys.now in

@@ -26,6 +26,9 @@ loop-at-init g c =
       kept = kept_same c.args.asserted.now.items;
     }
 
+pub returns-in-Some-clause-further : goal.returns-in-Some-clause-further
+returns-in-Some-clause-further g c = further_more _ _ _ c.loop-at.invariant.further c.in_ok-clash.ensures.further
+
 pub returns-in-Some-clause-entered : goal.returns-in-Some-clause-entered
 returns-in-Some-clause-entered g c =
     let rows = c.args.rows.now in
