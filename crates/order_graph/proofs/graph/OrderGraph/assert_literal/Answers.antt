@@ -46,3 +46,16 @@ returns-clause-added g c =
           c.in_ok-keep.ensures.literals c.in_ok-keep.ensures.moments c.in_ok-keep.ensures.counts,
       consistent,
     )
+
+pub returns-clause-cost : goal.returns-clause-cost
+returns-clause-cost g c = rw (← c.self.view_is) c.in_ok-keep.ensures.cost
+
+pub returns-clause-most : goal.returns-clause-most
+returns-clause-most g c = rw (← c.self.view_is, ← c.self.invariant.words) c.keep.ensures.most
+
+pub returns-in_err-keep-clause-most : goal.returns-in_err-keep-clause-most
+returns-in_err-keep-clause-most g c = rw (← c.self.view_is, ← c.self.invariant.words) c.keep.ensures.most
+
+pub invariant_of-self : goal.invariant_of-self
+invariant_of-self g c =
+    let (table, literals, moments, counts) = c.in_err-keep.ensures.err in rw (table, literals, moments, counts) c.self.invariant
