@@ -1,6 +1,7 @@
 //! The ground floor: places and faults of the input files, the generic list, a list whose copies share
 //! their items, the outside world as two traits (files that are read, a sink that is written), reading
-//! and writing whole, and a room of 4,096 bytes in front of a sink.
+//! and writing whole, a room of 4,096 bytes in front of a sink, and how many cores and micro-ops there
+//! may be.
 //!
 //! Its `specs/` hold what every layer above speaks of as plain data: a case (what a litmus test says),
 //! what an address holds, a node, a world (things with a strict order), chains of edges, the world that
