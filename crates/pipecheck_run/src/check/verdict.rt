@@ -36,13 +36,8 @@ pub(crate) fn verdict_on(alloc: Global, front: Front) -> Result<Verdict, Memory>
     ensures front { IfOk result (λ v. v.front ≡ front) }
     ensures found { IfOk result (λ v. (t : Tree PlainNode) → front.tree ≡ rows_of t → IsAnswer front.numbering t v.found) }
 {
-    match search::<Brand>(alloc, &front, Blank::new(1)) {
-        Ok(found) => Ok(Verdict { front, found }),
-        Err(Memory) => {
-            drop(front);
-            Err(Memory)
-        }
-    }
+    let found = search::<Brand>(alloc, &front, Blank::new(1))?;
+    Ok(Verdict { front, found })
 }
 
 /// The status of a verdict.
