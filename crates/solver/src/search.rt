@@ -167,9 +167,7 @@ fn start<L: Ledger>(
         &mut refutation,
         steps,
     )?;
-    Ok(settle(
-        alloc, keys, rows, graph, asserted, later, refutation, found,
-    ))
+    Ok(settle(alloc, keys, rows, graph, asserted, later, refutation, found))
 }
 
 impl Search {
