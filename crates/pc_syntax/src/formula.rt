@@ -142,8 +142,8 @@ impl Formula {
     }
 
     /// A copy that shares its names and lists with its source, so that it takes memory for each formula
-    /// in it, whatever their lengths. It nests a call for each level, as the drop does. Memory leaves the
-    /// source as it is.
+    /// in it, whatever their lengths. It nests at most two calls for each level, where the drop nests
+    /// one. Memory leaves the source as it is.
     #[cycle(copy)]
     pub fn copy(&self, alloc: Global) -> Result<Formula, Memory>
         ensures { IfOk result (λ f. written f ≡ written self.now) }
