@@ -58,7 +58,7 @@ def slips(path: str, text: bytes, model: Model, tests: list[TestFile]) -> Iterat
     """All slips of a model and of tests that are to be run on it, those that are meant left out."""
     meant = allowed(text)
     asked = Asked(model)
-    yield from unless_meant(meant, [*model_slips(path, model, asked), *missing_types(path, asked, tests)])
+    yield from unless_meant(meant, [*model_slips(path, model, asked), *missing_names(path, asked, tests, meant)])
     unasked: dict[str, list[Slip]] = {}
     for test in tests:
         meant_here = meant | allowed(test.text)
@@ -257,19 +257,19 @@ class UnexpandedMacro:
             self.fault(arg.at, "wrong-sort", f"{arg.name} is a {scope[arg.name]}, and a {wanted} is asked for")
 
 
-def missing_types(path: str, asked: Asked, tests: list[TestFile]) -> Iterator[Slip]:
-    """Type names and dependency kinds that axioms ask for and none of the tests has, though some test has fences or
-    types, or dependencies: then a spelling may be wrong."""
+def missing_names(path: str, asked: Asked, tests: list[TestFile], meant: set[tuple[str, str]]) -> Iterator[Slip]:
+    """Type names and dependency kinds that axioms ask for and none of the tests has, where a test has another name that
+    no axiom asks for, or a fence without a name: then one of the two may be misspelt."""
     ops = [op for test in tests for op in test.case.ops]
-    kinds = {kind for test in tests for kind, _, _ in test.case.dependencies}
     types = {name for op in ops for name in op.types}
-    if types or any(op.access == "Fence" for op in ops):
-        for name in asked.types.keys() - types:
+    kinds = {kind for test in tests for kind, _, _ in test.case.dependencies}
+    spare = {slip.name for test in tests for slip in unless_meant(meant | allowed(test.text), not_asked(path, asked, test))}
+    if spare & types or any(op.access == "Fence" and not op.types for op in ops):
+        for name in sorted(asked.types.keys() - types):
             sentence = f"axioms ask for type {name}, and no micro-op of the tests has it"
             yield Slip(path, asked.types[name], "not-in-tests", name, sentence)
-    # tests with some of the kinds are as usual as tests with none
-    if kinds and not kinds & asked.kinds.keys():
-        for name in asked.kinds:
+    if spare & kinds:
+        for name in sorted(asked.kinds.keys() - kinds):
             sentence = f"axioms ask for dependencies of kind {name}, and the tests have none of it"
             yield Slip(path, asked.kinds[name], "not-in-tests", name, sentence)
 
