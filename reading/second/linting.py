@@ -289,7 +289,7 @@ def not_asked(model_path: str, asked: Asked, test: TestFile) -> Iterator[Slip]:
         elif isinstance(item, DependencyItem) and item.kind not in asked.kinds:
             yield Slip(test.path, item.at, "not-asked", item.kind, f"a dependency of kind {item.kind}: {rest}")
         elif isinstance(item, ValueItem) and of_state[item.word] not in asked.predicates:
-            yield Slip(test.path, item.at, "not-asked", item.word, f"the value of an {item.word}: {rest}")
+            yield Slip(test.path, item.at, "not-asked", item.word, f"the value of {item.word}: {rest}")
 
 
 def value_slips(test: TestFile) -> Iterator[Slip]:
