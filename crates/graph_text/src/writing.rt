@@ -17,7 +17,7 @@ fn put_node_line<K: Sink>(
     key: NodeKey,
 ) -> Result<(), Failed>
     requires { IsKeyIn names.now key }
-    ensures { Puts K.told K.faults K.taken room.old room.new result (node_line_text names.now key) }
+    ensures { Puts K.view room.old room.new result (node_line_text names.now key) }
 {
     put_parts(
         room,
@@ -35,7 +35,7 @@ fn put_edge_line<K: Sink>(
 ) -> Result<(), Failed>
     requires from { IsKeyIn names.now from }
     requires to { IsKeyIn names.now to }
-    ensures { Puts K.told K.faults K.taken room.old room.new result (edge_line_text names.now (from, to)) }
+    ensures { Puts K.view room.old room.new result (edge_line_text names.now (from, to)) }
 {
     put_parts(
         room,
@@ -57,7 +57,7 @@ fn put_nodes<K: Sink>(
     keys: &[NodeKey],
 ) -> Result<(), Failed>
     requires { All (IsKeyIn names.now) keys.now }
-    ensures { Puts K.told K.faults K.taken room.old room.new result (flat_map (node_line_text names.now) keys.now) }
+    ensures { Puts K.view room.old room.new result (flat_map (node_line_text names.now) keys.now) }
 {
     for key in keys {
         put_node_line(room, names, *key)?;
@@ -72,7 +72,7 @@ fn put_edges<K: Sink>(
     edges: &[(NodeKey, NodeKey)],
 ) -> Result<(), Failed>
     requires { All (IsEdgeIn names.now) edges.now }
-    ensures { Puts K.told K.faults K.taken room.old room.new result (flat_map (edge_line_text names.now) edges.now) }
+    ensures { Puts K.view room.old room.new result (flat_map (edge_line_text names.now) edges.now) }
 {
     for ends in edges {
         put_edge_line(room, names, ends.0, ends.1)?;
@@ -88,7 +88,7 @@ fn put_graph<K: Sink>(
 ) -> Result<(), Failed>
     requires nodes { All (IsKeyIn names.now) graph.now.nodes }
     requires edges { All (IsEdgeIn names.now) graph.now.edges }
-    ensures { Puts K.told K.faults K.taken room.old room.new result
+    ensures { Puts K.view room.old room.new result
         (flat_map (node_line_text names.now) graph.now.nodes ++ flat_map (edge_line_text names.now) graph.now.edges) }
 {
     put_nodes(room, names, graph.nodes.as_slice())?;
@@ -102,7 +102,7 @@ fn put_graph<K: Sink>(
 pub fn write_graph<K: Sink>(sink: &mut K, names: &NodeText<'_>, graph: &Graph) -> Result<(), Failed>
     requires nodes { All (IsKeyIn names.now) graph.now.nodes }
     requires edges { All (IsEdgeIn names.now) graph.now.edges }
-    ensures { Writes K.told K.faults K.taken sink.old sink.new result (lines_text names.now (graph_lines (graph_nodes graph.now) (graph_edges graph.now))) }
+    ensures { Writes K.view sink.old sink.new result (lines_text names.now (graph_lines (graph_nodes graph.now) (graph_edges graph.now))) }
 {
     let mut room = Room::new(sink);
     put_graph(&mut room, names, graph)?;

@@ -94,7 +94,7 @@ impl<'a> NodeText<'a> {
     /// Writes the node's text, g.n@core:Stage. Takes no memory.
     pub fn write<K: Sink>(&self, sink: &mut K, key: NodeKey) -> Result<(), Failed>
         requires { IsNodeIn self.now (key_node key) }
-        ensures { Writes K.told K.faults K.taken sink.old sink.new result (node_text self.now (key_node key)) }
+        ensures { Writes K.view sink.old sink.new result (node_text self.now (key_node key)) }
     {
         let mut room = Room::new(sink);
         self.put(&mut room, key)?;
@@ -104,7 +104,7 @@ impl<'a> NodeText<'a> {
     /// Puts the node's text into a room in front of a sink. Takes no memory.
     pub fn put<K: Sink>(&self, room: &mut Room<'_, K>, key: NodeKey) -> Result<(), Failed>
         requires { IsNodeIn self.now (key_node key) }
-        ensures { Puts K.told K.faults K.taken room.old room.new result (node_text self.now (key_node key)) }
+        ensures { Puts K.view room.old room.new result (node_text self.now (key_node key)) }
     {
         let front = self.front;
         let id = front.case.op(key.op as usize).id;

@@ -21,7 +21,7 @@ fn put_part<K: Sink>(
     part: &Part<'_>,
 ) -> Result<(), Failed>
     requires { IsPartOf names.now part.now }
-    ensures { Puts K.told K.faults K.taken room.old room.new result (part_text names.now part.now) }
+    ensures { Puts K.view room.old room.new result (part_text names.now part.now) }
 {
     match part {
         Part::Bytes(bytes) => room.put(bytes),
@@ -36,7 +36,7 @@ pub fn put_parts<K: Sink>(
     parts: &[Part<'_>],
 ) -> Result<(), Failed>
     requires { All (IsPartOf names.now) parts.now }
-    ensures { Puts K.told K.faults K.taken room.old room.new result (flat_map (part_text names.now) parts.now) }
+    ensures { Puts K.view room.old room.new result (flat_map (part_text names.now) parts.now) }
 {
     for part in parts {
         put_part(room, names, part)?;

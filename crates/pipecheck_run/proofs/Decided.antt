@@ -43,9 +43,9 @@ no_fault_of_usage e = cc
 
 -- the words are no command, and no file is read
 pub usage_decides : {F : Type 0} {told : F → Bool} {holds : F → Contents} {calm : F → Bool} {faults : F → ℕ} (files : F) (words : List (List ℕ))
-    → IsNoCommand words → Decides told holds calm faults words files files a_usage
+    → IsNoCommand words → Decides view words files files a_usage
 usage_decides files words none = record {
-  keeps = record { same_told = refl; same_held = refl; same_calm = refl; count = omega arith };
+  keeps = record { same_modelled = refl; same_held = refl; same_failing = refl; count = omega arith };
   writable = tt;
   usage_only = λ e. none;
   cause = λ e. absurd (no_fault_of_usage e);
@@ -57,7 +57,7 @@ usage_decides files words none = record {
 module _ {F : Type 0} {told : F → Bool} {holds : F → Contents} {calm : F → Bool} {faults : F → ℕ} {old new : F} where
   -- the words are the command
   pub command_decides : (words : List (List ℕ)) (command : Command) (a : Answer) → IsCommand words command
-      → AnswersTo told holds calm faults command old new a → Decides told holds calm faults words old new a
+      → AnswersTo view command old new a → Decides view words old new a
   command_decides words command a is d = record {
     keeps = d.keeps;
     writable = d.writable;
@@ -69,7 +69,7 @@ module _ {F : Type 0} {told : F → Bool} {holds : F → Contents} {calm : F →
   }
 
   -- what ends the run at the two files answers `check`
-  pub end_answers_check : (i : Inputs) (a : Answer) → EndsAt told holds calm faults i old new a → AnswersTo told holds calm faults (check i) old new a
+  pub end_answers_check : (i : Inputs) (a : Answer) → EndsAt view i old new a → AnswersTo view (check i) old new a
   end_answers_check i a d = record {
     keeps = d.keeps;
     writable = d.writable;
@@ -80,8 +80,8 @@ module _ {F : Type 0} {told : F → Bool} {holds : F → Contents} {calm : F →
     answers = λ t no_fault memory words is. refused (on_check words i is) (d.answers t no_fault memory);
   }
 
-  module _ {i : Inputs} {front : Front} (f : HasFront told holds calm faults i old new front) where
-    pub memory_answers_check : AnswersTo told holds calm faults (check i) old new a_memory
+  module _ {i : Inputs} {front : Front} (f : HasFront view i old new front) where
+    pub memory_answers_check : AnswersTo view (check i) old new a_memory
     memory_answers_check = record {
       keeps = f.keeps;
       writable = tt;
@@ -94,7 +94,7 @@ module _ {F : Type 0} {told : F → Bool} {holds : F → Contents} {calm : F →
 
     pub verdict_answers_check : (v : Verdict) → v.front ≡ front
         → ((t : Tree Node) → front.tree ≡ rows_of t → IsAnswer front.numbering t v.found)
-        → AnswersTo told holds calm faults (check i) old new (a_verdict v)
+        → AnswersTo view (check i) old new (a_verdict v)
     verdict_answers_check v same found =
         let is : IsAnswer front.numbering (ground_tree f.m f.c) v.found = found (ground_tree f.m f.c) f.front_of.tree in
         let P : Front → Type 0 = λ g. IsFrontOf f.m f.c g in

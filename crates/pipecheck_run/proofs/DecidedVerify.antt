@@ -71,7 +71,7 @@ not_refused holds i m c says (refusal {fault = fault} first held) = no_fault_sai
 module _ {F : Type 0} {told : F → Bool} {holds : F → Contents} {calm : F → Bool} {faults : F → ℕ} {old mid : F}
     (calm_told : IsTrue (calm old) → IsTrue (told old)) (i : Inputs) (certificate : List ℕ) where
   -- what ends the run at the two files answers `verify`
-  pub end_answers_verify : (a : Answer) → EndsAt told holds calm faults i old mid a → AnswersTo told holds calm faults (verify i certificate) old mid a
+  pub end_answers_verify : (a : Answer) → EndsAt view i old mid a → AnswersTo view (verify i certificate) old mid a
   end_answers_verify a d = record {
     keeps = d.keeps;
     writable = d.writable;
@@ -91,14 +91,14 @@ module _ {F : Type 0} {told : F → Bool} {holds : F → Contents} {calm : F →
       due c (inl l) = d.calm_due c l
       due c (inr l) = third c l (outside_or (answer_status a))
 
-  module _ {new : F} {front : Front} (f : HasFront told holds calm faults i old mid front) (keeps : Reads told holds calm faults mid new) where
+  module _ {new : F} {front : Front} (f : HasFront view i old mid front) (keeps : Reads view mid new) where
     told_mid : IsTrue (told old) → IsTrue (told mid)
-    told_mid t = (let P : Bool → Type 0 = λ b. IsTrue b in subst P (sym f.keeps.same_told) t)
+    told_mid t = (let P : Bool → Type 0 = λ b. IsTrue b in subst P (sym f.keeps.same_modelled) t)
 
     -- what the third file was found to be
     pub check_answers_verify : (found : Checked)
         → (IsTrue (told mid) → (bytes : List ℕ) × (holds mid certificate ≡ Some bytes) × Verified (question_of front) bytes found)
-        → AnswersTo told holds calm faults (verify i certificate) old new (a_check found)
+        → AnswersTo view (verify i certificate) old new (a_check found)
     check_answers_verify found is = record {
       keeps = reads_then f.keeps keeps;
       writable = tt;
@@ -120,7 +120,7 @@ module _ {F : Type 0} {told : F → Bool} {holds : F → Contents} {calm : F →
 
     -- a call failed at the third file
     pub fault_answers_verify : Rose (faults mid) (faults new) → (IsTrue (calm mid) → holds mid certificate ≡ None)
-        → AnswersTo told holds calm faults (verify i certificate) old new a_read_fault
+        → AnswersTo view (verify i certificate) old new a_read_fault
     fault_answers_verify rose none = record {
       keeps = reads_then f.keeps keeps;
       writable = tt;
@@ -135,10 +135,10 @@ module _ {F : Type 0} {told : F → Bool} {holds : F → Contents} {calm : F →
         gone c =
             let P : Bool → Type 0 = λ b. IsTrue b in
             let Q : Contents → Type 0 = λ k. k certificate ≡ None in
-            subst Q f.keeps.same_held (none (subst P (sym f.keeps.same_calm) c))
+            subst Q f.keeps.same_held (none (subst P (sym f.keeps.same_failing) c))
 
     -- memory was refused at the third file
-    pub memory_answers_verify : AnswersTo told holds calm faults (verify i certificate) old new a_memory
+    pub memory_answers_verify : AnswersTo view (verify i certificate) old new a_memory
     memory_answers_verify = record {
       keeps = reads_then f.keeps keeps;
       writable = tt;
@@ -153,7 +153,7 @@ module _ {F : Type 0} {told : F → Bool} {holds : F → Contents} {calm : F →
     pub file_answers_verify : (r : Result Checked CheckEnd)
         → IfOk r (λ found. IsTrue (told mid) → (bytes : List ℕ) × (holds mid certificate ≡ Some bytes) × Verified (question_of front) bytes found)
         → (r ≡ Err a_fault → Rose (faults mid) (faults new)) → (IsTrue (calm mid) → r ≡ Err a_fault → holds mid certificate ≡ None)
-        → AnswersTo told holds calm faults (verify i certificate) old new (checked_answer r)
+        → AnswersTo view (verify i certificate) old new (checked_answer r)
     file_answers_verify (Ok found) is rose none = check_answers_verify found is
     file_answers_verify (Err a_fault) is rose none = fault_answers_verify (rose refl) (λ c. none c refl)
     file_answers_verify (Err no_memory) is rose none = memory_answers_verify

@@ -101,11 +101,11 @@ large_of holds name l = record { bytes = l.0; held = l.1; past = l.2 }
 
 -- one call that reads, and then another
 pub reads_then : {F : Type 0} {told : F → Bool} {holds : F → Contents} {calm : F → Bool} {faults : F → ℕ} {old mid new : F}
-    → Reads told holds calm faults old mid → Reads told holds calm faults mid new → Reads told holds calm faults old new
+    → Reads view old mid → Reads view mid new → Reads view old new
 reads_then x y = record {
-  same_told = y.same_told ∙ x.same_told;
+  same_modelled = y.same_modelled ∙ x.same_modelled;
   same_held = y.same_held ∙ x.same_held;
-  same_calm = y.same_calm ∙ x.same_calm;
+  same_failing = y.same_failing ∙ x.same_failing;
   count = (let a = x.count in let b = y.count in omega arith);
 }
 
@@ -150,18 +150,18 @@ ended_status file past_limit (a_check found) is = absurd is
 ended_status file past_limit (a_report r) is = absurd is
 
 module _ {F : Type 0} {told : F → Bool} {holds : F → Contents} {calm : F → Bool} {faults : F → ℕ} {old new : F}
-    (calm_told : IsTrue (calm old) → IsTrue (told old)) (keeps : Reads told holds calm faults old new) (i : Inputs) where
+    (calm_told : IsTrue (calm old) → IsTrue (told old)) (keeps : Reads view old new) (i : Inputs) where
   -- the answer where a file could not be read whole
   pub ended_ends : (file : Which) (end : ReadEnd) (a : Answer) → IsEnded file end a
       → (end ≡ an_outside_fault → Rose (faults old) (faults new))
       → (IsTrue (calm old) → end ≡ an_outside_fault → LacksInput (holds old) i)
       → (IsTrue (told old) → end ≡ past_limit
       → IsFirstFault (holds old) i (too_large file) × ((bytes : List ℕ) × (holds old (name_of file i) ≡ Some bytes)))
-      → EndsAt told holds calm faults i old new a
+      → EndsAt view i old new a
   ended_ends file end a is rose lacking large = go (ended_status file end a is)
     where
       go : ((end ≡ an_outside_fault) × (answer_status a ≡ ReadFault)) ⊎ (((end ≡ no_memory) × (answer_status a ≡ Memory)) ⊎ ((end ≡ past_limit) × (answer_status a ≡ Refused)))
-          → EndsAt told holds calm faults i old new a
+          → EndsAt view i old new a
       go (inl (e, s)) = record {
         keeps = keeps;
         writable = ended_writable file end a is;
@@ -196,7 +196,7 @@ module _ {F : Type 0} {told : F → Bool} {holds : F → Contents} {calm : F →
     both_held c (inr (first, none)) = some_none (sym (read (calm_told c)).1.held ∙ none)
 
     -- the front of the bytes that were read
-    pub front_read : (front : Front) → SayFront mb tb front → HasFront told holds calm faults i old new front
+    pub front_read : (front : Front) → SayFront mb tb front → HasFront view i old new front
     front_read front say = record {
       keeps = keeps;
       m = say.m;
@@ -215,7 +215,7 @@ module _ {F : Type 0} {told : F → Bool} {holds : F → Contents} {calm : F →
     }
 
     -- the answer where these bytes say no front
-    pub front_end_ends : (a : Answer) → IsFrontEnd mb tb a → EndsAt told holds calm faults i old new a
+    pub front_end_ends : (a : Answer) → IsFrontEnd mb tb a → EndsAt view i old new a
     front_end_ends (a_refusal r) is = record {
       keeps = keeps;
       writable = tt;

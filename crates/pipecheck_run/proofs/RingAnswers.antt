@@ -32,10 +32,10 @@ memory_no_fault : Memory ≡ ReadFault → ⊥
 memory_no_fault e = cc
 
 module _ {F : Type 0} {told : F → Bool} {holds : F → Contents} {calm : F → Bool} {faults : F → ℕ} (files : F) where
-  untouched : Reads told holds calm faults files files
-  untouched = record { same_told = refl; same_held = refl; same_calm = refl; count = omega arith }
+  untouched : Reads view files files
+  untouched = record { same_modelled = refl; same_held = refl; same_failing = refl; count = omega arith }
 
-  pub ring_answers : (n : ℕ) (a : Answer) → IsRingAnswer n a → AnswersTo told holds calm faults (gen n) files files a
+  pub ring_answers : (n : ℕ) (a : Answer) → IsRingAnswer n a → AnswersTo view (gen n) files files a
   ring_answers n (a_report r) is = record {
     keeps = untouched;
     writable = tt;

@@ -18,7 +18,7 @@ use Rattle.pipecheck_run.specs.Answered.{answer_text, answer_status, CanBeWritte
 
 -- the front of a model and a case, which told files say; calm files hold both names
 pub record HasFront {F : Type 0} (told : F → Bool) (holds : F → Contents) (calm : F → Bool) (faults : F → ℕ) (i : Inputs) (old new : F) (front : Front) : Type 0 where
-  pub keeps : Reads told holds calm faults old new
+  pub keeps : Reads view old new
   pub m : WrittenModel
   pub c : Case
   pub front_of : IsFrontOf m c front
@@ -30,7 +30,7 @@ pub record HasFront {F : Type 0} (told : F → Bool) (holds : F → Contents) (c
 -- failed, and over calm files exactly where the order of work lacks a name; over told files the other answers but want of
 -- memory say what they have to
 pub record Tells {F : Type 0} (told : F → Bool) (holds : F → Contents) (calm : F → Bool) (faults : F → ℕ) (idle lacks : Type 0) (says : Status → List ℕ → Type 0) (old new : F) (a : Answer) : Type 0 where
-  pub keeps : Reads told holds calm faults old new
+  pub keeps : Reads view old new
   pub writable : CanBeWritten a
   pub usage_only : answer_status a ≡ Usage → idle
   pub cause : answer_status a ≡ ReadFault → Rose (faults old) (faults new)
@@ -43,16 +43,16 @@ module _ {F : Type 0} (told : F → Bool) (holds : F → Contents) (calm : F →
   -- no fault of the outside
   abbrev pub EndsAt : Inputs → F → F → Answer → Type 0
   EndsAt i old new a =
-      Tells told holds calm faults ⊥ (LacksInput (holds old) i)
+      Tells view ⊥ (LacksInput (holds old) i)
       (λ status text. IsRefusal (holds old) i status text) old new a
 
   -- the answer to this command
   abbrev pub AnswersTo : Command → F → F → Answer → Type 0
   AnswersTo command old new a =
-      Tells told holds calm faults ⊥ (Lacks (holds old) command)
+      Tells view ⊥ (Lacks (holds old) command)
       (λ status text. (words : List (List ℕ)) → IsCommand words command → Answers words (holds old) status text) old new a
 
   -- the answer to these words
   abbrev pub Decides : List (List ℕ) → F → F → Answer → Type 0
   Decides words old new a =
-      Tells told holds calm faults (IsNoCommand words) (Comes words (holds old)) (Answers words (holds old)) old new a
+      Tells view (IsNoCommand words) (Comes words (holds old)) (Answers words (holds old)) old new a

@@ -31,7 +31,7 @@ pub(crate) enum Answer {
 /// Writes the text of an answer. Takes no memory.
 pub(crate) fn write_answer<K: Sink>(out: &mut K, answer: &Answer) -> Result<(), Failed>
     requires { CanBeWritten answer.now }
-    ensures { Writes K.told K.faults K.taken out.old out.new result (answer_text answer.now) }
+    ensures { Writes K.view out.old out.new result (answer_text answer.now) }
 {
     match answer {
         Answer::Usage => write_all(out, b"pipecheck: bad command line\n"),

@@ -72,8 +72,8 @@ pub(crate) fn read_inputs<F: Files>(
     files: &mut F,
 ) -> Result<Front, Answer>
     ensures { MatchResult result
-        (HasFront F.told F.holds F.calm F.faults (named inputs.entry) files.old files.new)
-        (EndsAt F.told F.holds F.calm F.faults (named inputs.entry) files.old files.new) }
+        (HasFront F.view (named inputs.entry) files.old files.new)
+        (EndsAt F.view (named inputs.entry) files.old files.new) }
 {
     let model = match read_all(alloc, files, inputs.model, MAX_FILE) {
         Ok(bytes) => bytes,

@@ -61,7 +61,7 @@ fn refusal_line(refusal: &Refusal) -> ArrayVec<u8, LINE>
 
 /// Writes the line of a refusal as one piece: the text of `refusal_line`, by one `write_all`.
 pub(crate) fn write_refusal<K: Sink>(out: &mut K, refusal: &Refusal) -> Result<(), Failed>
-    ensures { Writes K.told K.faults K.taken out.old out.new result (refusal_text refusal.now) }
+    ensures { Writes K.view out.old out.new result (refusal_text refusal.now) }
 {
     write_all(out, refusal_line(refusal).as_slice())
 }

@@ -22,7 +22,7 @@ use std::alloc::Global;
 /// The answer to a command. No file is touched by one that reads none.
 fn answer_to<F: Files>(alloc: Global, command: Command<'_>, files: &mut F) -> Answer
     requires { IsWithin (said command) }
-    ensures answers { AnswersTo F.told F.holds F.calm F.faults (said command.entry) files.old files.new result }
+    ensures answers { AnswersTo F.view (said command.entry) files.old files.new result }
     ensures idle { inputs_of (said command.entry) ≡ None → files.new ≡ files.old }
 {
     match command {
@@ -38,7 +38,7 @@ fn answer_to<F: Files>(alloc: Global, command: Command<'_>, files: &mut F) -> An
 /// Decides the answer to the words.
 fn decide<F: Files>(alloc: Global, words: &[String], files: &mut F) -> Answer
     ensures usage { IsNoCommand (map string_bytes words.now) → answer_status result ≡ SUsage }
-    ensures decides { Decides F.told F.holds F.calm F.faults (map string_bytes words.now) files.old files.new result }
+    ensures decides { Decides F.view (map string_bytes words.now) files.old files.new result }
     ensures idle { IsIdle (map string_bytes words.now) → files.new ≡ files.old }
 {
     match parse(words) {
@@ -50,16 +50,16 @@ fn decide<F: Files>(alloc: Global, words: &[String], files: &mut F) -> Answer
 /// Writes the text of an answer, where it has one, and answers the status.
 fn tell<K: Sink>(out: &mut K, answer: &Answer) -> Status
     requires { CanBeWritten answer.now }
-    ensures same_told { K.told out.new ≡ K.told out.old }
-    ensures count { K.faults out.old ≤ K.faults out.new }
+    ensures same_modelled { (K.view out.new).modelled ≡ (K.view out.old).modelled }
+    ensures count { (K.view out.old).faults ≤ (K.view out.new).faults }
     ensures kept { (result ≡ answer_status answer.now) ⊎ (result ≡ SWriteFault) }
-    ensures cause { result ≡ SWriteFault → Rose (K.faults out.old) (K.faults out.new) }
+    ensures cause { result ≡ SWriteFault → Rose (K.view out.old).faults (K.view out.new).faults }
     ensures silent { (answer_status answer.now ≡ SReadFault) ⊎ (answer_status answer.now ≡ SMemory)
         → (result ≡ answer_status answer.now) × (out.new ≡ out.old) }
-    ensures whole { IsTrue (K.told out.old) → result ≢ SReadFault → result ≢ SMemory → result ≢ SWriteFault
-        → K.taken out.new ≡ K.taken out.old ++ answer_text answer.now }
-    ensures short { IsTrue (K.told out.old) → result ≡ SWriteFault
-        → IsCutShort (K.taken out.old) (answer_text answer.now) (K.taken out.new) }
+    ensures whole { IsTrue (K.view out.old).modelled → result ≢ SReadFault → result ≢ SMemory → result ≢ SWriteFault
+        → (K.view out.new).taken ≡ (K.view out.old).taken ++ answer_text answer.now }
+    ensures short { IsTrue (K.view out.old).modelled → result ≡ SWriteFault
+        → IsCutShort (K.view out.old).taken (answer_text answer.now) (K.view out.new).taken }
 {
     match answer {
         Answer::ReadFault => Status::ReadFault,
@@ -95,29 +95,29 @@ fn tell<K: Sink>(out: &mut K, answer: &Answer) -> Status
 ///   comes: from `check` by the outcome, from `verify` by what the third file is. From `gen` `Done` comes,
 ///   or `Refused` where its two texts have a fault.
 pub fn run<F: Files, K: Sink>(alloc: Global, words: &[String], files: &mut F, out: &mut K) -> Status
-    ensures files { Reads F.told F.holds F.calm F.faults files.old files.new }
+    ensures files { Reads F.view files.old files.new }
     ensures idle { IsIdle (map string_bytes words.now) → files.new ≡ files.old }
-    ensures sink_told { K.told out.new ≡ K.told out.old }
-    ensures sink_count { K.faults out.old ≤ K.faults out.new }
+    ensures sink_modelled { (K.view out.new).modelled ≡ (K.view out.old).modelled }
+    ensures sink_count { (K.view out.old).faults ≤ (K.view out.new).faults }
     ensures usage { result ≡ SUsage → IsNoCommand (map string_bytes words.now) }
     ensures usage_due { IsNoCommand (map string_bytes words.now) → (result ≡ SUsage) ⊎ (result ≡ SWriteFault) }
-    ensures usage_text { IsTrue (K.told out.old) → result ≡ SUsage → K.taken out.new ≡ K.taken out.old ++ usage_text }
-    ensures read_cause { result ≡ SReadFault → Rose (F.faults files.old) (F.faults files.new) }
-    ensures read_calm { IsTrue (F.calm files.old) → result ≡ SReadFault → Comes (map string_bytes words.now) (F.holds files.old) }
-    ensures read_due { IsTrue (F.calm files.old) → Comes (map string_bytes words.now) (F.holds files.old)
+    ensures usage_text { IsTrue (K.view out.old).modelled → result ≡ SUsage → (K.view out.new).taken ≡ (K.view out.old).taken ++ usage_text }
+    ensures read_cause { result ≡ SReadFault → Rose (F.view files.old).faults (F.view files.new).faults }
+    ensures read_calm { IsTrue (F.view files.old).only_missing_fail → result ≡ SReadFault → Comes (map string_bytes words.now) ((F.view files.old).holds) }
+    ensures read_due { IsTrue (F.view files.old).only_missing_fail → Comes (map string_bytes words.now) ((F.view files.old).holds)
         → (result ≡ SReadFault) ⊎ (result ≡ SMemory) }
-    ensures write_cause { result ≡ SWriteFault → Rose (K.faults out.old) (K.faults out.new) }
+    ensures write_cause { result ≡ SWriteFault → Rose (K.view out.old).faults (K.view out.new).faults }
     ensures quiet { (result ≡ SReadFault) ⊎ (result ≡ SMemory) → out.new ≡ out.old }
-    ensures answers { IsTrue (F.told files.old) → result ≢ SReadFault → result ≢ SMemory → result ≢ SWriteFault
-        → (text : List ℕ) × Answers (map string_bytes words.now) (F.holds files.old) result text
-        × (IsTrue (K.told out.old) → K.taken out.new ≡ K.taken out.old ++ text) }
-    ensures short { IsTrue (F.told files.old) → result ≡ SWriteFault
-        → (status : Status) × (text : List ℕ) × Answers (map string_bytes words.now) (F.holds files.old) status text
-        × (IsTrue (K.told out.old) → IsCutShort (K.taken out.old) text (K.taken out.new)) }
-    ensures headline { IsTrue (F.told files.old) → IsTrueOf (map string_bytes words.now) (F.holds files.old) result }
-    ensures due { IsTrue (F.told files.old) → (Rose (F.faults files.old) (F.faults files.new) → ⊥)
-        → (Rose (K.faults out.old) (K.faults out.new) → ⊥) → result ≢ SMemory
-        → IsDue (map string_bytes words.now) (F.holds files.old) result }
+    ensures answers { IsTrue (F.view files.old).modelled → result ≢ SReadFault → result ≢ SMemory → result ≢ SWriteFault
+        → (text : List ℕ) × Answers (map string_bytes words.now) ((F.view files.old).holds) result text
+        × (IsTrue (K.view out.old).modelled → (K.view out.new).taken ≡ (K.view out.old).taken ++ text) }
+    ensures short { IsTrue (F.view files.old).modelled → result ≡ SWriteFault
+        → (status : Status) × (text : List ℕ) × Answers (map string_bytes words.now) ((F.view files.old).holds) status text
+        × (IsTrue (K.view out.old).modelled → IsCutShort (K.view out.old).taken text (K.view out.new).taken) }
+    ensures headline { IsTrue (F.view files.old).modelled → IsTrueOf (map string_bytes words.now) ((F.view files.old).holds) result }
+    ensures due { IsTrue (F.view files.old).modelled → (Rose (F.view files.old).faults (F.view files.new).faults → ⊥)
+        → (Rose (K.view out.old).faults (K.view out.new).faults → ⊥) → result ≢ SMemory
+        → IsDue (map string_bytes words.now) ((F.view files.old).holds) result }
 {
     let answer = decide(alloc, words, files);
     let status = tell(out, &answer);

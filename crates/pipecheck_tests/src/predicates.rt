@@ -88,7 +88,7 @@ fn on_core(alloc: Global, case: &Case, core: u8, i: Letter) -> Result<bool, Memo
 fn of_type(alloc: Global, case: &Case, name: &[u8], i: Letter) -> Result<bool, Memory>
     requires { length case.now.ops ≡ 3 }
 {
-    let name = ClosedArg::Plain(Shared::new(Listed::from_vec(name.to_vec(alloc)?))?);
+    let name = ClosedArg::Plain(Shared::of(Listed::from_vec(name.to_vec(alloc)?))?);
     let args = Listed::from_vec(vec![in alloc; name, ClosedArg::Slot(0)]?);
     let place = i.place();
     Ok(holds(case, Pred::AccessType, &args, &slots(place, place)))
@@ -97,7 +97,7 @@ fn of_type(alloc: Global, case: &Case, name: &[u8], i: Letter) -> Result<bool, M
 fn of_kind(alloc: Global, case: &Case, kind: &[u8], i: Letter, j: Letter) -> Result<bool, Memory>
     requires { length case.now.ops ≡ 3 }
 {
-    let kind = ClosedArg::Plain(Shared::new(Listed::from_vec(kind.to_vec(alloc)?))?);
+    let kind = ClosedArg::Plain(Shared::of(Listed::from_vec(kind.to_vec(alloc)?))?);
     let args = Listed::from_vec(vec![in alloc; kind, ClosedArg::Slot(0), ClosedArg::Slot(1)]?);
     Ok(holds(
         case,

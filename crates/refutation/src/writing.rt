@@ -22,7 +22,7 @@ fn put_node<K: Sink>(
     key: NodeKey,
 ) -> Result<(), Failed>
     requires { IsNodeIn names.now (key_node key) }
-    ensures { Puts K.told K.faults K.taken room.old room.new result (nodes_text names.now (key_node key ∷ [])) }
+    ensures { Puts K.view room.old room.new result (nodes_text names.now (key_node key ∷ [])) }
 {
     put_parts(room, names, &[Part::Bytes(b" "), Part::Node(key)])
 }
@@ -34,7 +34,7 @@ fn put_nodes<K: Sink>(
     nodes: &Nodes,
 ) -> Result<(), Failed>
     requires { All (IsNodeIn names.now) (map key_node nodes.now) }
-    ensures { Puts K.told K.faults K.taken room.old room.new result (nodes_text names.now (map key_node nodes.now)) }
+    ensures { Puts K.view room.old room.new result (nodes_text names.now (map key_node nodes.now)) }
 {
     for k in 0..nodes.len() {
         put_node(room, names, *nodes.get(k))?;
@@ -50,7 +50,7 @@ fn put_line<K: Sink>(
     nodes: &Nodes,
 ) -> Result<(), Failed>
     requires { All (IsNodeIn names.now) (map key_node nodes.now) }
-    ensures { Puts K.told K.faults K.taken room.old room.new result (word.now ++ (nodes_text names.now (map key_node nodes.now) ++ codes "\n")) }
+    ensures { Puts K.view room.old room.new result (word.now ++ (nodes_text names.now (map key_node nodes.now) ++ codes "\n")) }
 {
     room.put(word)?;
     put_nodes(room, names, nodes)?;
@@ -59,7 +59,7 @@ fn put_line<K: Sink>(
 
 /// Puts the line of a split.
 fn put_split<K: Sink>(room: &mut Room<'_, K>, position: u64) -> Result<(), Failed>
-    ensures { Puts K.told K.faults K.taken room.old room.new result (flat_map (λ p. p) (codes "split " ∷ decimal position ∷ codes "\n" ∷ [])) }
+    ensures { Puts K.view room.old room.new result (flat_map (λ p. p) (codes "split " ∷ decimal position ∷ codes "\n" ∷ [])) }
 {
     let mut digits = Buffer::new();
     room.put_all(&[b"split ", digits.format(position).as_bytes(), b"\n"])
@@ -72,7 +72,7 @@ fn put_absent<K: Sink>(
     key: NodeKey,
 ) -> Result<(), Failed>
     requires { IsNodeIn names.now (key_node key) }
-    ensures { Puts K.told K.faults K.taken room.old room.new result (step_text names.now (absent (key_node key))) }
+    ensures { Puts K.view room.old room.new result (step_text names.now (absent (key_node key))) }
 {
     put_parts(
         room,
@@ -88,7 +88,7 @@ fn put_step<K: Sink>(
     step: &Step,
 ) -> Result<(), Failed>
     requires { IsStepIn names.now (plain_step step.now) }
-    ensures { Puts K.told K.faults K.taken room.old room.new result (step_text names.now (plain_step step.now)) }
+    ensures { Puts K.view room.old room.new result (step_text names.now (plain_step step.now)) }
 {
     match step {
         Step::Split(position) => put_split(room, *position),
@@ -106,7 +106,7 @@ fn put_steps<K: Sink>(
     refutation: &Refutation,
 ) -> Result<(), Failed>
     requires { All (IsStepIn names.now) refutation.now }
-    ensures { Puts K.told K.faults K.taken room.old room.new result (flat_map (step_text names.now) refutation.now) }
+    ensures { Puts K.view room.old room.new result (flat_map (step_text names.now) refutation.now) }
 {
     for k in 0..refutation.len() {
         put_step(room, names, refutation.step(k))?;
@@ -125,7 +125,7 @@ pub fn write_refutation<K: Sink>(
     refutation: &Refutation,
 ) -> Result<(), Failed>
     requires { All (IsStepIn names.now) refutation.now }
-    ensures { Writes K.told K.faults K.taken sink.old sink.new result (flat_map (step_text names.now) refutation.now) }
+    ensures { Writes K.view sink.old sink.new result (flat_map (step_text names.now) refutation.now) }
 {
     let mut room = Room::new(sink);
     put_steps(&mut room, names, refutation)?;

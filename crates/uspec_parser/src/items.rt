@@ -28,7 +28,7 @@ impl Cursor<'_> {
             words.push(self.word(alloc)?)?;
             self.skip();
         }
-        Shared::new(words)
+        Shared::of(words)
     }
 
     fn stage(&mut self, alloc: Global) -> Result<StageItem, Memory>

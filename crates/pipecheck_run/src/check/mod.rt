@@ -16,7 +16,7 @@ pub(crate) use verdict::{Verdict, verdict_on, verdict_status};
 
 /// Reads the two files and searches: the verdict on them, or what ended the run before.
 pub(crate) fn check<F: Files>(alloc: Global, inputs: Inputs<'_>, files: &mut F) -> Answer
-    ensures { AnswersTo F.told F.holds F.calm F.faults (check_of (named inputs.entry)) files.old files.new result }
+    ensures { AnswersTo F.view (check_of (named inputs.entry)) files.old files.new result }
 {
     let front = match read_inputs(alloc, inputs, files) {
         Ok(front) => front,

@@ -25,7 +25,7 @@ fn kind(found: &Found) -> Kind
 /// Writes what stands between the second line and the last one.
 fn write_body<K: Sink>(out: &mut K, names: &NodeText<'_>, found: &Found) -> Result<(), Failed>
     requires { IsWritable names.now found.now }
-    ensures { Writes K.told K.faults K.taken out.old out.new result (body_text names.now found.now) }
+    ensures { Writes K.view out.old out.new result (body_text names.now found.now) }
 {
     match found {
         Found::Observable(graph) => write_graph(out, names, graph),
@@ -37,7 +37,7 @@ fn write_body<K: Sink>(out: &mut K, names: &NodeText<'_>, found: &Found) -> Resu
 /// Takes no memory.
 pub(crate) fn write_verdict<K: Sink>(out: &mut K, verdict: &Verdict) -> Result<(), Failed>
     requires { IsWritable (names_of verdict.now.front) verdict.now.found }
-    ensures { Writes K.told K.faults K.taken out.old out.new result (verdict_text verdict.now) }
+    ensures { Writes K.view out.old out.new result (verdict_text verdict.now) }
 {
     let names = NodeText::of(&verdict.front);
     let kind = kind(&verdict.found);

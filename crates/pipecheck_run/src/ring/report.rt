@@ -112,7 +112,7 @@ pub(crate) fn report_of(n: u8, verdict: &Verdict) -> Report
 
 /// Puts the six lines of a report.
 fn put_report<K: Sink>(room: &mut Room<'_, K>, report: &Report) -> Result<(), Failed>
-    ensures { Puts K.told K.faults K.taken room.old room.new result (report_text report.now) }
+    ensures { Puts K.view room.old room.new result (report_text report.now) }
 {
     let mut cores = Buffer::new();
     let mut nodes = Buffer::new();
@@ -138,7 +138,7 @@ fn put_report<K: Sink>(room: &mut Room<'_, K>, report: &Report) -> Result<(), Fa
 
 /// Writes the six lines of a report, all as one piece. Takes no memory.
 pub(crate) fn write_report<K: Sink>(out: &mut K, report: &Report) -> Result<(), Failed>
-    ensures { Writes K.told K.faults K.taken out.old out.new result (report_text report.now) }
+    ensures { Writes K.view out.old out.new result (report_text report.now) }
 {
     let mut room = Room::new(out);
     put_report(&mut room, report)?;

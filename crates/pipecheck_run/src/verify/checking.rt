@@ -19,11 +19,11 @@ pub(crate) fn check_file<F: Files>(
     name: &str,
     files: &mut F,
 ) -> Result<Checked, CheckEnd>
-    ensures keeps { Reads F.told F.holds F.calm F.faults files.old files.new }
-    ensures verified { IfOk result (λ found. IsTrue (F.told files.old) →
-        (bytes : List ℕ) × (F.holds files.old name.now ≡ Some bytes) × Verified (question_of front.now) bytes found) }
-    ensures cause { result ≡ Err a_read_fault → Rose (F.faults files.old) (F.faults files.new) }
-    ensures missing { IsTrue (F.calm files.old) → result ≡ Err a_read_fault → F.holds files.old name.now ≡ None }
+    ensures keeps { Reads F.view files.old files.new }
+    ensures verified { IfOk result (λ found. IsTrue (F.view files.old).modelled →
+        (bytes : List ℕ) × ((F.view files.old).holds name.now ≡ Some bytes) × Verified (question_of front.now) bytes found) }
+    ensures cause { result ≡ Err a_read_fault → Rose (F.view files.old).faults (F.view files.new).faults }
+    ensures missing { IsTrue (F.view files.old).only_missing_fail → result ≡ Err a_read_fault → (F.view files.old).holds name.now ≡ None }
 {
     let checker = Checker::new(alloc, front)?;
     let checker = feed_file(files, name, checker)?;

@@ -38,7 +38,7 @@ pub(crate) fn verify<F: Files>(
     certificate: &str,
     files: &mut F,
 ) -> Answer
-    ensures { AnswersTo F.told F.holds F.calm F.faults (verify_of (named inputs.entry) certificate.now) files.old files.new result }
+    ensures { AnswersTo F.view (verify_of (named inputs.entry) certificate.now) files.old files.new result }
 {
     let front = match read_inputs(alloc, inputs, files) {
         Ok(front) => front,

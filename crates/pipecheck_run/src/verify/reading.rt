@@ -45,10 +45,10 @@ pub(crate) fn feed_file<'a, F: Files>(
     name: &str,
     checker: Checker<'a>,
 ) -> Result<Checker<'a>, CheckEnd>
-    ensures keeps { Reads F.told F.holds F.calm F.faults files.old files.new }
-    ensures took { IfOk result (λ c. IsTrue (F.told files.old) → TookFile checker.entry c (F.holds files.old name.now) (F.left files.new)) }
-    ensures cause { result ≡ Err a_read_fault → Rose (F.faults files.old) (F.faults files.new) }
-    ensures sure { IsTrue (F.calm files.old) → (result ≡ Err a_read_fault) ↔ (F.holds files.old name.now ≡ None) }
+    ensures keeps { Reads F.view files.old files.new }
+    ensures took { IfOk result (λ c. IsTrue (F.view files.old).modelled → TookFile checker.entry c ((F.view files.old).holds name.now) (F.view files.new).left) }
+    ensures cause { result ≡ Err a_read_fault → Rose (F.view files.old).faults (F.view files.new).faults }
+    ensures sure { IsTrue (F.view files.old).only_missing_fail → (result ≡ Err a_read_fault) ↔ ((F.view files.old).holds name.now ≡ None) }
 {
     files.start(name)?;
     let mut piece = [0; PIECE];
@@ -63,11 +63,11 @@ fn feed_rest<'a, F: Files>(
     mut checker: Checker<'a>,
 ) -> Result<Checker<'a>, CheckEnd>
     requires room { 0 < length buf.old }
-    requires started { IsTrue (F.started files.old) }
-    ensures keeps { Reads F.told F.holds F.calm F.faults files.old files.new }
-    ensures took { IfOk result (λ c. IsTrue (F.told files.old) → TookFirst checker.entry c (F.left files.old) (F.left files.new)) }
-    ensures cause { result ≡ Err a_read_fault → Rose (F.faults files.old) (F.faults files.new) }
-    ensures sure { IsTrue (F.calm files.old) → result ≢ Err a_read_fault }
+    requires started { IsTrue (F.view files.old).started }
+    ensures keeps { Reads F.view files.old files.new }
+    ensures took { IfOk result (λ c. IsTrue (F.view files.old).modelled → TookFirst checker.entry c (F.view files.old).left (F.view files.new).left) }
+    ensures cause { result ≡ Err a_read_fault → Rose (F.view files.old).faults (F.view files.new).faults }
+    ensures sure { IsTrue (F.view files.old).only_missing_fail → result ≢ Err a_read_fault }
 {
     let mut left = MOST;
     while left > 0 {

@@ -28,7 +28,7 @@ fn refused_line(number: u64) -> ArrayVec<u8, LINE>
 
 /// Writes the line of what a text was found to be, as one piece.
 pub(crate) fn write_checked<K: Sink>(out: &mut K, checked: Checked) -> Result<(), Failed>
-    ensures { Writes K.told K.faults K.taken out.old out.new result (told_text checked) }
+    ensures { Writes K.view out.old out.new result (told_text checked) }
 {
     match checked {
         Checked::Observable => write_all(out, b"verified observable\n"),

@@ -18,7 +18,7 @@ returns-clause-usage_due g c = λ none. told_is c.tell-status.ensures.kept (c.de
 pub returns-clause-usage_text : goal.returns-clause-usage_text
 returns-clause-usage_text g c = λ told e.
     c.tell-status.ensures.whole told (λ r. cc) (λ r. cc) (λ r. cc) ∙
-    ap (λ t. g.K.Sink.taken c.args.out.now ++ t) (usage_said c.decide-answer.result (kept_is Usage (λ w. cc) c.tell-status.ensures.kept e))
+    ap (λ t. (g.K.Sink.view c.args.out.now).taken ++ t) (usage_said c.decide-answer.result (kept_is Usage (λ w. cc) c.tell-status.ensures.kept e))
 
 pub returns-clause-read_cause : goal.returns-clause-read_cause
 returns-clause-read_cause g c = λ e. c.decide-answer.ensures.decides.cause (kept_is ReadFault (λ w. cc) c.tell-status.ensures.kept e)
@@ -45,10 +45,10 @@ returns-clause-quiet g c = λ e. go e
 pub returns-clause-answers : goal.returns-clause-answers
 returns-clause-answers g c = λ told no_read no_memory no_write.
     let kept : answer_status c.decide-answer.result ≡ c.tell-status.result = told_as_kept c.tell-status.ensures.kept no_write in
-    let P : Status → Type 0 = λ s. Answers (map string_bytes c.args.words.now) (g.F.Files.holds c.args.files.now) s (answer_text c.decide-answer.result) in (
+    let P : Status → Type 0 = λ s. Answers (map string_bytes c.args.words.now) ((g.F.Files.view c.args.files.now).holds) s (answer_text c.decide-answer.result) in (
       answer_text c.decide-answer.result,
       subst P kept (c.decide-answer.ensures.decides.answers told (λ e. no_read (sym kept ∙ e)) (λ e. no_memory (sym kept ∙ e))),
-      λ sink_told. c.tell-status.ensures.whole sink_told no_read no_memory no_write,
+      λ sink_modelled. c.tell-status.ensures.whole sink_modelled no_read no_memory no_write,
     )
 
 pub returns-clause-short : goal.returns-clause-short
@@ -58,7 +58,7 @@ returns-clause-short g c = λ told e.
       answer_status c.decide-answer.result,
       answer_text c.decide-answer.result,
       c.decide-answer.ensures.decides.answers told no_read no_memory,
-      λ sink_told. c.tell-status.ensures.short sink_told e,
+      λ sink_modelled. c.tell-status.ensures.short sink_modelled e,
     )
 
 pub returns-clause-headline : goal.returns-clause-headline

@@ -6,13 +6,13 @@ use Rattle.pipecheck_run.proofs.verify.reading.feed_rest.Given as goal
 abbrev pub invariant-loop-left : goal.invariant-loop-left
 invariant-loop-left g l = record {
   room : 0 < length l.buf;
-  started : IsTrue (g.F.Files.started l.files);
-  same_told : g.F.Files.told l.files ≡ g.F.Files.told l.initial.files;
-  same_held : g.F.Files.holds l.files ≡ g.F.Files.holds l.initial.files;
-  same_calm : g.F.Files.calm l.files ≡ g.F.Files.calm l.initial.files;
-  count : g.F.Files.faults l.initial.files ≤ g.F.Files.faults l.files;
+  started : IsTrue (g.F.Files.view l.files).started;
+  same_modelled : (g.F.Files.view l.files).modelled ≡ (g.F.Files.view l.initial.files).modelled;
+  same_held : (g.F.Files.view l.files).holds ≡ (g.F.Files.view l.initial.files).holds;
+  same_failing : (g.F.Files.view l.files).only_missing_fail ≡ (g.F.Files.view l.initial.files).only_missing_fail;
+  count : (g.F.Files.view l.initial.files).faults ≤ (g.F.Files.view l.files).faults;
   most : l.left ≤ 67108865;
-  took : IsTrue (g.F.Files.told l.initial.files) → TookSome l.initial.checker l.checker (g.F.Files.left l.initial.files) (g.F.Files.left l.files) l.left;
+  took : IsTrue (g.F.Files.view l.initial.files).modelled → TookSome l.initial.checker l.checker (g.F.Files.view l.initial.files).left (g.F.Files.view l.files).left l.left;
 }
 
 abbrev pub decreases-loop-left : goal.decreases-loop-left
