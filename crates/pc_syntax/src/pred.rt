@@ -28,6 +28,10 @@ pub enum Pred {
     DataFromInitialStateAtPA,
     DataFromFinalStateAtPA,
     HasDependency,
+    EntryOf,
+    MapsTagOf,
+    MarkedAccessed,
+    MarkedDirty,
 }
 
 /// What a predicate takes at a place: a micro-op, a core, or a name that isn't looked up.
@@ -56,7 +60,7 @@ impl Row {
 
 impl Pred {
     /// All predicates, in the order of their declaration.
-    const ALL: [Pred; 22] = [
+    const ALL: [Pred; 26] = [
         Pred::True,
         Pred::False,
         Pred::IsAnyRead,
@@ -79,6 +83,10 @@ impl Pred {
         Pred::DataFromInitialStateAtPA,
         Pred::DataFromFinalStateAtPA,
         Pred::HasDependency,
+        Pred::EntryOf,
+        Pred::MapsTagOf,
+        Pred::MarkedAccessed,
+        Pred::MarkedDirty,
     ];
 
     /// The predicate's row. It is found by its name: so none is left out of `ALL`, and no two have one name.
@@ -112,6 +120,10 @@ impl Pred {
             Pred::DataFromInitialStateAtPA => Row::new(b"DataFromInitialStateAtPA", &[Op]),
             Pred::DataFromFinalStateAtPA => Row::new(b"DataFromFinalStateAtPA", &[Op]),
             Pred::HasDependency => Row::new(b"HasDependency", &[Plain, Op, Op]),
+            Pred::EntryOf => Row::new(b"EntryOf", &[Op, Op]),
+            Pred::MapsTagOf => Row::new(b"MapsTagOf", &[Op, Op]),
+            Pred::MarkedAccessed => Row::new(b"MarkedAccessed", &[Op]),
+            Pred::MarkedDirty => Row::new(b"MarkedDirty", &[Op]),
         }
     }
 
