@@ -122,8 +122,8 @@ abbrev pub pred_name : Pred → List ℕ
 pred_name p = (row_of p).name
 
 -- the predicate of this name, if there is one
-abbrev pub pred_named : List ℕ → Option Pred
-pred_named name = find (λ p. same_name (pred_name p) name) all_preds
+abbrev pub pred_with_name : List ℕ → Option Pred
+pred_with_name name = find (λ p. same_name (pred_name p) name) all_preds
 
 abbrev pub taken_by : Rule → List Takes
 taken_by (constant b) = []

@@ -1,7 +1,7 @@
 ghost use Rattle.std.specs.Prelude.{◌≡◌, ◌<◌, Some, length, slice_get};
 ghost use Rattle.std.specs.List.{find};
 ghost use Rattle.pc_common.specs.Names.{same_name};
-ghost use Rattle.pc_syntax.specs.Predicates.{pred_name, pred_named, takes_of};
+ghost use Rattle.pc_syntax.specs.Predicates.{pred_name, pred_with_name, takes_of};
 
 /// The static predicates, named as models spell them.
 #[derive(Clone, Copy, Debug, PartialEq, Eq)]
@@ -93,7 +93,7 @@ impl Pred {
     #[tactic(auto, unfolding(crate::specs::Predicates::all_preds))]
     fn row(self) -> Row
         ensures name { result.name.now ≡ pred_name self }
-        ensures found { pred_named (pred_name self) ≡ Some self }
+        ensures found { pred_with_name (pred_name self) ≡ Some self }
         ensures takes { result.takes.now ≡ takes_of self }
     {
         use Takes::{Core, Op, Plain};
@@ -130,7 +130,7 @@ impl Pred {
     /// The name, as models spell it. No other predicate has it.
     pub fn name(self) -> &'static [u8]
         ensures value { result.now ≡ pred_name self }
-        ensures found { pred_named result.now ≡ Some self }
+        ensures found { pred_with_name result.now ≡ Some self }
     {
         self.row().name
     }
@@ -138,7 +138,7 @@ impl Pred {
     /// The predicate that models spell so, if there is one.
     #[tactic(auto, unfolding(crate::specs::Predicates::all_preds))]
     pub fn of_name(name: &[u8]) -> Option<Pred>
-        ensures { result ≡ pred_named name.now }
+        ensures { result ≡ pred_with_name name.now }
     {
         first_named(&Pred::ALL, name)
     }
