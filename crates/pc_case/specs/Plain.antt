@@ -26,9 +26,12 @@ abbrev pub plain_value : Value → PlainValue
 plain_value (Number n) = number n
 plain_value (EntryValue tag accessed dirty) = entry (record { tag = tag; accessed = accessed; dirty = dirty })
 
+abbrev pub touch_at : Memop → Touch
+touch_at m = record { va = page_at m.va; pa = address_at m.pa; value = plain_value m.value }
+
 abbrev pub touch_of : Option Memop → Option Touch
 touch_of None = None
-touch_of (Some m) = Some (record { va = page_at m.va; pa = address_at m.pa; value = plain_value m.value })
+touch_of (Some m) = Some (touch_at m)
 
 abbrev pub kind_of : Access → Kind
 kind_of Read = read
