@@ -21,8 +21,8 @@ use Rattle.pc_syntax.specs.IsClosed.{FitsCore, FitsNode, FitNodes, FitEdges, Has
 use Rattle.pc_syntax.specs.StagesWithin.{IsAmong, NodesWithin, EdgesWithin, StagesWithin}
 use Rattle.pc_ground.specs.declared.literal.Literal.{Literal}
 use Rattle.pc_ground.specs.declared.literal.Literal.TheVariants.{Node as a_node, Edge, NoNode, NoEdge}
-use Rattle.pc_ground.specs.Tree.{Tree, always, never, leaf, both, either}
-use Rattle.pc_ground.specs.PlainGround.{PlainGround, ground_true, ground_false, ground_literal, ground_not, ground_and, ground_or, contrary, pushed, conjoined, disjoined, folded}
+use Rattle.pc_ground.specs.Tree.{Tree, always, never, leaf, both, either, contrary}
+use Rattle.pc_ground.specs.PlainGround.{PlainGround, ground_true, ground_false, ground_literal, ground_not, ground_and, ground_or, pushed, conjoined, disjoined, folded}
 use Rattle.pc_ground.specs.Unfolded.{all_of, some_of, decided, node_said, edge_said, closed_unfolded}
 use Rattle.pc_ground.specs.GroundTree.{closed_ground_tree}
 use Rattle.pc_ground.specs.Numbers.{nodes_of_literal, nodes_of_tree}
