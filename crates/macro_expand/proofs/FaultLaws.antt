@@ -7,7 +7,7 @@ use Rattle.pc_syntax.specs.declared.term.Arg.{Arg}
 use Rattle.pc_common.specs.Names.{same_name}
 use Rattle.pc_syntax.specs.Written.{MacroAt}
 use Rattle.pc_syntax.specs.Fault.{Fault}
-use Rattle.pc_syntax.specs.MacroFaults.{macro_called, macro_again, count_fault, call_fault}
+use Rattle.pc_syntax.specs.MacroFaults.{macro_with_name, macro_again, count_fault, call_fault}
 use Rattle.macro_expand.specs.declared.fault.MacroFault.{MacroFault}
 use Rattle.macro_expand.specs.Faults.{fault_told, IsFault, Judges}
 use Rattle.macro_expand.specs.Tables.{called}
@@ -28,12 +28,12 @@ pub second_judged : {A : Type 0} (a b : Option Fault) (r : Result A MacroFault) 
 second_judged a b r none h = subst (λ o. Judges (option_or o b) r) (sym none) h
 
 -- the macro of a name is that of its call
-pub called_macro : (ms : List MacroAt) (name : List ℕ) → macro_called ms name ≡ option_map (λ p. p.0) (called ms name)
+pub called_macro : (ms : List MacroAt) (name : List ℕ) → macro_with_name ms name ≡ option_map (λ p. p.0) (called ms name)
 called_macro [] name = refl
 called_macro (m ∷ ms) name = by (same_name m.name.name name) (called_macro ms name)
   where
-    by : (b : Bool) → macro_called ms name ≡ option_map (λ p. p.0) (called ms name)
-        → cond b (Some m) (macro_called ms name) ≡ option_map (λ p. p.0) (cond b (Some (m, ms)) (called ms name))
+    by : (b : Bool) → macro_with_name ms name ≡ option_map (λ p. p.0) (called ms name)
+        → cond b (Some m) (macro_with_name ms name) ≡ option_map (λ p. p.0) (cond b (Some (m, ms)) (called ms name))
     by true rest = refl
     by false rest = rest
 

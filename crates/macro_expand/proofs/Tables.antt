@@ -7,7 +7,7 @@ use Rattle.indexmap.specs.IndexMap.{IndexMap, insert_entry}
 use Rattle.indexmap.proofs.CallerLemmas.{insert_entry-new}
 use Rattle.pc_common.specs.Names.{same_name}
 use Rattle.pc_syntax.specs.Written.{MacroAt}
-use Rattle.pc_syntax.specs.MacroFaults.{macro_called}
+use Rattle.pc_syntax.specs.MacroFaults.{macro_with_name}
 use Rattle.macro_expand.specs.declared.macros.Macro.{Macro}
 use Rattle.macro_expand.specs.Tables.{called, before, entered, AreNew, macro_at, listed, AreNumbered}
 use Rattle.macro_expand.proofs.Names.{same_is, is_same, same_either}
@@ -52,17 +52,17 @@ step_some : (m : MacroAt) (ms : List MacroAt) (name : List ℕ) (n : ℕ) (p : M
 step_some m ms name n p some = called_first m ms n name ∙ ap (λ o. or_first o m name) some
 
 -- what no macro is called is not called among the first of them
-pub absent_before : (ms : List MacroAt) (n : ℕ) (name : List ℕ) → macro_called ms name ≡ None → called (before ms n) name ≡ None
+pub absent_before : (ms : List MacroAt) (n : ℕ) (name : List ℕ) → macro_with_name ms name ≡ None → called (before ms n) name ≡ None
 absent_before [] n name h = none_before n name
 absent_before (m ∷ ms) zero name h = refl
 absent_before (m ∷ ms) (suc n) name h = by (same_name m.name.name name) refl h (λ none. absent_before ms n name none)
   where
-    by : (b : Bool) → same_name m.name.name name ≡ b → cond b (Some m) (macro_called ms name) ≡ None
-        → (macro_called ms name ≡ None → called (before ms n) name ≡ None) → called (before (m ∷ ms) (suc n)) name ≡ None
+    by : (b : Bool) → same_name m.name.name name ≡ b → cond b (Some m) (macro_with_name ms name) ≡ None
+        → (macro_with_name ms name ≡ None → called (before ms n) name ≡ None) → called (before (m ∷ ms) (suc n)) name ≡ None
     by true e h rest = cc
     by false e h rest = step_none m ms name n e (rest h)
 
-called_at_once : (m : MacroAt) (ms : List MacroAt) (name : List ℕ) → same_name m.name.name name ≡ true → macro_called ms name ≡ None
+called_at_once : (m : MacroAt) (ms : List MacroAt) (name : List ℕ) → same_name m.name.name name ≡ true → macro_with_name ms name ≡ None
     → (n : ℕ) → 0 < n → called (before (m ∷ ms) n) name ≡ Some (m, [])
 called_at_once m ms name same none zero within = absurd (omega arith)
 called_at_once m ms name same none (suc n) within =
@@ -118,7 +118,7 @@ looked_up first (e ∷ es) name numbered new =
           refl,
           not_called_yet (macro_at e.1) (entered_in es) name,
           called_at_once (macro_at e.1) (entered_in es) name (is_same e.1.name.now.name name (sym same))
-              (subst (λ w. macro_called (entered_in es) w ≡ None) (sym same) new.0),
+              (subst (λ w. macro_with_name (entered_in es) w ≡ None) (sym same) new.0),
         )
     by false s None h =
         never_called (macro_at e.1) (entered_in es) name
@@ -135,16 +135,16 @@ looked_up first (e ∷ es) name numbered new =
 
 -- the same, of the first macro of the name
 pub looked_up_first : (first : ℕ) (es : List (Bor (List ℕ) × Macro)) (name : List ℕ) → AreNumbered first es
-    → option_map macro_at (lookup (λ k. same_name name k.now) es) ≡ macro_called (entered_in es) name
+    → option_map macro_at (lookup (λ k. same_name name k.now) es) ≡ macro_with_name (entered_in es) name
 looked_up_first first [] name numbered = refl
 looked_up_first first (e ∷ es) name numbered =
     by (same_name name e.0.now) (looked_up_first (suc first) es name numbered.2)
-    ∙ ap (λ b. cond b (Some (macro_at e.1)) (macro_called (entered_in es) name))
+    ∙ ap (λ b. cond b (Some (macro_at e.1)) (macro_with_name (entered_in es) name))
     (same_either name e.0.now ∙ ap (λ w. same_name w name) numbered.0)
   where
-    by : (b : Bool) → option_map macro_at (lookup (λ k. same_name name k.now) es) ≡ macro_called (entered_in es) name
+    by : (b : Bool) → option_map macro_at (lookup (λ k. same_name name k.now) es) ≡ macro_with_name (entered_in es) name
         → option_map macro_at (cond b (Some e.1) (lookup (λ k. same_name name k.now) es))
-        ≡ cond b (Some (macro_at e.1)) (macro_called (entered_in es) name)
+        ≡ cond b (Some (macro_at e.1)) (macro_with_name (entered_in es) name)
     by true rest = refl
     by false rest = rest
 
@@ -155,23 +155,23 @@ numbered_more first (e ∷ es) k m numbered key number =
     (numbered.0, numbered.1, numbered_more (suc first) es k m numbered.2 key (omega (arith, number)))
 
 pub macro_called_after : (ms : List MacroAt) (m : MacroAt) (name : List ℕ)
-    → macro_called (ms ++ m ∷ []) name ≡ option_or (macro_called ms name) (cond (same_name m.name.name name) (Some m) None)
+    → macro_with_name (ms ++ m ∷ []) name ≡ option_or (macro_with_name ms name) (cond (same_name m.name.name name) (Some m) None)
 macro_called_after [] m name = refl
 macro_called_after (x ∷ ms) m name = by (same_name x.name.name name) (macro_called_after ms m name)
   where
     by : (b : Bool)
-        → macro_called (ms ++ m ∷ []) name ≡ option_or (macro_called ms name) (cond (same_name m.name.name name) (Some m) None)
-        → cond b (Some x) (macro_called (ms ++ m ∷ []) name)
-        ≡ option_or (cond b (Some x) (macro_called ms name)) (cond (same_name m.name.name name) (Some m) None)
+        → macro_with_name (ms ++ m ∷ []) name ≡ option_or (macro_with_name ms name) (cond (same_name m.name.name name) (Some m) None)
+        → cond b (Some x) (macro_with_name (ms ++ m ∷ []) name)
+        ≡ option_or (cond b (Some x) (macro_with_name ms name)) (cond (same_name m.name.name name) (Some m) None)
     by true rest = refl
     by false rest = rest
 
-pub new_more : (ms : List MacroAt) (m : MacroAt) → AreNew ms → macro_called ms m.name.name ≡ None → AreNew (ms ++ m ∷ [])
+pub new_more : (ms : List MacroAt) (m : MacroAt) → AreNew ms → macro_with_name ms m.name.name ≡ None → AreNew (ms ++ m ∷ [])
 new_more [] m new none = (refl, tt)
 new_more (x ∷ ms) m new none = by (same_name x.name.name m.name.name) refl none (λ h. new_more ms m new.1 h)
   where
-    by : (b : Bool) → same_name x.name.name m.name.name ≡ b → cond b (Some x) (macro_called ms m.name.name) ≡ None
-        → (macro_called ms m.name.name ≡ None → AreNew (ms ++ m ∷ [])) → AreNew (x ∷ (ms ++ m ∷ []))
+    by : (b : Bool) → same_name x.name.name m.name.name ≡ b → cond b (Some x) (macro_with_name ms m.name.name) ≡ None
+        → (macro_with_name ms m.name.name ≡ None → AreNew (ms ++ m ∷ [])) → AreNew (x ∷ (ms ++ m ∷ []))
     by true e h rest = cc
     by false e h rest = (
       macro_called_after ms m x.name.name
@@ -188,9 +188,9 @@ module _ {S : Type 0} (table : IndexMap (Bor (List ℕ)) Macro S) (new : List (B
   entry_more : new ≡ table.entries ++ (k, m) ∷ []
   entry_more = put ∙ insert_entry-new (λ x y. same_name x.now y.now) table k m absent
 
-  none_of_name : macro_called (entered_in table.entries) m.name.now.name ≡ None
+  none_of_name : macro_with_name (entered_in table.entries) m.name.now.name ≡ None
   none_of_name =
-      subst (λ w. macro_called (entered_in table.entries) w ≡ None) key
+      subst (λ w. macro_with_name (entered_in table.entries) w ≡ None) key
       (sym (looked_up_first 0 table.entries k.now numbered) ∙ ap (option_map macro_at) absent)
 
   listed_more : entered_in new ≡ entered_in table.entries ++ macro_at m ∷ []
@@ -211,8 +211,8 @@ module _ {S : Type 0} (table : IndexMap (Bor (List ℕ)) Macro S) (new : List (B
       ∙ sym (ap (λ o. elim o [ None ↦ entered_in table.entries ++ macro_at m ∷ [] | Some first ↦ entered_in table.entries ]) none_of_name)
 
 -- a macro whose name is there changes nothing
-pub entered_old : (ms : List MacroAt) (m : MacroAt) → is_some (macro_called ms m.name.name) ≡ true → ms ≡ entered ms m
-entered_old ms m h = by (macro_called ms m.name.name) h
+pub entered_old : (ms : List MacroAt) (m : MacroAt) → is_some (macro_with_name ms m.name.name) ≡ true → ms ≡ entered ms m
+entered_old ms m h = by (macro_with_name ms m.name.name) h
   where
     by : (o : Option MacroAt) → is_some o ≡ true → ms ≡ elim o [ None ↦ ms ++ m ∷ [] | Some first ↦ ms ]
     by None h = cc
@@ -253,7 +253,7 @@ module _ (es : List (Bor (List ℕ) × Macro)) (name : List ℕ) (numbered : Are
       n
 
 pub some_first : (es : List (Bor (List ℕ) × Macro)) (name : List ℕ) → AreNumbered 0 es
-    → is_some (lookup (λ k. same_name name k.now) es) ≡ true → is_some (macro_called (entered_in es) name) ≡ true
+    → is_some (lookup (λ k. same_name name k.now) es) ≡ true → is_some (macro_with_name (entered_in es) name) ≡ true
 some_first es name numbered h =
     ap is_some (sym (looked_up_first 0 es name numbered)) ∙ mapped (lookup (λ k. same_name name k.now) es) h
   where

@@ -7,7 +7,7 @@ use Rattle.pc_syntax.specs.declared.term.Word.{Word}
 use Rattle.pc_common.specs.Names.{same_name}
 use Rattle.pc_syntax.specs.Written.{Written, written, MacroAt, WrittenItem, axiom_, macro_}
 use Rattle.pc_syntax.specs.Fault.{Fault}
-use Rattle.pc_syntax.specs.MacroFaults.{macro_called, body_fault, macro_fault}
+use Rattle.pc_syntax.specs.MacroFaults.{macro_with_name, body_fault, macro_fault}
 use Rattle.macro_expand.specs.declared.macros.Macro.{Macro}
 
 -- the macro that a name calls, with those that its body may name; macros are listed latest first
@@ -21,7 +21,7 @@ before ms n = reverse (take n ms)
 
 -- one more macro, unless an earlier one has its name
 abbrev pub entered : List MacroAt → MacroAt → List MacroAt
-entered ms m = elim (macro_called ms m.name.name) [ None ↦ ms ++ m ∷ [] | Some first ↦ ms ]
+entered ms m = elim (macro_with_name ms m.name.name) [ None ↦ ms ++ m ∷ [] | Some first ↦ ms ]
 
 -- of macros of one name the first
 abbrev pub first_of_names : List MacroAt → List MacroAt
@@ -30,7 +30,7 @@ first_of_names ms = fold entered [] ms
 -- no macro has the name of an earlier one
 abbrev pub AreNew : List MacroAt → Type 0
 AreNew [] = Unit {0}
-AreNew (m ∷ ms) = (macro_called ms m.name.name ≡ None) × AreNew ms
+AreNew (m ∷ ms) = (macro_with_name ms m.name.name ≡ None) × AreNew ms
 
 abbrev pub macro_at : Macro → MacroAt
 macro_at m = record { name = m.name.now; parameters = m.parameters.now; body = written m.body.now }

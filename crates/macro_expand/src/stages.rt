@@ -1,6 +1,7 @@
 ghost use Rattle.std.specs.Prelude.{◌≡◌, option_copied};
 ghost use Rattle.pc_syntax.specs.Written.{written_model};
-ghost use Rattle.pc_syntax.specs.StageFaults.{stage_numbered, stage_called, stage_fault, first_stage_fault};
+ghost use Rattle.pc_syntax.specs.Stages.{stage_with_number, stage_with_name}
+ghost use Rattle.pc_syntax.specs.StageFaults.{stage_fault, first_stage_fault};
 
 use pc_common::{FaultKind, Place};
 use pc_syntax::{MAX_STAGE, ModelFile, StageItem};
@@ -45,7 +46,7 @@ fn again(first: Place, again: Place) -> (FaultKind, Place)
 
 /// The first stage of this number.
 fn numbered(stages: &[StageItem], number: u64) -> Option<&StageItem>
-    ensures { option_copied result ≡ stage_numbered stages.now number }
+    ensures { option_copied result ≡ stage_with_number stages.now number }
 {
     for stage in stages {
         if stage.number == number {
@@ -57,7 +58,7 @@ fn numbered(stages: &[StageItem], number: u64) -> Option<&StageItem>
 
 /// The first stage of this name.
 fn called<'a>(stages: &'a [StageItem], name: &[u8]) -> Option<&'a StageItem>
-    ensures { option_copied result ≡ stage_called stages.now name.now }
+    ensures { option_copied result ≡ stage_with_name stages.now name.now }
 {
     for stage in stages {
         if stage.name.name.as_slice() == name {

@@ -6,7 +6,8 @@ use Rattle.std.proofs.lemmas.Bool.{eq-eqb}
 use Rattle.pc_common.specs.Lines.{StageName}
 use Rattle.pc_syntax.specs.declared.model.StageItem.{StageItem}
 use Rattle.pc_common.specs.Names.{same_name}
-use Rattle.pc_syntax.specs.StageFaults.{stage_numbered, stage_called, number_fault, number_again, name_again, stage_fault, stages_fault}
+use Rattle.pc_syntax.specs.Stages.{stage_with_number, stage_with_name}
+use Rattle.pc_syntax.specs.StageFaults.{number_fault, number_again, name_again, stage_fault, stages_fault}
 use Rattle.pc_syntax.proofs.NoFault.{none_first, none_second, none_where}
 use Rattle.macro_expand.proofs.Names.{is_same}
 use Rattle.uspec_lexer.specs.Bytes.{is_name}
@@ -35,30 +36,30 @@ map_none : {X Y : Type 0} (f : X → Y) (o : Option X) → option_map f o ≡ No
 map_none f None h = refl
 map_none f (Some x) h = cc
 
-not_numbered : (es : List StageItem) (n : ℕ) (e : StageItem) → stage_numbered es n ≡ None → In e es → e.number ≡ n → ⊥
+not_numbered : (es : List StageItem) (n : ℕ) (e : StageItem) → stage_with_number es n ≡ None → In e es → e.number ≡ n → ⊥
 not_numbered [] n e none i same = i
 not_numbered (s ∷ ss) n e none (inl is) same =
-    let here = (none_here _ s (stage_numbered ss n) none).0 in
+    let here = (none_here _ s (stage_with_number ss n) none).0 in
     let that = eq-eqb s.number n (ap (λ (x : StageItem). x.number) is ∙ same) in
     cc
-not_numbered (s ∷ ss) n e none (inr i) same = not_numbered ss n e (none_here _ s (stage_numbered ss n) none).1 i same
+not_numbered (s ∷ ss) n e none (inr i) same = not_numbered ss n e (none_here _ s (stage_with_number ss n) none).1 i same
 
-not_called : (es : List StageItem) (name : List ℕ) (e : StageItem) → stage_called es name ≡ None → In e es → e.name.name ≡ name → ⊥
+not_called : (es : List StageItem) (name : List ℕ) (e : StageItem) → stage_with_name es name ≡ None → In e es → e.name.name ≡ name → ⊥
 not_called [] name e none i same = i
 not_called (s ∷ ss) name e none (inl is) same =
-    let here = (none_here (same_name s.name.name name) s (stage_called ss name) none).0 in
+    let here = (none_here (same_name s.name.name name) s (stage_with_name ss name) none).0 in
     let that = is_same s.name.name name (ap (λ (x : StageItem). x.name.name) is ∙ same) in
     cc
 not_called (s ∷ ss) name e none (inr i) same =
-    not_called ss name e (none_here (same_name s.name.name name) s (stage_called ss name) none).1 i same
+    not_called ss name e (none_here (same_name s.name.name name) s (stage_with_name ss name) none).1 i same
 
 -- no earlier stage has the number or the name of a stage that is not refused
 fresh : (earlier : List StageItem) (s : StageItem) → stage_fault earlier s ≡ None → (e : StageItem) → In e earlier
     → (e.number ≡ s.number → ⊥) × (e.name.name ≡ s.name.name → ⊥)
 fresh earlier s f e i =
     let again = none_second (number_fault s) (option_or (number_again earlier s) (name_again earlier s)) f in
-    let by_number = map_none _ (stage_numbered earlier s.number) (none_first (number_again earlier s) (name_again earlier s) again) in
-    let by_name = map_none _ (stage_called earlier s.name.name) (none_second (number_again earlier s) (name_again earlier s) again) in
+    let by_number = map_none _ (stage_with_number earlier s.number) (none_first (number_again earlier s) (name_again earlier s) again) in
+    let by_name = map_none _ (stage_with_name earlier s.name.name) (none_second (number_again earlier s) (name_again earlier s) again) in
     (not_numbered earlier s.number e by_number i, not_called earlier s.name.name e by_name i)
 
 later_fresh : (earlier ss : List StageItem) (k : ℕ) (t e : StageItem) → stages_fault earlier ss ≡ None → slice_get ss k ≡ Some t → In e earlier

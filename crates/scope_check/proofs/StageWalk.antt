@@ -3,18 +3,18 @@ use Rattle.std.proofs.Common.{◌≡◌, ℕ, ◌+◌, true, false, List, ◌∷
 use Rattle.std.proofs.Math.Seq.{drop-length}
 use Rattle.pc_syntax.specs.declared.model.StageItem.{StageItem}
 use Rattle.pc_common.specs.Names.{same_name}
-use Rattle.pc_syntax.specs.Truth.{stage_of}
+use Rattle.pc_syntax.specs.Stages.{stage_number_of}
 
 module _ (stages : List StageItem) (k : ℕ) where
   pub stage_here : (s : StageItem) (name : List ℕ) → drop k stages ≡ s ∷ drop (k + 1) stages
-      → true ≡ same_name s.name.name name → stage_of (drop k stages) name ≡ Some s.number
+      → true ≡ same_name s.name.name name → stage_number_of (drop k stages) name ≡ Some s.number
   stage_here s name next same =
-      ap (λ rest. stage_of rest name) next ∙ ap (λ b. cond b (Some s.number) (stage_of (drop (k + 1) stages) name)) (sym same)
+      ap (λ rest. stage_number_of rest name) next ∙ ap (λ b. cond b (Some s.number) (stage_number_of (drop (k + 1) stages) name)) (sym same)
 
   pub stage_later : (s : StageItem) (name : List ℕ) → drop k stages ≡ s ∷ drop (k + 1) stages
-      → false ≡ same_name s.name.name name → stage_of (drop k stages) name ≡ stage_of (drop (k + 1) stages) name
+      → false ≡ same_name s.name.name name → stage_number_of (drop k stages) name ≡ stage_number_of (drop (k + 1) stages) name
   stage_later s name next other =
-      ap (λ rest. stage_of rest name) next ∙ ap (λ b. cond b (Some s.number) (stage_of (drop (k + 1) stages) name)) (sym other)
+      ap (λ rest. stage_number_of rest name) next ∙ ap (λ b. cond b (Some s.number) (stage_number_of (drop (k + 1) stages) name)) (sym other)
 
-  pub no_stage : (name : List ℕ) → k ≡ length stages → stage_of (drop k stages) name ≡ None
-  no_stage name whole = ap (λ n. stage_of (drop n stages) name) whole ∙ ap (λ rest. stage_of rest name) (drop-length stages)
+  pub no_stage : (name : List ℕ) → k ≡ length stages → stage_number_of (drop k stages) name ≡ None
+  no_stage name whole = ap (λ n. stage_number_of (drop n stages) name) whole ∙ ap (λ rest. stage_number_of rest name) (drop-length stages)

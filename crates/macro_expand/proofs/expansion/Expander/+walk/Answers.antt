@@ -1,7 +1,7 @@
 use Rattle.std.proofs.Common.{◌≡◌, ◌<◌, ◌+◌, ◌*◌, get_or, sym, ap, ◌∙◌, arith}
 use Rattle.std.proofs.lemmas.Result.{IfOk-weaker}
 use Rattle.pc_syntax.specs.Written.{written, bind_}
-use Rattle.pc_syntax.specs.Sizes.{height_of}
+use Rattle.pc_syntax.specs.Sizes.{expanded_height}
 use Rattle.pc_syntax.specs.Expansion.{expansion_of}
 use Rattle.macro_expand.specs.Tables.{called, before, listed, macro_at}
 use Rattle.macro_expand.proofs.Expansions.{parameter_names_at}
@@ -15,8 +15,8 @@ expansion-binding-requires-in-Some t c =
     let below =
     lower c.in-Expand.at c.in-Expand.name c.in-Expand.args ms (macro_at callee, before (listed c.args.self.now.macros.now) callee.number)
     (ap (called ms) (sym c.as_slice.ensures.value) ∙ c.in-Some.ensures.2) in
-    let here = ap (λ f. height_of ms (written f)) c.in-Expand.is in
-    let fact : 2 * height_of (before (listed c.args.self.now.macros.now) callee.number) (written callee.body.now) + 1 < t = omega (arith, c.decreases, here, below) in
+    let here = ap (λ f. expanded_height ms (written f)) c.in-Expand.is in
+    let fact : 2 * expanded_height (before (listed c.args.self.now.macros.now) callee.number) (written callee.body.now) + 1 < t = omega (arith, c.decreases, here, below) in
     (fact, c.requires)
 
 pub expansion-returns-in-Some : goal.expansion-returns-in-Some

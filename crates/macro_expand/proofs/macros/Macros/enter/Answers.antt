@@ -1,7 +1,7 @@
 use Rattle.std.proofs.Common.{◌≡◌, Bool, true, false, not, Option, Some, None, option_copied, Bor, sym, ap, ◌∙◌, subst}
 use Rattle.std.specs.Option.{is_some}
 use Rattle.pc_syntax.specs.Written.{written}
-use Rattle.pc_syntax.specs.MacroFaults.{macro_called}
+use Rattle.pc_syntax.specs.MacroFaults.{macro_with_name}
 use Rattle.macro_expand.specs.declared.macros.Macro.{Macro}
 use Rattle.macro_expand.specs.Tables.{entered, macro_at, listed}
 use Rattle.macro_expand.proofs.Tables.{entered_in, still_table, entered_new, entered_old, some_first}
@@ -40,5 +40,5 @@ returns-else-is_none c =
     (some_is c.get.result _ c.is_none.result c.get.ensures.value c.is_none.ensures c.if-is_none.false) in
     entered_old (listed c.args.self.now)
     (record { name = c.args.name.now; parameters = c.args.parameters.now; body = written c.args.body.now })
-    (subst (λ ms. is_some (macro_called (listed ms) c.args.name.now.name) ≡ true) c.self.view_is
-    (subst (λ w. is_some (macro_called (entered_in es) w) ≡ true) c.as_slice-key.ensures.value there))
+    (subst (λ ms. is_some (macro_with_name (listed ms) c.args.name.now.name) ≡ true) c.self.view_is
+    (subst (λ w. is_some (macro_with_name (entered_in es) w) ≡ true) c.as_slice-key.ensures.value there))
