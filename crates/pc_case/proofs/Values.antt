@@ -9,7 +9,7 @@ use Rattle.std.specs.Option.{option_map}
 use Rattle.std.specs.Map.{lookup}
 use Rattle.indexmap.specs.IndexMap.{IndexMap, get, insert_entry}
 use Rattle.indexmap.proofs.CallerLemmas.{insert_entry-new}
-use Rattle.pc_common.specs.Case.{PageAt, Address, page, Value, number}
+use Rattle.pc_common.specs.Case.{PageAt, Address, page, entry_of, Value, number}
 use Rattle.pc_case.specs.declared.op.Page.{Page}
 use Rattle.pc_case.specs.declared.stated.Stated.{Stated}
 use Rattle.pc_case.specs.Plain.{page_at, address_at, stated_value}
@@ -60,6 +60,9 @@ page_is p q h = by (p.tag == q.tag) (p.index == q.index) refl refl h
 
 same_is : (a b : Address) → same_address a b ≡ true → a ≡ b
 same_is (page p) (page q) h = ap page (page_is p q h)
+same_is (page p) (entry_of t) h = absurd (true≢false (sym h))
+same_is (entry_of s) (page q) h = absurd (true≢false (sym h))
+same_is (entry_of s) (entry_of t) h = ap entry_of (eqb-true s t h)
 
 absent_here : (s : Address × Value) (ss : List (Address × Value)) (a : Address) → (s.0 ≡ a → ⊥) → stated_at ss a ≡ None → stated_at (s ∷ ss) a ≡ None
 absent_here s ss a apart rest = by (same_address s.0 a) refl

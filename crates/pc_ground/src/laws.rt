@@ -58,7 +58,6 @@ pub fn refutation_is_sound()
 {}
 
 /// In version 1 no position of an open branch has a sign.
-#[tactic(auto, using(crate::proofs::Refuted::one_has_no_sign))]
 pub fn one_has_no_sign()
     ensures { OneHasNoSign }
 {}
