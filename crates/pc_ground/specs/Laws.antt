@@ -3,7 +3,7 @@ use Rattle.std.specs.Prelude.{ℕ, ◌≡◌, Bool, false, not, List, [], None, 
 use Rattle.std.specs.List.{list_all}
 use Rattle.pc_common.specs.Case.{Case}
 use Rattle.pc_common.specs.World.{Node, World, IsWorld, has_node, has_edge}
-use Rattle.pc_case.specs.Kept.{IsKept}
+use Rattle.pc_case.specs.MicroOps.{AreMicroOps}
 use Rattle.pc_syntax.specs.declared.closed.Closed.{Closed}
 use Rattle.pc_syntax.specs.Written.{WrittenModel}
 use Rattle.pc_syntax.specs.Observable.{axioms_of, macros_of, satisfies, IsNodeOf}
@@ -58,7 +58,7 @@ NormalOfSimplified = (g : PlainGround) → normal (simplified g) ≡ normal g
 -- each node of closed axioms' ground tree is of the test, and of the stages that the axioms name
 abbrev pub NodesAreNamed : Type 0
 NodesAreNamed =
-    (c : Case) (numbers : List ℕ) (axioms : List Closed) → IsKept c.ops → AxiomsWithin numbers (plain_axioms axioms)
+    (c : Case) (numbers : List ℕ) (axioms : List Closed) → AreMicroOps c.ops → AxiomsWithin numbers (plain_axioms axioms)
     → (a : Node) → Contains (nodes_of_tree (closed_ground_tree c (plain_axioms axioms))) a → IsNodeOf numbers c.ops a
 
 -- two worlds that agree on the nodes of a tree's literals give the tree one truth

@@ -4,7 +4,7 @@ ghost use Rattle.pc_common.specs.declared.limits.TheConstants.{MAX_CORE};
 ghost use Rattle.pc_common.specs.Lines.{node_text, stage_name as name_of_stage};
 ghost use Rattle.pc_common.specs.Room.{Puts};
 ghost use Rattle.pc_common.specs.Writes.{Writes};
-ghost use Rattle.pc_case.specs.Kept.{IsKept, IsNamed};
+ghost use Rattle.pc_case.specs.MicroOps.{AreMicroOps, IsNamed};
 ghost use Rattle.pc_ground.specs.Keys.{key_node};
 ghost use Rattle.pc_ground.specs.Stages.{plain_stage, AreStages, AreStages-prop};
 ghost use Rattle.pc_ground.specs.NodeForm.{names_by, names_of, names_of_parts, IsNodeIn, Reads, Answers, AreReadable};
@@ -32,7 +32,7 @@ pub struct NodeText<'a> {
 
 impl<'a> Model for NodeText<'a> {
     ghost use Rattle.pc_common.specs.Lines.{Names};
-    ghost use Rattle.pc_case.specs.Kept.{IsKept};
+    ghost use Rattle.pc_case.specs.MicroOps.{AreMicroOps};
     ghost use Rattle.std.specs.Prelude.{map};
     ghost use Rattle.pc_ground.specs.NodeForm.{names_by};
     ghost use Rattle.pc_ground.specs.Stages.{plain_stage};
@@ -42,7 +42,7 @@ impl<'a> Model for NodeText<'a> {
 
     ghost view = { λ t. names_by t.case.now (map plain_stage t.stages.now) };
 
-    ghost invariant = { λ t. AreSmall t.case.now.ops × IsKept t.case.now.ops };
+    ghost invariant = { λ t. AreSmall t.case.now.ops × AreMicroOps t.case.now.ops };
 }
 
 /// The name of the first stage with this number, or nothing where there is none. A walk over at most 64 stages.
@@ -79,7 +79,7 @@ fn show_name(id: OpId)
 /// Does nothing. It shows that the numbers of each micro-op are of 64 bits, which a case's contract does not say.
 fn show_numbers(case: &Case)
     ensures small { AreSmall case.now.ops }
-    ensures kept { IsKept case.now.ops }
+    ensures kept { AreMicroOps case.now.ops }
 {
     for k in 0..case.ops() {
         show_name(case.op(k).id);
