@@ -8,6 +8,7 @@ pub mod StageWalks
 pub mod OpWalks
 pub mod NodeReading
 pub mod FlatRows
+pub mod Turned
 pub mod Walks
 pub mod NormalForms
 pub mod UnfoldedTruth

@@ -1,13 +1,15 @@
 -- The text of a node, g.n@core:Stage, by its form, and which nodes are of a test and a model.
 use Rattle.std.specs.Prelude.{ℕ, ◌≡◌, ◌++◌, List, Result, Ok, Err, map, codes, IsTrue}
 use Rattle.pc_common.specs.World.{Node}
-use Rattle.pc_common.specs.Lines.{Names, node_text}
+use Rattle.pc_common.specs.Case.{Case}
+use Rattle.pc_common.specs.Lines.{StageName, Names, node_text}
 use Rattle.pc_syntax.specs.Observable.{IsNodeOf}
 use Rattle.uspec_lexer.specs.Bytes.{is_name}
 use Rattle.pc_ground.specs.declared.node_key.NodeKey.{NodeKey}
 use Rattle.pc_ground.specs.declared.line_fault.LineFault.{LineFault}
 use Rattle.pc_ground.specs.declared.line_fault.LineFault.TheVariants.{Malformed, Foreign}
 use Rattle.pc_ground.specs.declared.front.Front.{Front}
+use Rattle.pc_ground.specs.declared.parts.Parts.{Parts}
 use Rattle.pc_ground.specs.Keys.{key_node}
 use Rattle.pc_ground.specs.Decimals.{IsDecimal}
 use Rattle.pc_ground.specs.Stages.{plain_stage, numbers_of}
@@ -24,9 +26,15 @@ pub record IsNodeForm (word : List ℕ) : Type 0 where
   pub stage_name : IsTrue (is_name stage)
   pub is : word ≡ g ++ codes "." ++ n ++ codes "@" ++ core ++ codes ":" ++ stage
 
--- what a front's nodes are written by
+-- what nodes are written by
+abbrev pub names_by : Case → List StageName → Names
+names_by case stages = record { ops = case.ops; stages = stages }
+
 abbrev pub names_of : Front → Names
-names_of front = record { ops = front.case.ops; stages = map plain_stage front.stages }
+names_of front = names_by front.case (map plain_stage front.stages)
+
+abbrev pub names_of_parts : Parts → Names
+names_of_parts parts = names_by parts.case (map plain_stage parts.stages)
 
 -- the node's micro-op is the test's, its core is 0 to 63 and its stage is the model's
 abbrev pub IsNodeIn : Names → Node → Type 0
