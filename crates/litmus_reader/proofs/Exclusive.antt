@@ -4,7 +4,7 @@ use Rattle.std.proofs.lemmas.List.{take-append-drop}
 use Rattle.pc_common.specs.Case.{Case}
 use Rattle.ll_grammar.specs.FirstFault.{IsFaultAt}
 use Rattle.uspec_lexer.specs.Token.{Token}
-use Rattle.uspec_lexer.proofs.Spelling.{spells-unique, spells-no_fault}
+use Rattle.uspec_lexer.proofs.SpellsLaws.{spells-unique, spells-no_fault}
 use Rattle.litmus_reader.specs.Syntax.{IsTestOf, IsTest}
 use Rattle.litmus_reader.specs.Items.{case_of}
 use Rattle.litmus_reader.specs.Answer.{IsTextOf, CaseOf, IsRefusal}

@@ -4,7 +4,7 @@ use Rattle.pc_common.specs.declared.place.Place.{Place}
 use Rattle.ll_grammar.specs.FirstFault.{IsFaultAt}
 use Rattle.ll_grammar.proofs.Faults.{viable-take}
 use Rattle.uspec_lexer.specs.Token.{Token, token_place}
-use Rattle.uspec_lexer.proofs.Spelling.{spells-unique, spells-no_fault, lexical_fault-unique}
+use Rattle.uspec_lexer.proofs.SpellsLaws.{spells-unique, spells-no_fault, lexical_fault-unique}
 use Rattle.litmus_reader.specs.Syntax.{IsTestOf, IsTest}
 use Rattle.litmus_reader.specs.Content.{IsContentFault}
 use Rattle.litmus_reader.specs.Answer.{IsTextOf, IsSyntaxFault, IsRefusal}

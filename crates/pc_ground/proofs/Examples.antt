@@ -18,7 +18,7 @@ use Rattle.pc_ground.specs.GroundTree.{ground_tree}
 use Rattle.pc_ground.specs.Numbers.{numbered}
 use Rattle.pc_common.specs.Steps.{split, path, close}
 use Rattle.pc_ground.specs.declared.version.Version.TheVariants.{One, Two}
-use Rattle.pc_ground.specs.Refutes.{IsRefutation, a_path}
+use Rattle.pc_ground.specs.Refutes.{IsRefutation, a_path, a_contradiction}
 
 -- names without places, of which a tree says nothing
 abbrev at : Place
@@ -112,8 +112,8 @@ refuted = (
   leaf (Edge S1 S0),
   ((1, lit< tt, refl), refl),
   (
-    a_path S0 [] S1 (3, lit< tt, refl) (0, lit< tt, refl),
-    (a_path S1 (S0 ∷ []) T0 ((3, lit< tt, refl), (1, lit< tt, refl)) (2, lit< tt, refl), refl),
+    a_contradiction (a_path S0 [] S1 (3, lit< tt, refl) (0, lit< tt, refl)),
+    (a_contradiction (a_path S1 (S0 ∷ []) T0 ((3, lit< tt, refl), (1, lit< tt, refl)) (2, lit< tt, refl)), refl),
   ),
 )
 
@@ -124,7 +124,7 @@ refuted_signed = (
   leaf (Edge S1 S0),
   ((1, lit< tt, refl), refl),
   (
-    a_path S0 [] S1 (3, lit< tt, refl) (0, lit< tt, refl),
-    (a_path S1 (S0 ∷ []) T0 ((4, lit< tt, refl), (1, lit< tt, refl)) (2, lit< tt, refl), refl),
+    a_contradiction (a_path S0 [] S1 (3, lit< tt, refl) (0, lit< tt, refl)),
+    (a_contradiction (a_path S1 (S0 ∷ []) T0 ((4, lit< tt, refl), (1, lit< tt, refl)) (2, lit< tt, refl)), refl),
   ),
 )

@@ -278,4 +278,3 @@ literal_by_row t p =
       | inr h ↦ (let past = ltb-false p (size_of t) h in
           ap literal_of (subtree_past t p past) ∙ ap literals_of_row (sym (slice_get_past (rows_of t) p (omega (arith, past, length_rows t)))))
     ]
-

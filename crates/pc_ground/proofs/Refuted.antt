@@ -12,8 +12,8 @@ use Rattle.pc_ground.specs.Tree.{Tree, always, never, leaf, both, either, negati
 use Rattle.pc_ground.specs.declared.version.Version.{Version}
 use Rattle.pc_ground.specs.declared.version.Version.TheVariants.{One, Two}
 use Rattle.pc_ground.specs.Literals.{Joins, IsPresent, as_node, as_start, as_end}
-use Rattle.pc_ground.specs.Refutes.{subtree_at, asserted, Signed, signed, all_signed, part_at, Branch, literal_of, literals_of, Closes, a_cycle, a_path, an_absence, a_falsity, with_side, left_branch, right_branch, Runs, IsPartial, IsRefutation}
-use Rattle.pc_ground.proofs.Bools.{and_first, and_second,}
+use Rattle.pc_ground.specs.Refutes.{subtree_at, asserted, Signed, signed, all_signed, part_at, Branch, literal_of, literals_of, IsContradiction, a_cycle, a_path, an_absence, Closes, a_contradiction, a_falsity, with_side, left_branch, right_branch, Runs, IsPartial, IsRefutation}
+use Rattle.pc_ground.proofs.Bools.{and_first, and_second}
 use Rattle.pc_ground.proofs.FlatRows.{children_both, children_either}
 use Rattle.pc_ground.proofs.Turned.{subtree_denied, negation_true}
 
@@ -55,11 +55,14 @@ module _ (w : World Node) (is_world : IsWorld w) where
   denied true n p = cc
   denied false n p = cc
 
-  -- literals that are true close no leaf
+  -- literals that are true contradict nothing, and close no leaf
+  contradicts_none : (ls : List (Literal Node)) → AreTrue ls → (s : Leaf Node) → IsContradiction ls s → ⊥
+  contradicts_none ls h s (a_cycle a via leads) = no_loop a (chain_true ls h a via a leads)
+  contradicts_none ls h s (a_path a via b leads has) = denied (has_edge w a b) (h (NoEdge a b) has) (chain_true ls h a via b leads)
+  contradicts_none ls h s (an_absence a has present) = denied (has_node w a) (h (NoNode a) has) (present_true ls h a present)
+
   closes_none : (t : Tree Node) → tree_true w t ≡ true → (ls : List (Literal Node)) → AreTrue ls → (s : Leaf Node) → Closes t ls s → ⊥
-  closes_none t is ls h s (a_cycle a via leads) = no_loop a (chain_true ls h a via a leads)
-  closes_none t is ls h s (a_path a via b leads has) = denied (has_edge w a b) (h (NoEdge a b) has) (chain_true ls h a via b leads)
-  closes_none t is ls h s (an_absence a has present) = denied (has_node w a) (h (NoNode a) has) (present_true ls h a present)
+  closes_none t is ls h s (a_contradiction c) = contradicts_none ls h s c
   closes_none t is ls h s (a_falsity same) = (let P : Tree Node → Type 0 = λ u. tree_true w u ≡ true in let f : false ≡ true = subst P same is in cc)
 
   -- the literals of a true branch are true

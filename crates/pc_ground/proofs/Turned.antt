@@ -44,7 +44,7 @@ map_if f false x y = refl
 subtree_below : {N : Type 0} (a b : Tree N) (p : ℕ)
     → ((q : ℕ) → subtree_at (negation a) q ≡ option_map negation (subtree_at a q)) → ((q : ℕ) → subtree_at (negation b) q ≡ option_map negation (subtree_at b q))
     → (if nat_lt p (size_of (negation a)) then subtree_at (negation a) p else subtree_at (negation b) (p - size_of (negation a)))
-      ≡ option_map negation (if nat_lt p (size_of a) then subtree_at a p else subtree_at b (p - size_of a))
+    ≡ option_map negation (if nat_lt p (size_of a) then subtree_at a p else subtree_at b (p - size_of a))
 subtree_below a b p left right =
     ap (λ n. if nat_lt p n then subtree_at (negation a) p else subtree_at (negation b) (p - n)) (size_negation a)
     ∙ ap (λ x. if nat_lt p (size_of a) then x else subtree_at (negation b) (p - size_of a)) (left p)

@@ -41,10 +41,10 @@ abbrev pub IsNodeIn : Names → Node → Type 0
 IsNodeIn names a = IsNodeOf (numbers_of names.stages) names.ops a
 
 -- what reading a word answers: the node that it is the text of, or why it is none's
-abbrev pub Reads : Names → List ℕ → Result NodeKey LineFault → Type 0
-Reads names word (Ok key) = IsNodeIn names (key_node key) × (word ≡ node_text names (key_node key))
-Reads names word (Err Malformed) = IsNodeForm word → ⊥
-Reads names word (Err Foreign) = IsNodeForm word × ((a : Node) → IsNodeIn names a → word ≡ node_text names a → ⊥)
+abbrev pub ReadsNode : Names → List ℕ → Result NodeKey LineFault → Type 0
+ReadsNode names word (Ok key) = IsNodeIn names (key_node key) × (word ≡ node_text names (key_node key))
+ReadsNode names word (Err Malformed) = IsNodeForm word → ⊥
+ReadsNode names word (Err Foreign) = IsNodeForm word × ((a : Node) → IsNodeIn names a → word ≡ node_text names a → ⊥)
 
 -- each node's text has the form, and no two nodes have one text
 pub record AreReadable (names : Names) : Type 0 where

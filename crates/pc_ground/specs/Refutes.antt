@@ -57,12 +57,17 @@ literal_of (Some s) = literals_of_kind (root_kind s)
 abbrev pub literals_of : {N : Type 0} → Tree N → Branch → List (Literal N)
 literals_of t ps = flat_map (λ q. literal_of (part_at t q)) ps
 
--- a leaf that these literals close; the last, where the whole tree is False
-pub data Closes {N : Type 0} (t : Tree N) (ls : List (Literal N)) : Leaf N → Type 0 where
-  a_cycle : (a : N) (via : List N) → Leads (Joins ls) a via a → Closes t ls (cycle (a ∷ via))
+-- the leaf tells of literals among these that can't stand together: a cycle of asserted edges, a path of them between
+-- the ends of a denied one, or a denied node that is asserted
+pub data IsContradiction {N : Type 0} (ls : List (Literal N)) : Leaf N → Type 0 where
+  a_cycle : (a : N) (via : List N) → Leads (Joins ls) a via a → IsContradiction ls (cycle (a ∷ via))
   a_path : (a : N) (via : List N) (b : N) → Leads (Joins ls) a via b → Contains ls (NoEdge a b)
-      → Closes t ls (path (a ∷ (via ++ b ∷ [])))
-  an_absence : (a : N) → Contains ls (NoNode a) → IsPresent ls a → Closes t ls (absent a)
+      → IsContradiction ls (path (a ∷ (via ++ b ∷ [])))
+  an_absence : (a : N) → Contains ls (NoNode a) → IsPresent ls a → IsContradiction ls (absent a)
+
+-- the leaf closes a branch of the tree with these literals
+pub data Closes {N : Type 0} (t : Tree N) (ls : List (Literal N)) : Leaf N → Type 0 where
+  a_contradiction : {l : Leaf N} → IsContradiction ls l → Closes t ls l
   a_falsity : t ≡ never → Closes t ls false_step
 
 -- the sides a and b of an asserted Or at p: of the tree, or of its negation, in which the tree's Ands are Ors

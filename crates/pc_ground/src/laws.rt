@@ -14,7 +14,7 @@ pub fn tree_says_closed()
 {}
 
 /// Expansion and closing keep the ground tree of a model without name faults.
-#[tactic(auto, using(crate::proofs::UnfoldedClosing::expanded_tree, crate::proofs::UnfoldedClosing::closed_tree))]
+#[tactic(auto, using(crate::proofs::KeptTrees::expanded_tree, crate::proofs::KeptTrees::closed_tree))]
 pub fn tree_is_kept()
     ensures expansion { ExpansionKeepsTree }
     ensures closing { ClosingKeepsTree }

@@ -32,8 +32,8 @@ pub use front::Front;
 pub use ground::Ground;
 pub use laws::{
     cut_is_world, negation_turns, nodes_are_named, normal_is_folded, normal_of_simplified,
-    numbered_lists_nodes, one_has_no_sign, refutation_is_sound, rows_spell_one_tree, tree_is_kept, tree_says_closed, tree_says_model,
-    truth_is_of_literals, walk_is_asserted,
+    numbered_lists_nodes, one_has_no_sign, refutation_is_sound, rows_spell_one_tree, tree_is_kept,
+    tree_says_closed, tree_says_model, truth_is_of_literals, walk_is_asserted,
 };
 pub use line_fault::LineFault;
 pub use line_part::{LinePart, put_line_parts};

@@ -7,14 +7,14 @@ ghost use Rattle.pc_common.specs.Writes.{Writes};
 ghost use Rattle.pc_case.specs.MicroOps.{AreMicroOps, IsNamed};
 ghost use Rattle.pc_ground.specs.Keys.{key_node};
 ghost use Rattle.pc_ground.specs.Stages.{plain_stage, AreStages, AreStages-prop};
-ghost use Rattle.pc_ground.specs.NodeForm.{names_by, names_of, names_of_parts, IsNodeIn, Reads, Answers, AreReadable};
+ghost use Rattle.pc_ground.specs.NodeForm.{names_by, names_of, names_of_parts, IsNodeIn, ReadsNode, Answers, AreReadable};
 ghost use Rattle.pc_ground.specs.NodeWords.{IsStage, AreSmall, AreKept, NamesNode};
 
 use super::front::Front;
-use super::parts::Parts;
 use super::line_fault::LineFault;
 use super::node_key::NodeKey;
 use super::node_words::{NodeWords, node_words};
+use super::parts::Parts;
 use super::stage::Stages;
 use itoa::Buffer;
 use pc_case::{Case, OpId};
@@ -145,7 +145,7 @@ impl<'a> NodeText<'a> {
     /// has and names no micro-op of the test, no core 0 to 63 or no stage of the model. Takes no memory. The bytes of
     /// its stage are judged only where the word names no node.
     pub fn read(&self, word: &[u8]) -> Result<NodeKey, LineFault>
-        ensures read { Reads self.now word.now result }
+        ensures read { ReadsNode self.now word.now result }
         ensures readable { AreReadable self.now }
         ensures again { (a : Node) → IsNodeIn self.now a → word.now ≡ node_text self.now a → Answers result a }
     {
