@@ -1,11 +1,11 @@
--- A meaning of each part that its rules keep is a meaning of all that it reads.
+-- What is known of `Derives`: a meaning of each part that is closed under the rules is a meaning of all that it reads.
 use Rattle.std.proofs.Common.{◌≡◌, Bool, false, List, [], ◌∷◌, ◌++◌, Option, Some, IsTrue, MatchOption, refl, sym, ap, subst, ◌∙◌, append_assoc}
 use Rattle.std.proofs.lemmas.List.{append-nil}
-use Rattle.ll_grammar.specs.Rules.{Rules, Reads, Derives}
-use Rattle.ll_grammar.specs.Rules.Reads.{done, class as r_class, ends as r_ends, begins as r_begins}
+use Rattle.ll_grammar.specs.Rules.{Rules, Yields, Derives}
+use Rattle.ll_grammar.specs.Rules.Yields.{done, class as r_class, ends as r_ends, begins as r_begins}
 use Rattle.ll_grammar.specs.declared.grammar.Symbol.{Symbol}
 use Rattle.ll_grammar.specs.declared.grammar.Symbol.TheVariants.{Class, Part}
-use Rattle.ll_grammar.specs.Tables.{reads-append}
+use Rattle.ll_grammar.specs.Tables.{yields-append}
 
 -- the tokens, with their marks, are those of the symbols in a row, where `M` says what are those of a part
 pub data Each {C N : Type 0} (M : N → List C → List Bool → Type 0) : List (Symbol C N) → List C → List Bool → Type 0 where
@@ -15,8 +15,8 @@ pub data Each {C N : Type 0} (M : N → List C → List Bool → Type 0) : List 
   part : {n : N} {rest : List (Symbol C N)} {cs ds : List C} {marks others : List Bool}
       → M n cs marks → Each M rest ds others → Each M (Part n ∷ rest) (cs ++ ds) (marks ++ others)
 
--- the rules keep the meaning
-pub record IsKept {C N : Type 0} (g : Rules C N) (M : N → List C → List Bool → Type 0) : Type 0 where
+-- the meaning is closed under the rules
+pub record IsClosedUnder {C N : Type 0} (g : Rules C N) (M : N → List C → List Bool → Type 0) : Type 0 where
   pub empty : (n : N) → IsTrue (g.may_end n) → M n [] []
   pub rule : (n : N) (c : C) → MatchOption (g.behind n c) (Unit {0})
       (λ body. (cs : List C) (marks : List Bool) → Each M body cs marks → M n (c ∷ cs) (g.deep n c ∷ marks))
@@ -69,24 +69,24 @@ parted {C} M (Part n ∷ front) back (part {cs = first} {marks = first_marks} m 
     }
 
 -- what symbols in a row read has the meaning of each
-pub each_of_reads : {C N : Type 0} (g : Rules C N) (M : N → List C → List Bool → Type 0) → IsKept g M
-    → {symbols : List (Symbol C N)} {cs : List C} {marks : List Bool} → Reads g symbols cs marks → Each M symbols cs marks
-each_of_reads g M kept done = none
-each_of_reads g M kept (r_class reads) = class (each_of_reads g M kept reads)
-each_of_reads g M kept (r_ends {n = n} h reads) = part (kept.empty n h) (each_of_reads g M kept reads)
-each_of_reads {C} {N} g M kept (r_begins {n = n} {c = c} {rest = rest} {cs = cs} {marks = marks} body e reads) =
-    let p = parted M body rest (each_of_reads g M kept reads) in
-    let Kept : Option (List (Symbol C N)) → Type 0 = λ found. MatchOption found (Unit {0})
+pub each_of_yields : {C N : Type 0} (g : Rules C N) (M : N → List C → List Bool → Type 0) → IsClosedUnder g M
+    → {symbols : List (Symbol C N)} {cs : List C} {marks : List Bool} → Yields g symbols cs marks → Each M symbols cs marks
+each_of_yields g M closed done = none
+each_of_yields g M closed (r_class reads) = class (each_of_yields g M closed reads)
+each_of_yields g M closed (r_ends {n = n} h reads) = part (closed.empty n h) (each_of_yields g M closed reads)
+each_of_yields {C} {N} g M closed (r_begins {n = n} {c = c} {rest = rest} {cs = cs} {marks = marks} body e reads) =
+    let p = parted M body rest (each_of_yields g M closed reads) in
+    let Closed : Option (List (Symbol C N)) → Type 0 = λ found. MatchOption found (Unit {0})
     (λ body. (cs : List C) (marks : List Bool) → Each M body cs marks → M n (c ∷ cs) (g.deep n c ∷ marks)) in
-    let front = (subst Kept e (kept.rule n c)) p.before p.before_marks p.front_each in
+    let front = (subst Closed e (closed.rule n c)) p.before p.before_marks p.front_each in
     let all : Each M (Part n ∷ rest) (c ∷ (p.before ++ p.after)) (g.deep n c ∷ (p.before_marks ++ p.after_marks)) = part front p.back_each in
     subst (λ (x : List C). Each M (Part n ∷ rest) (c ∷ x) (g.deep n c ∷ marks)) (sym p.tokens)
     (subst (λ (x : List Bool). Each M (Part n ∷ rest) (c ∷ (p.before ++ p.after)) (g.deep n c ∷ x)) (sym p.all_marks) all)
 
 -- so what a part reads has its meaning
-pub meaning : {C N : Type 0} (g : Rules C N) (M : N → List C → List Bool → Type 0) → IsKept g M
+pub meaning : {C N : Type 0} (g : Rules C N) (M : N → List C → List Bool → Type 0) → IsClosedUnder g M
     → (n : N) (cs : List C) (marks : List Bool) → Derives g n cs marks → M n cs marks
-meaning {C} {N} g M kept n cs marks reads = alone (each_of_reads g M kept reads)
+meaning {C} {N} g M closed n cs marks reads = alone (each_of_yields g M closed reads)
   where
     ended : {front : List C} {front_marks : List Bool} {ds : List C} {others : List Bool} → M n front front_marks → Each M [] ds others
         → M n (front ++ ds) (front_marks ++ others)
@@ -98,11 +98,11 @@ meaning {C} {N} g M kept n cs marks reads = alone (each_of_reads g M kept reads)
     alone (part m rest) = ended m rest
 
 -- and symbols in a row read what each reads
-pub reads_of_each : {C N : Type 0} {g : Rules C N} {symbols : List (Symbol C N)} {cs : List C} {marks : List Bool}
-    → Each (Derives g) symbols cs marks → Reads g symbols cs marks
-reads_of_each none = done
-reads_of_each (class each) = r_class (reads_of_each each)
-reads_of_each (part reads each) = reads-append reads (reads_of_each each)
+pub yields_of_each : {C N : Type 0} {g : Rules C N} {symbols : List (Symbol C N)} {cs : List C} {marks : List Bool}
+    → Each (Derives g) symbols cs marks → Yields g symbols cs marks
+yields_of_each none = done
+yields_of_each (class each) = r_class (yields_of_each each)
+yields_of_each (part reads each) = yields-append reads (yields_of_each each)
 
 -- a part without tokens
 pub derives-end : {C N : Type 0} {g : Rules C N} (n : N) → IsTrue (g.may_end n) → Derives g n [] []
@@ -115,4 +115,4 @@ pub derives-begin : {C N : Type 0} {g : Rules C N} (n : N) (c : C) (body : List 
 derives-begin {C} {N} {g} n c body e {cs = cs} {marks = marks} {others = others} each tokens all_marks =
     subst (λ (x : List C). Derives g n x others) (sym tokens)
     (subst (λ (x : List Bool). Derives g n (c ∷ cs) x) (sym all_marks)
-    (r_begins body e (subst (λ (s : List (Symbol C N)). Reads g s cs marks) (sym (append-nil body)) (reads_of_each each))))
+    (r_begins body e (subst (λ (s : List (Symbol C N)). Yields g s cs marks) (sym (append-nil body)) (yields_of_each each))))
