@@ -9,11 +9,12 @@ use Rattle.pc_syntax.specs.declared.term.NodeTerm.{NodeTerm}
 use Rattle.ll_grammar.specs.Rules.{Derives}
 use Rattle.ll_grammar.specs.declared.grammar.Symbol.{Symbol}
 use Rattle.ll_grammar.specs.declared.grammar.Symbol.TheVariants.{Class, Part}
-use Rattle.ll_grammar.proofs.Meanings.{IsKept, meaning}
-use Rattle.uspec_parser.proofs.Told.{Payload, tell, AllTold, some_lexeme, told_somes, terminals-somes, EachTold, Means, rule_of}
-use Rattle.uspec_parser.proofs.Told.EachTold.{none, class, part}
+use Rattle.ll_grammar.proofs.DerivesLaws.{IsClosedUnder, meaning}
+use Rattle.uspec_parser.proofs.Payloads.{Payload, with_payload, HavePayloads, some_lexeme, payloads-somes, terminals-somes, EachWithPayload, Means, rule_of}
+use Rattle.uspec_parser.proofs.Payloads.EachWithPayload.{none, class, part}
 use Rattle.uspec_parser.specs.Terminals.{Lexeme, plain, name_, quoted, terminal}
-use Rattle.uspec_parser.specs.Operands.{Connective, conjoins, disjoins, implies}
+use Rattle.uspec_parser.specs.declared.operands.Connective.{Connective}
+use Rattle.uspec_parser.specs.declared.operands.Connective.TheVariants.{And as conjoins, Or as disjoins, Implies as implies}
 use Rattle.uspec_parser.specs.Syntax.{spelled_arg, spelled_location, spelled_node, Label, named, other, spelled_label, Labels, unlabelled, labelled, coloured, spelled_labels, Edge as EdgeText, spelled_edge, empty, some, spelled_others, spelled_elements, Atom, one_edge, one_node, edge_list, node_list, expand, predicate, spelled_atom, spelled_sort, spelled_connective, Formula, last, last_wide, more, atom, bracketed, negated, binding, negated_wide, spelled_formula, Item, stage, axiom_item, macro, spelled_model}
 use Rattle.uspec_parser.specs.Levels.{is_deep, level_of, behind_and, behind_or, behind_implies}
 use Rattle.uspec_parser.specs.Marks.{shallow, open_at, level_behind, marks_formula, marks_outer, marks_model, IsMarkedFormula, IsMarkedModel}
@@ -83,7 +84,7 @@ texts-end MoreEdges h = absurd (cc)
 -- that a rule spells a text
 abbrev Keeps : Phrase → Terminal → List (Symbol Terminal Phrase) → Type 0
 Keeps n c body =
-    (p : Payload c) (xs : List Lexeme) (marks : List Bool) → EachTold Texts body xs marks → Texts n (tell c p ∷ xs) (deep n c ∷ marks)
+    (p : Payload c) (xs : List Lexeme) (marks : List Bool) → EachWithPayload Texts body xs marks → Texts n (with_payload c p ∷ xs) (deep n c ∷ marks)
 
 items_stage : Keeps Items StageName (Class Number ∷ Class Quoted ∷ Class Dot ∷ Part Items ∷ [])
 items_stage _ _ _ (class n (class w (class _ (part (is, e, f) none)))) =
@@ -365,38 +366,38 @@ rule MoreEdges CloseBracket = more_edges_close
 rule MoreEdges Semicolon = more_edges_semicolon
 rule MoreEdges _ = tt
 
-kept : IsKept rules (Means Texts)
-kept = record {
+closed_rules : IsClosedUnder rules (Means Texts)
+closed_rules = record {
   empty = λ n h. ended n h;
   rule = λ n c. rule_of Texts n c (behind n c) (rule n c);
 }
   where
     ended : (n : Phrase) → IsTrue (may_end n) → Means Texts n [] []
-    ended n h [] told e = texts-end n h
-    ended n h (x ∷ xs) told e = absurd (cc)
+    ended n h [] payloads e = texts-end n h
+    ended n h (x ∷ xs) payloads e = absurd (cc)
 
 -- whatever lexemes have terminals that a phrase reads are a text of it
-texts_read : (n : Phrase) (xs : List Lexeme) (marks : List Bool) → AllTold xs → Derives rules n (map terminal xs) marks → Texts n xs marks
-texts_read n xs marks told reads = meaning rules (Means Texts) kept n (map terminal xs) marks reads xs told refl
+texts_read : (n : Phrase) (xs : List Lexeme) (marks : List Bool) → HavePayloads xs → Derives rules n (map terminal xs) marks → Texts n xs marks
+texts_read n xs marks payloads reads = meaning rules (Means Texts) closed_rules n (map terminal xs) marks reads xs payloads refl
 
-pub model_read : (xs : List Lexeme) (marks : List Bool) → AllTold xs → Derives rules Items (map terminal xs) marks
+pub model_read : (xs : List Lexeme) (marks : List Bool) → HavePayloads xs → Derives rules Items (map terminal xs) marks
     → (is : List Item) × (xs ≡ spelled_model is) × (marks ≡ marks_model is)
-model_read xs marks told reads = texts_read Items xs marks told reads
+model_read xs marks payloads reads = texts_read Items xs marks payloads reads
 
-pub formula_read : (xs : List Lexeme) (marks : List Bool) → AllTold xs → Derives rules (Operand (level_of 0) 0) (map terminal xs) marks
+pub formula_read : (xs : List Lexeme) (marks : List Bool) → HavePayloads xs → Derives rules (Operand (level_of 0) 0) (map terminal xs) marks
     → (f : Formula) × (xs ≡ spelled_formula f) × (marks ≡ marks_outer f)
-formula_read xs marks told reads = texts_read (Operand (level_of 0) 0) xs marks told reads
+formula_read xs marks payloads reads = texts_read (Operand (level_of 0) 0) xs marks payloads reads
 
 pub marked_model_of : (cs : List Terminal) (marks : List Bool) → Derives rules Items cs marks → IsMarkedModel cs marks
 marked_model_of cs marks reads =
     let all = terminals-somes cs in
-    let (is, e, f) = model_read (map some_lexeme cs) marks (told_somes cs) (subst (λ (ds : List Terminal). Derives rules Items ds marks) (sym all) reads) in
+    let (is, e, f) = model_read (map some_lexeme cs) marks (payloads-somes cs) (subst (λ (ds : List Terminal). Derives rules Items ds marks) (sym all) reads) in
     (is, sym all ∙ ap (map terminal) e, f)
 
 pub marked_formula_of : (cs : List Terminal) (marks : List Bool) → Derives rules (Operand (level_of 0) 0) cs marks
     → IsMarkedFormula cs marks
 marked_formula_of cs marks reads =
     let all = terminals-somes cs in
-    let (b, e, f) = formula_read (map some_lexeme cs) marks (told_somes cs)
+    let (b, e, f) = formula_read (map some_lexeme cs) marks (payloads-somes cs)
     (subst (λ (ds : List Terminal). Derives rules (Operand (level_of 0) 0) ds marks) (sym all) reads) in
     (b, sym all ∙ ap (map terminal) e, f)

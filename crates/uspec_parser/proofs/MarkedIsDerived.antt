@@ -9,10 +9,11 @@ use Rattle.pc_syntax.specs.declared.term.Arg.TheVariants.{Word as word_arg, Numb
 use Rattle.pc_syntax.specs.declared.term.NodeTerm.{NodeTerm}
 use Rattle.ll_grammar.specs.Rules.{Derives}
 use Rattle.ll_grammar.specs.declared.grammar.Symbol.TheVariants.{Class, Part}
-use Rattle.ll_grammar.proofs.Meanings.{derives-begin, derives-end}
-use Rattle.ll_grammar.proofs.Meanings.Each.{none, class, part}
+use Rattle.ll_grammar.proofs.DerivesLaws.{derives-begin, derives-end}
+use Rattle.ll_grammar.proofs.DerivesLaws.Each.{none, class, part}
 use Rattle.uspec_parser.specs.Terminals.{Lexeme, plain, name_, quoted, terminal}
-use Rattle.uspec_parser.specs.Operands.{Connective, conjoins, disjoins, implies}
+use Rattle.uspec_parser.specs.declared.operands.Connective.{Connective}
+use Rattle.uspec_parser.specs.declared.operands.Connective.TheVariants.{And as conjoins, Or as disjoins, Implies as implies}
 use Rattle.uspec_parser.specs.Syntax.{spelled_arg, spelled_location, spelled_node, Label, named, other, spelled_label, Labels, unlabelled, labelled, coloured, spelled_labels, Edge as EdgeText, spelled_edge, Listing, empty, some, spelled_others, spelled_elements, Atom, one_edge, one_node, edge_list, node_list, expand, predicate, spelled_atom, spelled_sort, spelled_quantifier_word, spelled_connective, Formula, last, last_wide, more, Operand as OperandText, atom, bracketed, negated, Wide, binding, negated_wide, spelled_formula, spelled_operand, spelled_wide, Item, stage, axiom_item, macro, spelled_model}
 use Rattle.uspec_parser.specs.Levels.{is_deep, level_of, behind_and, behind_or, behind_implies}
 use Rattle.uspec_parser.specs.Marks.{shallow, open_at, level_behind, marks_formula, marks_operand, marks_wide, marks_model, IsMarkedFormula, IsMarkedModel}
