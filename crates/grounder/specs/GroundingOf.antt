@@ -8,17 +8,17 @@ use Rattle.pc_syntax.specs.Closed.{PlainClosed}
 use Rattle.pc_ground.specs.PlainGround.{PlainGround, simplified}
 use Rattle.pc_ground.specs.Unfolded.{closed_unfolded}
 use Rattle.static_preds.specs.Values.{meanings}
-use Rattle.grounder.specs.declared.connective.Connective.{Connective}
+use Rattle.grounder.specs.declared.operator.Operator.{Operator}
 use Rattle.grounder.specs.Members.{unfolded_all}
 
-abbrev pub said : Case → List Bound → PlainClosed → PlainGround
-said c slots p = simplified (closed_unfolded c (meanings slots) p)
+abbrev pub grounding_of : Case → List Bound → PlainClosed → PlainGround
+grounding_of c slots p = simplified (closed_unfolded c (meanings slots) p)
 
 -- the body of a quantifier, where its variable has this value
-abbrev pub said_at : Case → List Bound → PlainClosed → Meaning → PlainGround
-said_at c slots p v = simplified (closed_unfolded c (meanings slots ++ v ∷ []) p)
+abbrev pub grounding_at : Case → List Bound → PlainClosed → Meaning → PlainGround
+grounding_at c slots p v = simplified (closed_unfolded c (meanings slots ++ v ∷ []) p)
 
 -- a quantifier, which joins its body's meaning at each value of its range
-abbrev pub said_over : Connective → Case → List Bound → Sort → PlainClosed → PlainGround
-said_over con c slots sort p =
+abbrev pub grounding_over : Operator → Case → List Bound → Sort → PlainClosed → PlainGround
+grounding_over con c slots sort p =
     simplified (unfolded_all con (map (λ v. closed_unfolded c (meanings slots ++ v ∷ []) p) (range_of c sort)))

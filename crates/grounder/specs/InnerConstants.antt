@@ -11,10 +11,10 @@ HasNoConstant (ground_and g h) = HasNoConstant g × HasNoConstant h
 HasNoConstant (ground_or g h) = HasNoConstant g × HasNoConstant h
 
 -- one stands only where it is the whole formula
-abbrev pub IsFolded : PlainGround → Type 0
-IsFolded ground_true = Unit {0}
-IsFolded ground_false = Unit {0}
-IsFolded (ground_literal l) = Unit {0}
-IsFolded (ground_not g) = HasNoConstant g
-IsFolded (ground_and g h) = HasNoConstant g × HasNoConstant h
-IsFolded (ground_or g h) = HasNoConstant g × HasNoConstant h
+abbrev pub HasNoInnerConstant : PlainGround → Type 0
+HasNoInnerConstant ground_true = Unit {0}
+HasNoInnerConstant ground_false = Unit {0}
+HasNoInnerConstant (ground_literal l) = Unit {0}
+HasNoInnerConstant (ground_not g) = HasNoConstant g
+HasNoInnerConstant (ground_and g h) = HasNoConstant g × HasNoConstant h
+HasNoInnerConstant (ground_or g h) = HasNoConstant g × HasNoConstant h

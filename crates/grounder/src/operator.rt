@@ -1,6 +1,6 @@
 ghost use Rattle.std.specs.Prelude.{◌≡◌, ◌++◌, ◌∷◌, ◌↔◌, IsTrue, List, map, IfOk, MatchBool};
 ghost use Rattle.pc_ground.specs.PlainGround.{PlainGround, plain_ground};
-ghost use Rattle.grounder.specs.Members.{unit_of, decider_of, joined, joined_all};
+ghost use Rattle.grounder.specs.Members.{unit_of, decider_of, with_member, whole_of};
 
 use pc_common::Memory;
 use pc_ground::Ground;
@@ -8,19 +8,19 @@ use std::alloc::Global;
 
 /// What joins the members of a list or of a range.
 #[derive(Clone, Copy)]
-pub(crate) enum Connective {
+pub(crate) enum Operator {
     And,
     Or,
 }
 
-impl Connective {
+impl Operator {
     /// The whole of no members.
     fn unit(self) -> Ground
         ensures { plain_ground result ≡ unit_of self }
     {
         match self {
-            Connective::And => Ground::True,
-            Connective::Or => Ground::False,
+            Operator::And => Ground::True,
+            Operator::Or => Ground::False,
         }
     }
 
@@ -29,18 +29,18 @@ impl Connective {
         ensures { plain_ground result ≡ decider_of self }
     {
         match self {
-            Connective::And => Ground::False,
-            Connective::Or => Ground::True,
+            Operator::And => Ground::False,
+            Operator::Or => Ground::True,
         }
     }
 
     /// A member before the rest.
     pub(crate) fn join(self, alloc: Global, member: Ground, rest: Ground) -> Result<Ground, Memory>
-        ensures { IfOk result (λ g. plain_ground g ≡ joined self (plain_ground member) (plain_ground rest)) }
+        ensures { IfOk result (λ g. plain_ground g ≡ with_member self (plain_ground member) (plain_ground rest)) }
     {
         match self {
-            Connective::And => Ground::conjunction(alloc, member, rest),
-            Connective::Or => Ground::disjunction(alloc, member, rest),
+            Operator::And => Ground::conjunction(alloc, member, rest),
+            Operator::Or => Ground::disjunction(alloc, member, rest),
         }
     }
 
@@ -49,7 +49,7 @@ impl Connective {
         ensures { IsTrue result ↔ (plain_ground member.now ≡ decider_of self) }
     {
         match (self, member) {
-            (Connective::And, Ground::False) | (Connective::Or, Ground::True) => true,
+            (Operator::And, Ground::False) | (Operator::Or, Ground::True) => true,
             _ => false,
         }
     }
@@ -59,19 +59,19 @@ impl Connective {
         ensures { IsTrue result ↔ (plain_ground member.now ≡ unit_of self) }
     {
         match (self, member) {
-            (Connective::And, Ground::True) | (Connective::Or, Ground::False) => true,
+            (Operator::And, Ground::True) | (Operator::Or, Ground::False) => true,
             _ => false,
         }
     }
 
     /// Puts a member behind those that are kept, unless it is a constant. True where it decides the
     /// whole.
-    #[tactic(auto, using(crate::proofs::Joining::decided, crate::proofs::Joining::skipped, crate::proofs::Joining::put_last))]
+    #[tactic(auto, using(crate::proofs::WithMembers::decided, crate::proofs::WithMembers::skipped, crate::proofs::WithMembers::put_last))]
     pub(crate) fn keep(self, kept: &mut Vec<Ground>, member: Ground) -> Result<bool, Memory>
         ensures { let before = map plain_ground kept.old.items in let after = map plain_ground kept.new.items in
             IfOk result (λ decided. (rest : List PlainGround) → MatchBool decided
-            (joined_all self (before ++ plain_ground member ∷ rest) ≡ decider_of self)
-            (joined_all self (before ++ plain_ground member ∷ rest) ≡ joined_all self (after ++ rest))) }
+            (whole_of self (before ++ plain_ground member ∷ rest) ≡ decider_of self)
+            (whole_of self (before ++ plain_ground member ∷ rest) ≡ whole_of self (after ++ rest))) }
     {
         if self.is_decided_by(&member) {
             return Ok(true);
@@ -84,7 +84,7 @@ impl Connective {
 
     /// The whole of these members, built from the last one.
     pub(crate) fn join_all(self, alloc: Global, members: Vec<Ground>) -> Result<Ground, Memory>
-        ensures { IfOk result (λ g. plain_ground g ≡ joined_all self (map plain_ground members.items)) }
+        ensures { IfOk result (λ g. plain_ground g ≡ whole_of self (map plain_ground members.items)) }
     {
         let mut members = members;
         let mut whole = self.unit();

@@ -10,7 +10,7 @@ use Rattle.pc_ground.specs.Tree.{Tree, always, never, leaf, both, either}
 use Rattle.pc_ground.specs.Rows.{rows_of}
 use Rattle.pc_ground.specs.declared.row.Row.{Row}
 use Rattle.pc_ground.specs.Numbers.{nodes_of_literal, nodes_of_tree, first_seen, numbered, seen}
-use Rattle.normal_form.specs.Seen.{nodes_of_row, all_seen}
+use Rattle.normal_form.specs.RowNodes.{nodes_of_row, numbering_after}
 
 pub nodes_of-rows : {N : Type 0} (t : Tree N) → flat_map nodes_of_row (rows_of t) ≡ nodes_of_tree t
 nodes_of-rows always = refl
@@ -19,20 +19,20 @@ nodes_of-rows (leaf l) = append-nil (nodes_of_literal l)
 nodes_of-rows (both a b) = flat_map-append nodes_of_row (rows_of a) (rows_of b) ∙ cc (nodes_of-rows a, nodes_of-rows b)
 nodes_of-rows (either a b) = flat_map-append nodes_of_row (rows_of a) (rows_of b) ∙ cc (nodes_of-rows a, nodes_of-rows b)
 
-all_seen-append : (nodes xs ys : List Node) → all_seen nodes (xs ++ ys) ≡ all_seen (all_seen nodes xs) ys
-all_seen-append nodes [] ys = refl
-all_seen-append nodes (x ∷ xs) ys = all_seen-append (seen nodes x) xs ys
+numbering_after-append : (nodes xs ys : List Node) → numbering_after nodes (xs ++ ys) ≡ numbering_after (numbering_after nodes xs) ys
+numbering_after-append nodes [] ys = refl
+numbering_after-append nodes (x ∷ xs) ys = numbering_after-append (seen nodes x) xs ys
 
 -- one more row
 pub see_more : (old new : List Node) (rows : List (Row Node)) (k : ℕ) (r : Row Node) → k < length rows → slice_get rows k ≡ Some r
-    → new ≡ all_seen old (nodes_of_row r)
-    → all_seen new (flat_map nodes_of_row (drop (k + 1) rows)) ≡ all_seen old (flat_map nodes_of_row (drop k rows))
+    → new ≡ numbering_after old (nodes_of_row r)
+    → numbering_after new (flat_map nodes_of_row (drop (k + 1) rows)) ≡ numbering_after old (flat_map nodes_of_row (drop k rows))
 see_more old new rows k r lt here e =
     let rest = drop (k + 1) rows in
-    ap (λ nodes. all_seen nodes (flat_map nodes_of_row rest)) e
-    ∙ sym (all_seen-append old (nodes_of_row r) (flat_map nodes_of_row rest))
-    ∙ ap (λ (x : Row Node). all_seen old (flat_map nodes_of_row (x ∷ rest))) (sym (get_or_from_slice_get rows k r r here))
-    ∙ ap (λ xs. all_seen old (flat_map nodes_of_row xs)) (sym (drop_more rows k r lt))
+    ap (λ nodes. numbering_after nodes (flat_map nodes_of_row rest)) e
+    ∙ sym (numbering_after-append old (nodes_of_row r) (flat_map nodes_of_row rest))
+    ∙ ap (λ (x : Row Node). numbering_after old (flat_map nodes_of_row (x ∷ rest))) (sym (get_or_from_slice_get rows k r r here))
+    ∙ ap (λ xs. numbering_after old (flat_map nodes_of_row xs)) (sym (drop_more rows k r lt))
 
 -- both lists have the same nodes
 abbrev HaveSame : List Node → List Node → Type 0
@@ -50,16 +50,16 @@ same_with nodes before x h = λ a.
 
 first_or_again : (nodes before : List Node) (x : Node) (xs : List Node) (again : Bool)
     → list_any (same_node x) nodes ≡ again → list_any (same_node x) before ≡ again
-    → all_seen nodes xs ≡ nodes ++ first_seen before xs → all_seen (nodes ++ x ∷ []) xs ≡ nodes ++ x ∷ [] ++ first_seen (x ∷ before) xs
-    → all_seen nodes (x ∷ xs) ≡ nodes ++ first_seen before (x ∷ xs)
+    → numbering_after nodes xs ≡ nodes ++ first_seen before xs → numbering_after (nodes ++ x ∷ []) xs ≡ nodes ++ x ∷ [] ++ first_seen (x ∷ before) xs
+    → numbering_after nodes (x ∷ xs) ≡ nodes ++ first_seen before (x ∷ xs)
 first_or_again nodes before x xs true e f old new = rw (e, f) old
 first_or_again nodes before x xs false e f old new = rw (e, f) (new ∙ append_assoc nodes (x ∷ []) (first_seen (x ∷ before) xs))
 
-all_seen-first : (nodes before xs : List Node) → HaveSame nodes before → all_seen nodes xs ≡ nodes ++ first_seen before xs
-all_seen-first nodes before [] h = sym (append-nil nodes)
-all_seen-first nodes before (x ∷ xs) h =
-    first_or_again nodes before x xs (list_any (same_node x) before) (h x) refl (all_seen-first nodes before xs h)
-    (all_seen-first (nodes ++ x ∷ []) (x ∷ before) xs (same_with nodes before x h))
+numbering_after-first : (nodes before xs : List Node) → HaveSame nodes before → numbering_after nodes xs ≡ nodes ++ first_seen before xs
+numbering_after-first nodes before [] h = sym (append-nil nodes)
+numbering_after-first nodes before (x ∷ xs) h =
+    first_or_again nodes before x xs (list_any (same_node x) before) (h x) refl (numbering_after-first nodes before xs h)
+    (numbering_after-first (nodes ++ x ∷ []) (x ∷ before) xs (same_with nodes before x h))
 
-pub all_seen-numbered : (t : Tree Node) → all_seen [] (flat_map nodes_of_row (rows_of t)) ≡ numbered t
-all_seen-numbered t = ap (all_seen []) (nodes_of-rows t) ∙ all_seen-first [] [] (nodes_of_tree t) (λ a. refl)
+pub numbering_after-numbered : (t : Tree Node) → numbering_after [] (flat_map nodes_of_row (rows_of t)) ≡ numbered t
+numbering_after-numbered t = ap (numbering_after []) (nodes_of-rows t) ∙ numbering_after-first [] [] (nodes_of_tree t) (λ a. refl)

@@ -17,6 +17,6 @@ abbrev pub nodes_of_row : {N : Type 0} → Row N → List N
 nodes_of_row r = nodes_of_kind r.kind
 
 -- the numbering after these nodes, from one to the next
-abbrev pub all_seen : List Node → List Node → List Node
-all_seen nodes [] = nodes
-all_seen nodes (a ∷ rest) = all_seen (seen nodes a) rest
+abbrev pub numbering_after : List Node → List Node → List Node
+numbering_after nodes [] = nodes
+numbering_after nodes (a ∷ rest) = numbering_after (seen nodes a) rest

@@ -12,7 +12,7 @@ use Rattle.pc_syntax.proofs.NoFault.{none_first, none_second, none_where}
 use Rattle.macro_expand.proofs.Names.{is_same}
 use Rattle.uspec_lexer.specs.Bytes.{is_name}
 use Rattle.pc_ground.specs.Stages.{AreStages}
-use Rattle.pc_front.specs.ModelFront.{stage_said}
+use Rattle.pc_front.specs.ModelFront.{written_stage}
 
 abbrev In : {X : Type 0} → X → List X → Type 0
 In x [] = ⊥
@@ -108,16 +108,16 @@ numbers earlier (x ∷ ss) zero s f at =
 numbers earlier (x ∷ ss) (suc k) s f at =
     numbers (earlier ++ x ∷ []) ss k s (none_second (stage_fault earlier x) (stages_fault (earlier ++ x ∷ []) ss) f) at
 
--- what is said of a stage
-from_map : (ss : List StageItem) (k : ℕ) (p : StageName) → slice_get (map stage_said ss) k ≡ Some p
-    → (s : StageItem) × (slice_get ss k ≡ Some s) × (stage_said s ≡ p)
+-- a stage as written
+from_map : (ss : List StageItem) (k : ℕ) (p : StageName) → slice_get (map written_stage ss) k ≡ Some p
+    → (s : StageItem) × (slice_get ss k ≡ Some s) × (written_stage s ≡ p)
 from_map [] k p h = cc
-from_map (s ∷ ss) zero p h = (s, refl, ap (λ o. unwrap_or o (stage_said s)) h)
+from_map (s ∷ ss) zero p h = (s, refl, ap (λ o. unwrap_or o (written_stage s)) h)
 from_map (s ∷ ss) (suc k) p h = from_map ss k p h
 
-pub stages_kept : (ss : List StageItem) → stages_fault [] ss ≡ None
-    → ((k : ℕ) (s : StageItem) → slice_get ss k ≡ Some s → IsTrue (is_name s.name.name)) → AreStages (map stage_said ss)
-stages_kept ss f named = record {
+pub are_stages_of : (ss : List StageItem) → stages_fault [] ss ≡ None
+    → ((k : ℕ) (s : StageItem) → slice_get ss k ≡ Some s → IsTrue (is_name s.name.name)) → AreStages (map written_stage ss)
+are_stages_of ss f named = record {
   numbers = λ k p h. let s = from_map ss k p h in subst (λ (x : StageName). x.0 < 64) s.2 (numbers [] ss k s.0 f s.1);
   names = λ k p h. let s = from_map ss k p h in subst (λ (x : StageName). IsTrue (is_name x.1)) s.2 (named k s.0 s.1);
   one_number = λ j k p q h i same.

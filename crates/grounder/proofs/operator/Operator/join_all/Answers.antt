@@ -1,7 +1,7 @@
 use Rattle.std.proofs.Common.{◌∙◌}
 use Rattle.pc_ground.specs.PlainGround.{plain_ground}
-use Rattle.grounder.proofs.Joining.{taken_last}
-use Rattle.grounder.proofs.connective.Connective.join_all.Goals as goal
+use Rattle.grounder.proofs.WithMembers.{taken_last}
+use Rattle.grounder.proofs.operator.Operator.join_all.Goals as goal
 
 pub loop-member-preserved : goal.loop-member-preserved
 loop-member-preserved c =
