@@ -7,7 +7,7 @@ use Rattle.pc_ground.specs.declared.node_key.NodeKey.{NodeKey}
 use Rattle.pc_ground.specs.declared.line_fault.LineFault.{LineFault}
 use Rattle.pc_ground.specs.declared.line_fault.LineFault.TheVariants.{Malformed, Foreign}
 use Rattle.pc_ground.specs.Keys.{key_node}
-use Rattle.pc_ground.specs.NodeForm.{IsNodeForm, IsNodeIn, Reads, Answers, AreReadable}
+use Rattle.pc_ground.specs.NodeForm.{IsNodeForm, IsNodeIn, ReadsNode, Answers, AreReadable}
 use Rattle.pc_ground.specs.NodeWords.{Lacks, IsCut}
 use Rattle.pc_ground.proofs.Cuts.{cut_is}
 use Rattle.graph_text.specs.GraphTexts.{space, as_node, as_edge, both_ends, IsGraphLineIn, AreEndsForm, AreEndsIn, ends_words, IsGraphForm, of_node, of_edge, ReadsLine, AnswersLine, ReadsEnds, AnswersEnds}
@@ -35,7 +35,7 @@ module _ (names : Names) (words from to : List ℕ) (cut : IsCut space words fro
         cut_is space words from to (node_text names a) (node_text names b) cut (form_spaceless (node_text names a) (readable.form a inside.0), is)
 
     -- a word that was read, or names nothing, has the form of a node's text
-    read_form : (word : List ℕ) (k : NodeKey) → Reads names word (Ok k) → IsNodeForm word
+    read_form : (word : List ℕ) (k : NodeKey) → ReadsNode names word (Ok k) → IsNodeForm word
     read_form word k h = (let P : List ℕ → Type 0 = λ w. IsNodeForm w in subst P (sym h.1) (readable.form (key_node k) h.0))
 
     formed : IsNodeForm from → IsNodeForm to → AreEndsForm words
@@ -50,7 +50,7 @@ module _ (names : Names) (words from to : List ℕ) (cut : IsCut space words fro
     ends_again (Err Foreign) (Err Malformed) f g = λ a b inside is. f a inside.0 (ends_texts a b inside is).0
     ends_again (Err Foreign) (Err Foreign) f g = λ a b inside is. f a inside.0 (ends_texts a b inside is).0
 
-    pub ends_read : (r s : Result NodeKey LineFault) → Reads names from r → Reads names to s → ReadsEnds names words (both_ends r s)
+    pub ends_read : (r s : Result NodeKey LineFault) → ReadsNode names from r → ReadsNode names to s → ReadsEnds names words (both_ends r s)
     ends_read (Ok k) (Ok l) f g =
         ((f.0, g.0), cut.1 ∙ ap (λ w. w ++ space ∷ to) f.1 ∙ ap (λ w. node_text names (key_node k) ++ space ∷ w) g.1)
     ends_read (Ok k) (Err Malformed) f g = λ form. g (to_ends_form form)
@@ -93,7 +93,7 @@ module _ (names : Names) (line kind words : List ℕ) (cut : IsCut space line ki
       (λ a inside is. answers_node r a (h a inside (node_text_is a is).1))
       (λ a b inside is. absurd (words_apart (sym e ∙ (edge_text_is a b is).0)))
 
-  pub node_read : (r : Result NodeKey LineFault) → kind ≡ codes "node" → Reads names words r → ReadsLine names line (as_node r)
+  pub node_read : (r : Result NodeKey LineFault) → kind ≡ codes "node" → ReadsNode names words r → ReadsLine names line (as_node r)
   node_read (Ok k) e h = (h.0, line_is (codes "node") e ∙ ap (λ w. codes "node" ++ space ∷ w) h.1 ∙ sym (node_words_are names (key_node k)))
   node_read (Err Malformed) e h = λ form. no form
     where

@@ -8,7 +8,7 @@ ghost use Rattle.graph_text.specs.Graphs.{graph_nodes, graph_edges, graph_lines,
 
 use super::graph::Graph;
 use pc_common::{Failed, Room, Sink};
-use pc_ground::{NodeKey, NodeText, Part, put_parts};
+use pc_ground::{NodeKey, NodeText, LinePart, put_line_parts};
 
 /// Puts the line of a node.
 fn put_node_line<K: Sink>(
@@ -19,10 +19,10 @@ fn put_node_line<K: Sink>(
     requires { IsKeyIn names.now key }
     ensures { Puts K.view room.old room.new result (node_line_text names.now key) }
 {
-    put_parts(
+    put_line_parts(
         room,
         names,
-        &[Part::Bytes(b"node "), Part::Node(key), Part::Bytes(b"\n")],
+        &[LinePart::Bytes(b"node "), LinePart::Node(key), LinePart::Bytes(b"\n")],
     )
 }
 
@@ -37,15 +37,15 @@ fn put_edge_line<K: Sink>(
     requires to { IsKeyIn names.now to }
     ensures { Puts K.view room.old room.new result (edge_line_text names.now (from, to)) }
 {
-    put_parts(
+    put_line_parts(
         room,
         names,
         &[
-            Part::Bytes(b"edge "),
-            Part::Node(from),
-            Part::Bytes(b" "),
-            Part::Node(to),
-            Part::Bytes(b"\n"),
+            LinePart::Bytes(b"edge "),
+            LinePart::Node(from),
+            LinePart::Bytes(b" "),
+            LinePart::Node(to),
+            LinePart::Bytes(b"\n"),
         ],
     )
 }

@@ -2,7 +2,7 @@
 use Rattle.std.proofs.Common.{◌≡◌, ℕ, Bool, true, false, List, [], ◌∷◌, ◌++◌, Some, None, IsTrue, MatchOption, map, codes, refl, sym, ap, subst, ◌∙◌, append_assoc, if◌then◌else◌}
 use Rattle.std.proofs.lemmas.Bool.{eqb-true}
 use Rattle.std.proofs.lemmas.List.{append-nil, map-append}
-use Rattle.pc_case.specs.declared.op.Page.{Page}
+use Rattle.pc_case.specs.declared.address.Page.{Page}
 use Rattle.pc_case.specs.declared.op.Memop.{Memop}
 use Rattle.pc_common.specs.declared.place.Place.{Place}
 use Rattle.ll_grammar.specs.Rules.{Derives}

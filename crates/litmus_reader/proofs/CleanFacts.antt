@@ -10,7 +10,7 @@ use Rattle.pc_common.specs.declared.place.Place.{Place}
 use Rattle.pc_common.specs.declared.fault.FaultKind.{FaultKind}
 use Rattle.pc_common.specs.declared.fault.FaultKind.TheVariants.{CoreNumber, TooManyOps, DuplicateOp, AgainInitial, AgainFinal}
 use Rattle.pc_common.specs.Case.{Address, Value, MicroOp, Dependency, fence}
-use Rattle.pc_case.specs.Kept.{IsKept}
+use Rattle.pc_case.specs.MicroOps.{AreMicroOps}
 use Rattle.pc_case.specs.Stated.{IsStatedOnce, AreWithin}
 use Rattle.pc_case.specs.Plain.{page_at, address_at}
 use Rattle.litmus_reader.specs.Items.{microop_of, relationship_of, initial_of, final_of, microops_in, heads_in, relationships_in, initial_in, final_in, kind_said, touch_said, op_said, place_in, dependency_said, value_said}
@@ -229,7 +229,7 @@ fence_touches (reads m) = ((λ e. absurd (cc)), (λ e. absurd (cc)))
 fence_touches (writes m) = ((λ e. absurd (cc)), (λ e. absurd (cc)))
 fence_touches fences = ((λ e. refl), (λ e. refl))
 
-pub ops_kept : (items : List Item) → IsClean items → IsKept (map op_said (microops_in items))
+pub ops_kept : (items : List Item) → IsClean items → AreMicroOps (map op_said (microops_in items))
 ops_kept items clean =
     let ms = microops_in items in
     let head = λ (m : Microop). m.head in

@@ -1,7 +1,7 @@
 -- What is decided of numbers and pages.
 use Rattle.std.proofs.Common.{◌≡◌, ℕ, ◌<◌, ◌≤◌, ◌⊎◌, ⊎_elim, inl, inr, ap, arith}
 use Rattle.std.proofs.str.Laws.{order}
-use Rattle.pc_case.specs.declared.op.Page.{Page}
+use Rattle.pc_case.specs.declared.address.Page.{Page}
 
 -- a statement holds, or it never does
 abbrev pub Decided : Type 0 → Type 0

@@ -7,7 +7,7 @@ use Rattle.std.proofs.lemmas.List.{map-append}
 use Rattle.indexmap.specs.IndexMap.{IndexMap, get, insert_entry}
 use Rattle.indexmap.proofs.CallerLemmas.{insert_entry-new}
 use Rattle.pc_common.specs.declared.fault.FaultKind.{FaultKind}
-use Rattle.pc_case.specs.declared.op.Page.{Page}
+use Rattle.pc_case.specs.declared.address.Page.{Page}
 use Rattle.pc_case.specs.declared.stated.Stated.{Stated}
 use Rattle.pc_case.specs.contracts.op.PagePartialEq.TheImpl.{eq-value as page_eq}
 use Rattle.litmus_reader.specs.Values.{stated_entry, IsUnstated, IsValueAt}

@@ -1,7 +1,7 @@
 -- What is read at a place of the tokens.
 use Rattle.std.specs.Prelude.{◌≡◌, ◌⊎◌, ℕ, ◌+◌, List, [], ◌∷◌, ◌++◌, Some, length, map, drop, slice_get}
 use Rattle.uspec_lexer.specs.Token.{Token, name}
-use Rattle.pc_case.specs.declared.op.Page.{Page}
+use Rattle.pc_case.specs.declared.address.Page.{Page}
 use Rattle.pc_case.specs.declared.op.Memop.{Memop}
 use Rattle.litmus_reader.specs.Expected.{Expected, a_word, a_number, number_at, a_symbol, Is, Spell}
 use Rattle.litmus_reader.specs.Syntax.{spelled_item, spelled_access, spelled_memop, close_}

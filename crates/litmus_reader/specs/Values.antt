@@ -1,6 +1,6 @@
 -- The values that lines of one kind state, looked up by address.
 use Rattle.std.specs.Prelude.{◌≡◌, ◌≢◌, ℕ, List, Option, Some, None, Contains}
-use Rattle.pc_case.specs.declared.op.Page.{Page}
+use Rattle.pc_case.specs.declared.address.Page.{Page}
 use Rattle.pc_case.specs.declared.stated.Stated.{Stated}
 
 abbrev pub stated_entry : Page × ℕ → Stated

@@ -1,5 +1,5 @@
 ghost use Rattle.std.specs.Prelude.{◌≡◌, ◌≢◌, ℕ, ◌+◌, ◌<◌, ◌≤◌, ◌^◌, ◌↔◌, IsTrue, List, length, IfOk};
-ghost use Rattle.pc_case.specs.declared.op.Page.{Page as PagePair};
+ghost use Rattle.pc_case.specs.declared.address.Page.{Page as PagePair};
 ghost use Rattle.pc_case.specs.declared.op.Memop.{Memop as Touched};
 ghost use Rattle.litmus_reader.specs.Expected.{a_word, a_number, number_at as numeral_expected};
 ghost use Rattle.litmus_reader.specs.Syntax.{spelled_memop, spelled_head, spelled_item};

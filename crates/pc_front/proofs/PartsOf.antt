@@ -19,7 +19,7 @@ use Rattle.pc_common.specs.declared.fault.Which.{Which}
 use Rattle.litmus_reader.specs.Answer.{IsRefusal}
 use Rattle.litmus_reader.specs.declared.fault.CaseFault.{CaseFault}
 use Rattle.litmus_reader.specs.declared.fault.CaseFault.TheVariants.{Lexical as a_lexical_fault, Syntax as a_syntax_fault, Content as a_fault_of_content, Memory as no_room}
-use Rattle.pc_ground.proofs.UnfoldedClosing.{closed_tree}
+use Rattle.pc_ground.proofs.KeptTrees.{closed_tree}
 use Rattle.pc_ground.specs.declared.parts.Parts.{Parts}
 use Rattle.pc_ground.specs.declared.front.Front.{Front}
 use Rattle.pc_front.specs.declared.model_front.FrontEnd.{FrontEnd}

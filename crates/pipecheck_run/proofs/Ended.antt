@@ -13,7 +13,7 @@ use Rattle.pc_common.specs.declared.fault.Which.TheVariants.{Model, Test}
 use Rattle.pc_common.specs.declared.reading.ReadEnd.{ReadEnd}
 use Rattle.pc_common.specs.declared.reading.ReadEnd.TheVariants.{ReadFault as an_outside_fault, TooLarge as past_limit, Memory as no_memory}
 use Rattle.pc_common.specs.declared.status.Status.TheVariants.{Usage, Refused, ReadFault, Memory}
-use Rattle.pc_case.specs.Kept.{IsKept}
+use Rattle.pc_case.specs.MicroOps.{AreMicroOps}
 use Rattle.pc_ground.specs.declared.front.Front.{Front}
 use Rattle.pc_front.specs.Front.{SayFront}
 use Rattle.litmus_reader.specs.Answer.{CaseOf}
@@ -122,8 +122,8 @@ fault_held holds i f (in_bytes rm rt is) (inl none) = some_none (sym rm.held ∙
 fault_held holds i f (in_bytes rm rt is) (inr (first, none)) = some_none (sym rt.held ∙ none)
 
 -- a test that is read keeps its micro-ops
-pub test_kept : (bytes : List ℕ) (c : Case) → CaseOf bytes c → IsKept c.ops
-test_kept bytes c said = subst (λ (d : Case). IsKept d.ops) (sym said.is) (ops_kept said.items said.clean)
+pub test_kept : (bytes : List ℕ) (c : Case) → CaseOf bytes c → AreMicroOps c.ops
+test_kept bytes c said = subst (λ (d : Case). AreMicroOps d.ops) (sym said.is) (ops_kept said.items said.clean)
 
 ended_writable : (file : Which) (end : ReadEnd) (a : Answer) → IsEnded file end a → CanBeWritten a
 ended_writable file an_outside_fault a is = subst CanBeWritten (sym is) tt

@@ -4,7 +4,7 @@ use Rattle.std.specs.Prelude.{Contains, All}
 use Rattle.pc_common.specs.Case.{Case}
 use Rattle.pc_common.specs.World.{Node, Edge}
 use Rattle.pc_common.proofs.Elements.{In, in_map, contains_from_in}
-use Rattle.pc_case.specs.Kept.{IsKept}
+use Rattle.pc_case.specs.MicroOps.{AreMicroOps}
 use Rattle.pc_syntax.specs.declared.model.StageItem.{StageItem}
 use Rattle.pc_syntax.specs.Written.{stage_numbers, WrittenModel}
 use Rattle.pc_syntax.specs.Observable.{IsNodeOf}
@@ -61,9 +61,9 @@ all_nodes P xs each k d inside = each (get_or xs k d) (contains_from_in (get_or 
 pub same_tree : (m : WrittenModel) (c : Case) (front : Front) → IsFrontOf m c front → closed_ground_tree front.case (plain_axioms front.axioms) ≡ ground_tree m c
 same_tree m c front is = rows_injective (closed_ground_tree front.case (plain_axioms front.axioms)) (ground_tree m c) (sym front.grounded ∙ is.tree)
 
-module _ (m : WrittenModel) (c : Case) (front : Front) (is : IsFrontOf m c front) (kept : IsKept c.ops) where
-  kept_here : IsKept front.case.ops
-  kept_here = subst (λ (d : Case). IsKept d.ops) (sym is.parts.case) kept
+module _ (m : WrittenModel) (c : Case) (front : Front) (is : IsFrontOf m c front) (kept : AreMicroOps c.ops) where
+  kept_here : AreMicroOps front.case.ops
+  kept_here = subst (λ (d : Case). AreMicroOps d.ops) (sym is.parts.case) kept
 
   -- each node of the tree is written by the front's names
   tree_node : (a : Node) → Contains (nodes_of_tree (ground_tree m c)) a → IsNodeIn (names_of front) a

@@ -5,7 +5,7 @@ use Rattle.pc_common.specs.Faults.{Rose}
 use Rattle.pc_common.specs.Reads.{Reads}
 use Rattle.pc_common.specs.declared.status.Status.{Status}
 use Rattle.pc_common.specs.declared.status.Status.TheVariants.{Usage, ReadFault, Memory}
-use Rattle.pc_case.specs.Kept.{IsKept}
+use Rattle.pc_case.specs.MicroOps.{AreMicroOps}
 use Rattle.pc_syntax.specs.Written.{WrittenModel}
 use Rattle.pc_ground.specs.declared.front.Front.{Front}
 use Rattle.pc_front.specs.Front.{IsFrontOf}
@@ -22,7 +22,7 @@ pub record HasFront {F : Type 0} (told : F → Bool) (holds : F → Contents) (c
   pub m : WrittenModel
   pub c : Case
   pub front_of : IsFrontOf m c front
-  pub kept : IsKept c.ops
+  pub kept : AreMicroOps c.ops
   pub says : IsTrue (told old) → Says (holds old) i m c
   pub held : IsTrue (calm old) → LacksInput (holds old) i → ⊥
 

@@ -6,7 +6,7 @@ use super::node_row::NodeRow;
 use super::words::first_word;
 use pc_ground::{LineFault, NodeText};
 
-/// Reads a word as a node. Where it is one of these names, it goes into the row, and the answer is true; where it has
+/// ReadsNode a word as a node. Where it is one of these names, it goes into the row, and the answer is true; where it has
 /// the form of a node and is none, the answer is false.
 fn read_node(names: &NodeText<'_>, word: &[u8], row: &mut NodeRow) -> Result<bool, LineFault>
     requires { length row.old.nodes < row.old.spare }
@@ -23,7 +23,7 @@ fn read_node(names: &NodeText<'_>, word: &[u8], row: &mut NodeRow) -> Result<boo
     }
 }
 
-/// Reads each word of the text as a node, and puts the nodes into an empty row.
+/// ReadsNode each word of the text as a node, and puts the nodes into an empty row.
 ///
 /// `Malformed` where a word has no form of a node; `Foreign` where all have, and one is no node of these names.
 pub(crate) fn read_nodes(

@@ -13,7 +13,7 @@ use super::step_head::StepHead;
 use super::words::first_word;
 use pc_ground::{LineFault, NodeText, decimal_value};
 
-/// Reads a line of one word.
+/// ReadsNode a line of one word.
 fn read_alone(word: &[u8]) -> Result<StepHead, LineFault>
     ensures { (names : Names) → ReadsWords names (word.now ∷ []) [] result }
 {
@@ -24,7 +24,7 @@ fn read_alone(word: &[u8]) -> Result<StepHead, LineFault>
     }
 }
 
-/// Reads what stands behind the word `split`.
+/// ReadsNode what stands behind the word `split`.
 fn read_split(digits: &[u8]) -> Result<StepHead, LineFault>
     ensures { (names : Names) → ReadsWords names (codes "split" ∷ words digits.now) [] result }
 {
@@ -34,7 +34,7 @@ fn read_split(digits: &[u8]) -> Result<StepHead, LineFault>
     }
 }
 
-/// Reads what stands behind the word `cycle`.
+/// ReadsNode what stands behind the word `cycle`.
 fn read_cycle(names: &NodeText<'_>, rest: &[u8], row: &mut NodeRow) -> Result<StepHead, LineFault>
     requires empty { row.old.nodes ≡ [] }
     requires room { length (words rest.now) ≤ row.old.spare }
@@ -45,7 +45,7 @@ fn read_cycle(names: &NodeText<'_>, rest: &[u8], row: &mut NodeRow) -> Result<St
     Ok(StepHead::Cycle)
 }
 
-/// Reads what stands behind the word `path`: two nodes at least.
+/// ReadsNode what stands behind the word `path`: two nodes at least.
 fn read_path(names: &NodeText<'_>, rest: &[u8], row: &mut NodeRow) -> Result<StepHead, LineFault>
     requires empty { row.old.nodes ≡ [] }
     requires room { length (words rest.now) ≤ row.old.spare }
@@ -59,7 +59,7 @@ fn read_path(names: &NodeText<'_>, rest: &[u8], row: &mut NodeRow) -> Result<Ste
     Ok(StepHead::Path)
 }
 
-/// Reads what stands behind the word `absent`: one node.
+/// ReadsNode what stands behind the word `absent`: one node.
 fn read_absent(names: &NodeText<'_>, rest: &[u8], row: &mut NodeRow) -> Result<StepHead, LineFault>
     requires empty { row.old.nodes ≡ [] }
     requires room { length (words rest.now) ≤ row.old.spare }
@@ -73,7 +73,7 @@ fn read_absent(names: &NodeText<'_>, rest: &[u8], row: &mut NodeRow) -> Result<S
     Ok(StepHead::Absent)
 }
 
-/// Reads a line of two words at least, with an empty row.
+/// ReadsNode a line of two words at least, with an empty row.
 fn read_rest(
     names: &NodeText<'_>,
     word: &[u8],
@@ -98,7 +98,7 @@ fn read_rest(
     }
 }
 
-/// Reads a line word by word, with an empty row.
+/// ReadsNode a line word by word, with an empty row.
 fn read_words(names: &NodeText<'_>, line: &[u8], row: &mut NodeRow) -> Result<StepHead, LineFault>
     requires empty { row.old.nodes ≡ [] }
     requires room { spaces line.now ≤ row.old.spare }
@@ -112,7 +112,7 @@ fn read_words(names: &NodeText<'_>, line: &[u8], row: &mut NodeRow) -> Result<St
     }
 }
 
-/// Reads a step line, without its LF, and leaves its nodes in the row, which it empties first. Takes no memory.
+/// ReadsNode a step line, without its LF, and leaves its nodes in the row, which it empties first. Takes no memory.
 ///
 /// `Malformed` where the line has no form of a step line, whatever its nodes name; `Foreign` where it has, and a node
 /// of it is not of these names. After either the row is empty.

@@ -13,7 +13,7 @@ use super::list::Refutation;
 use super::step::{Nodes, Step};
 use itoa::Buffer;
 use pc_common::{Failed, Room, Sink};
-use pc_ground::{NodeKey, NodeText, Part, put_parts};
+use pc_ground::{NodeKey, NodeText, LinePart, put_line_parts};
 
 /// Puts a space and a node.
 fn put_node<K: Sink>(
@@ -24,7 +24,7 @@ fn put_node<K: Sink>(
     requires { IsNodeIn names.now (key_node key) }
     ensures { Puts K.view room.old room.new result (nodes_text names.now (key_node key ∷ [])) }
 {
-    put_parts(room, names, &[Part::Bytes(b" "), Part::Node(key)])
+    put_line_parts(room, names, &[LinePart::Bytes(b" "), LinePart::Node(key)])
 }
 
 /// Puts the nodes, each behind a space.
@@ -74,10 +74,10 @@ fn put_absent<K: Sink>(
     requires { IsNodeIn names.now (key_node key) }
     ensures { Puts K.view room.old room.new result (step_text names.now (absent (key_node key))) }
 {
-    put_parts(
+    put_line_parts(
         room,
         names,
-        &[Part::Bytes(b"absent "), Part::Node(key), Part::Bytes(b"\n")],
+        &[LinePart::Bytes(b"absent "), LinePart::Node(key), LinePart::Bytes(b"\n")],
     )
 }
 

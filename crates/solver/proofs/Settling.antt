@@ -16,7 +16,7 @@ use Rattle.pc_ground.specs.Numbers.{AreDistinct}
 use Rattle.pc_ground.specs.Tree.{Tree, always, never, leaf, both, either, size_of}
 use Rattle.pc_ground.specs.Literals.{IsConsistent}
 use Rattle.pc_ground.specs.Refutes.{Step, false_step, Branch, subtree_at, literals_of, a_falsity, IsPartial, IsRefutation}
-use Rattle.pc_ground.proofs.FlatRows.{subtree_size, size_pos, kind_of}
+use Rattle.pc_ground.proofs.FlatRows.{subtree_size, size_pos, root_kind}
 use Rattle.pc_ground.proofs.Bools.{not_both}
 use Rattle.pc_ground.proofs.Refuted.{refutation_sound}
 use Rattle.pc_ground.proofs.StageWalks.{some_same}
@@ -227,7 +227,7 @@ folded_numbers f (leaf l) h = tt
 folded_numbers f (both a b) h = folded_back f (both a b) h
 folded_numbers f (either a b) h = folded_back f (either a b) h
 
-never_of : {N : Type 0} (s : Tree N) → kind_of s ≡ False → s ≡ never
+never_of : {N : Type 0} (s : Tree N) → root_kind s ≡ False → s ≡ never
 never_of always e = cc
 never_of never e = refl
 never_of (leaf l) e = cc
@@ -245,7 +245,7 @@ pub not_false : (rows : List (Row ℕ)) (r : Row ℕ) → IsSpelled rows → sli
 not_false rows r flat at other e =
     let there = row_root rows 0 r flat (size_pos (spelled rows)) at in
     let same : there.0 ≡ never = sym (some_same there.1) ∙ e in
-    other (ap (λ (x : Row ℕ). x.kind) there.2 ∙ ap kind_of same)
+    other (ap (λ (x : Row ℕ). x.kind) there.2 ∙ ap root_kind same)
 
 -- what is kept before the root is entered
 pub first_kept : (nodes : List Node) (t : Tree ℕ) (g : Graph) (here : List Asserted) (ls : List Later) (ss : List (Step Node)) → g.nodes ≡ length nodes → g.literals ≡ [] → g.marks ≡ []

@@ -12,7 +12,7 @@ use Rattle.pc_common.specs.Chain.{Chain}
 use Rattle.pc_ground.specs.Literals.{Joins, IsPresent, Holds}
 use Rattle.pc_ground.specs.Tree.{Tree, always, never, leaf, both, either, size_of}
 use Rattle.pc_ground.specs.Refutes.{subtree_at}
-use Rattle.pc_ground.proofs.FlatRows.{kind_of, size_pos, subtree_size, subtree_past, children_both, children_either}
+use Rattle.pc_ground.proofs.FlatRows.{root_kind, size_pos, subtree_size, subtree_past, children_both, children_either}
 use Rattle.pc_ground.proofs.StageWalks.{some_same}
 use Rattle.solver.specs.Spelled.{spelled, IsSpelled}
 use Rattle.solver.specs.Met.{IsMet}
@@ -61,19 +61,19 @@ right_is rows p right r flat (of_either a b e) at =
 
 -- the kind of a row is that of the tree that stands there
 pub kind_at : (rows : List (Row ℕ)) (p : ℕ) (r : Row ℕ) (s : Tree ℕ) → IsSpelled rows → p < length rows → slice_get rows p ≡ Some r
-    → subtree_at (spelled rows) p ≡ Some s → kind_of s ≡ r.kind
+    → subtree_at (spelled rows) p ≡ Some s → root_kind s ≡ r.kind
 kind_at rows p r s flat inside at e =
     let there = row_root rows p r flat (omega (arith, inside, length_spelled rows flat)) at in
-    sym (ap (λ (x : Row ℕ). x.kind) there.2 ∙ ap kind_of (some_same (sym there.1 ∙ e)))
+    sym (ap (λ (x : Row ℕ). x.kind) there.2 ∙ ap root_kind (some_same (sym there.1 ∙ e)))
 
-both_of : {N : Type 0} (s : Tree N) → kind_of s ≡ And → (a : Tree N) × (b : Tree N) × (s ≡ both a b)
+both_of : {N : Type 0} (s : Tree N) → root_kind s ≡ And → (a : Tree N) × (b : Tree N) × (s ≡ both a b)
 both_of always e = cc
 both_of never e = cc
 both_of (leaf l) e = cc
 both_of (both a b) e = (a, b, refl)
 both_of (either a b) e = cc
 
-pub either_of : {N : Type 0} (s : Tree N) → kind_of s ≡ Or → (a : Tree N) × (b : Tree N) × (s ≡ either a b)
+pub either_of : {N : Type 0} (s : Tree N) → root_kind s ≡ Or → (a : Tree N) × (b : Tree N) × (s ≡ either a b)
 either_of always e = cc
 either_of never e = cc
 either_of (leaf l) e = cc
@@ -98,21 +98,21 @@ pub or_children : (rows : List (Row ℕ)) (p : ℕ) (r : Row ℕ) → IsSpelled 
     → SomeChildren (spelled rows) p
 or_children rows p r flat inside at kind = (let parts = or_tree rows p r flat inside at kind in (p + 1 + size_of parts.0, of_either parts.0 parts.1 parts.2))
 
-pub met_always : (ls : List (Literal ℕ)) (s : Tree ℕ) → kind_of s ≡ True → IsTrue true ↔ IsMet ls s
+pub met_always : (ls : List (Literal ℕ)) (s : Tree ℕ) → root_kind s ≡ True → IsTrue true ↔ IsMet ls s
 met_always ls always e = ((λ h. tt), (λ h. refl))
 met_always ls never e = cc
 met_always ls (leaf l) e = cc
 met_always ls (both a b) e = cc
 met_always ls (either a b) e = cc
 
-pub met_never : (ls : List (Literal ℕ)) (s : Tree ℕ) → kind_of s ≡ False → IsTrue false ↔ IsMet ls s
+pub met_never : (ls : List (Literal ℕ)) (s : Tree ℕ) → root_kind s ≡ False → IsTrue false ↔ IsMet ls s
 met_never ls always e = cc
 met_never ls never e = ((λ h. (let no : false ≡ true → ⊥ = λ k. cc in no h)), (λ h. absurd h))
 met_never ls (leaf l) e = cc
 met_never ls (both a b) e = cc
 met_never ls (either a b) e = cc
 
-pub met_leaf : (ls : List (Literal ℕ)) (s : Tree ℕ) (l : Literal ℕ) (b : Bool) → kind_of s ≡ Lit l
+pub met_leaf : (ls : List (Literal ℕ)) (s : Tree ℕ) (l : Literal ℕ) (b : Bool) → root_kind s ≡ Lit l
     → IsTrue b ↔ Holds (IsPresent ls) (Chain (Joins ls)) l → IsTrue b ↔ IsMet ls s
 met_leaf ls always l b e h = cc
 met_leaf ls never l b e h = cc
@@ -123,7 +123,7 @@ met_leaf ls (leaf m) l b e h =
 met_leaf ls (both x y) l b e h = cc
 met_leaf ls (either x y) l b e h = cc
 
-pub met_both : (t : Tree ℕ) (ls : List (Literal ℕ)) (p : ℕ) (flags : List Bool) (s : Tree ℕ) (pair : Bool × Bool) → kind_of s ≡ And → subtree_at t p ≡ Some s
+pub met_both : (t : Tree ℕ) (ls : List (Literal ℕ)) (p : ℕ) (flags : List Bool) (s : Tree ℕ) (pair : Bool × Bool) → root_kind s ≡ And → subtree_at t p ≡ Some s
     → AreTruths t ls (p + 1) flags → AreChildFlags t flags p pair → IsTrue (pair.0 && pair.1) ↔ IsMet ls s
 met_both t ls p flags always pair e at truths children = cc
 met_both t ls p flags never pair e at truths children = cc
@@ -141,7 +141,7 @@ met_both t ls p flags (both a b) pair e at truths children =
     and_both x y e f = rw (e, f) refl
 met_both t ls p flags (either a b) pair e at truths children = cc
 
-pub met_either : (t : Tree ℕ) (ls : List (Literal ℕ)) (p : ℕ) (flags : List Bool) (s : Tree ℕ) (pair : Bool × Bool) → kind_of s ≡ Or → subtree_at t p ≡ Some s
+pub met_either : (t : Tree ℕ) (ls : List (Literal ℕ)) (p : ℕ) (flags : List Bool) (s : Tree ℕ) (pair : Bool × Bool) → root_kind s ≡ Or → subtree_at t p ≡ Some s
     → AreTruths t ls (p + 1) flags → AreChildFlags t flags p pair → IsTrue (pair.0 || pair.1) ↔ IsMet ls s
 met_either t ls p flags always pair e at truths children = cc
 met_either t ls p flags never pair e at truths children = cc

@@ -10,7 +10,7 @@ use Rattle.pc_ground.specs.Keys.{key_node, renamed_kind, row_node}
 use Rattle.pc_ground.specs.Tree.{Tree, always, never, leaf, both, either, size_of}
 use Rattle.pc_ground.specs.Rows.{rows_of, IsFlat}
 use Rattle.pc_ground.specs.Refutes.{subtree_at}
-use Rattle.pc_ground.proofs.FlatRows.{root_of, kind_of, subtree_row, subtree_size, length_rows, children_either, or_subtree, size_pos}
+use Rattle.pc_ground.proofs.FlatRows.{root_of, root_kind, subtree_row, subtree_size, length_rows, children_either, or_subtree, size_pos}
 use Rattle.pc_ground.proofs.StageWalks.{some_same}
 
 pub root_inside : (rows : List (Row Node)) → IsFlat rows → 0 < length rows
@@ -32,7 +32,7 @@ false_from And e = cc
 false_from Or e = cc
 
 row_kind : (t : Tree Node) (p : ℕ) (s : Tree Node) (r : Row NodeKey) → subtree_at t p ≡ Some s → slice_get (rows_of t) p ≡ Some (row_node r)
-    → renamed_kind key_node r.kind ≡ kind_of s
+    → renamed_kind key_node r.kind ≡ root_kind s
 row_kind t p s r at here =
     let same : row_node r ≡ root_of s = some_same (sym here ∙ subtree_row t p s at) in
     ap (λ (x : Row Node). x.kind) same
@@ -43,12 +43,12 @@ is_or t p a b r at here = or_from r.kind (row_kind t p (either a b) r at here)
 
 -- the tree is False where its first row is
 pub never_row : (t : Tree Node) (r : Row NodeKey) → slice_get (rows_of t) 0 ≡ Some (row_node r) → t ≡ never → r.kind ≡ False
-never_row t r here e = false_from r.kind (row_kind t 0 t r refl here ∙ ap kind_of e)
+never_row t r here e = false_from r.kind (row_kind t 0 t r refl here ∙ ap root_kind e)
 
 pub row_never : (t : Tree Node) (r : Row NodeKey) → slice_get (rows_of t) 0 ≡ Some (row_node r) → r.kind ≡ False → t ≡ never
 row_never t r here e = kind_never t (sym (row_kind t 0 t r refl here) ∙ ap (renamed_kind key_node) e)
   where
-    kind_never : (t : Tree Node) → kind_of t ≡ False → t ≡ never
+    kind_never : (t : Tree Node) → root_kind t ≡ False → t ≡ never
     kind_never always e = cc
     kind_never never e = refl
     kind_never (leaf l) e = cc

@@ -1,7 +1,7 @@
 use Rattle.std.proofs.Common.{◌≡◌, ◌+◌, ℕ, List, [], ◌∷◌, ◌++◌, refl, subst, arith, codes, inl, inr}
 use Rattle.uspec_lexer.specs.Token.{Token}
 use Rattle.uspec_lexer.specs.View.{plain}
-use Rattle.pc_case.specs.declared.op.Page.{Page}
+use Rattle.pc_case.specs.declared.address.Page.{Page}
 use Rattle.litmus_reader.specs.Expected.{Expected, a_number, word_at}
 use Rattle.litmus_reader.specs.Syntax.{spelled_page, dot}
 use Rattle.litmus_reader.specs.Reading.{StandsAt, BeginsAt, IsNumberAt, IsPageAt, SomeValueLineAt}

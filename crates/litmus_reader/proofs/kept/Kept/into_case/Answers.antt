@@ -1,7 +1,7 @@
 use Rattle.std.proofs.Common.{◌≡◌, ℕ, List, [], ◌∷◌, map, length, subst, sym, ap, ◌∙◌, refl}
 use Rattle.std.proofs.lemmas.List.{append-nil, length-map}
 use Rattle.pc_common.specs.Case.{Address, Value}
-use Rattle.pc_case.specs.Kept.{IsKept}
+use Rattle.pc_case.specs.MicroOps.{AreMicroOps}
 use Rattle.pc_case.specs.Stated.{IsStatedOnce, AreWithin}
 use Rattle.pc_case.specs.Plain.{micro_op, dependency, stated_value}
 use Rattle.pc_case.specs.declared.stated.Stated.{Stated}
@@ -35,7 +35,7 @@ count k items keeps =
 
 pub full-requires-clause-kept : goal.full-requires-clause-kept
 full-requires-clause-kept c =
-    let (items, keeps, clean) = c.requires in subst IsKept (sym keeps.ops) (ops_kept items clean)
+    let (items, keeps, clean) = c.requires in subst AreMicroOps (sym keeps.ops) (ops_kept items clean)
 
 pub full-requires-clause-within : goal.full-requires-clause-within
 full-requires-clause-within c =
