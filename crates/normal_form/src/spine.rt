@@ -1,12 +1,12 @@
 ghost use Rattle.std.specs.Prelude.{◌≡◌, ◌<◌, ℕ, All, OnOk, IfOk, if◌then◌else◌};
 ghost use Rattle.pc_common.specs.World.{Node as PlainNode};
-ghost use Rattle.pc_ground.specs.Tree.{Tree};
+ghost use Rattle.pc_ground.specs.Tree.{Tree, contrary};
 ghost use Rattle.pc_ground.specs.Keys.{literal_node};
-ghost use Rattle.pc_ground.specs.PlainGround.{plain_ground, pushed, folded, contrary};
+ghost use Rattle.pc_ground.specs.PlainGround.{plain_ground, pushed, folded};
 ghost use Rattle.pc_ground.specs.declared.ground.Ground.{size-Ground};
 ghost use Rattle.normal_form.specs.Spine.{end_tree, before, junction_of, under};
 
-use super::joint::{Junction, Joint};
+use super::joint::{Joint, Junction};
 use pc_common::Memory;
 use pc_ground::{Ground, Literal, NodeKey};
 use std::alloc::Global;
@@ -26,23 +26,11 @@ pub(crate) struct Spine<'a> {
     pub(crate) end: End,
 }
 
-/// The literal that is true exactly where this one is not.
-fn contrary_of(literal: Literal<NodeKey>) -> Literal<NodeKey>
-    ensures { literal_node result ≡ contrary (literal_node literal) }
-{
-    match literal {
-        Literal::Node(a) => Literal::NoNode(a),
-        Literal::Edge(a, b) => Literal::NoEdge(a, b),
-        Literal::NoNode(a) => Literal::Node(a),
-        Literal::NoEdge(a, b) => Literal::Edge(a, b),
-    }
-}
-
 /// The literal, or its contrary where the negation is meant.
 fn signed(literal: Literal<NodeKey>, holds: bool) -> Literal<NodeKey>
     ensures { literal_node result ≡ (if holds then literal_node literal else contrary (literal_node literal)) }
 {
-    if holds { literal } else { contrary_of(literal) }
+    if holds { literal } else { literal.contrary() }
 }
 
 /// Puts one more connective last, turned and with its left side negated where the negation is meant.
