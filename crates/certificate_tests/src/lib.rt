@@ -11,4 +11,6 @@ mod generating;
 #[cfg(test)]
 mod running;
 #[cfg(test)]
+mod signs;
+#[cfg(test)]
 mod verifying;

@@ -1,6 +1,7 @@
 //! The command verify: a text judged against a model and a test, whoever made it.
 use super::certificates::JUDGED;
 use super::running::ends_over;
+use super::signs::SIGNED;
 use cert_check::Checked;
 use example_texts::{ORDERED, TWO};
 use pc_common::{Memory, Status};
@@ -65,7 +66,7 @@ fn is_answered(
 
 #[test]
 fn a_text_is_verified_or_refused_at_its_line(rt: HostRuntime) -> Result<(), Fail> {
-    for (model, test, certificate, checked) in JUDGED {
+    for (model, test, certificate, checked) in JUDGED.iter().chain(SIGNED) {
         assert!(rt;
             is_answered(rt.alloc(), (model, test, certificate), *checked)?,
             "{certificate}"

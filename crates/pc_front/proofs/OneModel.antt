@@ -8,7 +8,7 @@ use Rattle.ll_grammar.specs.declared.fault.Fault.TheVariants.{Syntax as a_syntax
 use Rattle.ll_grammar.proofs.Faults.{one_answer}
 use Rattle.uspec_lexer.specs.Token.{Token, token_place}
 use Rattle.uspec_lexer.specs.Spells.{Spells}
-use Rattle.uspec_lexer.proofs.Spelling.{spells-unique, spells-no_fault, lexical_fault-unique}
+use Rattle.uspec_lexer.proofs.SpellsLaws.{spells-unique, spells-no_fault, lexical_fault-unique}
 use Rattle.uspec_parser.specs.Marks.{IsMarkedModel}
 use Rattle.uspec_parser.specs.Syntax.{DerivesModel}
 use Rattle.uspec_parser.specs.Answers.{terminals}

@@ -3,7 +3,7 @@ use Rattle.std.proofs.Common.{◌≡◌, ℕ, ◌≤◌, List, [], ◌∷◌, �
 use Rattle.std.proofs.lemmas.List.{append-nil}
 use Rattle.uspec_lexer.specs.Token.{Token}
 use Rattle.uspec_lexer.specs.Piece.{Form, IsPiece, NoPiece}
-use Rattle.uspec_lexer.specs.Spells.{Piece, Joined, told, tokens_of, SpellsBetween, Spells, IsLexicalFault}
+use Rattle.uspec_lexer.specs.Spells.{Piece, Joined, tokens_of_piece, tokens_of, SpellsBetween, Spells, IsLexicalFault}
 use Rattle.uspec_lexer.proofs.Pieces.{piece-unique, piece-rises}
 
 -- one more piece behind the others
@@ -11,18 +11,18 @@ pub joined-push : (bytes : List ℕ) (a b : ℕ) (ps : List Piece) (p : Piece) �
 joined-push bytes a b [] p e h = (subst (λ i. IsPiece bytes p.form i p.end) (sym e) h, refl)
 joined-push bytes a b (q ∷ qs) p j h = (j.0, joined-push bytes q.end b qs p j.1 h)
 
-tokens_of-push : (bytes : List ℕ) (a b : ℕ) (ps : List Piece) (p : Piece) → Joined bytes a ps b → tokens_of bytes a (ps ++ p ∷ []) ≡ tokens_of bytes a ps ++ told bytes p.form b p.end
-tokens_of-push bytes a b [] p e = append-nil (told bytes p.form a p.end) ∙ ap (λ i. told bytes p.form i p.end) e
-tokens_of-push bytes a b (q ∷ qs) p j = ap (λ ts. told bytes q.form a q.end ++ ts) (tokens_of-push bytes q.end b qs p j.1) ∙ sym (append_assoc (told bytes q.form a q.end) (tokens_of bytes q.end qs) (told bytes p.form b p.end))
+tokens_of-push : (bytes : List ℕ) (a b : ℕ) (ps : List Piece) (p : Piece) → Joined bytes a ps b → tokens_of bytes a (ps ++ p ∷ []) ≡ tokens_of bytes a ps ++ tokens_of_piece bytes p.form b p.end
+tokens_of-push bytes a b [] p e = append-nil (tokens_of_piece bytes p.form a p.end) ∙ ap (λ i. tokens_of_piece bytes p.form i p.end) e
+tokens_of-push bytes a b (q ∷ qs) p j = ap (λ ts. tokens_of_piece bytes q.form a q.end ++ ts) (tokens_of-push bytes q.end b qs p j.1) ∙ sym (append_assoc (tokens_of_piece bytes q.form a q.end) (tokens_of bytes q.end qs) (tokens_of_piece bytes p.form b p.end))
 
 -- one more piece brings its token
-pub spells-push : (bytes : List ℕ) (a b c : ℕ) (form : Form) (ts : List Token) → SpellsBetween bytes a b ts → IsPiece bytes form b c → SpellsBetween bytes a c (ts ++ told bytes form b c)
+pub spells-push : (bytes : List ℕ) (a b c : ℕ) (form : Form) (ts : List Token) → SpellsBetween bytes a b ts → IsPiece bytes form b c → SpellsBetween bytes a c (ts ++ tokens_of_piece bytes form b c)
 spells-push bytes a b c form ts s h =
     let p : Piece = record { form = form; end = c } in
     record {
       pieces = s.pieces ++ p ∷ [];
       joined = joined-push bytes a b s.pieces p s.joined h;
-      tokens = ap (λ us. us ++ told bytes form b c) s.tokens ∙ sym (tokens_of-push bytes a b s.pieces p s.joined);
+      tokens = ap (λ us. us ++ tokens_of_piece bytes form b c) s.tokens ∙ sym (tokens_of-push bytes a b s.pieces p s.joined);
     }
 
 joined-rises : (bytes : List ℕ) (a z : ℕ) (ps : List Piece) → Joined bytes a ps z → a ≤ z

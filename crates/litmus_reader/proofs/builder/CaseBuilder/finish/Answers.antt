@@ -5,37 +5,37 @@ use Rattle.pc_case.specs.MicroOps.{AreMicroOps}
 use Rattle.pc_case.specs.Stated.{IsStatedOnce, AreWithin}
 use Rattle.pc_case.specs.Plain.{micro_op, dependency, stated_value}
 use Rattle.pc_case.specs.declared.stated.Stated.{Stated}
-use Rattle.litmus_reader.specs.Items.{microops_in, heads_in, relationships_in, initial_in, final_in, op_said, dependency_said, value_said, first_said}
-use Rattle.litmus_reader.specs.Kept.{Keeps, stated_of}
+use Rattle.litmus_reader.specs.Items.{microops_in, heads_in, relationships_in, initial_in, final_in, op_of, dependency_of, stated_by, expectation_among}
+use Rattle.litmus_reader.specs.Builder.{HasLines, stated_of}
 use Rattle.litmus_reader.specs.declared.item.Head.{Head}
 use Rattle.litmus_reader.specs.declared.item.Microop.{Microop}
 use Rattle.litmus_reader.specs.declared.item.ValueLine.{ValueLine}
 use Rattle.litmus_reader.specs.declared.item.Item.{Item}
-use Rattle.litmus_reader.specs.declared.kept.Kept.{Kept}
-use Rattle.litmus_reader.proofs.KeptFacts.{if_ok}
-use Rattle.litmus_reader.proofs.CleanFacts.{ops_kept, dependencies_within, initial_once, final_once}
-use Rattle.litmus_reader.proofs.kept.Kept.into_case.Goals as goal
+use Rattle.litmus_reader.specs.declared.builder.CaseBuilder.{CaseBuilder}
+use Rattle.litmus_reader.proofs.BuilderFacts.{if_ok}
+use Rattle.litmus_reader.proofs.CleanFacts.{are_micro_ops, dependencies_within, initial_once, final_once}
+use Rattle.litmus_reader.proofs.builder.CaseBuilder.finish.Goals as goal
 
-lines_said : (lines : List ValueLine) → map stated_value (map stated_of lines) ≡ map value_said lines
+lines_said : (lines : List ValueLine) → map stated_value (map stated_of lines) ≡ map stated_by lines
 lines_said [] = refl
-lines_said (v ∷ lines) = ap (λ (vs : List (Address × Value)). value_said v ∷ vs) (lines_said lines)
+lines_said (v ∷ lines) = ap (λ (vs : List (Address × Value)). stated_by v ∷ vs) (lines_said lines)
 
-said : (listed kept : List Stated) (lines : List ValueLine) → listed ≡ kept → kept ≡ map stated_of lines → map stated_value listed ≡ map value_said lines
+said : (listed kept : List Stated) (lines : List ValueLine) → listed ≡ kept → kept ≡ map stated_of lines → map stated_value listed ≡ map stated_by lines
 said listed kept lines e k = ap (map stated_value) (e ∙ k) ∙ lines_said lines
 
-dependencies_said : (k : Kept) (items : List Item) → Keeps k items
-    → map dependency k.dependencies ≡ map (dependency_said (heads_in items)) (relationships_in items)
+dependencies_said : (k : CaseBuilder) (items : List Item) → HasLines k items
+    → map dependency k.dependencies ≡ map (dependency_of (heads_in items)) (relationships_in items)
 dependencies_said k items keeps =
-    keeps.dependencies [] ∙ ap (λ (hs : List Head). map (dependency_said hs) (relationships_in items)) (append-nil (heads_in items))
+    keeps.dependencies [] ∙ ap (λ (hs : List Head). map (dependency_of hs) (relationships_in items)) (append-nil (heads_in items))
 
-count : (k : Kept) (items : List Item) → Keeps k items → length (heads_in items) ≡ length k.ops
+count : (k : CaseBuilder) (items : List Item) → HasLines k items → length (heads_in items) ≡ length k.ops
 count k items keeps =
-    length-map (microops_in items) (λ (m : Microop). m.head) ∙ sym (length-map (microops_in items) op_said) ∙ ap length (sym keeps.ops)
+    length-map (microops_in items) (λ (m : Microop). m.head) ∙ sym (length-map (microops_in items) op_of) ∙ ap length (sym keeps.ops)
     ∙ length-map k.ops micro_op
 
 pub full-requires-clause-kept : goal.full-requires-clause-kept
 full-requires-clause-kept c =
-    let (items, keeps, clean) = c.requires in subst AreMicroOps (sym keeps.ops) (ops_kept items clean)
+    let (items, keeps, clean) = c.requires in subst AreMicroOps (sym keeps.ops) (are_micro_ops items clean)
 
 pub full-requires-clause-within : goal.full-requires-clause-within
 full-requires-clause-within c =
@@ -61,6 +61,6 @@ returns c =
     let dependencies = dependencies_said c.args.self items keeps in
     let initial = said c.in_ok-initial.initial c.args.self.initial (initial_in items) c.in_ok-initial.ensures.0 keeps.initial in
     let final = said c.in_ok-initial.final_values c.args.self.final_values (final_in items) c.in_ok-initial.ensures.1 keeps.final_values in
-    let stance = c.expect_of-expect.ensures ∙ ap first_said keeps.stance in
+    let stance = c.expect_of-expect.ensures ∙ ap expectation_among keeps.stance in
     is ∙ (λ i. record { ops = ops i; dependencies = dependencies i; initial = initial i; final = final i; expectation = stance i }))
     c.full.ensures

@@ -5,7 +5,7 @@ use Rattle.litmus_reader.specs.Content.{IsFaultOf, MicroopFault, First, Unknown,
 use Rattle.litmus_reader.specs.Rows.{Answers}
 use Rattle.litmus_reader.specs.declared.item.Head.{Head}
 use Rattle.litmus_reader.specs.declared.item.Item.{Item}
-use Rattle.litmus_reader.proofs.kept.Kept.fault.Goals as goal
+use Rattle.litmus_reader.proofs.builder.CaseBuilder.fault.Goals as goal
 
 pub returns-in-Microop : goal.returns-in-Microop
 returns-in-Microop c = λ before k.

@@ -3,20 +3,21 @@ ghost use Rattle.pc_common.specs.Case.{Expectation};
 ghost use Rattle.pc_common.specs.declared.place.Place.{Place as PlaceAt};
 ghost use Rattle.pc_case.specs.Plain.{micro_op, dependency, expectation};
 ghost use Rattle.pc_common.specs.declared.limits.TheConstants.{MAX_CORE, MAX_OPS};
-ghost use Rattle.litmus_reader.specs.Items.{op_said, dependency_said, first_said, case_of};
-ghost use Rattle.litmus_reader.specs.Content.{Never, AgainStated, AgainExpected, IsFaultOf, IsClean};
+ghost use Rattle.litmus_reader.specs.Items.{op_of, dependency_of, expectation_among, case_of};
+ghost use Rattle.litmus_reader.specs.Content.{Never, AgainStated, ValueFault, AgainExpected, IsFaultOf, IsClean};
 ghost use Rattle.litmus_reader.specs.Rows.{Answers};
-ghost use Rattle.litmus_reader.specs.Kept.{stated_of, word_of, stances, Keeps, AddsMicroop, AddsRelationship, IsLineRefusal};
-ghost use Rattle.litmus_reader.specs.declared.item.ValueLine.{ValueLine as ValueSaid};
-ghost use Rattle.litmus_reader.specs.declared.item.Item.{Item as ItemSaid};
+ghost use Rattle.litmus_reader.specs.Builder.{stated_of, word_of, stances, HasLines, AddsMicroop, AddsRelationship, IsLineFault};
+ghost use Rattle.litmus_reader.specs.declared.item.ValueLine.{ValueLine as ValueLineText};
+ghost use Rattle.litmus_reader.specs.declared.item.Item.{Item as ItemText};
 
+use super::content_fault::ContentFault;
 use super::fault::CaseFault;
 use super::item::{Action, Head, Item, Microop, Relationship, ValueLine};
-use super::refusal::Refusal;
+use super::marks::mark_fault;
 use super::rows::{microop_fault, place_of, relationship_fault};
 use super::values::Values;
 use pc_case::{Access, Case, Dependencies, Dependency, Expect, Op, OpId, Ops, StatedValues};
-use pc_common::{FaultKind, Listed, Memory, Place};
+use pc_common::{FaultKind, Listed, Memory, Place, Value};
 use std::alloc::Global;
 
 /// An expectation, and where its word stands.
@@ -26,9 +27,9 @@ pub(crate) struct Stance {
     pub(crate) at: Place,
 }
 
-/// What the lines so far say.
+/// The case of the lines so far.
 #[derive(Drop)]
-pub(crate) struct Kept {
+pub(crate) struct CaseBuilder {
     pub(crate) heads: Vec<Head>,
     pub(crate) ops: Ops,
     pub(crate) dependencies: Dependencies,
@@ -39,11 +40,11 @@ pub(crate) struct Kept {
 
 fn op_from(microop: Microop) -> Op
     requires { microop.head.core.value ≤ MAX_CORE }
-    ensures { micro_op result ≡ op_said microop }
+    ensures { micro_op result ≡ op_of microop }
 {
     let (access, memop) = match microop.action {
-        Action::Read(memop) => (Access::Read, Some(memop)),
-        Action::Write(memop) => (Access::Write, Some(memop)),
+        Action::Read(touch) => (Access::Read, Some(touch.memop())),
+        Action::Write(touch) => (Access::Write, Some(touch.memop())),
         Action::Fence => (Access::Fence, None),
     };
     Op {
@@ -59,10 +60,10 @@ fn op_from(microop: Microop) -> Op
     }
 }
 
-#[tactic(auto, using(crate::proofs::KeptFacts::place_in_within))]
+#[tactic(auto, using(crate::proofs::BuilderFacts::place_in_within))]
 fn dependency_from(heads: &[Head], relationship: Relationship) -> Dependency
     requires { length heads.now ≤ MAX_OPS }
-    ensures { dependency result ≡ dependency_said heads.now relationship }
+    ensures { dependency result ≡ dependency_of heads.now relationship }
 {
     Dependency {
         kind: relationship.kind,
@@ -79,7 +80,7 @@ enum When {
 }
 
 /// What is wrong where such a value is stated again.
-fn stated_again(when: When, first: u64, again: u64) -> FaultKind
+fn stated_again(when: When, first: Value, again: Value) -> FaultKind
     ensures { result ≡ word_of when first again }
 {
     match when {
@@ -88,25 +89,35 @@ fn stated_again(when: When, first: u64, again: u64) -> FaultKind
     }
 }
 
-fn value_fault(when: When, values: &Values, line: ValueLine) -> Option<Refusal>
-    ensures { (before : List ValueSaid) → values.now ≡ map stated_of before
+fn again_fault(when: When, values: &Values, line: ValueLine) -> Option<ContentFault>
+    ensures { (before : List ValueLineText) → values.now ≡ map stated_of before
         → Answers (AgainStated (word_of when) before line) result }
 {
     match values.get(line.pa) {
         None => None,
-        Some(first) => Some(Refusal {
-            kind: stated_again(when, first, line.value),
+        Some(first) => Some(ContentFault {
+            kind: stated_again(when, first, line.value.value()),
             place: line.at,
         }),
     }
 }
 
-fn expectation_fault(stance: Option<Stance>, at: Place) -> Option<Refusal>
+fn value_fault(when: When, values: &Values, line: ValueLine) -> Option<ContentFault>
+    ensures { (before : List ValueLineText) → values.now ≡ map stated_of before
+        → Answers (ValueFault (word_of when) before line) result }
+{
+    if let Some(fault) = again_fault(when, values, line) {
+        return Some(fault);
+    }
+    mark_fault(line.value)
+}
+
+fn expectation_fault(stance: Option<Stance>, at: Place) -> Option<ContentFault>
     ensures { Answers (AgainExpected (stances stance) at) result }
 {
     match stance {
         None => None,
-        Some(first) => Some(Refusal {
+        Some(first) => Some(ContentFault {
             kind: FaultKind::AgainExpectation {
                 first: first.at,
                 again: at,
@@ -117,7 +128,7 @@ fn expectation_fault(stance: Option<Stance>, at: Place) -> Option<Refusal>
 }
 
 fn expect_of(stance: Option<Stance>) -> Expect
-    ensures { expectation result ≡ first_said (stances stance) }
+    ensures { expectation result ≡ expectation_among (stances stance) }
 {
     match stance {
         None => Expect::Unstated,
@@ -125,11 +136,11 @@ fn expect_of(stance: Option<Stance>) -> Expect
     }
 }
 
-impl Kept {
+impl CaseBuilder {
     pub(crate) fn new(alloc: Global) -> Self
-        ensures { Keeps result [] }
+        ensures { HasLines result [] }
     {
-        Kept {
+        CaseBuilder {
             heads: Vec::new(alloc),
             ops: Listed::new(alloc),
             dependencies: Listed::new(alloc),
@@ -140,11 +151,11 @@ impl Kept {
     }
 
     /// The fault of a line behind those so far.
-    fn fault(&self, item: &Item) -> Option<Refusal>
-        ensures { (before : List ItemSaid) → Keeps self.now before → Answers (IsFaultOf before item.now) result }
+    fn fault(&self, item: &Item) -> Option<ContentFault>
+        ensures { (before : List ItemText) → HasLines self.now before → Answers (IsFaultOf before item.now) result }
     {
         match item {
-            Item::Microop(microop) => microop_fault(&self.heads, microop.head),
+            Item::Microop(microop) => microop_fault(&self.heads, microop.head, microop.action),
             Item::Relationship(line) => relationship_fault(&self.heads, line.source, line.target),
             Item::Initial(line) => value_fault(When::Initial, &self.initial, *line),
             Item::Final(line) => value_fault(When::Final, &self.final_values, *line),
@@ -169,31 +180,31 @@ impl Kept {
         self.dependencies.push(line)
     }
 
-    /// Keeps one more line, or names its fault. After an `Err` the lines are not to be read on.
-    pub(crate) fn keep(&mut self, item: Item) -> Result<(), CaseFault>
-        requires { (before : List ItemSaid) × Keeps self.old before × IsClean before }
-        ensures ok { OnOk result ((before : List ItemSaid) → Keeps self.old before → IsClean before
-            → Never (IsFaultOf before item) × Keeps self.new (before ++ item ∷ [])) }
-        ensures err { IfErr result (λ e. (before : List ItemSaid) → Keeps self.old before → IsLineRefusal before item e) }
+    /// Takes one more line, or names its fault. After an `Err` the lines are not to be read on.
+    pub(crate) fn add(&mut self, item: Item) -> Result<(), CaseFault>
+        requires { (before : List ItemText) × HasLines self.old before × IsClean before }
+        ensures ok { OnOk result ((before : List ItemText) → HasLines self.old before → IsClean before
+            → Never (IsFaultOf before item) × HasLines self.new (before ++ item ∷ [])) }
+        ensures err { IfErr result (λ e. (before : List ItemText) → HasLines self.old before → IsLineFault before item e) }
     {
-        if let Some(refusal) = self.fault(&item) {
-            return Err(CaseFault::Content(refusal.kind, refusal.place));
+        if let Some(fault) = self.fault(&item) {
+            return Err(CaseFault::Content(fault.kind, fault.place));
         }
-        self.add(item)?;
+        self.append(item)?;
         Ok(())
     }
 
-    /// Keeps one more line, which has no fault.
-    fn add(&mut self, item: Item) -> Result<(), Memory>
-        requires { (before : List ItemSaid) × Keeps self.old before × IsClean before × Never (IsFaultOf before item) }
-        ensures { OnOk result ((before : List ItemSaid) → Keeps self.old before → IsClean before
-            → Never (IsFaultOf before item) → Keeps self.new (before ++ item ∷ [])) }
+    /// Takes one more line, which has no fault.
+    fn append(&mut self, item: Item) -> Result<(), Memory>
+        requires { (before : List ItemText) × HasLines self.old before × IsClean before × Never (IsFaultOf before item) }
+        ensures { OnOk result ((before : List ItemText) → HasLines self.old before → IsClean before
+            → Never (IsFaultOf before item) → HasLines self.new (before ++ item ∷ [])) }
     {
         match item {
             Item::Microop(microop) => self.add_microop(microop),
             Item::Relationship(relationship) => self.add_relationship(relationship),
-            Item::Initial(line) => self.initial.add(line.pa, line.value),
-            Item::Final(line) => self.final_values.add(line.pa, line.value),
+            Item::Initial(line) => self.initial.add(line.pa, line.value.value()),
+            Item::Final(line) => self.final_values.add(line.pa, line.value.value()),
             Item::Permitted(at) => {
                 self.stance = Some(Stance {
                     expect: Expect::Permitted,
@@ -222,9 +233,9 @@ impl Kept {
     }
 
     /// The case that the lines say.
-    pub(crate) fn into_case(self, alloc: Global) -> Result<Case, Memory>
-        requires { (items : List ItemSaid) × Keeps self items × IsClean items }
-        ensures { IfOk result (λ c. (items : List ItemSaid) → Keeps self items → IsClean items → c ≡ case_of items) }
+    pub(crate) fn finish(self, alloc: Global) -> Result<Case, Memory>
+        requires { (items : List ItemText) × HasLines self items × IsClean items }
+        ensures { IfOk result (λ c. (items : List ItemText) → HasLines self items → IsClean items → c ≡ case_of items) }
     {
         let (initial, final_values) = self.values(alloc)?;
         let expect = expect_of(self.stance);

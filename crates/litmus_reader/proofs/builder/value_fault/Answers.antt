@@ -1,9 +1,9 @@
 use Rattle.std.proofs.Common.{List, Some, None, subst}
 use Rattle.pc_case.specs.declared.stated.Stated.{Stated}
-use Rattle.litmus_reader.specs.Kept.{word_of}
+use Rattle.litmus_reader.specs.Builder.{word_of}
 use Rattle.litmus_reader.specs.Values.{IsValueAt}
 use Rattle.litmus_reader.proofs.ValueFacts.{again-stated, again-some}
-use Rattle.litmus_reader.proofs.kept.value_fault.Goals as goal
+use Rattle.litmus_reader.proofs.builder.value_fault.Goals as goal
 
 pub returns-in-None : goal.returns-in-None
 returns-in-None c = λ before are.

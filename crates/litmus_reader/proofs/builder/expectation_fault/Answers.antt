@@ -2,9 +2,9 @@ use Rattle.std.proofs.Common.{Option, refl, sym, subst, arith}
 use Rattle.pc_common.specs.declared.fault.FaultKind.TheVariants.{AgainExpectation}
 use Rattle.pc_case.specs.Plain.{expectation}
 use Rattle.litmus_reader.specs.Content.{AgainExpected}
-use Rattle.litmus_reader.specs.Kept.{stances}
-use Rattle.litmus_reader.specs.declared.kept.Stance.{Stance}
-use Rattle.litmus_reader.proofs.kept.expectation_fault.Goals as goal
+use Rattle.litmus_reader.specs.Builder.{stances}
+use Rattle.litmus_reader.specs.declared.builder.Stance.{Stance}
+use Rattle.litmus_reader.proofs.builder.expectation_fault.Goals as goal
 
 pub returns-in-Some : goal.returns-in-Some
 returns-in-Some c =

@@ -10,9 +10,9 @@ use Rattle.pc_common.specs.declared.fault.FaultKind.TheVariants.{OpUnknown}
 use Rattle.pc_common.specs.Case.{Expectation, MicroOp, Dependency}
 use Rattle.pc_case.specs.Plain.{micro_op, dependency}
 use Rattle.pc_case.specs.declared.stated.Stated.{Stated}
-use Rattle.litmus_reader.specs.Items.{microop_of, relationship_of, initial_of, final_of, expectation_of, microops_in, heads_in, relationships_in, initial_in, final_in, expectations_in, op_said, is_named, place_in, dependency_said}
+use Rattle.litmus_reader.specs.Items.{microop_of, relationship_of, initial_of, final_of, expectation_of, microops_in, heads_in, relationships_in, initial_in, final_in, expectations_in, op_of, is_named, place_in, dependency_of}
 use Rattle.litmus_reader.specs.Content.{Never, First, Unknown, AgainExpected}
-use Rattle.litmus_reader.specs.Kept.{stated_of, stances, Keeps, AddsMicroop, AddsRelationship}
+use Rattle.litmus_reader.specs.Builder.{stated_of, stances, HasLines, AddsMicroop, AddsRelationship}
 use Rattle.litmus_reader.specs.declared.item.Head.{Head}
 use Rattle.litmus_reader.specs.declared.item.End.{End}
 use Rattle.litmus_reader.specs.declared.item.Microop.{Microop}
@@ -20,8 +20,8 @@ use Rattle.litmus_reader.specs.declared.item.Relationship.{Relationship}
 use Rattle.litmus_reader.specs.declared.item.ValueLine.{ValueLine}
 use Rattle.litmus_reader.specs.declared.item.Item.{Item}
 use Rattle.litmus_reader.specs.declared.item.Item.TheVariants.{Microop as microop, Relationship as relationship, Initial as initial, Final as final}
-use Rattle.litmus_reader.specs.declared.kept.Kept.{Kept}
-use Rattle.litmus_reader.specs.declared.kept.Stance.{Stance}
+use Rattle.litmus_reader.specs.declared.builder.CaseBuilder.{CaseBuilder}
+use Rattle.litmus_reader.specs.declared.builder.Stance.{Stance}
 use Rattle.litmus_reader.proofs.RowFacts.{place_in-none}
 
 pub place_in_within : (heads : List Head) (x : End) → place_in heads x ≤ length heads
@@ -77,80 +77,80 @@ known heads x never =
     let no : length heads ≤ place_in heads x → ⊥ = λ past. never (OpUnknown x.g.value x.n) x.g.at (place_in-none heads x past, refl, refl) in
     omega arith
 
-dependency_said-append : (heads more : List Head) (r : Relationship) → Never (First (Unknown heads r.source) (Unknown heads r.target))
-    → dependency_said heads r ≡ dependency_said (heads ++ more) r
-dependency_said-append heads more r never =
+dependency_of-append : (heads more : List Head) (r : Relationship) → Never (First (Unknown heads r.source) (Unknown heads r.target))
+    → dependency_of heads r ≡ dependency_of (heads ++ more) r
+dependency_of-append heads more r never =
     let s = place_in-append heads more r.source (known heads r.source (never-first (Unknown heads r.source) (Unknown heads r.target) never)) in
     let t = place_in-append heads more r.target (known heads r.target (never-others (Unknown heads r.source) (Unknown heads r.target) never)) in
     sym (λ i. record { kind = r.kind; source = s i; target = t i })
 
-pub keeps-microop : (old new : Kept) (before : List Item) (m : Microop) → Keeps old before → AddsMicroop old new m → Keeps new (before ++ microop m ∷ [])
-keeps-microop old new before m k a = record {
+pub has_microop : (old new : CaseBuilder) (before : List Item) (m : Microop) → HasLines old before → AddsMicroop old new m → HasLines new (before ++ microop m ∷ [])
+has_microop old new before m k a = record {
   heads = a.heads ∙ ap (λ (hs : List Head). hs ++ m.head ∷ []) k.heads ∙ sym (added_head before m);
-  ops = a.ops ∙ ap (λ (os : List MicroOp). os ++ op_said m ∷ []) k.ops ∙ sym (map-append op_said (microops_in before) (m ∷ []))
-      ∙ ap (map op_said) (sym (added microop_of before (microop m) m refl));
+  ops = a.ops ∙ ap (λ (os : List MicroOp). os ++ op_of m ∷ []) k.ops ∙ sym (map-append op_of (microops_in before) (m ∷ []))
+      ∙ ap (map op_of) (sym (added microop_of before (microop m) m refl));
   dependencies = λ more.
       ap (map dependency) a.dependencies ∙ k.dependencies (m.head ∷ more)
-      ∙ ap (λ (hs : List Head). map (dependency_said hs) (relationships_in before))
+      ∙ ap (λ (hs : List Head). map (dependency_of hs) (relationships_in before))
       (sym (append_assoc (heads_in before) (m.head ∷ []) more) ∙ ap (λ (hs : List Head). hs ++ more) (sym (added_head before m)))
-      ∙ ap (map (dependency_said (heads_in (before ++ microop m ∷ []) ++ more))) (sym (same relationship_of before (microop m) refl));
+      ∙ ap (map (dependency_of (heads_in (before ++ microop m ∷ []) ++ more))) (sym (same relationship_of before (microop m) refl));
   initial = a.initial ∙ k.initial ∙ ap (map stated_of) (sym (same initial_of before (microop m) refl));
   final_values = a.final_values ∙ k.final_values ∙ ap (map stated_of) (sym (same final_of before (microop m) refl));
   stance = ap stances a.stance ∙ k.stance ∙ sym (same expectation_of before (microop m) refl);
 }
 
 -- what a line that is no micro-op and no relationship keeps
-others_kept : (old new : Kept) (before : List Item) (i : Item) → microop_of i ≡ None → relationship_of i ≡ None
-    → Keeps old before → new.heads ≡ old.heads → new.ops ≡ old.ops → new.dependencies ≡ old.dependencies
+has_others : (old new : CaseBuilder) (before : List Item) (i : Item) → microop_of i ≡ None → relationship_of i ≡ None
+    → HasLines old before → new.heads ≡ old.heads → new.ops ≡ old.ops → new.dependencies ≡ old.dependencies
     → new.initial ≡ map stated_of (initial_in (before ++ i ∷ [])) → new.final_values ≡ map stated_of (final_in (before ++ i ∷ []))
-    → stances new.stance ≡ expectations_in (before ++ i ∷ []) → Keeps new (before ++ i ∷ [])
-others_kept old new before i no_op no_line k h o d initials finals stands = record {
+    → stances new.stance ≡ expectations_in (before ++ i ∷ []) → HasLines new (before ++ i ∷ [])
+has_others old new before i no_op no_line k h o d initials finals stands = record {
   heads = ap (λ v. v.items) h ∙ k.heads ∙ sym (same_heads before i no_op);
-  ops = ap (map micro_op) o ∙ k.ops ∙ ap (map op_said) (sym (same microop_of before i no_op));
+  ops = ap (map micro_op) o ∙ k.ops ∙ ap (map op_of) (sym (same microop_of before i no_op));
   dependencies = λ more.
       ap (map dependency) d ∙ k.dependencies more
-      ∙ ap (λ (hs : List Head). map (dependency_said (hs ++ more)) (relationships_in before)) (sym (same_heads before i no_op))
-      ∙ ap (map (dependency_said (heads_in (before ++ i ∷ []) ++ more))) (sym (same relationship_of before i no_line));
+      ∙ ap (λ (hs : List Head). map (dependency_of (hs ++ more)) (relationships_in before)) (sym (same_heads before i no_op))
+      ∙ ap (map (dependency_of (heads_in (before ++ i ∷ []) ++ more))) (sym (same relationship_of before i no_line));
   initial = initials;
   final_values = finals;
   stance = stands;
 }
 
-pub keeps-relationship : (old new : Kept) (before : List Item) (r : Relationship) → Keeps old before
+pub has_relationship : (old new : CaseBuilder) (before : List Item) (r : Relationship) → HasLines old before
     → Never (First (Unknown (heads_in before) r.source) (Unknown (heads_in before) r.target))
-    → AddsRelationship old new r → Keeps new (before ++ relationship r ∷ [])
-keeps-relationship old new before r k never a =
+    → AddsRelationship old new r → HasLines new (before ++ relationship r ∷ [])
+has_relationship old new before r k never a =
     let i = relationship r in record {
       heads = ap (λ v. v.items) a.heads ∙ k.heads ∙ sym (same_heads before i refl);
-      ops = ap (map micro_op) a.ops ∙ k.ops ∙ ap (map op_said) (sym (same microop_of before i refl));
+      ops = ap (map micro_op) a.ops ∙ k.ops ∙ ap (map op_of) (sym (same microop_of before i refl));
       dependencies = λ more.
           a.dependencies
-          ∙ ap (λ (ds : List Dependency). ds ++ dependency_said old.heads.items r ∷ []) (k.dependencies more)
-          ∙ ap (λ (x : Dependency). map (dependency_said (heads_in before ++ more)) (relationships_in before) ++ x ∷ [])
-          (ap (λ (hs : List Head). dependency_said hs r) k.heads ∙ dependency_said-append (heads_in before) more r never)
-          ∙ sym (map-append (dependency_said (heads_in before ++ more)) (relationships_in before) (r ∷ []))
-          ∙ ap (map (dependency_said (heads_in before ++ more))) (sym (added relationship_of before i r refl))
-          ∙ ap (λ (hs : List Head). map (dependency_said (hs ++ more)) (relationships_in (before ++ i ∷ []))) (sym (same_heads before i refl));
+          ∙ ap (λ (ds : List Dependency). ds ++ dependency_of old.heads.items r ∷ []) (k.dependencies more)
+          ∙ ap (λ (x : Dependency). map (dependency_of (heads_in before ++ more)) (relationships_in before) ++ x ∷ [])
+          (ap (λ (hs : List Head). dependency_of hs r) k.heads ∙ dependency_of-append (heads_in before) more r never)
+          ∙ sym (map-append (dependency_of (heads_in before ++ more)) (relationships_in before) (r ∷ []))
+          ∙ ap (map (dependency_of (heads_in before ++ more))) (sym (added relationship_of before i r refl))
+          ∙ ap (λ (hs : List Head). map (dependency_of (hs ++ more)) (relationships_in (before ++ i ∷ []))) (sym (same_heads before i refl));
       initial = a.initial ∙ k.initial ∙ ap (map stated_of) (sym (same initial_of before i refl));
       final_values = a.final_values ∙ k.final_values ∙ ap (map stated_of) (sym (same final_of before i refl));
       stance = ap stances a.stance ∙ k.stance ∙ sym (same expectation_of before i refl);
     }
 
-pub keeps-initial : (old : Kept) (before : List Item) (v : ValueLine) (lines : List Stated) → Keeps old before
-    → lines ≡ old.initial ++ stated_of v ∷ [] → Keeps (record old { initial = lines }) (before ++ initial v ∷ [])
-keeps-initial old before v lines k e =
+pub has_initial : (old : CaseBuilder) (before : List Item) (v : ValueLine) (lines : List Stated) → HasLines old before
+    → lines ≡ old.initial ++ stated_of v ∷ [] → HasLines (record old { initial = lines }) (before ++ initial v ∷ [])
+has_initial old before v lines k e =
     let i = initial v in
-    others_kept old (record old { initial = lines }) before i refl refl k refl refl refl
+    has_others old (record old { initial = lines }) before i refl refl k refl refl refl
     (e ∙ ap (λ (ls : List Stated). ls ++ stated_of v ∷ []) k.initial ∙ sym (map-append stated_of (initial_in before) (v ∷ []))
     ∙ ap (map stated_of) (sym (added initial_of before i v refl)))
     (k.final_values ∙ ap (map stated_of) (sym (same final_of before i refl)))
     (k.stance ∙ sym (same expectation_of before i refl))
 
-pub keeps-final : (old : Kept) (before : List Item) (v : ValueLine) (lines : List Stated) → Keeps old before
-    → lines ≡ old.final_values ++ stated_of v ∷ [] → Keeps (record old { final_values = lines }) (before ++ final v ∷ [])
-keeps-final old before v lines k e =
+pub has_final : (old : CaseBuilder) (before : List Item) (v : ValueLine) (lines : List Stated) → HasLines old before
+    → lines ≡ old.final_values ++ stated_of v ∷ [] → HasLines (record old { final_values = lines }) (before ++ final v ∷ [])
+has_final old before v lines k e =
     let i = final v in
-    others_kept old (record old { final_values = lines }) before i refl refl k refl refl refl
+    has_others old (record old { final_values = lines }) before i refl refl k refl refl refl
     (k.initial ∙ ap (map stated_of) (sym (same initial_of before i refl)))
     (e ∙ ap (λ (ls : List Stated). ls ++ stated_of v ∷ []) k.final_values ∙ sym (map-append stated_of (final_in before) (v ∷ []))
     ∙ ap (map stated_of) (sym (added final_of before i v refl)))
@@ -161,12 +161,12 @@ pub none_expected : (es : List (Expectation × Place)) (at : Place) → Never (A
 none_expected [] at never = refl
 none_expected (e ∷ es) at never = absurd (never _ at (e, (zero, omega arith, refl), refl, refl))
 
-pub keeps-expectation : (old : Kept) (before : List Item) (i : Item) (s : Stance) (e : Expectation × Place) → Keeps old before
+pub has_expectation : (old : CaseBuilder) (before : List Item) (i : Item) (s : Stance) (e : Expectation × Place) → HasLines old before
     → microop_of i ≡ None → relationship_of i ≡ None → initial_of i ≡ None → final_of i ≡ None → expectation_of i ≡ Some e
     → stances (Some s) ≡ e ∷ [] → (at : Place) → Never (AgainExpected (expectations_in before) at)
-    → Keeps (record old { stance = Some s }) (before ++ i ∷ [])
-keeps-expectation old before i s e k no_op no_line no_initial no_final is said at never =
-    others_kept old (record old { stance = Some s }) before i no_op no_line k refl refl refl
+    → HasLines (record old { stance = Some s }) (before ++ i ∷ [])
+has_expectation old before i s e k no_op no_line no_initial no_final is said at never =
+    has_others old (record old { stance = Some s }) before i no_op no_line k refl refl refl
     (k.initial ∙ ap (map stated_of) (sym (same initial_of before i no_initial)))
     (k.final_values ∙ ap (map stated_of) (sym (same final_of before i no_final)))
     (said ∙ ap (λ (es : List (Expectation × Place)). es ++ e ∷ []) (sym (none_expected (expectations_in before) at never))

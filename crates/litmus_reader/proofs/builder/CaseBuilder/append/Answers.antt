@@ -5,20 +5,20 @@ use Rattle.pc_case.specs.declared.stated.Stated.{Stated}
 use Rattle.litmus_reader.specs.Values.{IsUnstated}
 use Rattle.litmus_reader.specs.Items.{heads_in, initial_in, final_in}
 use Rattle.litmus_reader.specs.Content.{Never, IsFaultOf}
-use Rattle.litmus_reader.specs.Kept.{Keeps}
-use Rattle.litmus_reader.specs.declared.kept.Kept.{Kept}
+use Rattle.litmus_reader.specs.Builder.{HasLines}
+use Rattle.litmus_reader.specs.declared.builder.CaseBuilder.{CaseBuilder}
 use Rattle.litmus_reader.specs.declared.item.Item.{Item}
 use Rattle.litmus_reader.proofs.ValueFacts.{again-none}
-use Rattle.litmus_reader.proofs.KeptFacts.{on_ok, keeps-microop, keeps-relationship, keeps-initial, keeps-final, keeps-expectation}
+use Rattle.litmus_reader.proofs.BuilderFacts.{on_ok, has_microop, has_relationship, has_initial, has_final, has_expectation}
 use Rattle.litmus_reader.proofs.CleanFacts.{core_fits, few}
-use Rattle.litmus_reader.proofs.kept.Kept.add.Goals as goal
+use Rattle.litmus_reader.proofs.builder.CaseBuilder.append.Goals as goal
 
 -- what is said of an item, of the variant that it is
 judged : (before : List Item) (item said : Item) → item ≡ said → Never (IsFaultOf before item) → Never (IsFaultOf before said)
 judged before item said e never = subst (λ (i : Item). Never (IsFaultOf before i)) e never
 
-kept : (new : Kept) (before : List Item) (item said : Item) → item ≡ said → Keeps new (before ++ said ∷ []) → Keeps new (before ++ item ∷ [])
-kept new before item said e k = subst (λ (i : Item). Keeps new (before ++ i ∷ [])) (sym e) k
+kept : (new : CaseBuilder) (before : List Item) (item said : Item) → item ≡ said → HasLines new (before ++ said ∷ []) → HasLines new (before ++ item ∷ [])
+kept new before item said e k = subst (λ (i : Item). HasLines new (before ++ i ∷ [])) (sym e) k
 
 pub add_microop-requires : goal.add_microop-requires
 add_microop-requires c =
@@ -46,14 +46,14 @@ pub returns-in-Microop : goal.returns-in-Microop
 returns-in-Microop c =
     on_ok c.add_microop.result
     (λ adds before k clean never. kept c.add_microop.new.self before c.args.item _ c.in-Microop.is
-    (keeps-microop c.args.self.now c.add_microop.new.self before c.in-Microop.microop k adds))
+    (has_microop c.args.self.now c.add_microop.new.self before c.in-Microop.microop k adds))
     c.add_microop.ensures
 
 pub returns-in-Relationship : goal.returns-in-Relationship
 returns-in-Relationship c =
     on_ok c.add_relationship.result
     (λ adds before k clean never. kept c.add_relationship.new.self before c.args.item _ c.in-Relationship.is
-    (keeps-relationship c.args.self.now c.add_relationship.new.self before c.in-Relationship.relationship k
+    (has_relationship c.args.self.now c.add_relationship.new.self before c.in-Relationship.relationship k
     (judged before c.args.item _ c.in-Relationship.is never) adds))
     c.add_relationship.ensures
 
@@ -61,24 +61,24 @@ pub returns-in-Initial : goal.returns-in-Initial
 returns-in-Initial c =
     on_ok c.add.result
     (λ adds before k clean never. kept _ before c.args.item _ c.in-Initial.is
-    (keeps-initial c.args.self.now before c.in-Initial.line c.add.new.self k adds))
+    (has_initial c.args.self.now before c.in-Initial.line c.add.new.self k adds))
     c.add.ensures
 
 pub returns-in-Final : goal.returns-in-Final
 returns-in-Final c =
     on_ok c.add-in-Final.result
     (λ adds before k clean never. kept _ before c.args.item _ c.in-Final.is
-    (keeps-final c.args.self.now before c.in-Final.line c.add-in-Final.new.self k adds))
+    (has_final c.args.self.now before c.in-Final.line c.add-in-Final.new.self k adds))
     c.add-in-Final.ensures
 
 pub returns-in-Permitted : goal.returns-in-Permitted
 returns-in-Permitted c = λ before k clean never.
     kept _ before c.args.item _ c.in-Permitted.is
-    (keeps-expectation c.args.self.now before _ _ (permitted, c.in-Permitted.at) k refl refl refl refl refl refl c.in-Permitted.at
+    (has_expectation c.args.self.now before _ _ (permitted, c.in-Permitted.at) k refl refl refl refl refl refl c.in-Permitted.at
     (judged before c.args.item _ c.in-Permitted.is never))
 
 pub returns-in-Forbidden : goal.returns-in-Forbidden
 returns-in-Forbidden c = λ before k clean never.
     kept _ before c.args.item _ c.in-Forbidden.is
-    (keeps-expectation c.args.self.now before _ _ (forbidden, c.in-Forbidden.at) k refl refl refl refl refl refl c.in-Forbidden.at
+    (has_expectation c.args.self.now before _ _ (forbidden, c.in-Forbidden.at) k refl refl refl refl refl refl c.in-Forbidden.at
     (judged before c.args.item _ c.in-Forbidden.is never))
