@@ -6,7 +6,7 @@
 #![tactic(auto)]
 
 mod atoms;
-mod connective;
+mod operator;
 mod formula;
 mod grounding;
 mod laws;

@@ -13,7 +13,7 @@ use Rattle.pc_common.specs.Case.{Address, Value, MicroOp, Dependency, fence}
 use Rattle.pc_case.specs.MicroOps.{AreMicroOps}
 use Rattle.pc_case.specs.Stated.{IsStatedOnce, AreWithin}
 use Rattle.pc_case.specs.Plain.{page_at, address_at}
-use Rattle.litmus_reader.specs.Items.{microop_of, relationship_of, initial_of, final_of, microops_in, heads_in, relationships_in, initial_in, final_in, kind_said, touch_said, op_said, place_in, dependency_said, value_said}
+use Rattle.litmus_reader.specs.Items.{microop_of, relationship_of, initial_of, final_of, microops_in, heads_in, relationships_in, initial_in, final_in, kind_of_action, touch_of_action, op_of, place_in, dependency_of, stated_by}
 use Rattle.litmus_reader.specs.Content.{Never, First, OverCore, OverMany, SplitFrom, DuplicateOf, SomeEarlier, Unknown, AgainStated, MicroopFault, IsFaultOf, IsClean}
 use Rattle.pc_common.specs.declared.limits.TheConstants.{MAX_CORE, MAX_OPS}
 use Rattle.litmus_reader.specs.declared.item.Head.{Head}
@@ -24,7 +24,7 @@ use Rattle.litmus_reader.specs.declared.item.Relationship.{Relationship}
 use Rattle.litmus_reader.specs.declared.item.ValueLine.{ValueLine}
 use Rattle.litmus_reader.specs.declared.item.Item.{Item}
 use Rattle.litmus_reader.specs.declared.item.Item.TheVariants.{Microop as microop, Relationship as relationship, Initial as initial, Final as final, Permitted as permitted, Forbidden as forbidden}
-use Rattle.litmus_reader.proofs.KeptFacts.{never-first, never-others, added, same, same_heads, added_head, place_in-append, known}
+use Rattle.litmus_reader.proofs.BuilderFacts.{never-first, never-others, added, same, same_heads, added_head, place_in-append, known}
 
 pub clean-none : IsClean []
 clean-none [] item after e = absurd (cc)
@@ -208,45 +208,45 @@ mapped_get f (x ∷ xs) (suc k) y e = mapped_get f xs k y e
 get_mapped : {X Y : Type 0} (f : X → Y) (xs : List X) (k : ℕ) (x : X) → slice_get xs k ≡ Some x → slice_get (map f xs) k ≡ Some (f x)
 get_mapped f xs k x e = slice_get-map f xs k ∙ ap (option_map f) e
 
-stated_once : (lines : List ValueLine) → Apart SamePage lines → IsStatedOnce (map value_said lines)
+stated_once : (lines : List ValueLine) → Apart SamePage lines → IsStatedOnce (map stated_by lines)
 stated_once lines apart j k a b at_j at_k r =
-    let (u, here, is_a) = mapped_get value_said lines j a at_j in
-    let (v, there, is_b) = mapped_get value_said lines k b at_k in
+    let (u, here, is_a) = mapped_get stated_by lines j a at_j in
+    let (v, there, is_b) = mapped_get stated_by lines k b at_k in
     let address : address_at u.pa ≡ address_at v.pa = ap (λ (p : Address × Value). p.0) is_a ∙ r ∙ sym (ap (λ (p : Address × Value). p.0) is_b) in
     let pages_are : page_at u.pa ≡ page_at v.pa = cc in
     let tag = ap (λ p. p.tag) pages_are in
     let index = ap (λ p. p.index) pages_are in
     apart j k u v here there (λ i. record { tag = tag i; index = index i })
 
-pub initial_once : (items : List Item) → IsClean items → IsStatedOnce (map value_said (initial_in items))
+pub initial_once : (items : List Item) → IsClean items → IsStatedOnce (map stated_by (initial_in items))
 initial_once items clean = stated_once (initial_in items) (pages initial_of AgainInitial judged_initial items clean)
 
-pub final_once : (items : List Item) → IsClean items → IsStatedOnce (map value_said (final_in items))
+pub final_once : (items : List Item) → IsClean items → IsStatedOnce (map stated_by (final_in items))
 final_once items clean = stated_once (final_in items) (pages final_of AgainFinal judged_final items clean)
 
-fence_touches : (a : Action) → (kind_said a ≡ fence) ↔ IsNone (touch_said a)
+fence_touches : (a : Action) → (kind_of_action a ≡ fence) ↔ IsNone (touch_of_action a)
 fence_touches (reads m) = ((λ e. absurd (cc)), (λ e. absurd (cc)))
 fence_touches (writes m) = ((λ e. absurd (cc)), (λ e. absurd (cc)))
 fence_touches fences = ((λ e. refl), (λ e. refl))
 
-pub ops_kept : (items : List Item) → IsClean items → AreMicroOps (map op_said (microops_in items))
-ops_kept items clean =
+pub are_micro_ops : (items : List Item) → IsClean items → AreMicroOps (map op_of (microops_in items))
+are_micro_ops items clean =
     let ms = microops_in items in
     let head = λ (m : Microop). m.head in
     record {
-      few = omega (arith, few items clean, length-map ms op_said, length-map ms head);
+      few = omega (arith, few items clean, length-map ms op_of, length-map ms head);
       cores = λ k o at.
-          let (m, here, is) = mapped_get op_said ms k o at in
+          let (m, here, is) = mapped_get op_of ms k o at in
           let fits = cores items clean m.head (contains-get (map head ms) k m.head (get_mapped head ms k m here)) in
           let same_core : m.head.core.value ≡ o.core = ap (λ (x : MicroOp). x.core) is in
           omega arith;
       once = λ j k a b at_j at_k g n.
-          let (m, here, is_a) = mapped_get op_said ms j a at_j in
-          let (l, there, is_b) = mapped_get op_said ms k b at_k in
+          let (m, here, is_a) = mapped_get op_of ms j a at_j in
+          let (l, there, is_b) = mapped_get op_of ms k b at_k in
           names items clean j k m.head l.head (get_mapped head ms j m here) (get_mapped head ms k l there)
           (ap (λ (x : MicroOp). x.g) is_a ∙ g ∙ sym (ap (λ (x : MicroOp). x.g) is_b), ap (λ (x : MicroOp). x.n) is_a ∙ n ∙ sym (ap (λ (x : MicroOp). x.n) is_b));
       fences = λ k o at.
-          let (m, here, is) = mapped_get op_said ms k o at in
+          let (m, here, is) = mapped_get op_of ms k o at in
           subst (λ (x : MicroOp). (x.kind ≡ fence) ↔ IsNone x.touch) is (fence_touches m.action);
     }
 
@@ -286,8 +286,8 @@ all_known : (items : List Item) → IsClean items → AreKnown (heads_in items) 
 all_known = each_clean (λ items. AreKnown (heads_in items) (relationships_in items)) (λ r c. let k = c.1 in absurd (omega arith)) known_step
 
 pub dependencies_within : (items : List Item) → IsClean items
-    → AreWithin (length (heads_in items)) (map (dependency_said (heads_in items)) (relationships_in items))
+    → AreWithin (length (heads_in items)) (map (dependency_of (heads_in items)) (relationships_in items))
 dependencies_within items clean k d at =
-    let (r, here, is) = mapped_get (dependency_said (heads_in items)) (relationships_in items) k d at in
+    let (r, here, is) = mapped_get (dependency_of (heads_in items)) (relationships_in items) k d at in
     let ends = all_known items clean r (contains-get (relationships_in items) k r here) in
     subst (λ (x : Dependency). (x.source < length (heads_in items)) × (x.target < length (heads_in items))) is ends

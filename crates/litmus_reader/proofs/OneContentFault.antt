@@ -14,7 +14,7 @@ use Rattle.litmus_reader.specs.declared.item.End.{End}
 use Rattle.litmus_reader.specs.declared.item.ValueLine.{ValueLine}
 use Rattle.litmus_reader.specs.declared.item.Item.{Item}
 use Rattle.litmus_reader.specs.declared.item.Item.TheVariants.{Microop as microop, Relationship as relationship, Initial as initial, Final as final, Permitted as permitted, Forbidden as forbidden}
-use Rattle.litmus_reader.proofs.KeptFacts.{never-first, never-others, added, same, same_heads, added_head, none_expected}
+use Rattle.litmus_reader.proofs.BuilderFacts.{never-first, never-others, added, same, same_heads, added_head, none_expected}
 use Rattle.litmus_reader.proofs.CleanFacts.{each_clean, Apart, SameName, SamePage, names, pages, judged_initial, judged_final}
 
 -- earlier micro-ops of one instruction have one core and one thread

@@ -7,7 +7,7 @@ use Rattle.uspec_lexer.specs.Token.{Token, token_place}
 use Rattle.uspec_lexer.proofs.SpellsLaws.{spells-unique, spells-no_fault, lexical_fault-unique}
 use Rattle.litmus_reader.specs.Syntax.{IsTestOf, IsTest}
 use Rattle.litmus_reader.specs.Content.{IsContentFault}
-use Rattle.litmus_reader.specs.Answer.{Says, IsSyntaxFault, IsRefusal}
+use Rattle.litmus_reader.specs.Answer.{IsTextOf, IsSyntaxFault, IsRefusal}
 use Rattle.litmus_reader.specs.declared.item.Item.{Item}
 use Rattle.litmus_reader.specs.declared.fault.CaseFault.{CaseFault}
 use Rattle.litmus_reader.specs.declared.fault.CaseFault.TheVariants.{Lexical, Syntax, Content, Memory}
@@ -31,7 +31,7 @@ one_syntax_fault bytes p q f g =
     ∙ ap (λ (ts : List Token). token_place bytes ts g.k) (sym tokens) ∙ sym g.at in
     λ i. record { offset = offset i }
 
-test_or_syntax : (bytes : List ℕ) (place : Place) (items : List Item) → IsSyntaxFault bytes place → Says bytes items → ⊥
+test_or_syntax : (bytes : List ℕ) (place : Place) (items : List Item) → IsSyntaxFault bytes place → IsTextOf bytes items → ⊥
 test_or_syntax bytes place items f said =
     no_syntax_fault f.tokens f.k (items, subst (IsTestOf items) (spells-unique said.spelled f.spelled) said.test) f.fault
 

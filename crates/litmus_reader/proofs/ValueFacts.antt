@@ -11,7 +11,7 @@ use Rattle.pc_case.specs.declared.address.Page.{Page}
 use Rattle.pc_case.specs.declared.stated.Stated.{Stated}
 use Rattle.pc_case.specs.contracts.op.PagePartialEq.TheImpl.{eq-value as page_eq}
 use Rattle.litmus_reader.specs.Values.{stated_entry, IsUnstated, IsValueAt}
-use Rattle.litmus_reader.specs.Kept.{stated_of}
+use Rattle.litmus_reader.specs.Builder.{stated_of}
 use Rattle.litmus_reader.specs.Content.{Never, AgainStated}
 use Rattle.litmus_reader.specs.declared.item.ValueLine.{ValueLine}
 

@@ -53,10 +53,10 @@ item_begins ts k (b ∷ before) i after s =
     item_begins ts (k + length (spelled_item b)) before i after (spell-behind ts k (spelled_item b) (spelled_items (before ++ i ∷ after)) s)
 
 test_item : (ts : List Token) (before : List Item) (i : Item) (after : List Item) → IsTestOf (before ++ i ∷ after) ts → (n : ℕ) × BeginsAt ts n (spelled_item i)
-test_item [] before i after s = absurd s
-test_item (t ∷ []) before i after s = absurd s.1
-test_item (t ∷ x ∷ []) before i after s = absurd s.1.1
-test_item (t ∷ x ∷ d ∷ ts) before i after s = item_begins (t ∷ x ∷ d ∷ ts) 3 before i after s.1.1.1
+test_item [] before i after (f, _, s) = absurd s
+test_item (t ∷ []) before i after (f, _, s) = absurd s.1
+test_item (t ∷ x ∷ []) before i after (f, _, s) = absurd s.1.1
+test_item (t ∷ x ∷ d ∷ ts) before i after (f, _, s) = item_begins (t ∷ x ∷ d ∷ ts) 3 before i after s.1.1.1
 
 place_within : {bytes : List ℕ} {ts : List Token} (k : ℕ) (t : Token) → Spells bytes ts → slice_get ts k ≡ Some t → t.at ≤ length bytes
 place_within k t spelled at = omega (arith, (token-within (spells-get k spelled at)).1)

@@ -7,7 +7,7 @@ use Rattle.std.proofs.lemmas.Slice.Eq.{bytes_eq-Decides}
 use Rattle.uspec_lexer.specs.Token.{Kind, name, number, text, symbol}
 use Rattle.litmus_reader.specs.Terminals.{word_terminal, symbol_terminal, kind_terminal, is_name}
 use Rattle.litmus_reader.specs.declared.terminal.Terminal.{Terminal}
-use Rattle.litmus_reader.specs.declared.terminal.Terminal.TheVariants.{Litmus, Microop, Relationship, Init, Final, Permitted, Forbidden, Read, Write, Fence, Va, Pa, Data, Name, Number, Text, Open, Close, Dot, Arrow, Other}
+use Rattle.litmus_reader.specs.declared.terminal.Terminal.TheVariants.{Litmus, Litmus2, Microop, Relationship, Init, Final, Permitted, Forbidden, Read, Write, Fence, Va, Pa, Entry, Data, Maps, Name, Number, Text, Open, Close, Dot, Arrow, Other}
 
 abbrev pub spelling : Terminal → List ℕ
 spelling Litmus = codes "Litmus"
@@ -23,6 +23,9 @@ spelling Fence = codes "Fence"
 spelling Va = codes "VA"
 spelling Pa = codes "PA"
 spelling Data = codes "Data"
+spelling Litmus2 = codes "Litmus2"
+spelling Entry = codes "Entry"
+spelling Maps = codes "Maps"
 spelling Open = codes "("
 spelling Close = codes ")"
 spelling Dot = codes "."
@@ -46,7 +49,7 @@ find w rest [] = rest
 find w rest (c ∷ cs) = if bytes_eq w (spelling c) then c else find w rest cs
 
 abbrev words : List Terminal
-words = Litmus ∷ Microop ∷ Relationship ∷ Init ∷ Final ∷ Permitted ∷ Forbidden ∷ Read ∷ Write ∷ Fence ∷ Va ∷ Pa ∷ Data ∷ []
+words = Litmus ∷ Microop ∷ Relationship ∷ Init ∷ Final ∷ Permitted ∷ Forbidden ∷ Read ∷ Write ∷ Fence ∷ Va ∷ Pa ∷ Data ∷ Litmus2 ∷ Entry ∷ Maps ∷ []
 
 abbrev symbols : List Terminal
 symbols = Open ∷ Close ∷ Dot ∷ Arrow ∷ []
@@ -141,6 +144,9 @@ is_name-sort Fence = refl
 is_name-sort Va = refl
 is_name-sort Pa = refl
 is_name-sort Data = refl
+is_name-sort Litmus2 = refl
+is_name-sort Entry = refl
+is_name-sort Maps = refl
 is_name-sort Name = refl
 is_name-sort Number = refl
 is_name-sort Text = refl

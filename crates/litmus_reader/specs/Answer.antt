@@ -13,8 +13,8 @@ use Rattle.litmus_reader.specs.declared.item.Item.{Item}
 use Rattle.litmus_reader.specs.declared.fault.CaseFault.{CaseFault}
 use Rattle.litmus_reader.specs.declared.fault.CaseFault.TheVariants.{Lexical, Syntax, Content, Memory}
 
--- the bytes spell a test of these items
-pub record Says (bytes : List ℕ) (items : List Item) : Type 0 where
+-- the bytes are a text of these items
+pub record IsTextOf (bytes : List ℕ) (items : List Item) : Type 0 where
   pub tokens : List Token
   pub spelled : Spells bytes tokens
   pub test : IsTestOf items tokens
@@ -22,7 +22,7 @@ pub record Says (bytes : List ℕ) (items : List Item) : Type 0 where
 -- the bytes say this case
 pub record CaseOf (bytes : List ℕ) (case : Case) : Type 0 where
   pub items : List Item
-  pub said : Says bytes items
+  pub text : IsTextOf bytes items
   pub clean : IsClean items
   pub is : case ≡ case_of items
 
@@ -38,7 +38,7 @@ pub record IsSyntaxFault (bytes : List ℕ) (place : Place) : Type 0 where
 abbrev pub IsRefusal : List ℕ → CaseFault → Type 0
 IsRefusal bytes (Lexical place) = IsLexicalFault bytes place.offset
 IsRefusal bytes (Syntax place) = IsSyntaxFault bytes place
-IsRefusal bytes (Content kind place) = (items : List Item) × Says bytes items × IsContentFault items kind place
+IsRefusal bytes (Content kind place) = (items : List Item) × IsTextOf bytes items × IsContentFault items kind place
 IsRefusal bytes Memory = ⊤
 
 -- the tokens, which are a test, say this case

@@ -3,7 +3,7 @@ use Rattle.std.specs.Prelude.{ℕ, Bool, true, false, List, codes, if◌then◌e
 use Rattle.std.specs.Str.{bytes_eq}
 use Rattle.uspec_lexer.specs.Token.{Token, Kind, name, number, text, symbol}
 use Rattle.litmus_reader.specs.declared.terminal.Terminal.{Terminal}
-use Rattle.litmus_reader.specs.declared.terminal.Terminal.TheVariants.{Litmus, Microop, Relationship, Init, Final, Permitted, Forbidden, Read, Write, Fence, Va, Pa, Data, Name, Number, Text, Open, Close, Dot, Arrow, Other}
+use Rattle.litmus_reader.specs.declared.terminal.Terminal.TheVariants.{Litmus, Litmus2, Microop, Relationship, Init, Final, Permitted, Forbidden, Read, Write, Fence, Va, Pa, Entry, Data, Maps, Name, Number, Text, Open, Close, Dot, Arrow, Other}
 
 unfoldable pub word_terminal : List ℕ → Terminal
 word_terminal word =
@@ -20,7 +20,10 @@ word_terminal word =
     else (if bytes_eq word (codes "VA") then Va
     else (if bytes_eq word (codes "PA") then Pa
     else (if bytes_eq word (codes "Data") then Data
-    else Name))))))))))))
+    else (if bytes_eq word (codes "Litmus2") then Litmus2
+    else (if bytes_eq word (codes "Entry") then Entry
+    else (if bytes_eq word (codes "Maps") then Maps
+    else Name)))))))))))))))
 
 unfoldable pub symbol_terminal : List ℕ → Terminal
 symbol_terminal piece =

@@ -1,11 +1,11 @@
 ghost use Rattle.std.specs.Prelude.{◌<◌, ◌^◌, [], length, IfOk, IfErr, OnOk};
 ghost use Rattle.uspec_lexer.specs.Spells.{Spells};
 ghost use Rattle.litmus_reader.specs.Syntax.{IsTest};
-ghost use Rattle.litmus_reader.specs.Kept.{Keeps, KeepsTest};
+ghost use Rattle.litmus_reader.specs.Builder.{HasLines, HasTest};
 ghost use Rattle.litmus_reader.specs.Answer.{CaseOf, IsRefusal, CaseIn, IsContentRefusal};
 
+use super::builder::CaseBuilder;
 use super::fault::CaseFault;
-use super::kept::Kept;
 use super::reading::item_at;
 use super::syntax::syntax_fault;
 use pc_case::Case;
@@ -45,25 +45,29 @@ fn case_of_test(alloc: Global, tokens: &Tokens<'_>) -> Result<Case, CaseFault>
     ensures ok { IfOk result (CaseIn tokens.now) }
     ensures err { IfErr result (IsContentRefusal tokens.now) }
 {
-    let mut kept = Kept::new(alloc);
-    read_lines(alloc, tokens, &mut kept)?;
-    Ok(kept.into_case(alloc)?)
+    let mut builder = CaseBuilder::new(alloc);
+    read_lines(alloc, tokens, &mut builder)?;
+    Ok(builder.finish(alloc)?)
 }
 
-/// How many tokens stand before the first line: `Litmus`, its text and a dot.
+/// How many tokens stand before the first line: the word of the format, a text and a dot.
 const TITLE: usize = 3;
 
-/// Keeps the lines of tokens that are a test.
-fn read_lines(alloc: Global, tokens: &Tokens<'_>, kept: &mut Kept) -> Result<(), CaseFault>
+/// Takes the lines of tokens that are a test.
+fn read_lines(
+    alloc: Global,
+    tokens: &Tokens<'_>,
+    builder: &mut CaseBuilder,
+) -> Result<(), CaseFault>
     requires test { IsTest tokens.now }
-    requires first { Keeps kept.old [] }
-    ensures ok { OnOk result (KeepsTest tokens.now kept.new) }
+    requires first { HasLines builder.old [] }
+    ensures ok { OnOk result (HasTest tokens.now builder.new) }
     ensures err { IfErr result (IsContentRefusal tokens.now) }
 {
     let mut at = TITLE;
     while at < tokens.len() {
         let (item, next) = item_at(alloc, tokens, at)?;
-        kept.keep(item)?;
+        builder.add(item)?;
         at = next;
     }
     Ok(())

@@ -6,14 +6,14 @@ use Rattle.litmus_reader.specs.Answer.{CaseOf, IsRefusal, CaseIn, IsContentRefus
 use Rattle.litmus_reader.specs.Answers.{IsSyntaxAnswer}
 use Rattle.litmus_reader.specs.declared.fault.CaseFault.{CaseFault}
 use Rattle.litmus_reader.specs.declared.fault.CaseFault.TheVariants.{Lexical, Syntax, Content, Memory}
-use Rattle.litmus_reader.proofs.KeptFacts.{if_ok, if_err}
+use Rattle.litmus_reader.proofs.BuilderFacts.{if_ok, if_err}
 use Rattle.litmus_reader.proofs.read.case_of_tokens.Goals as goal
 
 -- what the tokens say, the bytes say
 case_of : (bytes : List ℕ) (ts : List Token) → Spells bytes ts → (case : Case) → CaseIn ts case → CaseOf bytes case
 case_of bytes ts spelled case (items, test, clean, is) = record {
   items = items;
-  said = record { tokens = ts; spelled = spelled; test = test };
+  text = record { tokens = ts; spelled = spelled; test = test };
   clean = clean;
   is = is;
 }
