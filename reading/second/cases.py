@@ -49,24 +49,33 @@ class Case:
 
 
 def read_case(data: bytes) -> Case:
-    """The case that the bytes say, or their first fault: the whole grammar is judged before any item."""
+    """The case that the bytes say, or their first fault."""
+    return read_items(data)[0]
+
+
+def read_items(data: bytes) -> "tuple[Case, list[Item]]":
+    """The case, with its items as they are written. The whole grammar is judged before any item."""
     reader = CaseReader(tokens(data))
     title, items = reader.items()
     case = Case(title)
     for item in items:
         item.add_to(case)
-    return case
+    return case, items
 
 
 @dataclass(frozen=True)
 class OpItem:
-    """A `Microop`, with the places where its faults stand."""
+    """A `Microop`, with the places where its faults stand, and of what a reader may want to see."""
 
     op: Op
     at: int
     g_at: int
     core_at: int
     thread_at: int
+    # each type name with its place
+    types_at: tuple[tuple[str, int], ...] = ()
+    pa_at: int = 0
+    value_at: int = 0
 
     def add_to(self, case: Case) -> None:
         """Judges the micro-op by the earlier ones and puts it last."""
@@ -90,6 +99,7 @@ class DependencyItem:
 
     kind: str
     ends: tuple[tuple[int, int, int], tuple[int, int, int]]
+    at: int = 0
 
     def add_to(self, case: Case) -> None:
         """Judges the ends, the first one first."""
@@ -159,10 +169,10 @@ class CaseReader(Reader):
         if first.piece == "Microop":
             return self.microop(first)
         if first.piece == "Relationship":
-            kind = self.expect_kind("name").piece
+            kind = self.expect_kind("name")
             start = self.op_name()
             self.expect("->")
-            return DependencyItem(kind, (start, self.op_name()))
+            return DependencyItem(kind.piece, (start, self.op_name()), kind.at)
         if first.piece in ("Init", "Final"):
             page = self.page("PA")
             return ValueItem(first.piece, first.at, page, self.number())
@@ -183,12 +193,13 @@ class CaseReader(Reader):
         self.expect(")")
         return tag, index
 
-    def types(self) -> frozenset[str]:
-        """All names that follow."""
-        found = set()
+    def types(self) -> tuple[tuple[str, int], ...]:
+        """All names that follow, with their places."""
+        found = []
         while self.next.kind == "name":
-            found.add(self.take().piece)
-        return frozenset(found)
+            token = self.take()
+            found.append((token.piece, token.at))
+        return tuple(found)
 
     def microop(self, first: Token) -> OpItem:
         """A micro-op, behind its first word."""
@@ -201,16 +212,20 @@ class CaseReader(Reader):
         n = self.number()
         self.expect("(")
         access = self.expect("Read", "Write", "Fence").piece
-        types = self.types()
+        types_at = self.types()
+        types = frozenset(name for name, _ in types_at)
+        pa_at = value_at = 0
         if access == "Fence":
             op = Op(g, n, core, thread, access, types)
         else:
             va = self.page("VA")
+            pa_at = self.next.at
             pa = self.page("PA")
             self.expect("(")
             self.expect("Data")
+            value_at = self.next.at
             value = self.number()
             self.expect(")")
             op = Op(g, n, core, thread, access, types, va, pa, value)
         self.expect(")")
-        return OpItem(op, first.at, g_at, core_at, thread_at)
+        return OpItem(op, first.at, g_at, core_at, thread_at, types_at, pa_at, value_at)

@@ -9,7 +9,8 @@
 The modules are in second/. All text goes to standard output, in the lines and with the exit statuses that the program
 has: 0 observable, 1 unobservable, 2 words that are no command, 3 a file with a fault, 4 a file that cannot be read, 6 a
 refused certificate. The verdict of `check` is found in two ways, by a search of this reading's own and by one that makes
-the program's choices and gives the text; they have to agree, and the certificate is judged before it is written.
+the program's choices and gives the text; they have to agree, and the certificate is judged before it is written. `verify`
+judges certificates of version 1 and of version 2.
 """
 import signal
 import sys

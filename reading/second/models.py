@@ -45,10 +45,11 @@ class NodeTerm:
 
 @dataclass(frozen=True)
 class EdgeTerm:
-    """An edge from one node to another; labels and colours mean nothing and are not kept."""
+    """An edge from one node to another. Its label is kept for readers alone; colours are not kept."""
 
     start: NodeTerm
     end: NodeTerm
+    label: str = ""
 
 
 @dataclass(frozen=True)
@@ -88,16 +89,18 @@ class Static:
 
 @dataclass(frozen=True)
 class Nodes:
-    """Each of these nodes is in the world."""
+    """Each of these nodes is in the world; `at` is the place of the first word."""
 
     members: tuple[NodeTerm, ...]
+    at: int = 0
 
 
 @dataclass(frozen=True)
 class Edges:
-    """Of each of these edges the start happens before the end."""
+    """Of each of these edges the start happens before the end; `at` is the place of the first word."""
 
     members: tuple[EdgeTerm, ...]
+    at: int = 0
 
 
 @dataclass(frozen=True)
@@ -291,12 +294,12 @@ class ModelReader(Reader):
         if first.piece == "ExpandMacro":
             return Expand(first.at, self.name(), self.args())
         if first.piece in ("AddEdge", "EdgeExists"):
-            return Edges((self.edge(),))
+            return Edges((self.edge(),), first.at)
         if first.piece in ("AddEdges", "EdgesExist"):
-            return Edges(tuple(self.members(self.edge)))
+            return Edges(tuple(self.members(self.edge)), first.at)
         if first.piece == "NodeExists":
-            return Nodes((self.node(),))
-        return Nodes(tuple(self.members(self.node)))
+            return Nodes((self.node(),), first.at)
+        return Nodes(tuple(self.members(self.node)), first.at)
 
     def members(self, member: Callable[[], Member]) -> list[Member]:
         """A list in square brackets, where one semicolon may stand behind the last member."""
@@ -346,12 +349,13 @@ class ModelReader(Reader):
         start = self.node()
         self.expect(",")
         end = self.node()
+        texts = []
         for _ in range(2):
             if self.sees(","):
                 self.take()
-                self.expect_kind("text")
+                texts.append(self.expect_kind("text").content)
         self.expect(")")
-        return EdgeTerm(start, end)
+        return EdgeTerm(start, end, texts[0] if texts else "")
 
 
 def grouped(operands: list[Formula], between: list[str]) -> Formula:

@@ -35,11 +35,11 @@ class Leaf:
 class Positions:
     """The positions of one model over one test."""
 
-    def __init__(self, model: Model, case: Case) -> None:
+    def __init__(self, model: Model, case: Case, tree: Tree | None = None) -> None:
         self.rows: list[Inner | Leaf] = []
         self.nodes: list[Node] = []
         self.numbers: dict[Node, int] = {}
-        tree = ground_nested(model, case)
+        tree = ground_nested(model, case) if tree is None else tree
         self.constant = tree if isinstance(tree, bool) else None
         if self.constant is None:
             self.add(tree)

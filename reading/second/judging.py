@@ -3,6 +3,10 @@
 A graph is judged by evaluating the written axioms in its world. A refutation is judged by the positions of the ground
 tree: what is asserted on a branch is the root, both members of an asserted conjunction, and below a split the member of
 its side.
+
+In a refutation of version 2, whose third line is `version 2`, positions have signs, and the right side of a split may use
+that the left one is false. `~p` says that position p does not hold: where p is a disjunction both members are denied with
+it, and where p is a literal the opposite literal is asserted. `split ~p` splits a denied conjunction.
 """
 from .cases import Case
 from .evaluating import false_axioms
@@ -11,6 +15,10 @@ from .models import Model
 from .positions import Inner, Leaf, NodeNames, Positions, is_decimal
 
 LIMIT = 67_108_864
+VERSION_2 = "version 2"
+
+# a position, and whether it is denied
+Signed = tuple[int, bool]
 
 
 class Refused(Exception):
@@ -33,8 +41,11 @@ def judge(model: Model, case: Case, second_lines: dict[bool, str], data: bytes) 
     is_observable = verdict == "observable"
     if len(whole) < 2 or whole[1] != second_lines[is_observable]:
         raise Refused(2)
-    judge_line: GraphJudge | TreeJudge = GraphJudge(model, case) if is_observable else TreeJudge(model, case)
-    for number, line in enumerate(whole[2:], 3):
+    has_signs = not is_observable and whole[2:3] == [VERSION_2]
+    header = 3 if has_signs else 2
+    judge_line: GraphJudge | TreeJudge
+    judge_line = GraphJudge(model, case) if is_observable else TreeJudge(model, case, has_signs)
+    for number, line in enumerate(whole[header:], header + 1):
         if not judge_line.accepts(line):
             raise Refused(number)
         if line == "end":
@@ -72,27 +83,27 @@ class GraphJudge:
 
 
 class Asserted:
-    """The positions that are asserted on a branch, and their literals."""
+    """The positions of choices that are asserted on a branch, with their signs, and the literals."""
 
     def __init__(self) -> None:
-        self.disjunctions: set[int] = set()
+        self.choices: set[Signed] = set()
         self.literals: set[tuple[Node, Node | None, bool]] = set()
 
-    def below(self, positions: Positions, position: int) -> "Asserted":
-        """This branch with one more position asserted."""
+    def below(self, positions: Positions, *more: Signed) -> "Asserted":
+        """This branch with more positions asserted."""
         other = Asserted()
-        other.disjunctions, other.literals = set(self.disjunctions), set(self.literals)
-        waiting = [position]
+        other.choices, other.literals = set(self.choices), set(self.literals)
+        waiting = list(more)
         while waiting:
-            here = waiting.pop()
+            here, is_denied = waiting.pop()
             row = positions.rows[here]
             if isinstance(row, Leaf):
                 end = None if row.end is None else positions.nodes[row.end]
-                other.literals.add((positions.nodes[row.start], end, row.wanted))
-            elif row.is_disjunction:
-                other.disjunctions.add(here)
+                other.literals.add((positions.nodes[row.start], end, row.wanted is not is_denied))
+            elif row.is_disjunction is not is_denied:
+                other.choices.add((here, is_denied))
             else:
-                waiting += [row.left, row.right]
+                waiting += [(row.left, is_denied), (row.right, is_denied)]
         return other
 
     def has_chain(self, nodes: list[Node]) -> bool:
@@ -107,11 +118,12 @@ class Asserted:
 class TreeJudge:
     """Judges the steps of a refutation. The open branches stand in a list, the present one last."""
 
-    def __init__(self, model: Model, case: Case) -> None:
+    def __init__(self, model: Model, case: Case, has_signs: bool) -> None:
+        self.has_signs = has_signs
         self.positions = Positions(model, case)
         self.names = NodeNames(model, case)
         has_root = self.positions.constant is None
-        self.open = [Asserted().below(self.positions, 0) if has_root else Asserted()]
+        self.open = [Asserted().below(self.positions, (0, False)) if has_root else Asserted()]
 
     def accepts(self, line: str) -> bool:
         """Whether the step is right on the present branch; `end` where none is open."""
@@ -120,19 +132,23 @@ class TreeJudge:
         branch = self.open.pop()
         word, *rest = line.split(" ")
         if word == "split":
-            return len(rest) == 1 and is_decimal(rest[0]) and self.splits(branch, int(rest[0]))
+            return len(rest) == 1 and self.splits(branch, rest[0])
         if word == "false":
             return not rest and self.positions.constant is False
         nodes = [node for node in map(self.names.read, rest) if node is not None]
         return len(nodes) == len(rest) and self.closes(branch, word, nodes)
 
-    def splits(self, branch: Asserted, position: int) -> bool:
-        """Opens both sides of an asserted disjunction, the left one first."""
-        if position not in branch.disjunctions:
+    def splits(self, branch: Asserted, word: str) -> bool:
+        """Opens both sides of an asserted choice, the left one first."""
+        is_denied = self.has_signs and word.startswith("~")
+        digits = word[1:] if is_denied else word
+        if not is_decimal(digits) or (int(digits), is_denied) not in branch.choices:
             return False
-        row = self.positions.rows[position]
+        row = self.positions.rows[int(digits)]
         assert isinstance(row, Inner)
-        self.open += [branch.below(self.positions, side) for side in (row.right, row.left)]
+        left, right = (row.left, is_denied), (row.right, is_denied)
+        not_left = [(row.left, not is_denied)] if self.has_signs else []
+        self.open += [branch.below(self.positions, *not_left, right), branch.below(self.positions, left)]
         return True
 
     @staticmethod
