@@ -1,10 +1,10 @@
 ghost use Rattle.std.specs.Prelude.{◌≡◌, ◌<◌, ◌≤◌, ◌+◌, ◌*◌, ◌||◌, ◌==◌, ◌↔◌, ℕ, List, true, false, OnOk, OnErr, if◌then◌else◌};
-ghost use Rattle.undo_trail.specs.Kept.{bit_now, Extends, HasSet};
+ghost use Rattle.undo_trail.specs.BitTable.{bit_now, Extends, HasSet};
 ghost use Rattle.pc_common.specs.Chain.{Chain};
 ghost use Rattle.pc_ground.specs.Literals.{Joins, IsPresent, Holds};
 ghost use Rattle.pc_ground.specs.declared.literal.Literal.{Literal as AnyLiteral};
 ghost use Rattle.order_graph.specs.Ways.{IsBelow};
-ghost use Rattle.order_graph.specs.Rows.{pair_row, present_row, missing_row, leads_to, with_edge, HasEntered, IsSized, ClosesNone, Stands};
+ghost use Rattle.order_graph.specs.Rows.{pair_row, present_row, missing_row, leads_to, with_edge, Enters, IsSized, ClosesNone, Represents};
 
 use pc_common::Memory;
 use pc_ground::Literal;
@@ -102,7 +102,7 @@ fn enter_edge<L: Ledger>(
     requires a_in { a < nodes }
     requires b_in { b < nodes }
     requires no_cycle { leads_to table.old b a ≡ false }
-    ensures entered { OnOk result (HasEntered nodes (Literal.Edge a b) table.old table.new) }
+    ensures entered { OnOk result (Enters nodes (Literal.Edge a b) table.old table.new) }
     ensures trail { Extends table.old table.new (nodes * (table.old.words + 1) + 2) }
     ensures cost { steps.new ≤ steps.old + nodes }
 {
@@ -134,7 +134,7 @@ fn enter<L: Ledger>(
     requires sized { IsSized nodes table.old }
     requires below { IsBelow nodes literal }
     requires no_cycle { ClosesNone literal table.old }
-    ensures entered { OnOk result (HasEntered nodes literal table.old table.new) }
+    ensures entered { OnOk result (Enters nodes literal table.old table.new) }
     ensures trail { Extends table.old table.new (nodes * (table.old.words + 1) + 2) }
     ensures cost { steps.new ≤ steps.old + nodes }
 {
@@ -157,7 +157,7 @@ pub fn enter_whole<L: Ledger>(
     requires sized { IsSized nodes table.old }
     requires below { IsBelow nodes literal }
     requires no_cycle { ClosesNone literal table.old }
-    ensures entered { OnOk result (HasEntered nodes literal table.old table.new) }
+    ensures entered { OnOk result (Enters nodes literal table.old table.new) }
     ensures trail { OnOk result (Extends table.old table.new (nodes * (table.old.words + 1) + 2)) }
     ensures err { OnErr result (table.new ≡ table.old) }
     ensures cost { OnOk result (steps.new ≤ steps.old + nodes) }
@@ -178,7 +178,7 @@ pub fn enter_whole<L: Ledger>(
 pub fn is_true(table: &UndoTable, nodes: u32, literal: Literal<u32>) -> bool
     requires sized { IsSized nodes table.now }
     requires below { IsBelow nodes literal }
-    ensures { (ls : List (AnyLiteral ℕ)) → Stands nodes table.now.words ls table.now.now → (result ≡ true) ↔ Holds (IsPresent ls) (Chain (Joins ls)) literal }
+    ensures { (ls : List (AnyLiteral ℕ)) → Represents nodes table.now.words ls table.now.now → (result ≡ true) ↔ Holds (IsPresent ls) (Chain (Joins ls)) literal }
 {
     match literal {
         Literal::Node(a) => is_present(table, nodes, a),

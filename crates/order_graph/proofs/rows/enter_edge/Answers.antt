@@ -1,6 +1,6 @@
 use Rattle.std.proofs.Common.{◌+◌, ◌*◌, arith}
 use Rattle.undo_trail.proofs.ExtendsLaws.{extends_then, extends_more}
-use Rattle.order_graph.proofs.Closing.{edge_entered}
+use Rattle.order_graph.proofs.CloseOver.{edge_entered}
 use Rattle.order_graph.proofs.rows.enter_edge.Goals as goal
 
 pub returns-clause-entered : goal.returns-clause-entered

@@ -1,14 +1,14 @@
 use Rattle.std.proofs.Common.{◌∙◌, length, refl, ap}
 use Rattle.std.proofs.lemmas.List.{length_push}
-use Rattle.order_graph.proofs.Pushed.{more}
-use Rattle.order_graph.proofs.Clashing.{clashes_refute}
-use Rattle.order_graph.proofs.Telling.{closes_none}
+use Rattle.order_graph.proofs.OneMore.{more}
+use Rattle.order_graph.proofs.IsClash.{clashes_refute}
+use Rattle.order_graph.proofs.ClashOf.{closes_none}
 use Rattle.order_graph.proofs.MarkLists.{marks_none}
 use Rattle.order_graph.proofs.Orders.{order_now, order_sized, order_more, found_none, found_some, order_kept}
 use Rattle.order_graph.proofs.graph.OrderGraph.assert_literal.Goals as goal
 
-pub clash_of-requires-clause-stands : goal.clash_of-requires-clause-stands
-clash_of-requires-clause-stands g c =
+pub clash_of-requires-clause-represents : goal.clash_of-requires-clause-represents
+clash_of-requires-clause-represents g c =
     let s = c.self.inside in
     rw c.deref.ensures.value (order_now s.nodes s.table s.literals.items s.moments.items s.counts.items s.live c.self.invariant)
 

@@ -4,10 +4,10 @@ use Rattle.std.proofs.lemmas.Bool.{cases_eq, or_cases, or_parts, MatchBool-at_tr
 use Rattle.std.proofs.lemmas.List.{get_or-set_same, get_or-set_other, set-get_or}
 use Rattle.undo_trail.specs.declared.trail.Change.{Change}
 use Rattle.undo_trail.specs.Trail.{Grows}
-use Rattle.undo_trail.proofs.Growing.{grows_same, grows_then}
+use Rattle.undo_trail.proofs.Grows.{grows_same, grows_then}
 
 -- the first k words were joined
-pub record Joining (as0 : List Change) (t : List ℕ) (to from : ℕ) (cs : List Change) (u : List ℕ) (changed : Bool) (k : ℕ) : Type 0 where
+pub record HasJoinedWords (as0 : List Change) (t : List ℕ) (to from : ℕ) (cs : List Change) (u : List ℕ) (changed : Bool) (k : ℕ) : Type 0 where
   pub joined : (j : ℕ) → j < k → get_or u (to + j) 0 ≡ bit_or (get_or t (to + j) 0) (get_or t (from + j) 0)
   pub others : (p : ℕ) → (p < to) ⊎ (to + k ≤ p) → get_or u p 0 ≡ get_or t p 0
   pub grows : Grows as0 t cs u k
@@ -18,7 +18,7 @@ pub record Joining (as0 : List Change) (t : List ℕ) (to from : ℕ) (cs : List
 was : (x y : Bool) → (y ≡ true → ⊥) → (x || y) ≡ true → x ≡ true
 was x y n e = elim (or_cases x y e) [ inl first ↦ first | inr second ↦ absurd (n second) ]
 
-pub joining_first : (cs : List Change) (t : List ℕ) (to from : ℕ) → Joining cs t to from cs t false 0
+pub joining_first : (cs : List Change) (t : List ℕ) (to from : ℕ) → HasJoinedWords cs t to from cs t false 0
 joining_first cs t to from = record {
   joined = λ j h. absurd (omega arith);
   others = λ p h. refl;
@@ -29,12 +29,12 @@ joining_first cs t to from = record {
 
 pub joining_more : (as0 : List Change) (t : List ℕ) (to from words : ℕ) (cs : List Change) (u : List ℕ) (changed : Bool) (k : ℕ)
     → (from ≡ to) ⊎ ((from + words ≤ to) ⊎ (to + words ≤ from)) → k < words → to + words ≤ length u
-    → Joining as0 t to from cs u changed k
+    → HasJoinedWords as0 t to from cs u changed k
     → (ds : List Change) (v : List ℕ) (b : Bool)
     → v ≡ set u (to + k) (bit_or (get_or u (to + k) 0) (get_or u (from + k) 0))
     → Grows cs u ds v 1
     → MatchBool b (v ≢ u) ((v ≡ u) × (ds ≡ cs))
-    → Joining as0 t to from ds v (changed || b) (k + 1)
+    → HasJoinedWords as0 t to from ds v (changed || b) (k + 1)
 joining_more as0 t to from words cs u changed k apart low inside j ds v b is grows told =
     let word : ℕ = bit_or (get_or u (to + k) 0) (get_or u (from + k) 0) in
     let told_true : b ≡ true → word ≡ get_or u (to + k) 0 → ⊥ = λ e kept.
@@ -69,6 +69,6 @@ joining_more as0 t to from words cs u changed k apart low inside j ds v b is gro
 
 -- all words are joined: whether one changed
 pub joining_told : (as0 : List Change) (t : List ℕ) (to from words : ℕ) (cs : List Change) (u : List ℕ) (changed : Bool)
-    → Joining as0 t to from cs u changed words → MatchBool changed (u ≢ t) ((u ≡ t) × (cs ≡ as0))
+    → HasJoinedWords as0 t to from cs u changed words → MatchBool changed (u ≢ t) ((u ≡ t) × (cs ≡ as0))
 joining_told as0 t to from words cs u true j = let s = j.some refl in (λ e. s.2 (ap (λ x. get_or x (to + s.0) 0) e))
 joining_told as0 t to from words cs u false j = j.none refl

@@ -4,7 +4,7 @@ use Rattle.std.specs.Prelude.{All}
 use Rattle.std.proofs.lemmas.List.{set-set, set-get_or, get_or-set_same, length-set}
 use Rattle.std.proofs.lemmas.List.Elements.{All-head, All-tail}
 use Rattle.undo_trail.specs.declared.trail.Change.{Change}
-use Rattle.undo_trail.specs.Kept.{IsOneWordOn, IsHistory}
+use Rattle.undo_trail.specs.BitTable.{IsOneWordOn, IsHistory}
 use Rattle.undo_trail.specs.Trail.{back, past, IsChanging}
 
 pub back_push : (cs : List Change) (c : Change) (t : List ℕ) → back (cs ++ c ∷ []) t ≡ back cs (set t c.place c.old)

@@ -3,10 +3,10 @@ use Rattle.std.proofs.Common.{◌≡◌, ◌≢◌, ℕ, ◌+◌, ◌<◌, List,
 use Rattle.std.proofs.lemmas.List.{set-set, set-get_or, get_or-set_same, length-set, take_at, length_push}
 use Rattle.std.proofs.lemmas.List.Elements.{All-push, All-take}
 use Rattle.undo_trail.specs.declared.trail.Change.{Change}
-use Rattle.undo_trail.specs.Kept.{IsKept}
-use Rattle.undo_trail.specs.Trail.{back, past, kept, IsChanging, IsTrail, Grows}
+use Rattle.undo_trail.specs.BitTable.{IsBitTable}
+use Rattle.undo_trail.specs.Trail.{back, past, table_of, IsChanging, IsTrail, Grows}
 use Rattle.undo_trail.proofs.ExtendsLaws.{extends_same, extends_then}
-use Rattle.undo_trail.proofs.Backwards.{back_push, past_push, changing_push, length-back, back_split, changing_split, history}
+use Rattle.undo_trail.proofs.Back.{back_push, past_push, changing_push, length-back, back_split, changing_split, history}
 
 -- the change of a word
 abbrev pub change : List ℕ → ℕ → Change
@@ -35,7 +35,7 @@ grows_one cs t place word inside other =
       extends = λ rows words. record {
         same_rows = refl;
         same_words = refl;
-        kept = rw past_is (take_at (past cs t ++ t ∷ []) (u ∷ []) (length (past cs t) + 1) (length_push (past cs t) t));
+        same_tables = rw past_is (take_at (past cs t ++ t ∷ []) (u ∷ []) (length (past cs t) + 1) (length_push (past cs t) t));
         at_least = rw past_is (omega (arith, length_push (past cs t) t));
         at_most = rw past_is (omega (arith, length_push (past cs t) t));
       };
@@ -45,7 +45,7 @@ pub grows_same : (cs : List Change) (t : List ℕ) (n : ℕ) → Grows cs t cs t
 grows_same cs t n = record {
   same_size = refl;
   keeps = λ size k. k;
-  extends = λ rows words. extends_same (kept rows words cs t) n;
+  extends = λ rows words. extends_same (table_of rows words cs t) n;
 }
 
 pub grows_then : (xs : List Change) (t : List ℕ) (ys : List Change) (u : List ℕ) (zs : List Change) (v : List ℕ) (m n : ℕ)
@@ -53,7 +53,7 @@ pub grows_then : (xs : List Change) (t : List ℕ) (ys : List Change) (u : List 
 grows_then xs t ys u zs v m n g h = record {
   same_size = h.same_size ∙ g.same_size;
   keeps = λ size k. h.keeps size (g.keeps size k);
-  extends = λ rows words. extends_then (kept rows words xs t) (kept rows words ys u) (kept rows words zs v) m n (g.extends rows words) (h.extends rows words);
+  extends = λ rows words. extends_then (table_of rows words xs t) (table_of rows words ys u) (table_of rows words zs v) m n (g.extends rows words) (h.extends rows words);
 }
 
 -- what is left of the trail after the later changes are taken back
@@ -69,8 +69,8 @@ first_is : (cs : List Change) (t : List ℕ) → slice_get (past cs t ++ t ∷ [
 first_is [] t = refl
 first_is (c ∷ cs) t = refl
 
-pub is_kept : (rows words : ℕ) (cs : List Change) (t : List ℕ) → IsTrail (rows * words) cs t → IsKept (kept rows words cs t)
-is_kept rows words cs t k = record {
+pub is_bit_table : (rows words : ℕ) (cs : List Change) (t : List ℕ) → IsTrail (rows * words) cs t → IsBitTable (table_of rows words cs t)
+is_bit_table rows words cs t k = record {
   first = first_is cs t ∙ ap Some k.cleared;
   history = history cs t (rw k.all k.inside) k.changing;
   size = k.all;

@@ -1,61 +1,61 @@
 -- What the bit rows tell of one literal more.
-use Rattle.std.proofs.Common.{◌≡◌, ◌↔◌, ℕ, ◌*◌, ◌<◌, ◌≤◌, Bool, true, false, List, [], refl, arith, MatchBool, MatchOption, Option, Some, None}
+use Rattle.std.proofs.Common.{◌≡◌, ◌↔◌, ℕ, ◌*◌, ◌<◌, ◌≤◌, inl, Bool, true, false, List, refl, arith, MatchBool, MatchOption, Option, Some, None}
 use Rattle.std.specs.Prelude.{Contains, All}
 use Rattle.std.proofs.lemmas.Bool.{iff_false, false_from_ne_true, both_ways}
 use Rattle.std.proofs.lemmas.List.Elements.{All-contains}
-use Rattle.pc_common.specs.Chain.{Chain}
+use Rattle.pc_common.specs.Chain.{Chain, Reach}
 use Rattle.pc_ground.specs.declared.literal.Literal.{Literal}
 use Rattle.pc_ground.specs.declared.literal.Literal.TheVariants.{Node, Edge, NoNode, NoEdge}
 use Rattle.pc_ground.specs.Literals.{Joins, IsPresent, IsConsistent}
-use Rattle.undo_trail.specs.Kept.{Kept, bit_now}
+use Rattle.undo_trail.specs.BitTable.{BitTable, bit_now}
 use Rattle.order_graph.specs.declared.clash.Clash.{Clash}
 use Rattle.order_graph.specs.declared.clash.Clash.TheVariants.{Absent}
-use Rattle.order_graph.specs.Ways.{Reach, IsBelow}
-use Rattle.order_graph.specs.Rows.{pair_row, present_row, missing_row, Stands, leads_to, IsOver, ClosesNone}
+use Rattle.order_graph.specs.Ways.{IsBelow}
+use Rattle.order_graph.specs.Rows.{pair_row, present_row, missing_row, Represents, leads_to, IsOver, ClosesNone}
 use Rattle.order_graph.specs.Clashes.{JoinsNone, IsClash}
-use Rattle.order_graph.proofs.Pushed.{more, older, edge_chain, consistent_node, consistent_no_node, consistent_no_edge, consistent_edge}
-use Rattle.order_graph.proofs.Standing.{leads_reach}
+use Rattle.order_graph.proofs.OneMore.{more, older, edge_chain, consistent_node, consistent_no_node, consistent_no_edge, consistent_edge}
+use Rattle.order_graph.proofs.Represents.{leads_reach}
 
 -- a bit that says P tells P, or what follows where P is not
 told : {P Q : Type 0} (b : Bool) → ((b ≡ true) ↔ P) → ((P → ⊥) → Q) → MatchBool b P Q
 told true f g = f.0 refl
 told false f g = g (iff_false f refl)
 
-pub node_told : (n : ℕ) (v : Kept) (ls : List (Literal ℕ)) (p : ℕ) → Stands n v.words ls v.now → p < n
+pub node_told : (n : ℕ) (v : BitTable) (ls : List (Literal ℕ)) (p : ℕ) → Represents n v.words ls v.now → p < n
     → MatchBool (bit_now v (missing_row n) p) (Contains ls (NoNode p)) (IsConsistent (more ls (Node p)))
 node_told n v ls p s ph = told (bit_now v (missing_row n) p) (s.missing p ph) (consistent_node ls p s.consistent)
 
-pub no_node_told : (n : ℕ) (v : Kept) (ls : List (Literal ℕ)) (p : ℕ) → Stands n v.words ls v.now → p < n
+pub no_node_told : (n : ℕ) (v : BitTable) (ls : List (Literal ℕ)) (p : ℕ) → Represents n v.words ls v.now → p < n
     → MatchBool (bit_now v (present_row n) p) (IsPresent ls p) (IsConsistent (more ls (NoNode p)))
 no_node_told n v ls p s ph = told (bit_now v (present_row n) p) (s.present p ph) (consistent_no_node ls p s.consistent)
 
-pub no_edge_told : (n : ℕ) (v : Kept) (ls : List (Literal ℕ)) (p q : ℕ) → Stands n v.words ls v.now → p < n → q < 64 * v.words
+pub no_edge_told : (n : ℕ) (v : BitTable) (ls : List (Literal ℕ)) (p q : ℕ) → Represents n v.words ls v.now → p < n → q < 64 * v.words
     → MatchBool (bit_now v p q) (Chain (Joins ls) p q) (IsConsistent (more ls (NoEdge p q)))
 no_edge_told n v ls p q s ph qh = told (bit_now v p q) (s.reach p q ph qh) (consistent_no_edge ls p q s.consistent)
 
-pub missing_told : (n : ℕ) (v : Kept) (ls : List (Literal ℕ)) (p : ℕ) → Stands n v.words ls v.now → p < n
+pub missing_told : (n : ℕ) (v : BitTable) (ls : List (Literal ℕ)) (p : ℕ) → Represents n v.words ls v.now → p < n
     → MatchBool (bit_now v (missing_row n) p) (Contains ls (NoNode p)) (Contains ls (NoNode p) → ⊥)
 missing_told n v ls p s ph = told (bit_now v (missing_row n) p) (s.missing p ph) (λ f. f)
 
-pub leads_told : (n : ℕ) (v : Kept) (ls : List (Literal ℕ)) (a b : ℕ) → Stands n v.words ls v.now → a < n → b < 64 * v.words
+pub leads_told : (n : ℕ) (v : BitTable) (ls : List (Literal ℕ)) (a b : ℕ) → Represents n v.words ls v.now → a < n → b < 64 * v.words
     → MatchBool (leads_to v a b) (Reach (Joins ls) a b) (Reach (Joins ls) a b → ⊥)
 leads_told n v ls a b s ah bh = told (leads_to v a b) (leads_reach n v ls s a b ah bh) (λ f. f)
 
 pub pair_below : (n : ℕ) (ls : List (Literal ℕ)) (x y : ℕ) → All (IsBelow n) ls → Contains ls (NoEdge x y) → (x < n) × (y < n)
 pair_below n ls x y all h = All-contains (IsBelow n) ls (NoEdge x y) all h
 
-pub over_told : (n : ℕ) (v : Kept) (ls : List (Literal ℕ)) (p q x y : ℕ) → Stands n v.words ls v.now → n ≤ 64 * v.words → p < n → q < n → x < n → y < 64 * v.words
+pub over_told : (n : ℕ) (v : BitTable) (ls : List (Literal ℕ)) (p q x y : ℕ) → Represents n v.words ls v.now → n ≤ 64 * v.words → p < n → q < n → x < n → y < 64 * v.words
     → IsOver v p q x y → Reach (Joins ls) x p × Reach (Joins ls) q y
 over_told n v ls p q x y s wide ph qh xh yh o =
     ((leads_reach n v ls s x p xh (omega arith)).0 o.0, (leads_reach n v ls s q y qh yh).0 o.1)
 
-pub told_over : (n : ℕ) (v : Kept) (ls : List (Literal ℕ)) (p q x y : ℕ) → Stands n v.words ls v.now → n ≤ 64 * v.words → p < n → q < n → x < n → y < 64 * v.words
+pub told_over : (n : ℕ) (v : BitTable) (ls : List (Literal ℕ)) (p q x y : ℕ) → Represents n v.words ls v.now → n ≤ 64 * v.words → p < n → q < n → x < n → y < 64 * v.words
     → Reach (Joins ls) x p → Reach (Joins ls) q y → IsOver v p q x y
 told_over n v ls p q x y s wide ph qh xh yh r t =
     ((leads_reach n v ls s x p xh (omega arith)).1 r, (leads_reach n v ls s q y qh yh).1 t)
 
 -- where the rows have no such pair
-pub joins_none : (n : ℕ) (v : Kept) (ls : List (Literal ℕ)) (p q : ℕ) → Stands n v.words ls v.now → n ≤ 64 * v.words → p < n → q < n
+pub joins_none : (n : ℕ) (v : BitTable) (ls : List (Literal ℕ)) (p q : ℕ) → Represents n v.words ls v.now → n ≤ 64 * v.words → p < n → q < n
     → ((x y : ℕ) → x < n → y < 64 * v.words → IsOver v p q x y → bit_now v (pair_row n x) y ≡ false) → JoinsNone ls p q
 joins_none n v ls p q s wide ph qh none x y h r t =
     let below = pair_below n ls x y s.below h in
@@ -63,13 +63,13 @@ joins_none n v ls p q s wide ph qh none x y h r t =
     both_ways (bit_now v (pair_row n x) y) (none x y below.0 low (told_over n v ls p q x y s wide ph qh below.0 low r t)) ((s.pairs x y below.0 low).1 h)
 
 -- where the list has no such pair
-pub none_listed : (n : ℕ) (v : Kept) (ls : List (Literal ℕ)) (p q : ℕ) → Stands n v.words ls v.now → n ≤ 64 * v.words → p < n → q < n
+pub none_listed : (n : ℕ) (v : BitTable) (ls : List (Literal ℕ)) (p q : ℕ) → Represents n v.words ls v.now → n ≤ 64 * v.words → p < n → q < n
     → ((x y : ℕ) → Contains ls (NoEdge x y) → IsOver v p q x y → ⊥) → JoinsNone ls p q
 none_listed n v ls p q s wide ph qh none x y h r t =
     let below = pair_below n ls x y s.below h in
     none x y h (told_over n v ls p q x y s wide ph qh below.0 (let b = below.1 in omega arith) r t)
 
-pub edge_free : (n : ℕ) (v : Kept) (ls : List (Literal ℕ)) (p q : ℕ) → Stands n v.words ls v.now → n ≤ 64 * v.words → p < n → q < n
+pub edge_free : (n : ℕ) (v : BitTable) (ls : List (Literal ℕ)) (p q : ℕ) → Represents n v.words ls v.now → n ≤ 64 * v.words → p < n → q < n
     → bit_now v (missing_row n) p ≡ false → bit_now v (missing_row n) q ≡ false → leads_to v q p ≡ false → JoinsNone ls p q
     → IsConsistent (more ls (Edge p q))
 edge_free n v ls p q s wide ph qh start end back none =
@@ -78,12 +78,12 @@ edge_free n v ls p q s wide ph qh start end back none =
 
 -- an edge back is a cycle
 pub back_refutes : (ls : List (Literal ℕ)) (p q : ℕ) → Reach (Joins ls) q p → IsConsistent (more ls (Edge p q)) → ⊥
-back_refutes ls p q r c = c.acyclic q (edge_chain ls p q q q r ([], refl))
+back_refutes ls p q r c = c.acyclic q (edge_chain ls p q q q r (inl refl))
 
 pub over_refutes : (ls : List (Literal ℕ)) (p q x y : ℕ) → Contains ls (NoEdge x y) → Reach (Joins ls) x p → Reach (Joins ls) q y → IsConsistent (more ls (Edge p q)) → ⊥
 over_refutes ls p q x y h r t c = c.apart x y (older ls (Edge p q) (NoEdge x y) h) (edge_chain ls p q x y r t)
 
-pub closes_none : (n : ℕ) (v : Kept) (ls : List (Literal ℕ)) (l : Literal ℕ) → Stands n v.words ls v.now → n ≤ 64 * v.words → IsBelow n l
+pub closes_none : (n : ℕ) (v : BitTable) (ls : List (Literal ℕ)) (l : Literal ℕ) → Represents n v.words ls v.now → n ≤ 64 * v.words → IsBelow n l
     → IsConsistent (more ls l) → ClosesNone l v
 closes_none n v ls (Node a) s wide below c = tt
 closes_none n v ls (Edge a b) s wide below c =
@@ -106,7 +106,7 @@ none_to Q None h f = f h
 none_to Q (Some x) h f = h
 
 -- rows that have such a pair, or none
-pub pairs_told : (n : ℕ) (v : Kept) (ls : List (Literal ℕ)) (p q : ℕ) → Stands n v.words ls v.now → n ≤ 64 * v.words → p < n → q < n
+pub pairs_told : (n : ℕ) (v : BitTable) (ls : List (Literal ℕ)) (p q : ℕ) → Represents n v.words ls v.now → n ≤ 64 * v.words → p < n → q < n
     → bit_now v (missing_row n) p ≡ false → bit_now v (missing_row n) q ≡ false → leads_to v q p ≡ false
     → (r : Bool)
     → MatchBool r ((x : ℕ) × (y : ℕ) × (x < n) × (y < 64 * v.words) × IsOver v p q x y × (bit_now v (pair_row n x) y ≡ true))

@@ -1,29 +1,29 @@
 -- Bit rows that stand for a list of literals, and for the list with one literal more.
-use Rattle.std.proofs.Common.{◌≡◌, ◌↔◌, ℕ, ◌*◌, ◌<◌, ◌≤◌, ◌⊎◌, inl, inr, Bool, true, ◌&&◌, ◌||◌, ◌==◌, List, [], sym, ◌∙◌, subst, arith, eq-eqb, eqb-true, not}
+use Rattle.std.proofs.Common.{◌≡◌, ◌↔◌, ℕ, ◌*◌, ◌<◌, ◌≤◌, ◌⊎◌, inl, inr, Bool, true, ◌&&◌, ◌||◌, ◌==◌, List, sym, ◌∙◌, subst, arith, eq-eqb, eqb-true, not}
 use Rattle.std.specs.Prelude.{Contains}
 use Rattle.std.proofs.lemmas.Bool.{both_ways, not-true, not_from_false, false_from_ne_true, or_cases, or_left, or_right, and_parts, and_from}
 use Rattle.std.proofs.lemmas.List.Elements.{All-push}
+use Rattle.pc_common.specs.Chain.{Reach}
 use Rattle.pc_ground.specs.declared.literal.Literal.{Literal}
 use Rattle.pc_ground.specs.declared.literal.Literal.TheVariants.{Node, Edge, NoNode, NoEdge}
 use Rattle.pc_ground.specs.Literals.{Joins, IsPresent, IsConsistent, as_node, as_start, as_end}
-use Rattle.undo_trail.specs.Kept.{Kept, bit_now}
-use Rattle.order_graph.specs.Ways.{Reach, IsBelow}
-use Rattle.order_graph.specs.Rows.{pair_row, present_row, missing_row, Stands, leads_to, HasEntered}
-use Rattle.order_graph.proofs.Chains.{reach_cases, chain_reach}
-use Rattle.order_graph.proofs.Pushed.{more, older, newest, which, node_is_none, no_node_is_none, no_edge_is_none, chain_older, chain_newer, chain_edge, edge_chain, Brings, present_older, present_which, node_brings, edge_brings, no_node_brings, no_edge_brings}
+use Rattle.undo_trail.specs.BitTable.{BitTable, bit_now}
+use Rattle.order_graph.specs.Ways.{IsBelow}
+use Rattle.order_graph.specs.Rows.{pair_row, present_row, missing_row, Represents, leads_to, Enters}
+use Rattle.order_graph.proofs.OneMore.{more, older, newest, which, node_is_none, no_node_is_none, no_edge_is_none, chain_older, chain_newer, chain_edge, edge_chain, Brings, present_older, present_which, node_brings, edge_brings, no_node_brings, no_edge_brings}
 
 -- a bit that is another, which says P, says what P says
 pub says : {P Q : Type 0} (b c : Bool) → b ≡ c → ((c ≡ true) ↔ P) → (P → Q) → (Q → P) → ((b ≡ true) ↔ Q)
 says b c e f to back = ((λ h. to (f.0 (sym e ∙ h))), (λ q. e ∙ f.1 (back q)))
 
-pub leads_reach : (n : ℕ) (v : Kept) (ls : List (Literal ℕ)) → Stands n v.words ls v.now → (a b : ℕ) → a < n → b < 64 * v.words
+pub leads_reach : (n : ℕ) (v : BitTable) (ls : List (Literal ℕ)) → Represents n v.words ls v.now → (a b : ℕ) → a < n → b < 64 * v.words
     → (leads_to v a b ≡ true) ↔ Reach (Joins ls) a b
 leads_reach n v ls s a b ah bh = (
   (λ h. elim (or_cases (a == b) (bit_now v a b) h) [
-    | inl same ↦ ([], eqb-true a b same)
-    | inr bit ↦ chain_reach (Joins ls) a b ((s.reach a b ah bh).0 bit)
+    | inl same ↦ inl (eqb-true a b same)
+    | inr bit ↦ inr ((s.reach a b ah bh).0 bit)
   ]),
-  (λ r. elim (reach_cases (Joins ls) a b r) [
+  (λ r. elim r [
     | inl same ↦ or_left (a == b) (bit_now v a b) (eq-eqb a b same)
     | inr chain ↦ or_right (a == b) (bit_now v a b) ((s.reach a b ah bh).1 chain)
   ]),
@@ -42,9 +42,9 @@ bit_more b c x p e f to new back = (
   (λ q. e ∙ elim (back q) [ inl old ↦ or_left c (x == p) (f.1 old) | inr same ↦ or_right c (x == p) (eq-eqb x p same) ]),
 )
 
-pub stands_more : (n : ℕ) (v w : Kept) (ls : List (Literal ℕ)) (l : Literal ℕ) → Stands n v.words ls v.now → IsBelow n l → n ≤ 64 * v.words
-    → w.words ≡ v.words → HasEntered n l v w → IsConsistent (more ls l) → Stands n w.words (more ls l) w.now
-stands_more n v w ls (Node p) s below wide same e c =
+pub represents_more : (n : ℕ) (v w : BitTable) (ls : List (Literal ℕ)) (l : Literal ℕ) → Represents n v.words ls v.now → IsBelow n l → n ≤ 64 * v.words
+    → w.words ≡ v.words → Enters n l v w → IsConsistent (more ls l) → Represents n w.words (more ls l) w.now
+represents_more n v w ls (Node p) s below wide same e c =
     let l : Literal ℕ = Node p in
     record {
       reach = λ x y xh yh. says (bit_now w x y) (bit_now v x y) (e.reach x y xh (omega arith)) (s.reach x y xh (omega arith)) (chain_older ls l x y) (chain_newer ls l (node_is_none p) x y);
@@ -57,7 +57,7 @@ stands_more n v w ls (Node p) s below wide same e c =
       below = All-push (IsBelow n) ls l s.below below;
       consistent = c;
     }
-stands_more n v w ls (NoNode p) s below wide same e c =
+represents_more n v w ls (NoNode p) s below wide same e c =
     let l : Literal ℕ = NoNode p in
     record {
       reach = λ x y xh yh. says (bit_now w x y) (bit_now v x y) (e.reach x y xh (omega arith)) (s.reach x y xh (omega arith)) (chain_older ls l x y) (chain_newer ls l (no_node_is_none p) x y);
@@ -70,7 +70,7 @@ stands_more n v w ls (NoNode p) s below wide same e c =
       below = All-push (IsBelow n) ls l s.below below;
       consistent = c;
     }
-stands_more n v w ls (NoEdge p r) s below wide same e c =
+represents_more n v w ls (NoEdge p r) s below wide same e c =
     let l : Literal ℕ = NoEdge p r in
     record {
       reach = λ x y xh yh. says (bit_now w x y) (bit_now v x y) (e.reach x y xh (omega arith)) (s.reach x y xh (omega arith)) (chain_older ls l x y) (chain_newer ls l (no_edge_is_none p r) x y);
@@ -95,7 +95,7 @@ stands_more n v w ls (NoEdge p r) s below wide same e c =
       below = All-push (IsBelow n) ls l s.below below;
       consistent = c;
     }
-stands_more n v w ls (Edge p r) s below wide same e c =
+represents_more n v w ls (Edge p r) s below wide same e c =
     let l : Literal ℕ = Edge p r in
     record {
       reach = λ x y xh yh.

@@ -8,11 +8,11 @@ use Rattle.std.proofs.lemmas.Nat.Bits.{bit_at_and, bit_at-lt, bit_at-zero, bit_a
 use Rattle.undo_trail.specs.Bits.{column}
 
 -- the words before k were looked at
-pub record Met (a b : List ℕ) (k met : ℕ) : Type 0 where
+pub record HasMet (a b : List ℕ) (k met : ℕ) : Type 0 where
   pub none : met ≡ 0 → (i : ℕ) → i < k → bit_and (get_or a i 0) (get_or b i 0) ≡ 0
   pub some : met ≢ 0 → (i : ℕ) × (i < k) × (bit_and (get_or a i 0) (get_or b i 0) ≢ 0)
 
-pub met_more : (a b : List ℕ) (k met : ℕ) → Met a b k met → Met a b (k + 1) (bit_or met (bit_and (get_or a k 0) (get_or b k 0)))
+pub met_more : (a b : List ℕ) (k met : ℕ) → HasMet a b k met → HasMet a b (k + 1) (bit_or met (bit_and (get_or a k 0) (get_or b k 0)))
 met_more a b k met m =
     let x : ℕ = bit_and (get_or a k 0) (get_or b k 0) in
     let l = le_or_l met x in
@@ -61,7 +61,7 @@ columns_meet a b false fits e = λ c inside has_a.
     let ly = bit_at-lt y i in
     ne_eqb (bit_at y i) 1 (omega arith)
 
-pub met_all : (a b : List ℕ) (k met : ℕ) → Met a b k met → k ≤ length a → length a ≤ k
+pub met_all : (a b : List ℕ) (k met : ℕ) → HasMet a b k met → k ≤ length a → length a ≤ k
     → MatchBool (not (eqb met 0)) (SomeIndex a (λ k. bit_and (get_or a k 0) (get_or b k 0) ≢ 0)) (EachIndex a (λ k. bit_and (get_or a k 0) (get_or b k 0) ≡ 0))
 met_all a b k met m within past = elim (cases_eq met 0) [
   | inl clear ↦ rw (eq-eqb met 0 clear) (λ i h. m.none clear i (omega arith))

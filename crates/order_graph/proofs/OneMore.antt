@@ -1,13 +1,12 @@
 -- What one literal more makes of a list.
-use Rattle.std.proofs.Common.{◌≡◌, ℕ, ◌⊎◌, inl, inr, List, [], ◌∷◌, ◌++◌, subst}
+use Rattle.std.proofs.Common.{◌≡◌, ℕ, ◌⊎◌, inl, inr, List, [], ◌∷◌, ◌++◌, sym, subst}
 use Rattle.std.specs.Prelude.{Contains}
 use Rattle.std.proofs.lemmas.List.Elements.{Contains-append_left, Contains-push, Contains-push_cases}
-use Rattle.pc_common.specs.Chain.{Chain}
+use Rattle.pc_common.specs.Chain.{Chain, Reach}
+use Rattle.pc_common.proofs.Chains.{chain_more, chain_with, chain_reach, IsWithStep}
 use Rattle.pc_ground.specs.declared.literal.Literal.{Literal}
 use Rattle.pc_ground.specs.declared.literal.Literal.TheVariants.{Node, Edge, NoNode, NoEdge}
 use Rattle.pc_ground.specs.Literals.{Joins, IsPresent, IsConsistent, as_node, as_start, as_end}
-use Rattle.order_graph.specs.Ways.{Reach}
-use Rattle.order_graph.proofs.Chains.{chain_map, over_or_without, over, reach_join}
 
 -- the list with one literal more
 abbrev pub more : List (Literal ℕ) → Literal ℕ → List (Literal ℕ)
@@ -26,7 +25,7 @@ pub joins_older : (ls : List (Literal ℕ)) (l : Literal ℕ) (a b : ℕ) → Jo
 joins_older ls l a b h = older ls l (Edge a b) h
 
 pub chain_older : (ls : List (Literal ℕ)) (l : Literal ℕ) (a b : ℕ) → Chain (Joins ls) a b → Chain (Joins (more ls l)) a b
-chain_older ls l a b c = chain_map (Joins ls) (Joins (more ls l)) (joins_older ls l) a b c
+chain_older ls l a b c = chain_more (Joins ls) (Joins (more ls l)) (joins_older ls l) a b c
 
 pub present_older : (ls : List (Literal ℕ)) (l : Literal ℕ) (a : ℕ) → IsPresent ls a → IsPresent (more ls l) a
 present_older ls l a (as_node h) = as_node (older ls l (Node a) h)
@@ -48,19 +47,31 @@ no_edge_is_none p q a b e = cc
 
 pub chain_newer : (ls : List (Literal ℕ)) (l : Literal ℕ) → IsNoEdge l → (a b : ℕ) → Chain (Joins (more ls l)) a b → Chain (Joins ls) a b
 chain_newer ls l none a b c =
-    chain_map (Joins (more ls l)) (Joins ls) (λ x y h. elim (which ls l (Edge x y) h) [ inl old ↦ old | inr new ↦ absurd (none x y new) ]) a b c
+    chain_more (Joins (more ls l)) (Joins ls) (λ x y h. elim (which ls l (Edge x y) h) [ inl old ↦ old | inr new ↦ absurd (none x y new) ]) a b c
 
-added : (ls : List (Literal ℕ)) (p q a b : ℕ) → Joins (more ls (Edge p q)) a b → Joins ls a b ⊎ ((a ≡ p) × (b ≡ q))
-added ls p q a b h = elim (which ls (Edge p q) (Edge a b) h) [ inl old ↦ inl old | inr new ↦ inr (cc, cc) ]
+joins_with : (ls : List (Literal ℕ)) (p q : ℕ) → IsWithStep (Joins ls) (Joins (more ls (Edge p q))) p q
+joins_with ls p q a b = (
+  (λ h. elim (which ls (Edge p q) (Edge a b) h) [ inl old ↦ inl old | inr new ↦ inr (cc, cc) ]),
+  (λ h. elim h [
+    | inl old ↦ joins_older ls (Edge p q) a b old
+    | inr new ↦
+        let same : Edge p q ≡ Edge a b = (let first = new.0 in let second = new.1 in cc) in
+        let P : Literal ℕ → Type 0 = Contains (more ls (Edge p q)) in subst P same (newest ls (Edge p q))
+  ]),
+)
 
 -- a chain with the edge from p to q
 pub chain_edge : (ls : List (Literal ℕ)) (p q a b : ℕ) → Chain (Joins (more ls (Edge p q))) a b
     → Chain (Joins ls) a b ⊎ (Reach (Joins ls) a p × Reach (Joins ls) q b)
-chain_edge ls p q a b c = over_or_without (Joins ls) (Joins (more ls (Edge p q))) p q (added ls p q) a c.0 b c.1
+chain_edge ls p q a b c = (chain_with (Joins ls) (Joins (more ls (Edge p q))) p q (joins_with ls p q) a b).0 c
 
 pub edge_chain : (ls : List (Literal ℕ)) (p q a b : ℕ) → Reach (Joins ls) a p → Reach (Joins ls) q b → Chain (Joins (more ls (Edge p q))) a b
-edge_chain ls p q a b r s =
-    over (Joins ls) (Joins (more ls (Edge p q))) p q (joins_older ls (Edge p q)) (newest ls (Edge p q)) a b r s
+edge_chain ls p q a b r s = (chain_with (Joins ls) (Joins (more ls (Edge p q))) p q (joins_with ls p q) a b).1 (inr (r, s))
+
+-- what is reached from what is reached
+reach_join : (ls : List (Literal ℕ)) (a b c : ℕ) → Reach (Joins ls) a b → Reach (Joins ls) b c → Reach (Joins ls) a c
+reach_join ls a b c (inl e) s = let P : ℕ → Type 0 = λ x. Reach (Joins ls) x c in subst P (sym e) s
+reach_join ls a b c (inr chain) s = inr (chain_reach (Joins ls) a b c chain s)
 
 -- what a literal makes present
 abbrev pub Brings : Literal ℕ → ℕ → Type 0
@@ -147,7 +158,7 @@ pub consistent_edge : (ls : List (Literal ℕ)) (p q : ℕ) → IsConsistent ls
 consistent_edge ls p q c free_p free_q back denied =
     let l : Literal ℕ = Edge p q in
     record {
-      acyclic = λ a h. elim (chain_edge ls p q a a h) [ inl before ↦ c.acyclic a before | inr new ↦ back (reach_join (Joins ls) q a p new.1 new.0) ];
+      acyclic = λ a h. elim (chain_edge ls p q a a h) [ inl before ↦ c.acyclic a before | inr new ↦ back (reach_join ls q a p new.1 new.0) ];
       apart = λ a b d h. elim (which ls l (NoEdge a b) d) [
         | inl old ↦ elim (chain_edge ls p q a b h) [ inl before ↦ c.apart a b old before | inr new ↦ denied a b old new.0 new.1 ]
         | inr new ↦ cc
