@@ -4,10 +4,10 @@ use Rattle.std.specs.Prelude.{◌↔◌, IsTrue, MatchBool}
 use Rattle.std.proofs.lemmas.Bool.{cases_lt, MatchBool-at_true, MatchBool-at_false}
 use Rattle.std.proofs.lemmas.List.Elements.{All-push}
 use Rattle.line_judge.specs.Texts.{IsLine, HoldsRefused, IsRefusedAt}
-use Rattle.line_judge.specs.Judging.{IsGood, IsBad, IsRefusedWith}
-use Rattle.line_judge.specs.Feeding.{After, IsSettled, IsRefusedBy}
+use Rattle.line_judge.specs.JudgedLines.{IsGood, IsBad, IsRefusedWith}
+use Rattle.line_judge.specs.Feeds.{HasTaken, IsSettled, IsRefusedBy}
 use Rattle.line_judge.specs.declared.feed.Feed.{Feed}
-use Rattle.line_judge.proofs.Judgings.{refused_line}
+use Rattle.line_judge.proofs.JudgedLines.{refused_line}
 use Rattle.line_judge.proofs.Refusals.{holds_none}
 
 holds_bad : {J : Type 0} (begins : J → List (List ℕ) → Type 0) (start : J) (text : List ℕ) (number : ℕ)
@@ -21,12 +21,12 @@ holds_bad begins start text number bad = record {
 }
 
 -- a feed is settled by its text alone
-pub settled_told : {J : Type 0} (begins whole stands : J → List (List ℕ) → Type 0)
+pub settled_by_text : {J : Type 0} (begins whole stands : J → List (List ℕ) → Type 0)
     (first : (judge : J) → (lines more : List (List ℕ)) → begins judge (lines ++ more) → begins judge lines)
     (stands_begins : (judge : J) → (lines : List (List ℕ)) → stands judge lines → begins judge lines)
-    (start : J) (limit : ℕ) (text : List ℕ) (feed : Feed J) → After begins whole stands start limit text feed
+    (start : J) (limit : ℕ) (text : List ℕ) (feed : Feed J) → HasTaken begins whole stands start limit text feed
     → IsSettled feed ↔ ((limit < length text) ⊎ HoldsRefused (begins start) text)
-settled_told begins whole stands first stands_begins start limit text feed after =
+settled_by_text begins whole stands first stands_begins start limit text feed after =
     let bytes = after.bytes in let same = after.same_limit in let short = after.short in (
       λ settled. elim settled [
         | inl refused ↦ elim (cases_lt limit (length text)) [
@@ -36,7 +36,7 @@ settled_told begins whole stands first stands_begins start limit text feed after
         ]
         | inr past ↦ inl (omega arith)
       ],
-      λ told. elim told [
+      λ past_or_refused. elim past_or_refused [
         | inl past ↦ inr (omega arith)
         | inr holds ↦ elim (cases_lt limit (length text)) [
           | inl past ↦ inr (omega arith)
@@ -57,12 +57,12 @@ pub settles : {J : Type 0} (begins whole stands : J → List (List ℕ) → Type
     (stands_begins : (judge : J) → (lines : List (List ℕ)) → stands judge lines → begins judge lines)
     (start : J) (limit : ℕ) (text piece : List ℕ) (old new : Feed J) → new.limit ≡ old.limit → new.refused ≡ old.refused
     → new.bytes ≡ min (old.bytes + length piece) 18446744073709551615
-    → After begins whole stands start limit text old → (limit < length (text ++ piece)) ⊎ HoldsRefused (begins start) text → IsSettled new
-settles begins whole stands first stands_begins start limit text piece old new same_limit same_refused bytes after told =
+    → HasTaken begins whole stands start limit text old → (limit < length (text ++ piece)) ⊎ HoldsRefused (begins start) text → IsSettled new
+settles begins whole stands first stands_begins start limit text piece old new same_limit same_refused bytes after past_or_refused =
     let before = after.bytes in let same = after.same_limit in let short = after.short in let long = length-append text piece in
-    elim told [
+    elim past_or_refused [
       | inl past ↦ inr (omega arith)
-      | inr holds ↦ elim ((settled_told begins whole stands first stands_begins start limit text old after).1 (inr holds)) [
+      | inr holds ↦ elim ((settled_by_text begins whole stands first stands_begins start limit text old after).1 (inr holds)) [
         | inl refused ↦ inl (same_refused ∙ refused)
         | inr past ↦ inr (omega arith)
       ]
@@ -70,7 +70,7 @@ settles begins whole stands first stands_begins start limit text piece old new s
 
 -- no more bytes came than the limit
 pub fits : {J : Type 0} {begins whole stands : J → List (List ℕ) → Type 0} {start : J} {limit : ℕ} {text : List ℕ} {feed : Feed J}
-    → After begins whole stands start limit text feed → feed.bytes ≤ feed.limit → length text ≤ limit
+    → HasTaken begins whole stands start limit text feed → feed.bytes ≤ feed.limit → length text ≤ limit
 fits after few = let before = after.bytes in let same = after.same_limit in let short = after.short in omega arith
 
 -- a line was refused before the end
@@ -78,7 +78,7 @@ pub refused_before : {J : Type 0} (begins whole stands : J → List (List ℕ) �
     (first : (judge : J) → (lines more : List (List ℕ)) → begins judge (lines ++ more) → begins judge lines)
     (whole_begins : (judge : J) → (lines : List (List ℕ)) → whole judge lines → begins judge lines)
     (start : J) (limit : ℕ) (text : List ℕ) (feed : Feed J) (number : ℕ) → feed.bytes ≤ feed.limit → feed.refused ≡ true → number ≡ feed.judged.lines
-    → After begins whole stands start limit text feed → IsRefusedBy (begins start) (whole start) limit text number
+    → HasTaken begins whole stands start limit text feed → IsRefusedBy (begins start) (whole start) limit text number
 refused_before begins whole stands first whole_begins start limit text feed number few refused is after =
     let short = after.short in
     let within : length text ≤ limit = fits after few in
@@ -90,7 +90,7 @@ refused_before begins whole stands first whole_begins start limit text feed numb
 
 -- the text ends without a refused line before
 pub ends : {J : Type 0} (begins whole stands : J → List (List ℕ) → Type 0) (start : J) (limit : ℕ) (text : List ℕ) (feed : Feed J) → feed.bytes ≤ feed.limit
-    → feed.refused ≡ false → After begins whole stands start limit text feed → IsGood begins whole stands start text feed.judged
+    → feed.refused ≡ false → HasTaken begins whole stands start limit text feed → IsGood begins whole stands start text feed.judged
 ends begins whole stands start limit text feed few open_still after =
     MatchBool-at_false (IsBad begins start text feed.judged.lines) (IsGood begins whole stands start text feed.judged) open_still (after.within (fits after few))
 

@@ -1,7 +1,7 @@
 -- What a judge's lines are of a text so far.
 use Rattle.std.specs.Prelude.{◌≡◌, ◌↔◌, ◌+◌, ◌≤◌, ◌<◌, ℕ, List, [], ◌∷◌, ◌++◌, length, min, Result, MatchResult}
 use Rattle.std.specs.List.{All}
-use Rattle.line_judge.specs.Texts.{IsLine, joined, IsMadeOf, IsRefusedAt}
+use Rattle.line_judge.specs.Texts.{IsLine, text_of_lines, IsMadeOf, IsRefusedAt}
 use Rattle.line_judge.specs.declared.judged.Judged.{Judged}
 
 -- two judges judge the same texts
@@ -9,12 +9,12 @@ pub record JudgeAlike {J : Type 0} (begins whole : J → List (List ℕ) → Typ
   pub same_begins : (lines : List (List ℕ)) → begins one lines ↔ begins other lines
   pub same_whole : (lines : List (List ℕ)) → whole one lines ↔ whole other lines
 
--- the judge took all lines of the text and they are good, and what stands behind the last LF is kept
+-- the judge took all lines of the text and they are good, and the rest, after the last LF, waits
 pub record IsGood {J : Type 0} (begins whole stands : J → List (List ℕ) → Type 0) (start : J) (text : List ℕ) (judged : Judged J) : Type 0 where
   pub lines : List (List ℕ)
   pub are_lines : All IsLine lines
   pub is_open : IsLine judged.part.items
-  pub text_is : text ≡ joined lines ++ judged.part.items
+  pub text_is : text ≡ text_of_lines lines ++ judged.part.items
   pub count : judged.lines ≡ min (length lines) 18446744073709551615
   pub stand : stands judged.judge lines
   pub alike : JudgeAlike begins whole start judged.judge
@@ -26,7 +26,7 @@ pub record IsBad {J : Type 0} (begins : J → List (List ℕ) → Type 0) (start
   pub rest : List ℕ
   pub are_lines : All IsLine lines
   pub is_line : IsLine line
-  pub text_is : text ≡ joined (lines ++ line ∷ []) ++ rest
+  pub text_is : text ≡ text_of_lines (lines ++ line ∷ []) ++ rest
   pub count : number ≡ min (length lines + 1) 18446744073709551615
   pub begin : begins start lines
   pub bad : begins start (lines ++ line ∷ []) → ⊥
@@ -46,6 +46,6 @@ pub record IsRefusedWith (begins whole : List (List ℕ) → Type 0) (text : Lis
   pub refused : IsRefusedAt begins whole text line
 
 -- a text ends: it is whole, or is refused
-abbrev pub Ends : {J : Type 0} (begins whole stands : J → List (List ℕ) → Type 0) (start : J) (text : List ℕ) → Result J ℕ → Type 0
-Ends begins whole stands start text result =
+abbrev pub IsEnd : {J : Type 0} (begins whole stands : J → List (List ℕ) → Type 0) (start : J) (text : List ℕ) → Result J ℕ → Type 0
+IsEnd begins whole stands start text result =
     MatchResult result (IsWhole begins whole stands start text) (IsRefusedWith (begins start) (whole start) text)

@@ -3,20 +3,20 @@ use Rattle.std.proofs.Common.{◌≡◌, ◌≤◌, ◌<◌, ◌+◌, ℕ, Bool,
 use Rattle.std.specs.Prelude.{◌↔◌, IfOk, MatchBool}
 use Rattle.std.proofs.lemmas.List.{append-nil}
 use Rattle.std.proofs.lemmas.List.Elements.{All-append, All-push, All-nil}
-use Rattle.line_judge.specs.Texts.{IsLine, joined, IsRefusedAt}
-use Rattle.line_judge.specs.Judging.{JudgeAlike, IsGood, IsBad, IsWhole, IsRefusedWith}
+use Rattle.line_judge.specs.Texts.{IsLine, text_of_lines, IsRefusedAt}
+use Rattle.line_judge.specs.JudgedLines.{JudgeAlike, IsGood, IsBad, IsWhole, IsRefusedWith}
 use Rattle.line_judge.specs.declared.judged.Judged.{Judged}
-use Rattle.line_judge.proofs.Cuts.{joined_append, lines_within}
+use Rattle.line_judge.proofs.Cuts.{text_append, lines_within}
 use Rattle.line_judge.proofs.Refusals.{refused_at_line, refused_at_end}
 
 -- the open line and its end, behind the lines so far
 line_ends : (lines : List (List ℕ)) (part end line : List ℕ) → line ≡ part ++ end
-    → (joined lines ++ part) ++ (end ++ 10 ∷ []) ≡ joined (lines ++ line ∷ []) ++ []
+    → (text_of_lines lines ++ part) ++ (end ++ 10 ∷ []) ≡ text_of_lines (lines ++ line ∷ []) ++ []
 line_ends lines part end line is =
-    append_assoc (joined lines) part (end ++ 10 ∷ [])
-    ∙ ap (λ text. joined lines ++ text) (sym (append_assoc part end (10 ∷ [])) ∙ ap (λ text. text ++ 10 ∷ []) (sym is)
+    append_assoc (text_of_lines lines) part (end ++ 10 ∷ [])
+    ∙ ap (λ text. text_of_lines lines ++ text) (sym (append_assoc part end (10 ∷ [])) ∙ ap (λ text. text ++ 10 ∷ []) (sym is)
     ∙ sym (append-nil (line ++ 10 ∷ [])) ∙ sym (append-nil ((line ++ 10 ∷ []) ++ [])))
-    ∙ sym (joined_append lines (line ∷ []) [])
+    ∙ sym (text_append lines (line ∷ []) [])
 
 line_is : (end line part : List ℕ) → IsLine end → line ≡ part ++ end → IsLine part → IsLine line
 line_is end line part is_end is is_part = subst IsLine (sym is) (All-append (λ byte. byte ≡ 10 → ⊥) part end is_part is_end)
@@ -39,7 +39,7 @@ line_judged begins whole stands stands_begins start text end line old new true i
       are_lines = All-push IsLine good.lines line good.are_lines (line_is end line old.part.items is_end is good.is_open);
       is_open = subst IsLine (sym empty) (All-nil (λ byte. byte ≡ 10 → ⊥));
       text_is = ap (λ xs. xs ++ (end ++ 10 ∷ [])) good.text_is ∙ line_ends good.lines old.part.items end line is
-          ∙ ap (λ xs. joined (good.lines ++ line ∷ []) ++ xs) (sym empty);
+          ∙ ap (λ xs. text_of_lines (good.lines ++ line ∷ []) ++ xs) (sym empty);
       count = omega (arith, length-append good.lines (line ∷ []));
       stand = goes refl good.lines good.stand;
       alike = record {
@@ -76,15 +76,15 @@ line_stepped begins whole stands stands_begins start text end line old new (Err 
 line_stepped begins whole stands stands_begins start text end line old new (Ok is_good) is_end is count empty same_begins same_whole goes refused good =
     line_judged begins whole stands stands_begins start text end line old new is_good is_end is count empty same_begins same_whole goes refused good
 
--- the rest of a piece, in which no line ends, is kept
-pub rest_kept : {J : Type 0} (begins whole stands : J → List (List ℕ) → Type 0) (start : J) (text rest : List ℕ) (old new : Judged J)
+-- the rest of a piece, in which no line ends, stays
+pub rest_stays : {J : Type 0} (begins whole stands : J → List (List ℕ) → Type 0) (start : J) (text rest : List ℕ) (old new : Judged J)
     → IsLine rest → new.part.items ≡ old.part.items ++ rest → new.judge ≡ old.judge → new.lines ≡ old.lines
     → IsGood begins whole stands start text old → IsGood begins whole stands start (text ++ rest) new
-rest_kept begins whole stands start text rest old new is_rest part judge lines good = record {
+rest_stays begins whole stands start text rest old new is_rest part judge lines good = record {
   lines = good.lines;
   are_lines = good.are_lines;
   is_open = subst IsLine (sym part) (All-append (λ byte. byte ≡ 10 → ⊥) old.part.items rest good.is_open is_rest);
-  text_is = ap (λ xs. xs ++ rest) good.text_is ∙ append_assoc (joined good.lines) old.part.items rest ∙ ap (λ xs. joined good.lines ++ xs) (sym part);
+  text_is = ap (λ xs. xs ++ rest) good.text_is ∙ append_assoc (text_of_lines good.lines) old.part.items rest ∙ ap (λ xs. text_of_lines good.lines ++ xs) (sym part);
   count = lines ∙ good.count;
   stand = subst (λ j. stands j good.lines) (sym judge) good.stand;
   alike = subst (λ j. JudgeAlike begins whole start j) (sym judge) good.alike;
@@ -99,7 +99,7 @@ bad_stays begins start text more number bad = record {
   rest = bad.rest ++ more;
   are_lines = bad.are_lines;
   is_line = bad.is_line;
-  text_is = ap (λ xs. xs ++ more) bad.text_is ∙ append_assoc (joined (bad.lines ++ bad.line ∷ [])) bad.rest more;
+  text_is = ap (λ xs. xs ++ more) bad.text_is ∙ append_assoc (text_of_lines (bad.lines ++ bad.line ∷ [])) bad.rest more;
   count = bad.count;
   begin = bad.begin;
   bad = bad.bad;
@@ -117,7 +117,7 @@ whole_at_end begins whole stands start text judged empty done good = record {
   made = record {
     lines = good.lines;
     are_lines = good.are_lines;
-    text_is = good.text_is ∙ ap (λ xs. joined good.lines ++ xs) empty ∙ append-nil (joined good.lines);
+    text_is = good.text_is ∙ ap (λ xs. text_of_lines good.lines ++ xs) empty ∙ append-nil (text_of_lines good.lines);
     accepted = (good.alike.same_whole good.lines).1 (done good.lines good.stand);
   };
   stand = good.stand;
