@@ -1,7 +1,7 @@
 -- What the bit rows tell of one literal more.
 use Rattle.std.proofs.Common.{◌≡◌, ◌↔◌, ℕ, ◌*◌, ◌<◌, ◌≤◌, inl, Bool, true, false, List, refl, arith, MatchBool, MatchOption, Option, Some, None}
 use Rattle.std.specs.Prelude.{Contains, All}
-use Rattle.std.proofs.lemmas.Bool.{iff_false, false_from_ne_true, both_ways}
+use Rattle.std.proofs.lemmas.Bool.{iff_false, both_ways}
 use Rattle.std.proofs.lemmas.List.Elements.{All-contains}
 use Rattle.pc_common.specs.Chain.{Chain, Reach}
 use Rattle.pc_ground.specs.declared.literal.Literal.{Literal}
@@ -11,7 +11,7 @@ use Rattle.undo_trail.specs.BitTable.{BitTable, bit_now}
 use Rattle.order_graph.specs.declared.clash.Clash.{Clash}
 use Rattle.order_graph.specs.declared.clash.Clash.TheVariants.{Absent}
 use Rattle.order_graph.specs.Ways.{IsBelow}
-use Rattle.order_graph.specs.Rows.{pair_row, present_row, missing_row, Represents, leads_to, IsOver, ClosesNone}
+use Rattle.order_graph.specs.Rows.{pair_row, present_row, missing_row, Represents, leads_to, IsOver}
 use Rattle.order_graph.specs.Clashes.{JoinsNone, IsClash}
 use Rattle.order_graph.proofs.OneMore.{more, older, edge_chain, consistent_node, consistent_no_node, consistent_no_edge, consistent_edge}
 use Rattle.order_graph.proofs.Represents.{leads_reach}
@@ -82,14 +82,6 @@ back_refutes ls p q r c = c.acyclic q (edge_chain ls p q q q r (inl refl))
 
 pub over_refutes : (ls : List (Literal ℕ)) (p q x y : ℕ) → Contains ls (NoEdge x y) → Reach (Joins ls) x p → Reach (Joins ls) q y → IsConsistent (more ls (Edge p q)) → ⊥
 over_refutes ls p q x y h r t c = c.apart x y (older ls (Edge p q) (NoEdge x y) h) (edge_chain ls p q x y r t)
-
-pub closes_none : (n : ℕ) (v : BitTable) (ls : List (Literal ℕ)) (l : Literal ℕ) → Represents n v.words ls v.now → n ≤ 64 * v.words → IsBelow n l
-    → IsConsistent (more ls l) → ClosesNone l v
-closes_none n v ls (Node a) s wide below c = tt
-closes_none n v ls (Edge a b) s wide below c =
-    false_from_ne_true (leads_to v b a) (λ e. back_refutes ls a b ((leads_reach n v ls s b a below.1 (let h = below.0 in omega arith)).0 e) c)
-closes_none n v ls (NoNode a) s wide below c = tt
-closes_none n v ls (NoEdge a b) s wide below c = tt
 
 -- where P can't be consistent
 pub refuted : (P C : Type 0) (b : Bool) → MatchBool b P C → (P → C → ⊥) → MatchBool b (C → ⊥) C

@@ -14,3 +14,4 @@ pub mod Results
 pub mod MarkLists
 pub mod Orders
 pub mod GeneratesWorld
+pub mod TakesEdge

@@ -76,12 +76,19 @@ pub record Enters (n : ℕ) (l : Literal ℕ) (old new : BitTable) : Type 0 wher
 abbrev pub IsSized : ℕ → BitTable → Type 0
 IsSized n v = (v.rows ≡ 2 * n + 2) × (n ≤ 64 * v.words) × (n ≤ MAX_NODES)
 
--- an edge that is entered closes no cycle
-abbrev pub ClosesNone : Literal ℕ → BitTable → Type 0
-ClosesNone (Node a) v = Unit {0}
-ClosesNone (Edge a b) v = leads_to v b a ≡ false
-ClosesNone (NoNode a) v = Unit {0}
-ClosesNone (NoEdge a b) v = Unit {0}
+-- an edge from a to b closes no cycle of the rows, which have each chain that two of theirs make, and its ends where it is one
+pub record TakesEdge (n : ℕ) (v : BitTable) (a b : ℕ) : Type 0 where
+  pub no_cycle : leads_to v b a ≡ false
+  pub transitive : (x z y : ℕ) → x < n → z < n → y < 64 * v.words
+      → bit_now v x z ≡ true → leads_to v z y ≡ true → bit_now v x y ≡ true
+  pub ends : bit_now v a b ≡ true → (bit_now v (present_row n) a ≡ true) × (bit_now v (present_row n) b ≡ true)
+
+-- the rows can take the literal
+abbrev pub Takes : ℕ → Literal ℕ → BitTable → Type 0
+Takes n (Node a) v = Unit {0}
+Takes n (Edge a b) v = TakesEdge n v a b
+Takes n (NoNode a) v = Unit {0}
+Takes n (NoEdge a b) v = Unit {0}
 
 -- x comes to the start of the edge from a to b, or is it, and y comes from its end, or is it
 abbrev pub IsOver : BitTable → ℕ → ℕ → ℕ → ℕ → Type 0

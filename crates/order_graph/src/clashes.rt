@@ -47,6 +47,10 @@ fn edge_would_clash(table: &UndoTable, nodes: u32, a: u32, b: u32) -> bool
     requires b_in { b < nodes }
     ensures { (ls : List (AnyLiteral ℕ)) → Represents nodes table.now.words ls table.now.now → MatchBool result (IsConsistent (ls ++ Literal.Edge a b ∷ []) → ⊥) (IsConsistent (ls ++ Literal.Edge a b ∷ [])) }
 {
+    // an edge that a chain goes over changes nothing
+    if reaches(table, a, b) {
+        return false;
+    }
     if is_missing(table, nodes, a) || is_missing(table, nodes, b) || leads_to(table, b, a) {
         return true;
     }
@@ -148,6 +152,9 @@ fn edge_clash(
     requires b_in { b < nodes }
     ensures { IfOk result (λ found. MatchOption found (IsConsistent (literals.now ++ Literal.Edge a b ∷ [])) (IsClash (literals.now ++ Literal.Edge a b ∷ []))) }
 {
+    if reaches(table, a, b) {
+        return Ok(None);
+    }
     if is_missing(table, nodes, a) {
         return Ok(Some(Clash::Absent(a)));
     }

@@ -6,7 +6,7 @@ ghost use Rattle.undo_trail.specs.BitTable.{Extends};
 ghost use Rattle.order_graph.specs.Ways.{IsBelow};
 ghost use Rattle.order_graph.specs.State.{words_for, most_words, recorded_since, IsCut, IsGraph};
 ghost use Rattle.order_graph.specs.Adding.{IsAdded};
-ghost use Rattle.order_graph.specs.Rows.{Enters, IsSized, ClosesNone};
+ghost use Rattle.order_graph.specs.Rows.{Enters, IsSized, Takes};
 
 use super::clash::Added;
 use super::clashes::{clash_of, would_clash};
@@ -57,7 +57,7 @@ fn keep<L: Ledger>(
 ) -> Result<(), Memory>
     requires sized { IsSized nodes table.old }
     requires below { IsBelow nodes literal }
-    requires no_cycle { ClosesNone literal table.old }
+    requires takes { Takes nodes literal table.old }
     ensures entered { OnOk result (Enters nodes literal table.old table.new) }
     ensures trail { OnOk result (Extends table.old table.new (nodes * (table.old.words + 1) + 2)) }
     ensures literals { OnOk result (literals.new.items ≡ literals.old.items ++ literal ∷ []) }

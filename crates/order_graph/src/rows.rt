@@ -4,7 +4,7 @@ ghost use Rattle.pc_common.specs.Chain.{Chain};
 ghost use Rattle.pc_ground.specs.Literals.{Joins, IsPresent, Holds};
 ghost use Rattle.pc_ground.specs.declared.literal.Literal.{Literal as AnyLiteral};
 ghost use Rattle.order_graph.specs.Ways.{IsBelow};
-ghost use Rattle.order_graph.specs.Rows.{pair_row, present_row, missing_row, leads_to, with_edge, Enters, IsSized, ClosesNone, Represents};
+ghost use Rattle.order_graph.specs.Rows.{pair_row, present_row, missing_row, leads_to, with_edge, Enters, IsSized, Takes, TakesEdge, Represents};
 
 use pc_common::Memory;
 use pc_ground::Literal;
@@ -90,7 +90,8 @@ fn close_over<L: Ledger>(
     Ok(())
 }
 
-/// Enters the edge from `a` to `b`, and that both are present.
+/// Enters the edge from `a` to `b`, and that both are present. Where a chain leads from `a` to `b` already,
+/// the rows have all of that.
 fn enter_edge<L: Ledger>(
     table: &mut UndoTable,
     nodes: u32,
@@ -101,11 +102,14 @@ fn enter_edge<L: Ledger>(
     requires sized { IsSized nodes table.old }
     requires a_in { a < nodes }
     requires b_in { b < nodes }
-    requires no_cycle { leads_to table.old b a ≡ false }
+    requires takes { TakesEdge nodes table.old a b }
     ensures entered { OnOk result (Enters nodes (Literal.Edge a b) table.old table.new) }
     ensures trail { Extends table.old table.new (nodes * (table.old.words + 1) + 2) }
     ensures cost { steps.new ≤ steps.old + nodes }
 {
+    if reaches(table, a, b) {
+        return Ok(());
+    }
     close_over(table, nodes, a, b, steps)?;
     table.set_bit(2 * nodes as usize, a as usize)?;
     table.set_bit(2 * nodes as usize, b as usize)?;
@@ -124,7 +128,7 @@ fn enter_bit(table: &mut UndoTable, nodes: u32, row: usize, column: u32) -> Resu
     Ok(())
 }
 
-/// Enters the literal, which closes no cycle.
+/// Enters the literal, which the rows can take.
 fn enter<L: Ledger>(
     table: &mut UndoTable,
     nodes: u32,
@@ -133,7 +137,7 @@ fn enter<L: Ledger>(
 ) -> Result<(), Memory>
     requires sized { IsSized nodes table.old }
     requires below { IsBelow nodes literal }
-    requires no_cycle { ClosesNone literal table.old }
+    requires takes { Takes nodes literal table.old }
     ensures entered { OnOk result (Enters nodes literal table.old table.new) }
     ensures trail { Extends table.old table.new (nodes * (table.old.words + 1) + 2) }
     ensures cost { steps.new ≤ steps.old + nodes }
@@ -156,7 +160,7 @@ pub fn enter_whole<L: Ledger>(
 ) -> Result<(), Memory>
     requires sized { IsSized nodes table.old }
     requires below { IsBelow nodes literal }
-    requires no_cycle { ClosesNone literal table.old }
+    requires takes { Takes nodes literal table.old }
     ensures entered { OnOk result (Enters nodes literal table.old table.new) }
     ensures trail { OnOk result (Extends table.old table.new (nodes * (table.old.words + 1) + 2)) }
     ensures err { OnErr result (table.new ≡ table.old) }
