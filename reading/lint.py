@@ -4,12 +4,14 @@
     lint.py MODEL [TEST..]
 
 Each slip is a line `FILE:LINE:COLUMN: KIND: ..` on standard output, and so is a refused file, with the fault's word. The
-exit status is 0 where there is no slip, 1 where there are some, 3 where a file is refused and 4 where one cannot be read.
+exit status is 0 where there is no slip, 1 where there are some, 3 where a file is refused, 4 where one cannot be read, and
+125 where this program fails.
 """
 import os
 import re
 import signal
 import sys
+import traceback
 
 from second.linting import TestFile, read_test, slips
 from second.models import Model
@@ -20,10 +22,17 @@ LIMIT = 1_048_576
 PAGE = os.path.join(os.path.dirname(os.path.dirname(os.path.realpath(__file__))), "docs", "faults.md")
 
 
+class Unreadable(Exception):
+    """A file cannot be read."""
+
+
 def contents(path: str) -> bytes:
     """The bytes of a file, with one more than the limit where there are more."""
-    with open(path, "rb") as file:
-        return file.read(LIMIT + 1)
+    try:
+        with open(path, "rb") as file:
+            return file.read(LIMIT + 1)
+    except OSError as error:
+        raise Unreadable from error
 
 
 def sentence(kind: str, word: str) -> str:
@@ -70,7 +79,7 @@ def main(model_path: str, *test_paths: str) -> int:
     try:
         model = files.read("model", model_path)
         tests = [test for test in (files.read("test", path) for path in test_paths) if isinstance(test, TestFile)]
-    except OSError:
+    except Unreadable:
         return 4
     count = 0
     if isinstance(model, Model):
@@ -86,4 +95,11 @@ if __name__ == "__main__":
     sys.setrecursionlimit(20_000)
     # a reader that goes away ends this program quietly, as other filters do
     signal.signal(signal.SIGPIPE, signal.SIG_DFL)
-    sys.exit(main(*sys.argv[1:]))
+    try:
+        STATUS = main(*sys.argv[1:])
+        sys.stdout.flush()
+    except Exception:  # pylint: disable=broad-exception-caught
+        # Python's own status for this is 1, which says that there are slips
+        traceback.print_exc()
+        STATUS = 125
+    sys.exit(STATUS)

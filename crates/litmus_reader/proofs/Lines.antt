@@ -1,5 +1,5 @@
 -- What stands in the lines of a test, place by place.
-use Rattle.std.proofs.Common.{◌≡◌, ◌≢◌, ℕ, ◌+◌, ◌≤◌, List, [], ◌∷◌, ◌++◌, Some, map, codes, length, slice_get, refl, sym, ap, subst, ◌∙◌, arith, append_assoc, ◌⊎◌, inl, inr}
+use Rattle.std.proofs.Common.{◌≡◌, ◌≢◌, ℕ, ◌+◌, ◌<◌, ◌≤◌, List, [], ◌∷◌, ◌++◌, Some, map, codes, length, slice_get, refl, sym, ap, subst, ◌∙◌, arith, append_assoc, ◌⊎◌, inl, inr}
 use Rattle.std.proofs.lemmas.List.{length-append, length-map}
 use Rattle.pc_case.specs.declared.address.Page.{Page}
 use Rattle.pc_case.specs.declared.address.Address.{Address}
@@ -39,15 +39,24 @@ up_to_symbol {ts} {k} xs s others b =
     begins-front (xs ++ a_symbol s ∷ []) others (subst (BeginsAt ts k) (sym (append_assoc xs (a_symbol s ∷ []) others)) b)
 
 -- an address: its word, and what stands behind it
-pub terminal_of_address : Address → Terminal
+abbrev pub terminal_of_address : Address → Terminal
 terminal_of_address (PageAddress tag index) = Pa
 terminal_of_address (EntryAddress tag) = Entry
 
 pub address-terminal : {ts : List Token} {k : ℕ} (a : Address) → BeginsAt ts k (spelled_address a) → (t : Token) → slice_get ts (k + 1) ≡ Some t
     → terminal_of t ≡ terminal_of_address a
-unfolding word_terminal terminal_of_address
+unfolding word_terminal
 address-terminal (PageAddress tag index) b t at = terminal-stands t at (stands (spelled_address (PageAddress tag index)) b 1 _ refl)
 address-terminal (EntryAddress tag) b t at = terminal-stands t at (stands (spelled_address (EntryAddress tag)) b 1 _ refl)
+
+-- a word that is read there is that of the address
+pub address-seen : {ts : List Token} {k : ℕ} (a : Address) → BeginsAt ts k (spelled_address a) → (word : Terminal)
+    → ((t : Token) → slice_get ts (k + 1) ≡ Some t → word ≡ terminal_of t) → word ≡ terminal_of_address a
+address-seen {ts} {k} a b word seen = let (t, at) = second a b in seen t at ∙ address-terminal a b t at
+  where
+    second : (x : Address) → BeginsAt ts k (spelled_address x) → (t : Token) × (slice_get ts (k + 1) ≡ Some t)
+    second (PageAddress tag index) c = let s = stands (spelled_address (PageAddress tag index)) c 1 _ refl in (s.token, s.at)
+    second (EntryAddress tag) c = let s = stands (spelled_address (EntryAddress tag)) c 1 _ refl in (s.token, s.at)
 
 pub address-within : {ts : List Token} {k : ℕ} (a : Address) → BeginsAt ts k (spelled_address a) → k + length (spelled_address a) ≤ length ts
 address-within (PageAddress tag index) b = begins-within (spelled_address (PageAddress tag index)) b (omega arith)
@@ -59,7 +68,6 @@ address-room (EntryAddress tag) = omega arith
 
 pub address_page : {ts : List Token} {k : ℕ} (a : Address) → BeginsAt ts k (spelled_address a) → terminal_of_address a ≡ Pa
     → (p : Page) × (a ≡ PageAddress p.tag p.index) × IsPageAt ts k p
-unfolding terminal_of_address
 address_page (PageAddress tag index) b w =
     let es = spelled_address (PageAddress tag index) in
     (record { tag = tag; index = index }, refl, (stands es b 2 (a_number tag) refl, stands es b 3 (a_number index) refl))
@@ -67,25 +75,31 @@ address_page (EntryAddress tag) b w = absurd (cc)
 
 pub address_entry : {ts : List Token} {k : ℕ} (a : Address) → BeginsAt ts k (spelled_address a) → terminal_of_address a ≡ Entry
     → (tag : ℕ) × (a ≡ EntryAddress tag) × StandsAt ts (k + 2) (a_number tag)
-unfolding terminal_of_address
 address_entry (PageAddress tag index) b w = absurd (cc)
 address_entry (EntryAddress tag) b w = (tag, refl, stands (spelled_address (EntryAddress tag)) b 2 (a_number tag) refl)
 
 pub address_known : (a : Address) → (terminal_of_address a ≢ Pa) → (terminal_of_address a ≢ Entry) → ⊥
-unfolding terminal_of_address
 address_known (PageAddress tag index) p e = p refl
 address_known (EntryAddress tag) p e = e refl
 
 -- a value behind its word
-pub terminal_of_value : ValueText → Terminal
+abbrev pub terminal_of_value : ValueText → Terminal
 terminal_of_value (number_text n) = Data
 terminal_of_value (entry_text tag accessed dirty) = Maps
 
 pub value-terminal : {ts : List Token} {k : ℕ} (v : ValueText) → BeginsAt ts k (spelled_value v) → (t : Token) → slice_get ts (k + 1) ≡ Some t
     → terminal_of t ≡ terminal_of_value v
-unfolding word_terminal terminal_of_value
+unfolding word_terminal
 value-terminal (number_text n) b t at = terminal-stands t at (stands (spelled_value (number_text n)) b 1 _ refl)
 value-terminal (entry_text tag accessed dirty) b t at = terminal-stands t at (stands (spelled_value (entry_text tag accessed dirty)) b 1 _ refl)
+
+pub value-seen : {ts : List Token} {k : ℕ} (v : ValueText) → BeginsAt ts k (spelled_value v) → (word : Terminal)
+    → ((t : Token) → slice_get ts (k + 1) ≡ Some t → word ≡ terminal_of t) → word ≡ terminal_of_value v
+value-seen {ts} {k} v b word seen = let (t, at) = second v b in seen t at ∙ value-terminal v b t at
+  where
+    second : (x : ValueText) → BeginsAt ts k (spelled_value x) → (t : Token) × (slice_get ts (k + 1) ≡ Some t)
+    second (number_text n) c = let s = stands (spelled_value (number_text n)) c 1 _ refl in (s.token, s.at)
+    second (entry_text t a d) c = let s = stands (spelled_entry t a d) c 1 _ refl in (s.token, s.at)
 
 pub value-within : {ts : List Token} {k : ℕ} (v : ValueText) → BeginsAt ts k (spelled_value v) → k + length (spelled_value v) ≤ length ts
 value-within (number_text n) b = begins-within (spelled_value (number_text n)) b (omega arith)
@@ -97,12 +111,11 @@ value-room (entry_text tag accessed dirty) = omega arith
 
 pub value_number : {ts : List Token} {k : ℕ} (v : ValueText) → BeginsAt ts k (spelled_value v) → terminal_of_value v ≡ Data
     → (n : ℕ) × (v ≡ number_text n) × StandsAt ts (k + 2) (a_number n)
-unfolding terminal_of_value
 value_number (number_text n) b w = (n, refl, stands (spelled_value (number_text n)) b 2 (a_number n) refl)
 value_number (entry_text tag accessed dirty) b w = absurd (cc)
 
 -- an entry by its parts
-record IsEntryText (ts : List Token) (k : ℕ) (v : ValueText) : Type 0 where
+pub record IsEntryText (ts : List Token) (k : ℕ) (v : ValueText) : Type 0 where
   pub tag : ℕ
   pub accessed : Numeral
   pub dirty : Numeral
@@ -110,25 +123,31 @@ record IsEntryText (ts : List Token) (k : ℕ) (v : ValueText) : Type 0 where
   pub begins : BeginsAt ts k (spelled_entry tag accessed dirty)
 
 pub value_entry : {ts : List Token} {k : ℕ} (v : ValueText) → BeginsAt ts k (spelled_value v) → terminal_of_value v ≡ Maps → IsEntryText ts k v
-unfolding terminal_of_value
 value_entry (number_text n) b w = absurd (cc)
 value_entry (entry_text tag accessed dirty) b w = record { tag = tag; accessed = accessed; dirty = dirty; is = refl; begins = b }
 
 pub value_known : (v : ValueText) → (terminal_of_value v ≢ Data) → (terminal_of_value v ≢ Maps) → ⊥
-unfolding terminal_of_value
 value_known (number_text n) d m = d refl
 value_known (entry_text tag accessed dirty) d m = m refl
 
 -- a value that a line states
-pub terminal_of_stated : ValueText → Terminal
+abbrev pub terminal_of_stated : ValueText → Terminal
 terminal_of_stated (number_text n) = Number
 terminal_of_stated (entry_text tag accessed dirty) = Open
 
 pub stated-terminal : {ts : List Token} {k : ℕ} (v : ValueText) → BeginsAt ts k (spelled_stated v) → (t : Token) → slice_get ts k ≡ Some t
     → terminal_of t ≡ terminal_of_stated v
-unfolding symbol_terminal terminal_of_stated
+unfolding symbol_terminal
 stated-terminal (number_text n) b t at = terminal-stands t at (stands-first _ _ b)
 stated-terminal (entry_text tag accessed dirty) b t at = terminal-stands t at (stands-first _ _ b)
+
+pub stated-seen : {ts : List Token} {k : ℕ} (v : ValueText) → BeginsAt ts k (spelled_stated v) → (word : Terminal)
+    → ((t : Token) → slice_get ts k ≡ Some t → word ≡ terminal_of t) → word ≡ terminal_of_stated v
+stated-seen {ts} {k} v b word seen = let (t, at) = front v b in seen t at ∙ stated-terminal v b t at
+  where
+    front : (x : ValueText) → BeginsAt ts k (spelled_stated x) → (t : Token) × (slice_get ts k ≡ Some t)
+    front (number_text n) c = let s = stands-first _ _ c in (s.token, s.at)
+    front (entry_text t a d) c = let s = stands-first _ _ c in (s.token, s.at)
 
 pub stated-within : {ts : List Token} {k : ℕ} (v : ValueText) → BeginsAt ts k (spelled_stated v) → k + length (spelled_stated v) ≤ length ts
 stated-within (number_text n) b = begins-within (spelled_stated (number_text n)) b (omega arith)
@@ -140,17 +159,14 @@ stated-room (entry_text tag accessed dirty) = omega arith
 
 pub stated_number : {ts : List Token} {k : ℕ} (v : ValueText) → BeginsAt ts k (spelled_stated v) → terminal_of_stated v ≡ Number
     → (n : ℕ) × (v ≡ number_text n) × StandsAt ts k (a_number n)
-unfolding terminal_of_stated
 stated_number (number_text n) b w = (n, refl, stands-first _ _ b)
 stated_number (entry_text tag accessed dirty) b w = absurd (cc)
 
 pub stated_entry : {ts : List Token} {k : ℕ} (v : ValueText) → BeginsAt ts k (spelled_stated v) → terminal_of_stated v ≡ Open → IsEntryText ts k v
-unfolding terminal_of_stated
 stated_entry (number_text n) b w = absurd (cc)
 stated_entry (entry_text tag accessed dirty) b w = record { tag = tag; accessed = accessed; dirty = dirty; is = refl; begins = b }
 
 pub stated_known : (v : ValueText) → (terminal_of_stated v ≢ Number) → (terminal_of_stated v ≢ Open) → ⊥
-unfolding terminal_of_stated
 stated_known (number_text n) d m = d refl
 stated_known (entry_text tag accessed dirty) d m = m refl
 
@@ -167,6 +183,9 @@ touch-pa t b = begins-front (spelled_address t.pa) (spelled_value t.value) (touc
 pub touch-value : {ts : List Token} {k : ℕ} (t : Touch) → BeginsAt ts k (spelled_touch t)
     → BeginsAt ts (k + 5 + length (spelled_address t.pa)) (spelled_value t.value)
 touch-value t b = begins-behind (spelled_address t.pa) (spelled_value t.value) (touch-behind t b)
+
+pub touch-within : {ts : List Token} {k : ℕ} (t : Touch) → BeginsAt ts k (spelled_touch t) → k + length (spelled_touch t) ≤ length ts
+touch-within t b = begins-within (spelled_touch t) b (omega arith)
 
 pub touch-length : (t : Touch) → length (spelled_touch t) ≡ 5 + length (spelled_address t.pa) + length (spelled_value t.value)
 touch-length t = let n = length-append (spelled_address t.pa) (spelled_value t.value) in omega arith
@@ -229,27 +248,6 @@ access-action {ts} {k} types action b =
 pub access-length : (types : List (List ℕ)) (action : Action) → length (spelled_access types action) ≡ 1 + length types + length (spelled_action action)
 access-length types action =
     let n = length-append (map a_word types) (spelled_action action) in let l = length-map types a_word in omega arith
-
--- what a read or a write touches, by its word
-pub action-read : (a : Action) → terminal_of_action a ≡ Read → (t : Touch) × (a ≡ read t)
-action-read (read t) w = (t, refl)
-action-read (write t) w = absurd (cc)
-action-read fence w = absurd (cc)
-
-pub action-write : (a : Action) → terminal_of_action a ≡ Write → (t : Touch) × (a ≡ write t)
-action-write (write t) w = (t, refl)
-action-write (read t) w = absurd (cc)
-action-write fence w = absurd (cc)
-
-pub action-fence : (a : Action) → terminal_of_action a ≡ Fence → a ≡ fence
-action-fence fence w = refl
-action-fence (read t) w = absurd (cc)
-action-fence (write t) w = absurd (cc)
-
-pub action-known : (a : Action) → (terminal_of_action a ≢ Read) → (terminal_of_action a ≢ Write) → (terminal_of_action a ≢ Fence) → ⊥
-action-known (read t) r w f = r refl
-action-known (write t) r w f = w refl
-action-known fence r w f = f refl
 
 -- the parts of a micro-op's line
 pub microop-head : {ts : List Token} {k : ℕ} (m : MicroopLine) → BeginsAt ts k (spelled_item (microop m)) → BeginsAt ts k (spelled_head m.head)

@@ -22,7 +22,7 @@ use Rattle.litmus_reader.specs.declared.item.Item.{Item}
 use Rattle.litmus_reader.specs.declared.item.Item.TheVariants.{Microop as microop, Relationship as relationship, Initial as initial, Final as final, Permitted as permitted, Forbidden as forbidden}
 use Rattle.litmus_reader.proofs.Spelling.{spell-length}
 use Rattle.litmus_reader.proofs.Places.{stands, stands-first, spell-behind, begins-behind, names-none, names-more}
-use Rattle.litmus_reader.proofs.Lines.{terminal_of_address, address-terminal, terminal_of_value, value-terminal, terminal_of_stated, stated-terminal, touch-pa, touch-value, statement-pa, statement-value, access-terminal, access-names, access-action, access-first, microop-head, microop-access, item_word, item-terminal}
+use Rattle.litmus_reader.proofs.Lines.{terminal_of_address, address-terminal, address-seen, terminal_of_value, value-terminal, value-seen, terminal_of_stated, stated-terminal, stated-seen, touch-pa, touch-value, statement-pa, statement-value, access-terminal, access-names, access-action, access-first, microop-head, microop-access, item_word, item-terminal}
 use Rattle.litmus_reader.proofs.Walk.{item-some}
 
 -- the token at a place is one
@@ -64,16 +64,9 @@ one_names (w ∷ xs) ys k n m =
 -- the word of an address that stands there
 one_address_word : {ts : List Token} {k : ℕ} (a b : Address) → BeginsAt ts k (spelled_address a) → BeginsAt ts k (spelled_address b)
     → terminal_of_address a ≡ terminal_of_address b
-one_address_word a b c d =
-    let s = second a c in
-    sym (address-terminal a c s.0 s.1) ∙ address-terminal b d s.0 s.1
-  where
-    second : {ts : List Token} {k : ℕ} (x : Address) → BeginsAt ts k (spelled_address x) → (t : Token) × (slice_get ts (k + 1) ≡ Some t)
-    second (PageAddress tag index) e = let s = stands (spelled_address (PageAddress tag index)) e 1 _ refl in (s.token, s.at)
-    second (EntryAddress tag) e = let s = stands (spelled_address (EntryAddress tag)) e 1 _ refl in (s.token, s.at)
+one_address_word a b c d = address-seen b d (terminal_of_address a) (λ t at. sym (address-terminal a c t at))
 
 one_address : {ts : List Token} {k : ℕ} (a b : Address) → BeginsAt ts k (spelled_address a) → BeginsAt ts k (spelled_address b) → a ≡ b
-unfolding terminal_of_address
 one_address (PageAddress t x) (PageAddress u y) b c =
     let es = spelled_address (PageAddress t x) in
     let fs = spelled_address (PageAddress u y) in
@@ -97,16 +90,9 @@ one_entry t u a d x y b c =
 
 one_value_word : {ts : List Token} {k : ℕ} (v w : ValueText) → BeginsAt ts k (spelled_value v) → BeginsAt ts k (spelled_value w)
     → terminal_of_value v ≡ terminal_of_value w
-one_value_word v w c d =
-    let s = second v c in
-    sym (value-terminal v c s.0 s.1) ∙ value-terminal w d s.0 s.1
-  where
-    second : {ts : List Token} {k : ℕ} (x : ValueText) → BeginsAt ts k (spelled_value x) → (t : Token) × (slice_get ts (k + 1) ≡ Some t)
-    second (number_text n) e = let s = stands (spelled_value (number_text n)) e 1 _ refl in (s.token, s.at)
-    second (entry_text t a x) e = let s = stands (spelled_entry t a x) e 1 _ refl in (s.token, s.at)
+one_value_word v w c d = value-seen w d (terminal_of_value v) (λ t at. sym (value-terminal v c t at))
 
 one_value : {ts : List Token} {k : ℕ} (v w : ValueText) → BeginsAt ts k (spelled_value v) → BeginsAt ts k (spelled_value w) → v ≡ w
-unfolding terminal_of_value
 one_value (number_text m) (number_text n) b c =
     ap number_text (one_number m n (stands (spelled_value (number_text m)) b 2 _ refl) (stands (spelled_value (number_text n)) c 2 _ refl))
 one_value (entry_text t a d) (entry_text u x y) b c = one_entry t u a d x y b c
@@ -115,16 +101,9 @@ one_value (entry_text t a d) (number_text n) b c = absurd (let w = one_value_wor
 
 one_stated_word : {ts : List Token} {k : ℕ} (v w : ValueText) → BeginsAt ts k (spelled_stated v) → BeginsAt ts k (spelled_stated w)
     → terminal_of_stated v ≡ terminal_of_stated w
-one_stated_word v w c d =
-    let s = front v c in
-    sym (stated-terminal v c s.0 s.1) ∙ stated-terminal w d s.0 s.1
-  where
-    front : {ts : List Token} {k : ℕ} (x : ValueText) → BeginsAt ts k (spelled_stated x) → (t : Token) × (slice_get ts k ≡ Some t)
-    front (number_text n) e = let s = stands-first _ _ e in (s.token, s.at)
-    front (entry_text t a x) e = let s = stands-first _ _ e in (s.token, s.at)
+one_stated_word v w c d = stated-seen w d (terminal_of_stated v) (λ t at. sym (stated-terminal v c t at))
 
 one_stated : {ts : List Token} {k : ℕ} (v w : ValueText) → BeginsAt ts k (spelled_stated v) → BeginsAt ts k (spelled_stated w) → v ≡ w
-unfolding terminal_of_stated
 one_stated (number_text m) (number_text n) b c = ap number_text (one_number m n (stands-first _ _ b) (stands-first _ _ c))
 one_stated (entry_text t a d) (entry_text u x y) b c = one_entry t u a d x y b c
 one_stated (number_text m) (entry_text u x y) b c = absurd (let w = one_stated_word (number_text m) (entry_text u x y) b c in cc)

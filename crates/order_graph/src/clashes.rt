@@ -1,9 +1,9 @@
 ghost use Rattle.std.specs.Prelude.{◌≡◌, ◌<◌, ◌≤◌, ◌+◌, ◌*◌, ◌++◌, [], ◌∷◌, ℕ, List, true, false, All, Contains, IfOk, MatchOption, MatchBool};
-ghost use Rattle.undo_trail.specs.Kept.{bit_now};
+ghost use Rattle.undo_trail.specs.BitTable.{bit_now};
 ghost use Rattle.pc_ground.specs.Literals.{Joins, IsConsistent};
 ghost use Rattle.pc_ground.specs.declared.literal.Literal.{Literal as AnyLiteral};
 ghost use Rattle.order_graph.specs.Ways.{IsBelow};
-ghost use Rattle.order_graph.specs.Rows.{pair_row, leads_to, IsSized, IsOver, Stands};
+ghost use Rattle.order_graph.specs.Rows.{pair_row, leads_to, IsSized, IsOver, Represents};
 ghost use Rattle.order_graph.specs.Clashes.{IsClash, JoinsNone};
 
 use super::chain::way;
@@ -40,24 +40,28 @@ fn joins_denied(table: &UndoTable, nodes: u32, a: u32, b: u32) -> bool
     false
 }
 
-/// Whether the edge from `a` to `b` would clash with the literals that the table stands for.
+/// Whether the edge from `a` to `b` would clash with the literals that the table represents.
 fn edge_would_clash(table: &UndoTable, nodes: u32, a: u32, b: u32) -> bool
     requires sized { IsSized nodes table.now }
     requires a_in { a < nodes }
     requires b_in { b < nodes }
-    ensures { (ls : List (AnyLiteral ℕ)) → Stands nodes table.now.words ls table.now.now → MatchBool result (IsConsistent (ls ++ Literal.Edge a b ∷ []) → ⊥) (IsConsistent (ls ++ Literal.Edge a b ∷ [])) }
+    ensures { (ls : List (AnyLiteral ℕ)) → Represents nodes table.now.words ls table.now.now → MatchBool result (IsConsistent (ls ++ Literal.Edge a b ∷ []) → ⊥) (IsConsistent (ls ++ Literal.Edge a b ∷ [])) }
 {
+    // an edge that a chain goes over changes nothing
+    if reaches(table, a, b) {
+        return false;
+    }
     if is_missing(table, nodes, a) || is_missing(table, nodes, b) || leads_to(table, b, a) {
         return true;
     }
     joins_denied(table, nodes, a, b)
 }
 
-/// Whether the literal would clash with those that the table stands for. It takes no memory.
+/// Whether the literal would clash with those that the table represents. It takes no memory.
 pub fn would_clash(table: &UndoTable, nodes: u32, literal: Literal<u32>) -> bool
     requires sized { IsSized nodes table.now }
     requires below { IsBelow nodes literal }
-    ensures { (ls : List (AnyLiteral ℕ)) → Stands nodes table.now.words ls table.now.now → MatchBool result (IsConsistent (ls ++ literal ∷ []) → ⊥) (IsConsistent (ls ++ literal ∷ [])) }
+    ensures { (ls : List (AnyLiteral ℕ)) → Represents nodes table.now.words ls table.now.now → MatchBool result (IsConsistent (ls ++ literal ∷ []) → ⊥) (IsConsistent (ls ++ literal ∷ [])) }
 {
     match literal {
         Literal::Node(a) => is_missing(table, nodes, a),
@@ -119,7 +123,7 @@ fn path_clash(
     b: u32,
 ) -> Result<Option<Clash>, Memory>
     requires sized { IsSized nodes table.now }
-    requires stands { Stands nodes table.now.words literals.now table.now.now }
+    requires represents { Represents nodes table.now.words literals.now table.now.now }
     requires a_in { a < nodes }
     requires b_in { b < nodes }
     ensures { IfOk result (λ found. MatchOption found (JoinsNone literals.now a b) (IsClash (literals.now ++ Literal.Edge a b ∷ []))) }
@@ -143,11 +147,14 @@ fn edge_clash(
     b: u32,
 ) -> Result<Option<Clash>, Memory>
     requires sized { IsSized nodes table.now }
-    requires stands { Stands nodes table.now.words literals.now table.now.now }
+    requires represents { Represents nodes table.now.words literals.now table.now.now }
     requires a_in { a < nodes }
     requires b_in { b < nodes }
     ensures { IfOk result (λ found. MatchOption found (IsConsistent (literals.now ++ Literal.Edge a b ∷ [])) (IsClash (literals.now ++ Literal.Edge a b ∷ []))) }
 {
+    if reaches(table, a, b) {
+        return Ok(None);
+    }
     if is_missing(table, nodes, a) {
         return Ok(Some(Clash::Absent(a)));
     }
@@ -174,7 +181,7 @@ fn no_edge_clash(
     b: u32,
 ) -> Result<Option<Clash>, Memory>
     requires sized { IsSized nodes table.now }
-    requires stands { Stands nodes table.now.words literals.now table.now.now }
+    requires represents { Represents nodes table.now.words literals.now table.now.now }
     requires a_in { a < nodes }
     requires b_in { b < nodes }
     ensures { IfOk result (λ found. MatchOption found (IsConsistent (literals.now ++ Literal.NoEdge a b ∷ [])) (IsClash (literals.now ++ Literal.NoEdge a b ∷ []))) }
@@ -197,7 +204,7 @@ fn absence(clashes: bool, a: u32) -> Option<Clash>
     }
 }
 
-/// The clash of the literal with `literals`, for which the table stands, or none where all are consistent.
+/// The clash of the literal with `literals`, which the table represents, or none where all are consistent.
 pub fn clash_of(
     alloc: Global,
     table: &UndoTable,
@@ -206,7 +213,7 @@ pub fn clash_of(
     literal: Literal<u32>,
 ) -> Result<Option<Clash>, Memory>
     requires sized { IsSized nodes table.now }
-    requires stands { Stands nodes table.now.words literals.now table.now.now }
+    requires represents { Represents nodes table.now.words literals.now table.now.now }
     requires below { IsBelow nodes literal }
     ensures { IfOk result (λ found. MatchOption found (IsConsistent (literals.now ++ literal ∷ [])) (IsClash (literals.now ++ literal ∷ []))) }
 {

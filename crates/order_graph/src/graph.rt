@@ -1,11 +1,12 @@
 ghost use Rattle.std.specs.Prelude.{◌≡◌, ◌↔◌, ◌<◌, ◌≤◌, ◌+◌, ◌-◌, ◌*◌, ◌++◌, [], ◌∷◌, ℕ, true, length, take, slice_get, slice_index, Some, IsTrue, IfOk, OnOk, OnErr, MatchBool};
 ghost use Rattle.pc_common.specs.Chain.{Chain};
+ghost use Rattle.pc_common.specs.declared.limits.TheConstants.{MAX_NODES};
 ghost use Rattle.pc_ground.specs.Literals.{Joins, IsPresent, IsConsistent, Holds};
-ghost use Rattle.undo_trail.specs.Kept.{Extends};
+ghost use Rattle.undo_trail.specs.BitTable.{Extends};
 ghost use Rattle.order_graph.specs.Ways.{IsBelow};
 ghost use Rattle.order_graph.specs.State.{words_for, most_words, recorded_since, IsCut, IsGraph};
 ghost use Rattle.order_graph.specs.Adding.{IsAdded};
-ghost use Rattle.order_graph.specs.Rows.{HasEntered, IsSized, ClosesNone};
+ghost use Rattle.order_graph.specs.Rows.{Enters, IsSized, Takes};
 
 use super::clash::Added;
 use super::clashes::{clash_of, would_clash};
@@ -56,8 +57,8 @@ fn keep<L: Ledger>(
 ) -> Result<(), Memory>
     requires sized { IsSized nodes table.old }
     requires below { IsBelow nodes literal }
-    requires no_cycle { ClosesNone literal table.old }
-    ensures entered { OnOk result (HasEntered nodes literal table.old table.new) }
+    requires takes { Takes nodes literal table.old }
+    ensures entered { OnOk result (Enters nodes literal table.old table.new) }
     ensures trail { OnOk result (Extends table.old table.new (nodes * (table.old.words + 1) + 2)) }
     ensures literals { OnOk result (literals.new.items ≡ literals.old.items ++ literal ∷ []) }
     ensures moments { OnOk result (moments.new.items ≡ moments.old.items ++ length table.new.past ∷ []) }
@@ -80,7 +81,7 @@ impl OrderGraph {
     /// A graph over the nodes from 0 to one below `nodes`, of which there are at most 262,144, with no
     /// literal and no mark. Takes memory for two bit rows a node.
     pub fn new(alloc: Global, nodes: u32) -> Result<OrderGraph, Memory>
-        requires { nodes ≤ 262144 }
+        requires { nodes ≤ MAX_NODES }
         ensures { IfOk result (λ g. g ≡ record { nodes = nodes; literals = []; marks = []; recorded = 0 ∷ [] }) }
     {
         let words = (nodes as usize + 63) / 64;

@@ -1,10 +1,10 @@
 ghost use Rattle.std.specs.Prelude.{◌≡◌, ◌<◌, ◌≤◌, ◌+◌, ◌*◌, ◌||◌, ◌==◌, ◌↔◌, ℕ, List, true, false, OnOk, OnErr, if◌then◌else◌};
-ghost use Rattle.undo_trail.specs.Kept.{bit_now, Extends, HasSet};
+ghost use Rattle.undo_trail.specs.BitTable.{bit_now, Extends, HasSet};
 ghost use Rattle.pc_common.specs.Chain.{Chain};
 ghost use Rattle.pc_ground.specs.Literals.{Joins, IsPresent, Holds};
 ghost use Rattle.pc_ground.specs.declared.literal.Literal.{Literal as AnyLiteral};
 ghost use Rattle.order_graph.specs.Ways.{IsBelow};
-ghost use Rattle.order_graph.specs.Rows.{pair_row, present_row, missing_row, leads_to, with_edge, HasEntered, IsSized, ClosesNone, Stands};
+ghost use Rattle.order_graph.specs.Rows.{pair_row, present_row, missing_row, leads_to, with_edge, Enters, IsSized, Takes, TakesEdge, Represents};
 
 use pc_common::Memory;
 use pc_ground::Literal;
@@ -90,7 +90,8 @@ fn close_over<L: Ledger>(
     Ok(())
 }
 
-/// Enters the edge from `a` to `b`, and that both are present.
+/// Enters the edge from `a` to `b`, and that both are present. Where a chain leads from `a` to `b` already,
+/// the rows have all of that.
 fn enter_edge<L: Ledger>(
     table: &mut UndoTable,
     nodes: u32,
@@ -101,11 +102,14 @@ fn enter_edge<L: Ledger>(
     requires sized { IsSized nodes table.old }
     requires a_in { a < nodes }
     requires b_in { b < nodes }
-    requires no_cycle { leads_to table.old b a ≡ false }
-    ensures entered { OnOk result (HasEntered nodes (Literal.Edge a b) table.old table.new) }
+    requires takes { TakesEdge nodes table.old a b }
+    ensures entered { OnOk result (Enters nodes (Literal.Edge a b) table.old table.new) }
     ensures trail { Extends table.old table.new (nodes * (table.old.words + 1) + 2) }
     ensures cost { steps.new ≤ steps.old + nodes }
 {
+    if reaches(table, a, b) {
+        return Ok(());
+    }
     close_over(table, nodes, a, b, steps)?;
     table.set_bit(2 * nodes as usize, a as usize)?;
     table.set_bit(2 * nodes as usize, b as usize)?;
@@ -124,7 +128,7 @@ fn enter_bit(table: &mut UndoTable, nodes: u32, row: usize, column: u32) -> Resu
     Ok(())
 }
 
-/// Enters the literal, which closes no cycle.
+/// Enters the literal, which the rows can take.
 fn enter<L: Ledger>(
     table: &mut UndoTable,
     nodes: u32,
@@ -133,8 +137,8 @@ fn enter<L: Ledger>(
 ) -> Result<(), Memory>
     requires sized { IsSized nodes table.old }
     requires below { IsBelow nodes literal }
-    requires no_cycle { ClosesNone literal table.old }
-    ensures entered { OnOk result (HasEntered nodes literal table.old table.new) }
+    requires takes { Takes nodes literal table.old }
+    ensures entered { OnOk result (Enters nodes literal table.old table.new) }
     ensures trail { Extends table.old table.new (nodes * (table.old.words + 1) + 2) }
     ensures cost { steps.new ≤ steps.old + nodes }
 {
@@ -156,8 +160,8 @@ pub fn enter_whole<L: Ledger>(
 ) -> Result<(), Memory>
     requires sized { IsSized nodes table.old }
     requires below { IsBelow nodes literal }
-    requires no_cycle { ClosesNone literal table.old }
-    ensures entered { OnOk result (HasEntered nodes literal table.old table.new) }
+    requires takes { Takes nodes literal table.old }
+    ensures entered { OnOk result (Enters nodes literal table.old table.new) }
     ensures trail { OnOk result (Extends table.old table.new (nodes * (table.old.words + 1) + 2)) }
     ensures err { OnErr result (table.new ≡ table.old) }
     ensures cost { OnOk result (steps.new ≤ steps.old + nodes) }
@@ -178,7 +182,7 @@ pub fn enter_whole<L: Ledger>(
 pub fn is_true(table: &UndoTable, nodes: u32, literal: Literal<u32>) -> bool
     requires sized { IsSized nodes table.now }
     requires below { IsBelow nodes literal }
-    ensures { (ls : List (AnyLiteral ℕ)) → Stands nodes table.now.words ls table.now.now → (result ≡ true) ↔ Holds (IsPresent ls) (Chain (Joins ls)) literal }
+    ensures { (ls : List (AnyLiteral ℕ)) → Represents nodes table.now.words ls table.now.now → (result ≡ true) ↔ Holds (IsPresent ls) (Chain (Joins ls)) literal }
 {
     match literal {
         Literal::Node(a) => is_present(table, nodes, a),

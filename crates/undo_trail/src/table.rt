@@ -1,6 +1,6 @@
 ghost use Rattle.std.specs.Prelude.{◌≡◌, ◌≢◌, ◌<◌, ◌+◌, ◌-◌, ◌*◌, ◌^◌, ◌++◌, ℕ, false, [], ◌∷◌, length, take, replicate, slice_range, IfOk, OnOk, OnErr, MatchBool};
 ghost use Rattle.undo_trail.specs.Bits.{column};
-ghost use Rattle.undo_trail.specs.Kept.{tables, bit_now, Extends, HasSet, HasJoined, IsKept};
+ghost use Rattle.undo_trail.specs.BitTable.{tables, bit_now, Extends, HasSet, HasJoined, IsBitTable};
 
 use super::mark::Mark;
 use super::steps::Steps;
@@ -20,13 +20,13 @@ pub struct UndoTable {
 }
 
 impl Model for UndoTable {
-    ghost use Rattle.undo_trail.specs.Kept.{Kept};
-    ghost use Rattle.undo_trail.specs.Trail.{kept, IsTrail};
+    ghost use Rattle.undo_trail.specs.BitTable.{BitTable};
+    ghost use Rattle.undo_trail.specs.Trail.{table_of, IsTrail};
     ghost use Rattle.std.specs.Prelude.{◌<◌, ◌*◌, ◌^◌};
 
-    ghost Value = { Kept };
+    ghost Value = { BitTable };
 
-    ghost view = { λ s. kept s.rows s.words s.trail.items s.table.items };
+    ghost view = { λ s. table_of s.rows s.words s.trail.items s.table.items };
 
     ghost invariant = { λ s. (s.rows * s.words < 2 ^ 32) × IsTrail (s.rows * s.words) s.trail.items s.table.items };
 }
@@ -87,7 +87,7 @@ impl UndoTable {
     pub fn or_row(&mut self, dst: usize, src: usize) -> Result<bool, Memory>
         requires dst_in { dst < self.old.rows }
         requires src_in { src < self.old.rows }
-        ensures joined { OnOk result (HasJoined self.old self.new dst src) }
+        ensures row { OnOk result (HasJoined self.old self.new dst src) }
         ensures trail { OnOk result (Extends self.old self.new self.old.words) }
         ensures changed { IfOk result (λ b. MatchBool b (self.new.now ≢ self.old.now) (self.new ≡ self.old)) }
         ensures err { OnErr result (self.new ≡ self.old) }
@@ -100,7 +100,7 @@ impl UndoTable {
     /// The present moment, to go back to. Takes no memory.
     pub fn mark(&self) -> Mark
         ensures last { result ≡ length self.now.past }
-        ensures kept { IsKept self.now }
+        ensures table { IsBitTable self.now }
     {
         Mark::at(self.trail.len())
     }
@@ -112,7 +112,7 @@ impl UndoTable {
         ensures rows { self.new.rows ≡ self.old.rows }
         ensures words { self.new.words ≡ self.old.words }
         ensures tables { tables self.new ≡ take (mark + 1) (tables self.old) }
-        ensures steps { steps.new ≡ steps.old + (length self.old.past - mark) }
+        ensures cost { steps.new ≡ steps.old + (length self.old.past - mark) }
     {
         let keep = mark.changes();
         restore(&mut self.table, &self.trail, keep, steps);

@@ -69,7 +69,7 @@ pub fn restore<L: Ledger>(table: &mut [u64], trail: &[Change], keep: usize, step
     requires live { keep ≤ length trail.now }
     requires inside { All (λ c. c.place < length table.old) trail.now }
     ensures table { table.new ≡ back (drop keep trail.now) table.old }
-    ensures steps { steps.new ≡ steps.old + (length trail.now - keep) }
+    ensures cost { steps.new ≡ steps.old + (length trail.now - keep) }
 {
     let mut at = trail.len();
     while at > keep {

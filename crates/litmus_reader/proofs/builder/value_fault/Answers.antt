@@ -1,18 +1,10 @@
-use Rattle.std.proofs.Common.{List, Some, None, subst}
-use Rattle.pc_case.specs.declared.stated.Stated.{Stated}
 use Rattle.litmus_reader.specs.Builder.{word_of}
-use Rattle.litmus_reader.specs.Values.{IsValueAt}
-use Rattle.litmus_reader.proofs.ValueFacts.{again-stated, again-some}
+use Rattle.litmus_reader.specs.Content.{AgainStated, MarkFault}
+use Rattle.litmus_reader.proofs.RowFacts.{first-none, never-of}
 use Rattle.litmus_reader.proofs.builder.value_fault.Goals as goal
 
-pub returns-in-None : goal.returns-in-None
-returns-in-None c = λ before are.
-    again-stated (word_of c.args.when) before c.args.line
-    (subst (λ (lines : List Stated). IsValueAt lines c.args.line.pa None) are
-    (subst (IsValueAt c.args.values.now c.args.line.pa) c.in-None.is c.get.ensures))
-
-pub returns-in-Some : goal.returns-in-Some
-returns-in-Some c = λ before are.
-    rw c.stated_again.ensures (again-some (word_of c.args.when) before c.args.line c.in-Some.first
-    (subst (λ (lines : List Stated). IsValueAt lines c.args.line.pa (Some c.in-Some.first)) are
-    (subst (IsValueAt c.args.values.now c.args.line.pa) c.in-Some.is c.get.ensures)))
+pub returns : goal.returns
+returns c = λ before are.
+    let Again = AgainStated (word_of c.args.when) before c.args.line in
+    first-none Again (MarkFault c.args.line.value) (never-of Again c.again_fault.result c.in_default.is (c.again_fault.ensures before are))
+    c.mark_fault.result c.mark_fault.ensures

@@ -1,5 +1,5 @@
 use Rattle.std.proofs.Common.{◌≡◌, ◌<◌, ◌*◌, ℕ, false}
-use Rattle.undo_trail.specs.Kept.{bit_now}
+use Rattle.undo_trail.specs.BitTable.{bit_now}
 use Rattle.order_graph.specs.Rows.{pair_row, IsOver}
 use Rattle.order_graph.proofs.clashes.joins_denied.Given as goal
 

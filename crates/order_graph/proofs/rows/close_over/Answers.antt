@@ -1,5 +1,5 @@
 use Rattle.std.proofs.Common.{◌∙◌, sym, arith}
-use Rattle.order_graph.proofs.Closing.{closing_first, closing_passed, closing_joined}
+use Rattle.order_graph.proofs.CloseOver.{closing_first, closing_passed, closing_joined}
 use Rattle.order_graph.proofs.rows.close_over.Goals as goal
 use Rattle.order_graph.proofs.rows.close_over.Goals.{then-leads_to+in_ok-join_row, else-leads_to}
 

@@ -1,7 +1,19 @@
-use Rattle.std.proofs.Common.{◌+◌, ◌*◌, arith}
-use Rattle.undo_trail.proofs.ExtendsLaws.{extends_then, extends_more}
-use Rattle.order_graph.proofs.Closing.{edge_entered}
+use Rattle.std.proofs.Common.{sym, ◌∙◌, ◌+◌, ◌*◌, arith}
+use Rattle.undo_trail.proofs.ExtendsLaws.{extends_same, extends_then, extends_more}
+use Rattle.order_graph.proofs.TakesEdge.{known_entered}
+use Rattle.order_graph.proofs.CloseOver.{edge_entered}
 use Rattle.order_graph.proofs.rows.enter_edge.Goals as goal
+
+pub returns-then-reaches-clause-entered : goal.returns-then-reaches-clause-entered
+returns-then-reaches-clause-entered g c =
+    known_entered c.args.nodes c.args.table.now c.args.a c.args.b c.requires.a_in c.requires.b_in c.requires.sized.1 c.requires.takes
+    (sym c.reaches.ensures ∙ c.if-reaches.true)
+
+pub returns-then-reaches-clause-trail : goal.returns-then-reaches-clause-trail
+returns-then-reaches-clause-trail g c = extends_same c.args.table.now (c.args.nodes * (c.args.table.now.words + 1) + 2)
+
+pub close_over-requires-clause-no_cycle : goal.close_over-requires-clause-no_cycle
+close_over-requires-clause-no_cycle g c = c.requires.takes.no_cycle
 
 pub returns-clause-entered : goal.returns-clause-entered
 returns-clause-entered g c =

@@ -6,4 +6,4 @@ returns-in-Ok-clause-most g c = omega (arith, c.enter.ensures.cost)
 
 pub returns-in-Err-clause-most : goal.returns-in-Err-clause-most
 returns-in-Err-clause-most g c =
-    omega (arith, c.undo.ensures.steps, c.mark-before.ensures.last, c.enter.ensures.trail.at_most, c.enter.ensures.cost)
+    omega (arith, c.undo.ensures.cost, c.mark-before.ensures.last, c.enter.ensures.trail.at_most, c.enter.ensures.cost)

@@ -1,5 +1,5 @@
 use Rattle.std.proofs.Common.{arith}
-use Rattle.undo_trail.proofs.Row.{joining_more}
+use Rattle.undo_trail.proofs.OrInto.{joining_more}
 use Rattle.undo_trail.proofs.trail.or_into.Goals as goal
 
 pub loop-k-preserved : goal.loop-k-preserved

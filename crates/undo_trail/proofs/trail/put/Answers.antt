@@ -1,5 +1,5 @@
 use Rattle.std.proofs.Common.{sym}
-use Rattle.undo_trail.proofs.Growing.{grows_one}
+use Rattle.undo_trail.proofs.Grows.{grows_one}
 use Rattle.undo_trail.proofs.trail.put.Goals as goal
 
 pub returns-clause-grows : goal.returns-clause-grows

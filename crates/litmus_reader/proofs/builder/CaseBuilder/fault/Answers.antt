@@ -1,7 +1,7 @@
 use Rattle.std.proofs.Common.{List, subst, sym, ◌∙◌}
 use Rattle.pc_common.specs.declared.place.Place.{Place}
 use Rattle.pc_common.specs.Case.{Expectation}
-use Rattle.litmus_reader.specs.Content.{IsFaultOf, MicroopFault, First, Unknown, AgainExpected}
+use Rattle.litmus_reader.specs.Content.{IsFaultOf, HeadFault, ActionFault, First, Unknown, AgainExpected}
 use Rattle.litmus_reader.specs.Rows.{Answers}
 use Rattle.litmus_reader.specs.declared.item.Head.{Head}
 use Rattle.litmus_reader.specs.declared.item.Item.{Item}
@@ -10,7 +10,7 @@ use Rattle.litmus_reader.proofs.builder.CaseBuilder.fault.Goals as goal
 pub returns-in-Microop : goal.returns-in-Microop
 returns-in-Microop c = λ before k.
     subst (λ (i : Item). Answers (IsFaultOf before i) c.microop_fault.result) (sym c.in-Microop.is)
-    (subst (λ (hs : List Head). Answers (MicroopFault hs c.in-Microop.microop.head) c.microop_fault.result) (c.deref.ensures.value ∙ k.heads) c.microop_fault.ensures)
+    (subst (λ (hs : List Head). Answers (First (HeadFault hs c.in-Microop.microop.head) (ActionFault c.in-Microop.microop.action)) c.microop_fault.result) (c.deref.ensures.value ∙ k.heads) c.microop_fault.ensures)
 
 pub returns-in-Relationship : goal.returns-in-Relationship
 returns-in-Relationship c = λ before k.

@@ -1,7 +1,7 @@
 use Rattle.std.proofs.Common.{◌≡◌, ◌∙◌, List, ℕ, length, subst}
 use Rattle.std.proofs.lemmas.List.{with_items_is}
-use Rattle.undo_trail.specs.Kept.{Extends}
-use Rattle.undo_trail.specs.Trail.{kept}
+use Rattle.undo_trail.specs.BitTable.{Extends}
+use Rattle.undo_trail.specs.Trail.{table_of}
 use Rattle.undo_trail.proofs.OnResults.{on_ok, on_ok_both}
 use Rattle.undo_trail.proofs.BitWords.{rows_apart, has_joined}
 use Rattle.undo_trail.proofs.table.UndoTable.or_row.Goals as goal
@@ -9,8 +9,8 @@ use Rattle.undo_trail.proofs.table.UndoTable.or_row.Goals as goal
 pub or_into-requires-clause-apart : goal.or_into-requires-clause-apart
 or_into-requires-clause-apart c = rows_apart c.args.src c.args.dst c.self.inside.words
 
-pub returns-clause-joined : goal.returns-clause-joined
-returns-clause-joined c =
+pub returns-clause-row : goal.returns-clause-row
+returns-clause-row c =
     let t = c.self.inside.table.items in
     let u = c.or_into.new.table in
     let size : length u ≡ c.self.inside.table.len = c.or_into.auto.table ∙ c.deref_mut.ensures.len in
@@ -25,5 +25,5 @@ returns-clause-trail c =
     let size : length u ≡ s.table.len = c.or_into.auto.table ∙ c.deref_mut.ensures.len in
     rw (← c.self.view_is, with_items_is s.table u size)
     (on_ok c.or_into.result c.or_into.ensures.grows (λ grows.
-    let P : List ℕ → Type 0 = λ t. Extends (kept s.rows s.words s.trail.items t) (kept s.rows s.words c.or_into.new.trail.items u) s.words in
+    let P : List ℕ → Type 0 = λ t. Extends (table_of s.rows s.words s.trail.items t) (table_of s.rows s.words c.or_into.new.trail.items u) s.words in
     subst P c.deref_mut.ensures.value (grows.extends s.rows s.words)))

@@ -1,7 +1,7 @@
 use Rattle.std.proofs.Common.{◌≡◌, ◌∙◌, ◌<◌, ◌*◌, ◌+◌, ◌/◌, ◌%◌, ◌^◌, List, ℕ, length, get_or, set, bit_or, ap, subst, arith}
 use Rattle.std.proofs.lemmas.List.{with_items_is, get_or_read}
-use Rattle.undo_trail.specs.Kept.{Extends}
-use Rattle.undo_trail.specs.Trail.{kept}
+use Rattle.undo_trail.specs.BitTable.{Extends}
+use Rattle.undo_trail.specs.Trail.{table_of}
 use Rattle.undo_trail.proofs.OnResults.{on_ok}
 use Rattle.undo_trail.proofs.BitWords.{has_set, place_in}
 use Rattle.undo_trail.proofs.table.UndoTable.set_bit.Goals as goal
@@ -35,5 +35,5 @@ returns-clause-trail c =
     let size : length u ≡ s.table.len = c.put.auto.table ∙ c.deref_mut.ensures.len in
     rw (← c.self.view_is, with_items_is s.table u size)
     (on_ok c.put.result c.put.ensures.grows (λ grows.
-    let P : List ℕ → Type 0 = λ t. Extends (kept s.rows s.words s.trail.items t) (kept s.rows s.words c.put.new.trail.items u) 1 in
+    let P : List ℕ → Type 0 = λ t. Extends (table_of s.rows s.words s.trail.items t) (table_of s.rows s.words c.put.new.trail.items u) 1 in
     subst P c.deref_mut.ensures.value (grows.extends s.rows s.words)))
