@@ -36,12 +36,7 @@ pub fn front_of(alloc: Global, parts: Parts) -> Result<Front, Memory>
 ///
 /// Takes time and memory as grounding does, and one entry for each stage. The one error is that memory
 /// was refused; the front that the stages are of stays as it is.
-pub fn front_with(
-    alloc: Global,
-    front: &Front,
-    case: Case,
-    axioms: Axioms,
-) -> Result<Front, Memory>
+pub fn front_with(alloc: Global, front: &Front, case: Case, axioms: Axioms) -> Result<Front, Memory>
     requires within { AxiomsWithin (numbers_of (map plain_stage front.now.stages)) (plain_axioms axioms) }
     ensures case { IfOk result (λ f. f.case ≡ case) }
     ensures stages { IfOk result (λ f. f.stages ≡ front.now.stages) }

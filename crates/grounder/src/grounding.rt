@@ -3,8 +3,8 @@ ghost use Rattle.pc_syntax.specs.Closed.{plain_closed};
 ghost use Rattle.pc_ground.specs.PlainGround.{plain_ground, simplified, normal};
 ghost use Rattle.pc_ground.specs.GroundTree.{axioms_unfolded, closed_ground_tree};
 
-use super::operator::Operator;
 use super::formula::ground_formula;
+use super::operator::Operator;
 use pc_case::Case;
 use pc_common::Memory;
 use pc_ground::Ground;
