@@ -25,7 +25,8 @@ Outcome = tuple[tuple[int, ...], tuple[tuple[Address, int], ...]]
 
 @dataclass(frozen=True)
 class Op:
-    """A micro-op. `place` is its number in test order; `core` is the place of its core in `Test.cores`."""
+    """A micro-op. `place` is its number in test order; `core` is the place of its core in `Test.cores`; `instruction` is
+    the number of its instruction."""
 
     place: int
     core: int
@@ -33,6 +34,7 @@ class Op:
     types: frozenset[str]
     address: Address = (0, 0)
     value: int = 0
+    instruction: int = 0
 
     @property
     def is_full_fence(self) -> bool:
@@ -55,6 +57,11 @@ class Test:
         return sorted((op for core in self.cores for op in core), key=lambda op: op.place)
 
     @property
+    def has_locked(self) -> bool:
+        """Whether an instruction has more than one micro-op, as a locked read-modify-write has."""
+        return len({op.instruction for op in self.ops}) < len(self.ops)
+
+    @property
     def memory(self) -> tuple[tuple[Address, int], ...]:
         """The memory at the start: each address in use with its value."""
         addresses = sorted({op.address for op in self.ops if op.kind != "Fence"})
@@ -72,21 +79,20 @@ def read_test(path: str) -> Test:
         text = COMMENT.sub(" ", file.read())
     found = MICROOP.findall(text)
     threads = sorted({(int(core), int(thread)) for _, core, thread, *_ in found})
-    lines: list[list[tuple[int, Op]]] = [[] for _ in threads]
+    lines: list[list[tuple[int, int, Op]]] = [[] for _ in threads]
     names: dict[tuple[int, int], int] = {}
     for place, (g, core, thread, n, kind, types, tag, index, data) in enumerate(found):
-        if any(int(g) == other for other, _ in names):
-            raise ValueError(f"{path}: the machines take one micro-op an instruction")
         here = threads.index((int(core), int(thread)))
         names[int(g), int(n)] = place
         at = (int(tag), int(index)) if tag else (0, 0)
-        lines[here].append((int(g), Op(place, here, kind, frozenset(types.split()), at, int(data or 0))))
+        op = Op(place, here, kind, frozenset(types.split()), at, int(data or 0), int(g))
+        lines[here].append((int(g), int(n), op))
     dependencies = {
         (kind, names[int(g), int(n)], names[int(h), int(m)]) for kind, g, n, h, m in DEPENDENCY.findall(text)
     }
     values = {(word, (int(tag), int(index))): int(d) for word, tag, index, d in VALUE.findall(text)}
     return Test(
-        tuple(tuple(op for _, op in sorted(line, key=lambda pair: pair[0])) for line in lines),
+        tuple(tuple(op for _, _, op in sorted(line, key=lambda entry: entry[:2])) for line in lines),
         frozenset(dependencies),
         {address: d for (word, address), d in values.items() if word == "Init"},
         {address: d for (word, address), d in values.items() if word == "Final"},

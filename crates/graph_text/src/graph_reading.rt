@@ -53,7 +53,7 @@ impl<'a, K: Named> Judge for GraphJudge<'a, K> {
     }
 }
 
-/// ReadsNode the lines of a graph of the names `K`, as `read_graph`.
+/// Reads the lines of a graph of the names `K`, as `read_graph`.
 fn read_named<K: Named>(
     alloc: Global,
     names: &NodeText<'_>,
@@ -76,7 +76,7 @@ fn read_named<K: Named>(
     }
 }
 
-/// ReadsNode the lines of a graph, each with its LF: node lines, and then edge lines between the nodes listed.
+/// Reads the lines of a graph, each with its LF: node lines, and then edge lines between the nodes listed.
 ///
 /// What `write_graph` writes of such a graph is read again as it was. `Line` names the first line, from 1,
 /// that is no line of a graph, may not stand where it does, names a node of neither file, or has no LF.

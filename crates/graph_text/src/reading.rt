@@ -65,7 +65,7 @@ fn edge_line(read: Result<(NodeKey, NodeKey), LineFault>) -> Result<GraphLine, L
     }
 }
 
-/// ReadsNode a line of a graph, without its LF: `node NODE`, or `edge NODE NODE`, with one space between two words.
+/// Reads a line of a graph, without its LF: `node NODE`, or `edge NODE NODE`, with one space between two words.
 ///
 /// `Malformed` where the line has no such form, whatever its nodes name; `Foreign` where it has, and a node
 /// is none of these names. What `write_graph` writes is read again as it was. Takes no memory.

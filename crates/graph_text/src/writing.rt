@@ -8,7 +8,7 @@ ghost use Rattle.graph_text.specs.Graphs.{graph_nodes, graph_edges, graph_lines,
 
 use super::graph::Graph;
 use pc_common::{Failed, Room, Sink};
-use pc_ground::{NodeKey, NodeText, LinePart, put_line_parts};
+use pc_ground::{LinePart, NodeKey, NodeText, put_line_parts};
 
 /// Puts the line of a node.
 fn put_node_line<K: Sink>(
@@ -22,7 +22,11 @@ fn put_node_line<K: Sink>(
     put_line_parts(
         room,
         names,
-        &[LinePart::Bytes(b"node "), LinePart::Node(key), LinePart::Bytes(b"\n")],
+        &[
+            LinePart::Bytes(b"node "),
+            LinePart::Node(key),
+            LinePart::Bytes(b"\n"),
+        ],
     )
 }
 
@@ -96,13 +100,15 @@ fn put_graph<K: Sink>(
 }
 
 /// Writes a line for each node, and then one for each edge: `node NODE` and `edge NODE NODE`.
+/// It writes no header.
 ///
 /// The lines go to the sink in pieces of at most 4,096 bytes, and full ones but for the last. Takes no memory.
 /// Where a call of the sink fails, the first bytes of the lines went out, but not all.
 pub fn write_graph<K: Sink>(sink: &mut K, names: &NodeText<'_>, graph: &Graph) -> Result<(), Failed>
     requires nodes { All (IsKeyIn names.now) graph.now.nodes }
     requires edges { All (IsEdgeIn names.now) graph.now.edges }
-    ensures { Writes K.view sink.old sink.new result (lines_text names.now (graph_lines (graph_nodes graph.now) (graph_edges graph.now))) }
+    ensures { Writes K.view sink.old sink.new result
+        (lines_text names.now (graph_lines (graph_nodes graph.now) (graph_edges graph.now))) }
 {
     let mut room = Room::new(sink);
     put_graph(&mut room, names, graph)?;

@@ -7,8 +7,8 @@ abbrev pub IsLine : List ℕ → Type 0
 IsLine line = All (λ byte. byte ≢ 10) line
 
 -- the lines one after another, each with its LF
-abbrev pub joined : List (List ℕ) → List ℕ
-joined lines = flat_map (λ line. line ++ codes "\n") lines
+abbrev pub text_of_lines : List (List ℕ) → List ℕ
+text_of_lines lines = flat_map (λ line. line ++ codes "\n") lines
 
 -- the text up to its first LF, and what stands behind that
 pub record IsFirstLine (text line rest : List ℕ) : Type 0 where
@@ -19,7 +19,7 @@ pub record IsFirstLine (text line rest : List ℕ) : Type 0 where
 pub record IsMadeOf (whole : List (List ℕ) → Type 0) (text : List ℕ) : Type 0 where
   pub lines : List (List ℕ)
   pub are_lines : All IsLine lines
-  pub text_is : text ≡ joined lines
+  pub text_is : text ≡ text_of_lines lines
   pub accepted : whole lines
 
 -- the text's first n lines, each with its LF, are there and begin well
@@ -28,7 +28,7 @@ pub record BeginsWell (begins : List (List ℕ) → Type 0) (text : List ℕ) (n
   pub rest : List ℕ
   pub count : length lines ≡ n
   pub are_lines : All IsLine lines
-  pub text_is : text ≡ joined lines ++ rest
+  pub text_is : text ≡ text_of_lines lines ++ rest
   pub begin : begins lines
 
 -- the first line that is refused, from 1: the text is not whole, and its lines before this one begin well, but not those through it
@@ -42,5 +42,5 @@ pub record HoldsRefused (begins : List (List ℕ) → Type 0) (text : List ℕ) 
   pub lines : List (List ℕ)
   pub rest : List ℕ
   pub are_lines : All IsLine lines
-  pub text_is : text ≡ joined lines ++ rest
+  pub text_is : text ≡ text_of_lines lines ++ rest
   pub bad : begins lines → ⊥

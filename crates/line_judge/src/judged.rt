@@ -1,6 +1,6 @@
 ghost use Rattle.std.specs.Prelude.{◌≡◌, ◌++◌, [], List, ℕ, codes, IfOk, MatchBool};
 ghost use Rattle.line_judge.specs.Texts.{IsLine};
-ghost use Rattle.line_judge.specs.Judging.{IsGood, IsBad, Ends};
+ghost use Rattle.line_judge.specs.JudgedLines.{IsGood, IsBad, IsEnd};
 
 use super::judge::Judge;
 use super::line::split_line;
@@ -75,7 +75,7 @@ impl<J: Judge> Judged<J> {
     /// of the line that is refused at the text's end, from 1. Takes no memory.
     pub(crate) fn end(self) -> Result<J, u64>
         ensures { (start : J) → (text : List ℕ) → IsGood J.begins J.whole J.stands start text self
-            → Ends J.begins J.whole J.stands start text result }
+            → IsEnd J.begins J.whole J.stands start text result }
     {
         if self.part.is_empty() && self.judge.is_done() {
             return Ok(self.judge);

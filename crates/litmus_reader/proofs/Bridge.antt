@@ -10,8 +10,8 @@ use Rattle.ll_grammar.specs.Rules.{Derives}
 use Rattle.ll_grammar.specs.Texts.{IsText}
 use Rattle.ll_grammar.specs.declared.grammar.Symbol.{Symbol}
 use Rattle.ll_grammar.specs.declared.grammar.Symbol.TheVariants.{Class, Part}
-use Rattle.ll_grammar.proofs.Meanings.{Each, meaning, derives-begin, derives-end}
-use Rattle.ll_grammar.proofs.Meanings.Each.{none, class, part}
+use Rattle.ll_grammar.proofs.DerivesLaws.{Each, meaning, derives-begin, derives-end}
+use Rattle.ll_grammar.proofs.DerivesLaws.Each.{none, class, part}
 use Rattle.uspec_lexer.specs.Token.{Token, Kind}
 use Rattle.litmus_reader.specs.Expected.{Expected, a_word, word_at, a_number, number_at, a_text, a_symbol, Is, Spell}
 use Rattle.litmus_reader.specs.Syntax.{spelled_page, spelled_address, spelled_entry, spelled_value, spelled_stated, spelled_touch, spelled_access, spelled_head, spelled_statement, spelled_item, spelled_items, spelled_test, open_, close_, dot, arrow, format_word, IsAddressOf, IsValueOf, IsActionOf, IsItemOf, AreItemsOf, IsTest}

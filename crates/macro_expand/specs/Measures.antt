@@ -8,17 +8,18 @@ use Rattle.pc_syntax.specs.Sizes.{expanded_size, expanded_height, depth_fault, t
 use Rattle.macro_expand.specs.declared.measure.Measure.{Measure}
 use Rattle.macro_expand.specs.Tables.{before}
 
-abbrev pub capped : ℕ → ℕ → Measure
-capped size height = record { size = min size (MAX_SIZE + 1); height = min height (MAX_HEIGHT + 1) }
+abbrev pub capped_measure : ℕ → ℕ → Measure
+capped_measure size height = record { size = min size (MAX_SIZE + 1); height = min height (MAX_HEIGHT + 1) }
 
 -- the macros that the formula may name are listed latest first
 abbrev pub measure_of : List MacroAt → Written → Measure
-measure_of ms w = capped (expanded_size ms w) (expanded_height ms w)
+measure_of ms w = capped_measure (expanded_size ms w) (expanded_height ms w)
 
 -- the measures of the bodies of the first macros
 abbrev pub AreMeasures : List MacroAt → List Measure → Type 0
 AreMeasures ms measures =
-    (k : ℕ) (m : MacroAt) → k < length measures → slice_get ms k ≡ Some m → slice_get measures k ≡ Some (measure_of (before ms k) m.body)
+    (k : ℕ) (m : MacroAt) → k < length measures → slice_get ms k ≡ Some m
+    → slice_get measures k ≡ Some (measure_of (before ms k) m.body)
 
 -- the size fault of an item, where the axioms before it are of the size `total` together
 abbrev pub item_size_fault : List MacroAt → ℕ → WrittenItem → Option Fault

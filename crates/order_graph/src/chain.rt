@@ -1,6 +1,8 @@
 ghost use Rattle.std.specs.Prelude.{◌≡◌, ◌↔◌, IsTrue, ◌≢◌, ⊤, MatchBool, slice_set, ◌^◌, ◌+◌, ◌-◌, ◌<◌, ◌≤◌, ◌⊎◌, ℕ, List, [], ◌∷◌, length, slice_index, All, Contains, IfOk, MatchOption, vec_len, EachIndex, count_by, nat_eq, filter_map};
 ghost use Rattle.order_graph.specs.Edges.{IsInside, IsEdge, IsEdgeWay, edge_of};
-ghost use Rattle.order_graph.specs.Ways.{Reach, IsBelow, IsWay};
+ghost use Rattle.pc_common.specs.Chain.{Reach};
+ghost use Rattle.pc_common.specs.declared.limits.TheConstants.{MAX_NODES};
+ghost use Rattle.order_graph.specs.Ways.{IsBelow, IsWay};
 ghost use Rattle.pc_ground.specs.Literals.{Joins};
 ghost use Rattle.order_graph.specs.Levels.{IsGrown, IsClosedAt, far, far_count, IsGrounded, IsClosed, Reached};
 ghost use Rattle.std.specs.Bool.{OnTrue};
@@ -189,7 +191,7 @@ pub fn way(
     from: u32,
     to: u32,
 ) -> Result<Vec<u32>, Memory>
-    requires few { nodes ≤ 262144 }
+    requires few { nodes ≤ MAX_NODES }
     requires below { All (IsBelow nodes) literals.now }
     requires from_in { from < nodes }
     requires to_in { to < nodes }

@@ -86,7 +86,8 @@ fn read_rest<F: Files>(
     ensures keeps { Reads F.view files.old files.new }
     ensures within { IfOk result (λ bytes. vec_len bytes ≤ limit) }
     ensures whole { IfOk result (λ bytes. IsTrue (F.view files.old).modelled → (F.view files.old).left ≡ bytes.items) }
-    ensures too_large { result ≡ Err TooLarge → IsTrue (F.view files.old).modelled → limit < length (F.view files.old).left }
+    ensures too_large { result ≡ Err TooLarge → IsTrue (F.view files.old).modelled
+        → limit < length (F.view files.old).left }
     ensures stops { result ≡ Err TooLarge → IsTrue (F.view files.old).modelled →
         (read : List ℕ) × (length read ≡ limit + 1)
         × ((F.view files.old).left ≡ read ++ (F.view files.new).left) }

@@ -48,7 +48,8 @@ impl<'a, K: Sink> Room<'a, K> {
         Ok(())
     }
 
-    /// Puts the pieces behind what waits, one after another. Where handing on fails, the first bytes of them were put, but not all.
+    /// Puts the pieces behind what waits, one after another. Where handing on fails, the first bytes of them
+    /// were put, but not all.
     pub fn put_all(&mut self, pieces: &[&[u8]]) -> Result<(), Failed>
         ensures { Puts K.view self.old self.new result (flat_map (λ p. p.now) pieces.now) }
     {
@@ -70,6 +71,7 @@ impl<'a, K: Sink> Room<'a, K> {
         }
         Ok(())
     }
+
     // Hands on a full room. A room that is not full stays as it is.
     fn make_space(&mut self) -> Result<(), Failed>
         ensures full { self.old.waiting.used ≡ 4096 → Flushes K.view self.old self.new result }

@@ -21,5 +21,6 @@ pub trait Sink {
         ensures moves { 0 < length piece.now → IfOk result (λ n. 0 < n) }
         ensures bytes { IfOk result (λ n. IsTrue (view self.old).modelled →
             (view self.new).taken ≡ (view self.old).taken ++ take n piece.now) }
-        ensures nothing { OnErr result (IsTrue (view self.old).modelled → (view self.new).taken ≡ (view self.old).taken) };
+        ensures nothing { OnErr result
+            (IsTrue (view self.old).modelled → (view self.new).taken ≡ (view self.old).taken) };
 }

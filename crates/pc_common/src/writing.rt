@@ -11,7 +11,8 @@ pub(crate) fn send<K: Sink>(sink: &mut K, piece: &[u8]) -> usize
     ensures count { (K.view sink.old).faults ≤ (K.view sink.new).faults }
     ensures within { result ≤ length piece.now }
     ensures cause { result < length piece.now → Rose (K.view sink.old).faults (K.view sink.new).faults }
-    ensures bytes { IsTrue (K.view sink.old).modelled → (K.view sink.new).taken ≡ (K.view sink.old).taken ++ take result piece.now }
+    ensures bytes { IsTrue (K.view sink.old).modelled → (K.view sink.new).taken ≡ (K.view sink.old).taken
+        ++ take result piece.now }
 {
     let mut at = 0;
     while at < piece.len() {

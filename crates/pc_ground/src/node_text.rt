@@ -60,7 +60,8 @@ fn stage_name(stages: &Stages, number: u8) -> &[u8]
 
 /// The number of the stage of this name, None where there is none. A walk over at most 64 stages.
 fn stage_named(stages: &Stages, name: &[u8]) -> Option<u8>
-    ensures { MatchOption result ((n : ℕ) → IsStage (map plain_stage stages.now) n name.now → ⊥) (λ n. IsStage (map plain_stage stages.now) n name.now) }
+    ensures { MatchOption result ((n : ℕ) → IsStage (map plain_stage stages.now) n name.now → ⊥)
+        (λ n. IsStage (map plain_stage stages.now) n name.now) }
 {
     for k in 0..stages.len() {
         let stage = stages.get(k);
@@ -176,7 +177,8 @@ impl<'a> NodeText<'a> {
 
     /// The node that these words name, None where they name none.
     fn named(&self, words: &NodeWords<'_>) -> Option<NodeKey>
-        ensures { MatchOption result ((a : Node) → a.core < MAX_CORE + 1 → NamesNode self.now words.now a → ⊥) (λ key. NamesNode self.now words.now (key_node key)) }
+        ensures { MatchOption result ((a : Node) → a.core < MAX_CORE + 1 → NamesNode self.now words.now a → ⊥)
+            (λ key. NamesNode self.now words.now (key_node key)) }
     {
         let id = OpId {
             g: words.g,

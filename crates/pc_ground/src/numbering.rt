@@ -57,7 +57,8 @@ impl Numbering {
 
     /// The number of this node, None where it has none. One look-up; takes no memory.
     pub fn number(&self, key: NodeKey) -> Option<u32>
-        ensures { MatchOption result ((k : ℕ) → IsNumberOf self.now k (key_node key) → ⊥) (λ k. IsNumberOf self.now k (key_node key)) }
+        ensures { MatchOption result ((k : ℕ) → IsNumberOf self.now k (key_node key) → ⊥)
+            (λ k. IsNumberOf self.now k (key_node key)) }
     {
         let number = self.keys.get_index_of(&key)?;
         Some(number as u32)

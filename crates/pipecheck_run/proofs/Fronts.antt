@@ -21,7 +21,7 @@ use Rattle.pc_ground.specs.NodeForm.{names_of, IsNodeIn}
 use Rattle.pc_ground.proofs.TreeNodes.{nodes_are_of}
 use Rattle.pc_ground.proofs.FirstSeen.{numbered_lists}
 use Rattle.pc_ground.proofs.FlatRows.{rows_injective}
-use Rattle.pc_front.specs.ModelFront.{stage_said}
+use Rattle.pc_front.specs.ModelFront.{written_stage}
 use Rattle.pc_front.specs.Front.{IsFrontOf}
 use Rattle.graph_text.specs.Graphs.{key_edge, graph_nodes}
 use Rattle.solver.specs.Answers.{IsAnswer}
@@ -30,7 +30,7 @@ use Rattle.solver.specs.declared.answer.Answer.TheVariants.{Observable as a_grap
 use Rattle.pipecheck_run.specs.check.Verdicts.{IsWritable}
 use Rattle.cert_check.proofs.StepNodes.{refutation_in}
 
-pub numbers_same : (ss : List StageItem) → numbers_of (map stage_said ss) ≡ stage_numbers ss
+pub numbers_same : (ss : List StageItem) → numbers_of (map written_stage ss) ≡ stage_numbers ss
 numbers_same [] = refl
 numbers_same (s ∷ ss) = ap (λ ns. s.number ∷ ns) (numbers_same ss)
 
@@ -63,7 +63,7 @@ same_tree m c front is = rows_injective (closed_ground_tree front.case (plain_ax
 
 module _ (m : WrittenModel) (c : Case) (front : Front) (is : IsFrontOf m c front) (kept : AreMicroOps c.ops) where
   kept_here : AreMicroOps front.case.ops
-  kept_here = subst (λ (d : Case). AreMicroOps d.ops) (sym is.case) kept
+  kept_here = subst (λ (d : Case). AreMicroOps d.ops) (sym is.parts.case) kept
 
   -- each node of the tree is written by the front's names
   tree_node : (a : Node) → Contains (nodes_of_tree (ground_tree m c)) a → IsNodeIn (names_of front) a
@@ -77,12 +77,12 @@ module _ (m : WrittenModel) (c : Case) (front : Front) (is : IsFrontOf m c front
       (subst (λ (ns : List Node). Contains ns a) (front.counted ∙ ap numbered (same_tree m c front is)) in_numbering))
 
   numbers_are : numbers_of (map plain_stage front.stages) ≡ stage_numbers m.stages
-  numbers_are = ap numbers_of is.stages ∙ numbers_same m.stages
+  numbers_are = ap numbers_of is.parts.model.stages ∙ numbers_same m.stages
 
   -- each numbered node is of the model and of the test
   pub node_of_both : (a : Node) → Contains front.numbering a → IsNodeOf (stage_numbers m.stages) c.ops a
   node_of_both a in_numbering =
-      subst (λ (d : Case). IsNodeOf (stage_numbers m.stages) d.ops a) is.case
+      subst (λ (d : Case). IsNodeOf (stage_numbers m.stages) d.ops a) is.parts.case
       (subst (λ ns. IsNodeOf ns front.case.ops a) numbers_are (numbered_node a in_numbering))
 
   pub writable : (found : Found) → IsAnswer front.numbering (ground_tree m c) found → IsWritable (names_of front) found

@@ -6,7 +6,7 @@ use Rattle.pc_syntax.specs.Written.{WrittenModel}
 use Rattle.litmus_reader.specs.declared.fault.CaseFault.TheVariants.{Memory as no_room}
 use Rattle.litmus_reader.specs.Answer.{CaseOf}
 use Rattle.litmus_reader.proofs.Exclusive.{one_case, no_fault}
-use Rattle.pc_front.specs.Front.{SaysModel, told_fault, IsFirstFault as IsFaultOf, in_model, in_test}
+use Rattle.pc_front.specs.Front.{SaysModel, case_fault_of, IsFirstFault as IsFaultOf, in_model, in_test}
 use Rattle.pc_front.proofs.OneModel.{one_whole_model, no_whole_fault}
 use Rattle.pipecheck_run.specs.Command.{Inputs}
 use Rattle.pipecheck_run.specs.Inputs.{Contents, IsRead, IsTooLarge, IsFirstFault, large_model, large_test, in_bytes, Says}
@@ -41,14 +41,14 @@ never_both holds name bytes r l =
     omega (arith, same, r.within, l.past)
 
 -- want of memory is told as no fault
-pub untold : (f : InputFault) → told_fault no_room ≡ Some f → ⊥
+pub untold : (f : InputFault) → case_fault_of no_room ≡ Some f → ⊥
 untold f told = cc
 
 -- the bytes of two files that say something have no fault
 pub no_fault_of : (mb tb : List ℕ) (m : WrittenModel) (c : Case) (f : InputFault) → SaysModel mb m → CaseOf tb c → IsFaultOf mb tb f → ⊥
 no_fault_of mb tb m c _ says said (in_model {kind} {at} is) = no_whole_fault mb m says.model says.no_fault kind at is
 no_fault_of mb tb m c f says said (in_test other is) =
-    no_fault tb c is.found said (λ memory. untold f (sym (ap told_fault memory) ∙ is.told)) is.first
+    no_fault tb c is.found said (λ memory. untold f (sym (ap case_fault_of memory) ∙ is.fault_is)) is.first
 
 -- what says something has no fault
 pub no_fault_said : (holds : Contents) (i : Inputs) (m : WrittenModel) (c : Case) (f : InputFault)

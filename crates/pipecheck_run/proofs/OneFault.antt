@@ -14,7 +14,7 @@ use Rattle.litmus_reader.specs.declared.fault.CaseFault.TheVariants.{Lexical as 
 use Rattle.litmus_reader.proofs.OneFault.{one_fault}
 use Rattle.litmus_reader.proofs.Totality.{case_or_fault}
 use Rattle.pc_front.specs.ModelFront.{IsModelFault}
-use Rattle.pc_front.specs.Front.{SaysModel, fault_at, told_fault, IsTestFault, IsFirstFault as IsFaultOf, in_model, in_test}
+use Rattle.pc_front.specs.Front.{SaysModel, fault_at, case_fault_of, IsTestFault, IsFirstFault as IsFaultOf, in_model, in_test}
 use Rattle.pc_front.proofs.OneModel.{no_whole_fault, one_model_fault}
 use Rattle.pc_front.proofs.ModelOrFault.{model_or_fault}
 use Rattle.pipecheck_run.specs.Command.{Inputs}
@@ -25,9 +25,9 @@ use Rattle.pipecheck_run.proofs.OneCase.{one_held, never_both, untold}
 one_test_fault : (bytes : List ℕ) (f g : InputFault) → IsTestFault bytes f → IsTestFault bytes g → f ≡ g
 one_test_fault bytes f g x y =
     let same = one_fault bytes x.found y.found
-    (λ memory. untold f (sym (ap told_fault memory) ∙ x.told)) (λ memory. untold g (sym (ap told_fault memory) ∙ y.told))
+    (λ memory. untold f (sym (ap case_fault_of memory) ∙ x.fault_is)) (λ memory. untold g (sym (ap case_fault_of memory) ∙ y.fault_is))
     x.first y.first in
-    ap (λ o. unwrap_or o f) (sym x.told ∙ ap told_fault same ∙ y.told)
+    ap (λ o. unwrap_or o f) (sym x.fault_is ∙ ap case_fault_of same ∙ y.fault_is)
 
 -- the bytes of two files have one first fault
 one_fault_of : (mb tb : List ℕ) (f g : InputFault) → IsFaultOf mb tb f → IsFaultOf mb tb g → f ≡ g

@@ -41,23 +41,23 @@ certificate_text q kind body =
 module _ (m : WrittenModel) (c : Case) (front : Front) (is : IsFrontOf m c front) where
   names_same : names_of front ≡ names_by m c
   names_same =
-      ap (λ (d : Case). record { ops = d.ops; stages = map plain_stage front.stages }) is.case
-      ∙ ap (λ ss. record { ops = c.ops; stages = ss }) is.stages
+      ap (λ (d : Case). record { ops = d.ops; stages = map plain_stage front.stages }) is.parts.case
+      ∙ ap (λ ss. record { ops = c.ops; stages = ss }) is.parts.model.stages
 
   moved_text : (kind : Kind) (body : List Line')
       → text_by kind body (names_of front) front.case.expectation ≡ lines_text (names_by m c) (certificate_lines (question_by m c) kind body)
   moved_text kind body =
       ap (λ ns. text_by kind body ns front.case.expectation) names_same
-      ∙ ap (λ (d : Case). text_by kind body (names_by m c) d.expectation) is.case
+      ∙ ap (λ (d : Case). text_by kind body (names_by m c) d.expectation) is.parts.case
       ∙ certificate_text (question_by m c) kind body
 
   -- the front asks what the model and the case ask
   pub asks_alike : AskAlike (question_of front) (question_by m c)
   asks_alike = record {
     names = names_same;
-    expectation = ap (λ (d : Case). d.expectation) is.case;
+    expectation = ap (λ (d : Case). d.expectation) is.parts.case;
     tree = same_tree m c front is;
-    satisfied = λ w. sym (is.true_alike front.case w) ∙ ap (λ (d : Case). satisfies m d w) is.case;
+    satisfied = λ w. sym (is.parts.model.true_alike front.case w) ∙ ap (λ (d : Case). satisfies m d w) is.parts.case;
   }
 
 -- the verdict is one on the model and the case, and so is its text

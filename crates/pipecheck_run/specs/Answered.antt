@@ -55,6 +55,7 @@ IsPlaced bytes r = (r.line ≡ line_of bytes r.fault.place.offset) × (r.column 
 abbrev pub bytes_of : Which → List ℕ → List ℕ → List ℕ
 bytes_of Model model test = model
 bytes_of Test model test = test
+bytes_of Query model test = []  -- no query is asked
 
 -- the answer where the bytes of two files that were read say no front
 abbrev pub IsFrontEnd : List ℕ → List ℕ → Answer → Type 0

@@ -27,6 +27,7 @@ usage_text = codes "pipecheck: bad command line\n"
 abbrev pub file_word : Which → List ℕ
 file_word Model = codes "model"
 file_word Test = codes "test"
+file_word Query = codes "query"
 
 -- a fault of a file with these bytes: the file, the word, the line and the column
 abbrev pub refused_text : List ℕ → InputFault → List ℕ
@@ -37,6 +38,7 @@ refused_text bytes f =
 abbrev pub name_of : Which → Inputs → List ℕ
 name_of Model i = i.model
 name_of Test i = i.test
+name_of Query i = []  -- no query is asked
 
 -- the two files are refused by their first fault
 pub data IsRefusal (holds : Contents) (i : Inputs) : Status → List ℕ → Type 0 where

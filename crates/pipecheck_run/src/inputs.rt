@@ -46,6 +46,7 @@ fn bytes_of<'a>(file: Which, model: &'a [u8], test: &'a [u8]) -> &'a [u8]
     match file {
         Which::Model => model,
         Which::Test => test,
+        Which::Query => b"",
     }
 }
 

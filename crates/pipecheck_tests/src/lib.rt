@@ -35,6 +35,8 @@ mod shown_closed;
 #[cfg(test)]
 mod texts;
 #[cfg(test)]
+mod ties;
+#[cfg(test)]
 mod trees;
 #[cfg(test)]
 mod verdicts;

@@ -1,16 +1,16 @@
 ghost use Rattle.std.specs.Prelude.{◌≡◌, ◌<◌, ◌≤◌, [], length};
 ghost use Rattle.refutation.specs.Words.{words};
-ghost use Rattle.refutation.specs.StepWords.{ReadsNode, ReadsNodes};
+ghost use Rattle.refutation.specs.StepWords.{ReadsWord, ReadsNodes};
 
 use super::node_row::NodeRow;
 use super::words::first_word;
 use pc_ground::{LineFault, NodeText};
 
-/// ReadsNode a word as a node. Where it is one of these names, it goes into the row, and the answer is true; where it has
+/// Reads a word as a node. Where it is one of these names, it goes into the row, and the answer is true; where it has
 /// the form of a node and is none, the answer is false.
 fn read_node(names: &NodeText<'_>, word: &[u8], row: &mut NodeRow) -> Result<bool, LineFault>
     requires { length row.old.nodes < row.old.spare }
-    ensures read { ReadsNode names.now word.now row.old.nodes row.new.nodes result }
+    ensures read { ReadsWord names.now word.now row.old.nodes row.new.nodes result }
     ensures spare { row.new.spare ≡ row.old.spare }
 {
     match names.read(word) {
@@ -23,7 +23,7 @@ fn read_node(names: &NodeText<'_>, word: &[u8], row: &mut NodeRow) -> Result<boo
     }
 }
 
-/// ReadsNode each word of the text as a node, and puts the nodes into an empty row.
+/// Reads each word of the text as a node, and puts the nodes into an empty row.
 ///
 /// `Malformed` where a word has no form of a node; `Foreign` where all have, and one is no node of these names.
 pub(crate) fn read_nodes(

@@ -1,8 +1,7 @@
-ghost use Rattle.std.specs.Prelude.{◌≡◌, ◌≤◌, ◌∷◌, [], Ok, OnErr, codes, length};
-ghost use Rattle.pc_common.specs.Lines.{Names};
-ghost use Rattle.pc_ground.specs.NodeForm.{AreReadable};
+ghost use Rattle.std.specs.Prelude.{◌≡◌, ◌≢◌, ◌≤◌, ◌∷◌, [], ◌++◌, ℕ, List, false, Ok, OnErr, codes, length};
+ghost use Rattle.pc_common.specs.Lines.{Names, sign_text};
 ghost use Rattle.pc_common.specs.World.{Node};
-ghost use Rattle.pc_ground.specs.Refutes.{Step as PlainStep};
+ghost use Rattle.pc_common.specs.Steps.{Step as PlainStep};
 ghost use Rattle.refutation.specs.Reading.{head_of, nodes_of, IsLineOf, ReadsStep};
 ghost use Rattle.refutation.specs.StepWords.{ReadsWords};
 ghost use Rattle.refutation.specs.Words.{spaces, words};
@@ -13,7 +12,7 @@ use super::step_head::StepHead;
 use super::words::first_word;
 use pc_ground::{LineFault, NodeText, decimal_value};
 
-/// ReadsNode a line of one word.
+/// Reads a line of one word.
 fn read_alone(word: &[u8]) -> Result<StepHead, LineFault>
     ensures { (names : Names) → ReadsWords names (word.now ∷ []) [] result }
 {
@@ -24,17 +23,29 @@ fn read_alone(word: &[u8]) -> Result<StepHead, LineFault>
     }
 }
 
-/// ReadsNode what stands behind the word `split`.
-fn read_split(digits: &[u8]) -> Result<StepHead, LineFault>
-    ensures { (names : Names) → ReadsWords names (codes "split" ∷ words digits.now) [] result }
+/// Whether the sign `~` stands in front, and what stands behind it.
+fn read_sign(text: &[u8]) -> (bool, &[u8])
+    ensures is { text.now ≡ sign_text result.0 ++ result.1.now }
+    ensures plain { result.0 ≡ false → (rest : List ℕ) → text.now ≢ codes "~" ++ rest }
 {
+    match text.strip_prefix(b"~".as_slice()) {
+        Some(digits) => (true, digits),
+        None => (false, text),
+    }
+}
+
+/// Reads what stands behind the word `split`.
+fn read_split(text: &[u8]) -> Result<StepHead, LineFault>
+    ensures { (names : Names) → ReadsWords names (codes "split" ∷ words text.now) [] result }
+{
+    let (negated, digits) = read_sign(text);
     match decimal_value(digits) {
-        Some(position) => Ok(StepHead::Split(position)),
+        Some(position) => Ok(StepHead::Split { negated, position }),
         None => Err(LineFault::Malformed),
     }
 }
 
-/// ReadsNode what stands behind the word `cycle`.
+/// Reads what stands behind the word `cycle`.
 fn read_cycle(names: &NodeText<'_>, rest: &[u8], row: &mut NodeRow) -> Result<StepHead, LineFault>
     requires empty { row.old.nodes ≡ [] }
     requires room { length (words rest.now) ≤ row.old.spare }
@@ -45,7 +56,7 @@ fn read_cycle(names: &NodeText<'_>, rest: &[u8], row: &mut NodeRow) -> Result<St
     Ok(StepHead::Cycle)
 }
 
-/// ReadsNode what stands behind the word `path`: two nodes at least.
+/// Reads what stands behind the word `path`: two nodes at least.
 fn read_path(names: &NodeText<'_>, rest: &[u8], row: &mut NodeRow) -> Result<StepHead, LineFault>
     requires empty { row.old.nodes ≡ [] }
     requires room { length (words rest.now) ≤ row.old.spare }
@@ -59,7 +70,7 @@ fn read_path(names: &NodeText<'_>, rest: &[u8], row: &mut NodeRow) -> Result<Ste
     Ok(StepHead::Path)
 }
 
-/// ReadsNode what stands behind the word `absent`: one node.
+/// Reads what stands behind the word `absent`: one node.
 fn read_absent(names: &NodeText<'_>, rest: &[u8], row: &mut NodeRow) -> Result<StepHead, LineFault>
     requires empty { row.old.nodes ≡ [] }
     requires room { length (words rest.now) ≤ row.old.spare }
@@ -73,7 +84,7 @@ fn read_absent(names: &NodeText<'_>, rest: &[u8], row: &mut NodeRow) -> Result<S
     Ok(StepHead::Absent)
 }
 
-/// ReadsNode a line of two words at least, with an empty row.
+/// Reads a line of two words at least, with an empty row.
 fn read_rest(
     names: &NodeText<'_>,
     word: &[u8],
@@ -98,7 +109,7 @@ fn read_rest(
     }
 }
 
-/// ReadsNode a line word by word, with an empty row.
+/// Reads a line word by word, with an empty row.
 fn read_words(names: &NodeText<'_>, line: &[u8], row: &mut NodeRow) -> Result<StepHead, LineFault>
     requires empty { row.old.nodes ≡ [] }
     requires room { spaces line.now ≤ row.old.spare }
@@ -112,7 +123,7 @@ fn read_words(names: &NodeText<'_>, line: &[u8], row: &mut NodeRow) -> Result<St
     }
 }
 
-/// ReadsNode a step line, without its LF, and leaves its nodes in the row, which it empties first. Takes no memory.
+/// Reads a step line, without its LF, and leaves its nodes in the row, which it empties first. Takes no memory.
 ///
 /// `Malformed` where the line has no form of a step line, whatever its nodes name; `Foreign` where it has, and a node
 /// of it is not of these names. After either the row is empty.
@@ -124,7 +135,8 @@ pub fn read_line(
     requires room { spaces line.now ≤ row.old.spare }
     ensures read { ReadsStep names.now line.now row.new.nodes result }
     // what was written is read again as it was
-    ensures again { (s : PlainStep Node) → IsLineOf names.now line.now s → (result ≡ Ok (head_of s)) × (row.new.nodes ≡ nodes_of s) }
+    ensures again { (s : PlainStep Node) → IsLineOf names.now line.now s
+        → (result ≡ Ok (head_of s)) × (row.new.nodes ≡ nodes_of s) }
     ensures spare { row.new.spare ≡ row.old.spare }
     // no step has this line
     ensures none { OnErr result ((s : PlainStep Node) → IsLineOf names.now line.now s → ⊥) }

@@ -20,7 +20,8 @@ pub(crate) fn close_static(
     args: &Args,
 ) -> Result<ClosedFormula, NameFault>
     ensures ok { let pred = unwrap_or (pred_with_name word.now.name) True in
-        IfOk result (λ closed. (static_fault scope.now word.now args.now ≡ None) × (plain_closed closed ≡ closing_of_static scope.now pred args.now)) }
+        IfOk result (λ closed. (static_fault scope.now word.now args.now ≡ None)
+        × (plain_closed closed ≡ closing_of_static scope.now pred args.now)) }
     ensures err { IfErr result (Answers (static_fault scope.now word.now args.now)) }
 {
     let Some(pred) = Pred::of_name(word.name.as_slice()) else {

@@ -13,7 +13,6 @@
 
 mod advance;
 mod answer;
-mod asserted;
 mod candidates;
 mod choose;
 mod descend;
@@ -21,13 +20,17 @@ mod enter;
 mod find;
 mod flags;
 mod later;
+mod laws;
 mod leaf;
 mod numbers;
+mod place;
 mod rows;
 mod search;
+mod side;
 mod solving;
 mod truths;
 
 pub use answer::Answer;
+pub use laws::consistent_literals_have_a_world;
 pub use search::{Search, Turn};
 pub use solving::solve;

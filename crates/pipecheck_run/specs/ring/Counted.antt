@@ -8,17 +8,14 @@ use Rattle.pc_syntax.specs.Written.{WrittenModel}
 use Rattle.pc_syntax.specs.Observable.{Observable}
 use Rattle.pc_ground.specs.GroundTree.{ground_tree}
 use Rattle.pc_ground.specs.Numbers.{numbered}
-use Rattle.pc_ground.specs.Refutes.{Step, split, cycle, path, absent, false_step}
+use Rattle.pc_common.specs.Steps.{Step, split, close}
 use Rattle.cert_check.specs.Certificates.{IsGraphCertificate, IsTreeCertificate}
 use Rattle.pipecheck_run.specs.Certificates.{question_by}
 
 -- the step's line is a `split` line
 abbrev pub splits : Step Node → Bool
-splits (split p) = true
-splits (cycle nodes) = false
-splits (path nodes) = false
-splits (absent a) = false
-splits false_step = false
+splits (split negated p) = true
+splits (close l) = false
 
 -- how many `split` lines the steps have
 abbrev pub splits_of : List (Step Node) → ℕ

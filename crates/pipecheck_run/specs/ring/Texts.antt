@@ -1,11 +1,11 @@
 -- The two texts that `gen` makes, what they say, and the six lines of its answer.
-use Rattle.std.specs.Prelude.{ℕ, List, ◌++◌, codes}
+use Rattle.std.specs.Prelude.{ℕ, List, [], ◌++◌, codes}
 use Rattle.std.specs.Fmt.{decimal}
 use Rattle.pc_common.specs.Case.{Case}
 use Rattle.pc_common.specs.Lines.{Verdict, verdict_text}
 use Rattle.pc_common.specs.declared.fault.InputFault.{InputFault}
 use Rattle.pc_common.specs.declared.fault.Which.{Which}
-use Rattle.pc_common.specs.declared.fault.Which.TheVariants.{Model, Test}
+use Rattle.pc_common.specs.declared.fault.Which.TheVariants.{Model, Test, Query}
 use Rattle.pc_syntax.specs.Written.{WrittenModel}
 use Rattle.litmus_reader.specs.Answer.{CaseOf}
 use Rattle.pc_front.specs.Front.{SaysModel, IsFirstFault as IsFaultOf}
@@ -15,6 +15,7 @@ use Rattle.gen_texts.specs.Ring.{ring_model, ring_test}
 abbrev pub ring_bytes : ℕ → Which → List ℕ
 ring_bytes n Model = ring_model
 ring_bytes n Test = ring_test n
+ring_bytes n Query = []  -- no query is asked
 
 -- the model and the case that the two texts say
 pub record SaysRing (n : ℕ) (m : WrittenModel) (c : Case) : Type 0 where

@@ -1,0 +1,105 @@
+#!/usr/bin/env python3
+"""Lists what in a model, and in tests that are to be run on it, may change the question without a word.
+
+    lint.py MODEL [TEST..]
+
+Each slip is a line `FILE:LINE:COLUMN: KIND: ..` on standard output, and so is a refused file, with the fault's word. The
+exit status is 0 where there is no slip, 1 where there are some, 3 where a file is refused, 4 where one cannot be read, and
+125 where this program fails.
+"""
+import os
+import re
+import signal
+import sys
+import traceback
+
+from second.linting import TestFile, read_test, slips
+from second.models import Model
+from second.scopes import read_model
+from second.tokens import Fault
+
+LIMIT = 1_048_576
+PAGE = os.path.join(os.path.dirname(os.path.dirname(os.path.realpath(__file__))), "docs", "faults.md")
+
+
+class Unreadable(Exception):
+    """A file cannot be read."""
+
+
+def contents(path: str) -> bytes:
+    """The bytes of a file, with one more than the limit where there are more."""
+    try:
+        with open(path, "rb") as file:
+            return file.read(LIMIT + 1)
+    except OSError as error:
+        raise Unreadable from error
+
+
+def sentence(kind: str, word: str) -> str:
+    """What docs/faults.md says of a fault's word; nothing where the page is missing."""
+    try:
+        with open(PAGE, encoding="utf-8") as file:
+            text = file.read()
+    except OSError:
+        return ""
+    table = text.partition(f"| word of a {kind} |")[2].partition("\n\n")[0]
+    found = re.search(rf"^\| [^|]*`{re.escape(word)}`[^|]* \| (.*) \|$", table, re.MULTILINE)
+    return found.group(1) if found else ""
+
+
+def line_of(path: str, text: bytes, at: int, rest: str) -> str:
+    """A line about a place, which is a number of bytes."""
+    before = text[:at].split(b"\n")
+    return f"{path}:{len(before)}:{len(before[-1]) + 1}: {rest}"
+
+
+class Files:
+    """The files that are read, by their paths; and whether one was refused."""
+
+    def __init__(self) -> None:
+        self.texts: dict[str, bytes] = {}
+        self.is_refused = False
+
+    def read(self, kind: str, path: str) -> Model | TestFile | None:
+        """A model or a test; None where it is refused, which is told."""
+        text = self.texts[path] = contents(path)
+        try:
+            if len(text) > LIMIT:
+                raise Fault("too-large", 0)
+            return read_model(text) if kind == "model" else read_test(path, text)
+        except Fault as fault:
+            self.is_refused = True
+            print(line_of(path, text, fault.place, f"{fault.word}: {sentence(kind, fault.word)}"))
+            return None
+
+
+def main(model_path: str, *test_paths: str) -> int:
+    """Writes the lines and answers the exit status."""
+    files = Files()
+    try:
+        model = files.read("model", model_path)
+        tests = [test for test in (files.read("test", path) for path in test_paths) if isinstance(test, TestFile)]
+    except Unreadable:
+        return 4
+    count = 0
+    if isinstance(model, Model):
+        for slip in slips(model_path, files.texts[model_path], model, tests):
+            print(line_of(slip.path, files.texts[slip.path], slip.at, f"{slip.kind}: {slip.sentence}"))
+            count += 1
+    if files.is_refused:
+        return 3
+    return 1 if count else 0
+
+
+if __name__ == "__main__":
+    sys.setrecursionlimit(20_000)
+    # a reader that goes away ends this program quietly, as other filters do
+    signal.signal(signal.SIGPIPE, signal.SIG_DFL)
+    try:
+        STATUS = main(*sys.argv[1:])
+        sys.stdout.flush()
+    except Exception:  # pylint: disable=broad-exception-caught
+        # Python's own status for this is 1, which says that there are slips
+        traceback.print_exc()
+        STATUS = 125
+    sys.exit(STATUS)

@@ -1,0 +1,22 @@
+"""A second reading of µspec models and litmus tests, which shares no code with the program.
+
+The program is proved against definitions; this package was written from a description of the language. Where the two
+differ, one of them reads it wrongly. It is made to be read and not to be fast. Each step is one module, and data flows
+one way:
+
+    bytes    tokens.py      cut into tokens
+    model    models.py      the written axioms, by the grammar
+             scopes.py      the faults of stages, macros, sizes and names
+    test     cases.py       what a litmus test says
+    ground   grounding.py   the axioms over one test as a tree of literals over nodes
+    verdict  searching.py   some world makes the tree true, or none does
+    text     positions.py   the tree with numbered positions
+             answering.py   the program's own choices in the search, which give the certificate
+    judge    evaluating.py  the written axioms, evaluated in a given world, without the tree
+             judging.py     a certificate, line by line
+    people   origins.py     where in the model each position of the tree comes from
+             explaining.py  a certificate in the words of the model
+             linting.py     what in a model and in tests may change the question without a word
+
+`dimacs.py` and `smtlib.py` put the same question to other solvers.
+"""

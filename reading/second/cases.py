@@ -1,0 +1,231 @@
+"""Tokens to what a litmus test says, by docs/tests.md."""
+from dataclasses import dataclass, field
+
+from .tokens import Fault, Reader, Token, tokens
+
+GREATEST_CORE = 63
+MOST_OPS = 64
+
+Page = tuple[int, int]
+
+
+@dataclass(frozen=True)
+class Op:
+    """A micro-op. A fence has no addresses and no value."""
+
+    g: int
+    n: int
+    core: int
+    thread: int
+    access: str
+    types: frozenset[str]
+    va: Page | None = None
+    pa: Page | None = None
+    value: int | None = None
+
+
+@dataclass
+class Case:
+    """What a test says. Micro-ops stand in test order and are named by their places in it."""
+
+    title: str
+    ops: list[Op] = field(default_factory=list)
+    dependencies: set[tuple[str, int, int]] = field(default_factory=set)
+    initial: dict[Page, int] = field(default_factory=dict)
+    final: dict[Page, int] = field(default_factory=dict)
+    expectation: str = "unstated"
+
+    @property
+    def cores(self) -> range:
+        """The cores from 0 to the greatest one in use."""
+        return range(1 + max((op.core for op in self.ops), default=-1))
+
+    def find(self, g: int, n: int) -> int | None:
+        """The place of a micro-op, where the test has it so far."""
+        for k, op in enumerate(self.ops):
+            if (op.g, op.n) == (g, n):
+                return k
+        return None
+
+
+def read_case(data: bytes) -> Case:
+    """The case that the bytes say, or their first fault."""
+    return read_items(data)[0]
+
+
+def read_items(data: bytes) -> "tuple[Case, list[Item]]":
+    """The case, with its items as they are written. The whole grammar is judged before any item."""
+    reader = CaseReader(tokens(data))
+    title, items = reader.items()
+    case = Case(title)
+    for item in items:
+        item.add_to(case)
+    return case, items
+
+
+@dataclass(frozen=True)
+class OpItem:
+    """A `Microop`, with the places where its faults stand, and of what a reader may want to see."""
+
+    op: Op
+    at: int
+    g_at: int
+    core_at: int
+    thread_at: int
+    # each type name with its place
+    types_at: tuple[tuple[str, int], ...] = ()
+    pa_at: int = 0
+    value_at: int = 0
+
+    def add_to(self, case: Case) -> None:
+        """Judges the micro-op by the earlier ones and puts it last."""
+        if self.op.core > GREATEST_CORE:
+            raise Fault("core-number", self.core_at)
+        if len(case.ops) == MOST_OPS:
+            raise Fault("too-many-ops", self.at)
+        for earlier in case.ops:
+            if earlier.g == self.op.g and earlier.core != self.op.core:
+                raise Fault("split-instruction", self.core_at)
+            if earlier.g == self.op.g and earlier.thread != self.op.thread:
+                raise Fault("split-instruction", self.thread_at)
+        if case.find(self.op.g, self.op.n) is not None:
+            raise Fault("duplicate-op", self.g_at)
+        case.ops.append(self.op)
+
+
+@dataclass(frozen=True)
+class DependencyItem:
+    """A `Relationship`; each end is g, n and the place of g."""
+
+    kind: str
+    ends: tuple[tuple[int, int, int], tuple[int, int, int]]
+    at: int = 0
+
+    def add_to(self, case: Case) -> None:
+        """Judges the ends, the first one first."""
+        found = []
+        for g, n, at in self.ends:
+            op = case.find(g, n)
+            if op is None:
+                raise Fault("op-unknown", at)
+            found.append(op)
+        case.dependencies.add((self.kind, found[0], found[1]))
+
+
+@dataclass(frozen=True)
+class ValueItem:
+    """An `Init` or a `Final`."""
+
+    word: str
+    at: int
+    pa: Page
+    value: int
+
+    def add_to(self, case: Case) -> None:
+        """A second value at one address is a fault."""
+        values, fault = {"Init": (case.initial, "again-initial"), "Final": (case.final, "again-final")}[self.word]
+        if self.pa in values:
+            raise Fault(fault, self.at)
+        values[self.pa] = self.value
+
+
+@dataclass(frozen=True)
+class ExpectationItem:
+    """`Permitted` or `Forbidden`."""
+
+    word: str
+    at: int
+
+    def add_to(self, case: Case) -> None:
+        """A second one is a fault."""
+        if case.expectation != "unstated":
+            raise Fault("again-expectation", self.at)
+        case.expectation = self.word.lower()
+
+
+Item = OpItem | DependencyItem | ValueItem | ExpectationItem
+
+
+class CaseReader(Reader):
+    """Reads tests. None of their words is reserved: its place says what it is."""
+
+    def __init__(self, all_tokens: list[Token]) -> None:
+        super().__init__(all_tokens)
+
+    def items(self) -> tuple[str, list[Item]]:
+        """The title and the items of the whole file."""
+        self.expect("Litmus")
+        title = self.expect_kind("text").content
+        self.expect(".")
+        found = []
+        while self.next.kind != "end":
+            found.append(self.item())
+            self.expect(".")
+        return title, found
+
+    def item(self) -> Item:
+        """One item without its dot."""
+        first = self.expect("Microop", "Relationship", "Init", "Final", "Permitted", "Forbidden")
+        if first.piece == "Microop":
+            return self.microop(first)
+        if first.piece == "Relationship":
+            kind = self.expect_kind("name")
+            start = self.op_name()
+            self.expect("->")
+            return DependencyItem(kind.piece, (start, self.op_name()), kind.at)
+        if first.piece in ("Init", "Final"):
+            page = self.page("PA")
+            return ValueItem(first.piece, first.at, page, self.number())
+        return ExpectationItem(first.piece, first.at)
+
+    def op_name(self) -> tuple[int, int, int]:
+        """g, n and the place of g."""
+        at = self.next.at
+        g = self.number()
+        return g, self.number(), at
+
+    def page(self, word: str) -> Page:
+        """An address behind its word, in brackets."""
+        self.expect("(")
+        self.expect(word)
+        tag = self.number()
+        index = self.number()
+        self.expect(")")
+        return tag, index
+
+    def types(self) -> tuple[tuple[str, int], ...]:
+        """All names that follow, with their places."""
+        found = []
+        while self.next.kind == "name":
+            token = self.take()
+            found.append((token.piece, token.at))
+        return tuple(found)
+
+    def microop(self, first: Token) -> OpItem:
+        """A micro-op, behind its first word."""
+        g_at = self.next.at
+        g = self.number()
+        core_at = self.next.at
+        core = self.number()
+        thread_at = self.next.at
+        thread = self.number()
+        n = self.number()
+        self.expect("(")
+        access = self.expect("Read", "Write", "Fence").piece
+        types_at = self.types()
+        types = frozenset(name for name, _ in types_at)
+        pa_at = value_at = 0
+        if access == "Fence":
+            op = Op(g, n, core, thread, access, types)
+        else:
+            va = self.page("VA")
+            pa_at = self.next.at
+            pa = self.page("PA")
+            self.expect("(")
+            self.expect("Data")
+            value_at = self.next.at
+            value = self.number()
+            self.expect(")")
+            op = Op(g, n, core, thread, access, types, va, pa, value)
+        self.expect(")")
+        return OpItem(op, first.at, g_at, core_at, thread_at, types_at, pa_at, value_at)

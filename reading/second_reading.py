@@ -1,0 +1,153 @@
+#!/usr/bin/env python3
+"""A second judge of models, tests and certificates, apart from the proved program and sharing no code with it.
+
+    second_reading.py check MODEL TEST         the verdict with its certificate
+    second_reading.py verify MODEL TEST CERT   whether CERT is a certificate of this model and test
+    second_reading.py dimacs MODEL TEST        the question for a SAT solver
+    second_reading.py smt MODEL TEST           the question for an SMT solver
+
+The modules are in second/. All text goes to standard output, in the lines and with the exit statuses that the program
+has: 0 observable, 1 unobservable, 2 words that are no command, 3 a file with a fault, 4 a file that cannot be read, 6 a
+refused certificate. The verdict of `check` is found in two ways, by a search of this reading's own and by one that makes
+the program's choices and gives the text; they have to agree, and the certificate is judged before it is written. `verify`
+judges certificates of version 1 and of version 2.
+"""
+import signal
+import sys
+from typing import Callable, TextIO, TypeVar
+
+from second.answering import Clash, Graph, Step, answer
+from second.cases import Case, read_case
+from second.dimacs import write_dimacs
+from second.evaluating import false_axioms
+from second.grounding import ground
+from second.judging import Refused as CertificateRefused
+from second.judging import judge
+from second.models import Model
+from second.positions import NodeNames, Positions
+from second.scopes import read_model
+from second.searching import search
+from second.smtlib import write_smtlib
+from second.tokens import Fault
+
+Read = TypeVar("Read", Model, Case)
+LIMIT = 1_048_576
+WORDS = {"check": 3, "verify": 4, "dimacs": 3, "smt": 3}
+
+
+class Refused(Exception):
+    """A file has a fault: the line that says so."""
+
+
+def file_bytes(kind: str, path: str) -> bytes:
+    """The bytes of a file within its limit."""
+    with open(path, "rb") as file:
+        data = file.read(LIMIT + 1)
+    if len(data) > LIMIT:
+        raise Refused(f"refused {kind} too-large at 1:1")
+    return data
+
+
+def judged(kind: str, read: Callable[[bytes], Read], data: bytes) -> Read:
+    """What a reader makes of the bytes; a fault is told by line and column."""
+    try:
+        return read(data)
+    except Fault as fault:
+        lines = data[: fault.place].split(b"\n")
+        raise Refused(f"refused {kind} {fault.word} at {len(lines)}:{len(lines[-1]) + 1}") from fault
+
+
+def read_both(model_path: str, test_path: str) -> tuple[Model, Case]:
+    """The model and the test, both of which are read whole before one is judged."""
+    model_data = file_bytes("model", model_path)
+    test_data = file_bytes("test", test_path)
+    return judged("model", read_model, model_data), judged("test", read_case, test_data)
+
+
+def second_line(is_observable: bool, case: Case) -> str:
+    """How a verdict compares with what the test states."""
+    if case.expectation == "unstated":
+        return "test unstated"
+    if case.expectation == "permitted":
+        return "test permitted: ok" if is_observable else "test permitted: stricter"
+    return "test forbidden: BUG" if is_observable else "test forbidden: ok"
+
+
+def second_lines(case: Case) -> dict[bool, str]:
+    """The second line of each verdict."""
+    return {is_observable: second_line(is_observable, case) for is_observable in (True, False)}
+
+
+def certificate(model: Model, case: Case) -> str:
+    """The text of the answer."""
+    positions = Positions(model, case)
+    found = answer(positions)
+    names = NodeNames(model, case)
+    words = [names.write(node) for node in positions.nodes]
+    if isinstance(found, Graph):
+        body = [f"node {words[k]}" for k in found.nodes]
+        body += [f"edge {words[start]} {words[end]}" for start, end in found.edges]
+    else:
+        body = [step_line(step, words) for step in found] or ["false"]
+    is_observable = isinstance(found, Graph)
+    first = "observable" if is_observable else "unobservable"
+    return "\n".join([first, second_line(is_observable, case), *body, "end", ""])
+
+
+def step_line(step: Step, words: list[str]) -> str:
+    """The line of a split or of a clash."""
+    if isinstance(step, Clash):
+        return " ".join([step.word, *(words[k] for k in step.nodes)])
+    return f"split {step}"
+
+
+def check(model: Model, case: Case) -> tuple[str, int]:
+    """The certificate and the exit status."""
+    witness = search(ground(model, case))
+    if witness is not None and false_axioms(model, case, witness.nodes, witness.edges):
+        raise AssertionError("the witness makes an axiom false")
+    is_observable = witness is not None
+    text = certificate(model, case)
+    if judge(model, case, second_lines(case), text.encode("ascii")) is not is_observable:
+        raise AssertionError("the two searches differ")
+    return text, 0 if is_observable else 1
+
+
+def verify(model: Model, case: Case, data: bytes) -> tuple[str, int]:
+    """What is to be said of a certificate, and the exit status."""
+    try:
+        is_observable = judge(model, case, second_lines(case), data)
+    except CertificateRefused as refused:
+        return f"{refused}\n", 6
+    return ("verified observable\n", 0) if is_observable else ("verified unobservable\n", 1)
+
+
+def run(words: list[str], out: TextIO) -> int:
+    """Does what the words ask and answers the exit status."""
+    if not words or len(words) != WORDS.get(words[0]):
+        out.write("pipecheck: bad command line\n")
+        return 2
+    try:
+        model, case = read_both(words[1], words[2])
+        if words[0] == "check":
+            text, status = check(model, case)
+        elif words[0] == "verify":
+            with open(words[3], "rb") as file:
+                text, status = verify(model, case, file.read())
+        else:
+            write = write_dimacs if words[0] == "dimacs" else write_smtlib
+            write(ground(model, case), out)
+            return 0
+    except Refused as refused:
+        text, status = f"{refused}\n", 3
+    except OSError:
+        return 4
+    out.write(text)
+    return status
+
+
+if __name__ == "__main__":
+    sys.setrecursionlimit(20_000)
+    # a reader that goes away ends this program quietly, as other filters do
+    signal.signal(signal.SIGPIPE, signal.SIG_DFL)
+    sys.exit(run(sys.argv[1:], sys.stdout))
