@@ -1,5 +1,5 @@
 -- Positions of a tree on a branch, each under the sign `~` or not.
-use Rattle.std.specs.Prelude.{ℕ, ◌≡◌, ◌+◌, ◌<◌, ◌⊎◌, Bool, false, not, List, [], ◌∷◌, ◌++◌, Option, Some, None, Contains}
+use Rattle.std.specs.Prelude.{ℕ, ◌≡◌, ◌+◌, ◌<◌, ◌⊎◌, Bool, false, not, List, [], ◌∷◌, ◌++◌, Option, Some, None, Contains, All}
 use Rattle.pc_ground.specs.Tree.{Tree, either, turned, size_of}
 use Rattle.pc_ground.specs.declared.version.Version.{Version}
 use Rattle.pc_ground.specs.declared.version.Version.TheVariants.{One, Two}
@@ -74,6 +74,10 @@ pub record IsCandidate {N : Type 0} (t : Tree N) (ps : Branch) (q : Signed) : Ty
   pub no_left : Contains ps (signed q.negated (q.position + 1)) → ⊥
   pub no_right : Contains ps (signed q.negated (q.position + 1 + size_of left)) → ⊥
   pub is_false : IsMetUnder q.negated (literals_of t ps) (turned q.negated (either left right)) → ⊥
+
+-- each is a candidate of the branch
+abbrev pub AreCandidates : {N : Type 0} → Tree N → Branch → List Place → Type 0
+AreCandidates t ps found = All (λ q. IsCandidate t ps (place_signed q)) found
 
 -- an asserted Or there is true in the world that the branch's literals generate, or has a side on the branch
 abbrev pub IsChosen : {N : Type 0} → Tree N → Branch → Signed → Type 0

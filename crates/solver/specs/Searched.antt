@@ -15,7 +15,7 @@ use Rattle.solver.specs.Spelled.{spelled, IsSpelled}
 use Rattle.solver.specs.Renamed.{tree_over}
 use Rattle.solver.specs.Below.{IsRowBelow}
 use Rattle.solver.specs.Met.{IsMetUnder}
-use Rattle.solver.specs.Places.{place_signed, IsCandidate}
+use Rattle.solver.specs.Places.{AreCandidates}
 use Rattle.solver.specs.Opens.{positions, opens, IsState}
 use Rattle.solver.specs.declared.place.Place.{Place}
 use Rattle.solver.specs.declared.later.Later.{Later}
@@ -65,7 +65,7 @@ pub record IsSearch (v : Version) (keys : List NodeKey) (rows : List (Row ℕ)) 
   pub no_false : (p : ℕ) → subtree_at (spelled rows) p ≡ Some never → ⊥
   pub state : IsState v (map key_node keys) (spelled rows) graph asserted later steps []
   pub some : 0 < length candidates
-  pub all : All (λ q. IsCandidate (spelled rows) (positions asserted) (place_signed q)) candidates
+  pub all : AreCandidates (spelled rows) (positions asserted) candidates
   pub small : All (λ q. q.position < 2 ^ 63) candidates
 
 abbrev pub branches_of : List (Row ℕ) → List Place → List Later → List Branch

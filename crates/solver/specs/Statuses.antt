@@ -9,7 +9,7 @@ use Rattle.pc_ground.specs.Refutes.{subtree_at, IsPartial}
 use Rattle.order_graph.specs.State.{Graph}
 use Rattle.solver.specs.Spelled.{spelled}
 use Rattle.solver.specs.Renamed.{tree_over}
-use Rattle.solver.specs.Places.{place_signed, IsCandidate}
+use Rattle.solver.specs.Places.{AreCandidates}
 use Rattle.solver.specs.Opens.{positions, IsState}
 use Rattle.solver.specs.Searched.{branches_of}
 use Rattle.solver.specs.Answers.{IsWitness}
@@ -24,7 +24,7 @@ pub record IsUndecided (v : Version) (nodes : List Node) (rows : List (Row ℕ))
   pub no_false : (p : ℕ) → subtree_at (spelled rows) p ≡ Some never → ⊥
   pub state : IsState v nodes (spelled rows) graph asserted later steps []
   pub some : 0 < length candidates
-  pub all : All (λ q. IsCandidate (spelled rows) (positions asserted) (place_signed q)) candidates
+  pub all : AreCandidates (spelled rows) (positions asserted) candidates
   pub small : All (λ q. q.position < 2 ^ 63) candidates
 
 abbrev pub IsStatus : Version → List Node → List (Row ℕ) → Graph → List Place → List Later → List (Step Node) → SearchStatus → Type 0

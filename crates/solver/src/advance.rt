@@ -6,7 +6,7 @@ ghost use Rattle.pc_ground.specs.Numbers.{AreDistinct};
 ghost use Rattle.pc_ground.specs.Refutes.{subtree_at};
 ghost use Rattle.solver.specs.Spelled.{spelled, IsSpelled};
 ghost use Rattle.solver.specs.Below.{IsRowBelow};
-ghost use Rattle.solver.specs.Places.{place_signed, IsCandidate};
+ghost use Rattle.solver.specs.Places.{AreCandidates};
 ghost use Rattle.solver.specs.Opens.{positions, opens, IsState};
 ghost use Rattle.solver.specs.Weights.{weight};
 ghost use Rattle.solver.specs.Descents.{HasMore};
@@ -43,12 +43,15 @@ pub(crate) fn advance<L: Ledger>(
     requires below { All (IsRowBelow (length keys.now)) rows.now }
     requires no_false { (p : ℕ) → subtree_at (spelled rows.now) p ≡ Some never → ⊥ }
     requires some { 0 < length candidates.now }
-    requires candidates { All (λ q. IsCandidate (spelled rows.now) (positions asserted.old.items) (place_signed q)) candidates.now }
+    requires candidates { AreCandidates (spelled rows.now) (positions asserted.old.items) candidates.now }
     requires small { All (λ q. q.position < 2 ^ 63) candidates.now }
-    requires state { IsState version (map key_node keys.now) (spelled rows.now) graph.old asserted.old.items later.old.items refutation.old [] }
-    ensures found { IfOk result (IsStatus version (map key_node keys.now) rows.now graph.new asserted.new.items later.new.items refutation.new) }
+    requires state { IsState version (map key_node keys.now) (spelled rows.now) graph.old asserted.old.items
+        later.old.items refutation.old [] }
+    ensures found { IfOk result (IsStatus version (map key_node keys.now) rows.now graph.new asserted.new.items
+        later.new.items refutation.new) }
     ensures lighter { IfOk result (λ found. status_weight rows.now asserted.new.items later.new.items found
-        < 1 + weight (spelled rows.now) (opens (spelled rows.now) (positions asserted.old.items) asserted.old.items later.old.items)) }
+        < 1 + weight (spelled rows.now)
+            (opens (spelled rows.now) (positions asserted.old.items) asserted.old.items later.old.items)) }
     ensures longer { IfOk result (λ _. HasMore refutation.old refutation.new) }
 {
     let _steps_so_far = refutation.len();

@@ -36,7 +36,8 @@ fn note_present(
     requires all { graph.now.nodes ≡ length keys.now }
     requires few { length keys.now ≤ MAX_NODES }
     requires inside { k < length keys.now }
-    ensures { OnOk result (IsPresentNoted (map key_node keys.now) graph.now.literals k (map key_node nodes.old) (map key_node nodes.new)) }
+    ensures { OnOk result (IsPresentNoted (map key_node keys.now) graph.now.literals k
+        (map key_node nodes.old) (map key_node nodes.new)) }
 {
     if graph.present(k as u32) {
         nodes.push(key_at(keys, k as u32))?;
@@ -48,7 +49,8 @@ fn note_present(
 fn present_nodes(alloc: Global, keys: &[NodeKey], graph: &OrderGraph) -> Result<Nodes, Memory>
     requires all { graph.now.nodes ≡ length keys.now }
     requires few { length keys.now ≤ MAX_NODES }
-    ensures { IfOk result (λ nodes. ArePresent (map key_node keys.now) graph.now.literals (length keys.now) (map key_node nodes)) }
+    ensures { IfOk result (λ nodes.
+        ArePresent (map key_node keys.now) graph.now.literals (length keys.now) (map key_node nodes)) }
 {
     let mut nodes = Nodes::new(alloc);
     for k in 0..keys.len() {
@@ -59,7 +61,8 @@ fn present_nodes(alloc: Global, keys: &[NodeKey], graph: &OrderGraph) -> Result<
 
 /// Puts the pair of an asserted edge into the set.
 fn note_edge(literal: Literal<u32>, pairs: &mut IndexSet<(u32, u32)>) -> Result<(), Memory>
-    ensures { OnOk result ((j k : ℕ) → Contains pairs.new.keys (j, k) ↔ (Contains pairs.old.keys (j, k) ⊎ (literal ≡ Literal.Edge j k))) }
+    ensures { OnOk result ((j k : ℕ)
+        → Contains pairs.new.keys (j, k) ↔ (Contains pairs.old.keys (j, k) ⊎ (literal ≡ Literal.Edge j k))) }
 {
     if let Literal::Edge(a, b) = literal {
         pairs.insert((a, b))?;
@@ -105,7 +108,8 @@ pub(crate) fn graph_of(alloc: Global, keys: &[NodeKey], graph: &OrderGraph) -> R
     requires all { graph.now.nodes ≡ length keys.now }
     requires few { length keys.now ≤ MAX_NODES }
     requires below { All (IsBelow (length keys.now)) graph.now.literals }
-    ensures nodes { IfOk result (λ g. ArePresent (map key_node keys.now) graph.now.literals (length keys.now) (graph_nodes g)) }
+    ensures nodes { IfOk result (λ g.
+        ArePresent (map key_node keys.now) graph.now.literals (length keys.now) (graph_nodes g)) }
     ensures edges { IfOk result (λ g. AreEdges (map key_node keys.now) graph.now.literals (graph_edges g)) }
 {
     let nodes = present_nodes(alloc, keys, graph)?;

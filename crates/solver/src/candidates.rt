@@ -2,7 +2,7 @@ ghost use Rattle.std.specs.Prelude.{◌≡◌, ◌<◌, ◌+◌, ℕ, not, if◌
 ghost use Rattle.pc_ground.specs.Refutes.{Branch, signed, literals_of};
 ghost use Rattle.solver.specs.Spelled.{spelled, IsSpelled};
 ghost use Rattle.solver.specs.Below.{IsRowBelow};
-ghost use Rattle.solver.specs.Places.{place_signed, HasSignsOf, IsCandidate, IsChosen, AreChosen, IsNoted};
+ghost use Rattle.solver.specs.Places.{HasSignsOf, IsCandidate, AreCandidates, IsChosen, AreChosen, IsNoted};
 ghost use Rattle.solver.specs.Flags.{flag, AreTruths};
 ghost use Rattle.solver.specs.Weights.{under, is_on};
 ghost use Rattle.solver.specs.Opens.{positions};
@@ -40,7 +40,8 @@ fn is_candidate(
     requires inside { p < length rows.now }
     ensures { (ps : Branch) → AreTruths (spelled rows.now) (literals_of (spelled rows.now) ps) 0 truths.now
         → ((q : ℕ) → flag on.now q ≡ is_on (under negated ps) q)
-        → MatchBool result (IsCandidate (spelled rows.now) ps (signed negated p)) (IsChosen (spelled rows.now) ps (signed negated p)) }
+        → MatchBool result (IsCandidate (spelled rows.now) ps (signed negated p))
+            (IsChosen (spelled rows.now) ps (signed negated p)) }
 {
     match row_at(rows, p).turned(negated).kind {
         RowKind::Or => {
@@ -66,7 +67,8 @@ fn note_candidate(
     requires truths_count { length truths.now ≡ length rows.now }
     requires on_count { length on.now ≡ length rows.now }
     requires inside { place.position < length rows.now }
-    ensures { OnOk result ((ps : Branch) → AreTruths (spelled rows.now) (literals_of (spelled rows.now) ps) 0 truths.now
+    ensures { OnOk result ((ps : Branch)
+        → AreTruths (spelled rows.now) (literals_of (spelled rows.now) ps) 0 truths.now
         → ((q : ℕ) → flag on.now q ≡ is_on (under place.negated ps) q)
         → IsNoted (spelled rows.now) ps place found.old.items found.new.items) }
 {
@@ -85,10 +87,11 @@ fn plain_candidates(
 ) -> Result<Vec<Place>, Memory>
     requires tree { IsSpelled rows.now }
     requires truths_count { length truths.now ≡ length rows.now }
-    requires truths { AreTruths (spelled rows.now) (literals_of (spelled rows.now) (positions asserted.now)) 0 truths.now }
+    requires truths { AreTruths (spelled rows.now) (literals_of (spelled rows.now) (positions asserted.now)) 0
+        truths.now }
     requires inside { All (λ a. a.position < length rows.now) asserted.now }
     requires signs { HasSignsOf Version.One (positions asserted.now) }
-    ensures all { IfOk result (λ found. All (λ q. IsCandidate (spelled rows.now) (positions asserted.now) (place_signed q)) found.items) }
+    ensures all { IfOk result (λ found. AreCandidates (spelled rows.now) (positions asserted.now) found.items) }
     ensures none { IfOk result (λ found. found.items ≡ [] → AreChosen (spelled rows.now) (positions asserted.now)) }
 {
     let on = branch_flags(alloc, rows.len(), false, asserted)?;
@@ -109,9 +112,10 @@ fn signed_candidates(
 ) -> Result<Vec<Place>, Memory>
     requires tree { IsSpelled rows.now }
     requires truths_count { length truths.now ≡ length rows.now }
-    requires truths { AreTruths (spelled rows.now) (literals_of (spelled rows.now) (positions asserted.now)) 0 truths.now }
+    requires truths { AreTruths (spelled rows.now) (literals_of (spelled rows.now) (positions asserted.now)) 0
+        truths.now }
     requires inside { All (λ a. a.position < length rows.now) asserted.now }
-    ensures all { IfOk result (λ found. All (λ q. IsCandidate (spelled rows.now) (positions asserted.now) (place_signed q)) found.items) }
+    ensures all { IfOk result (λ found. AreCandidates (spelled rows.now) (positions asserted.now) found.items) }
     ensures none { IfOk result (λ found. found.items ≡ [] → AreChosen (spelled rows.now) (positions asserted.now)) }
 {
     let on = branch_flags(alloc, rows.len(), false, asserted)?;
@@ -140,7 +144,7 @@ pub(crate) fn candidates(
     requires inside { All (λ a. a.position < length rows.now) asserted.now }
     requires signs { HasSignsOf version (positions asserted.now) }
     requires literals { graph.now.literals ≡ literals_of (spelled rows.now) (positions asserted.now) }
-    ensures all { IfOk result (λ found. All (λ q. IsCandidate (spelled rows.now) (positions asserted.now) (place_signed q)) found.items) }
+    ensures all { IfOk result (λ found. AreCandidates (spelled rows.now) (positions asserted.now) found.items) }
     ensures none { IfOk result (λ found. found.items ≡ [] → AreChosen (spelled rows.now) (positions asserted.now)) }
 {
     let holding = truths(alloc, rows, graph)?;

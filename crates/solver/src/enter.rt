@@ -41,7 +41,8 @@ fn enter_row<L: Ledger>(
 ) -> Result<Option<Clash>, Memory>
     requires below { IsRowBelow graph.old.nodes row }
     ensures further { IfOk result (λ _. IsFurther graph.old graph.new) }
-    ensures entered { IfOk result (λ found. HasAssertedRow row place graph.old asserted.old.items graph.new asserted.new.items found) }
+    ensures entered { IfOk result (λ found.
+        HasAssertedRow row place graph.old asserted.old.items graph.new asserted.new.items found) }
 {
     if let Added::Clash(clash) = add_row(row, graph, steps)? {
         return Ok(Some(clash));
@@ -66,7 +67,9 @@ fn enter_part<L: Ledger>(
     requires literals { graph.old.literals ≡ literals_of (spelled rows.now) (positions asserted.old.items) }
     ensures further { IfOk result (λ _. IsFurther graph.old graph.new) }
     ensures kept { IfOk result (λ _. take (length asserted.old.items) asserted.new.items ≡ asserted.old.items) }
-    ensures entered { IfOk result (λ found. HasAsserted (spelled rows.now) (asserted_at (spelled rows.now) negated root) asserted.old.items graph.new asserted.new.items found) }
+    ensures entered { IfOk result (λ found. HasAsserted (spelled rows.now)
+        (asserted_at (spelled rows.now) negated root)
+        asserted.old.items graph.new asserted.new.items found) }
 {
     let end = root + row_at(rows, root).skip;
     let mut at = root;
@@ -95,7 +98,9 @@ fn enter_denied<L: Ledger>(
     requires literals { graph.old.literals ≡ literals_of (spelled rows.now) (positions asserted.old.items) }
     ensures further { IfOk result (λ _. IsFurther graph.old graph.new) }
     ensures kept { IfOk result (λ _. take (length asserted.old.items) asserted.new.items ≡ asserted.old.items) }
-    ensures entered { IfOk result (λ found. HasAsserted (spelled rows.now) (denied_positions (spelled rows.now) side.negated side.denied) asserted.old.items graph.new asserted.new.items found) }
+    ensures entered { IfOk result (λ found. HasAsserted (spelled rows.now)
+        (denied_positions (spelled rows.now) side.negated side.denied)
+        asserted.old.items graph.new asserted.new.items found) }
 {
     match side.denied {
         Some(left) => enter_part(rows, !side.negated, left, graph, asserted, steps),
@@ -118,7 +123,8 @@ pub(crate) fn enter_side<L: Ledger>(
     requires literals { graph.old.literals ≡ literals_of (spelled rows.now) (positions asserted.old.items) }
     ensures further { IfOk result (λ _. IsFurther graph.old graph.new) }
     ensures kept { IfOk result (λ _. take (length asserted.old.items) asserted.new.items ≡ asserted.old.items) }
-    ensures entered { IfOk result (λ found. HasAsserted (spelled rows.now) (side_positions (spelled rows.now) side) asserted.old.items graph.new asserted.new.items found) }
+    ensures entered { IfOk result (λ found. HasAsserted (spelled rows.now) (side_positions (spelled rows.now) side)
+        asserted.old.items graph.new asserted.new.items found) }
 {
     if let Some(clash) = enter_denied(rows, side, graph, asserted, steps)? {
         return Ok(Some(clash));

@@ -59,10 +59,14 @@ pub(crate) fn find<L: Ledger>(
     requires distinct { AreDistinct (map key_node keys.now) }
     requires below { All (IsRowBelow (length keys.now)) rows.now }
     requires no_false { (p : ℕ) → subtree_at (spelled rows.now) p ≡ Some never → ⊥ }
-    requires state { IsState version (map key_node keys.now) (spelled rows.now) graph.old asserted.old.items later.old.items refutation.old (side_positions (spelled rows.now) side) }
-    ensures found { IfOk result (IsStatus version (map key_node keys.now) rows.now graph.new asserted.new.items later.new.items refutation.new) }
+    requires state { IsState version (map key_node keys.now) (spelled rows.now) graph.old asserted.old.items
+        later.old.items refutation.old (side_positions (spelled rows.now) side) }
+    ensures found { IfOk result (IsStatus version (map key_node keys.now) rows.now graph.new asserted.new.items
+        later.new.items refutation.new) }
     ensures lighter { IfOk result (λ found. status_weight rows.now asserted.new.items later.new.items found
-        ≤ 1 + weight (spelled rows.now) (opens (spelled rows.now) (positions asserted.old.items ++ side_positions (spelled rows.now) side) asserted.old.items later.old.items)) }
+        ≤ 1 + weight (spelled rows.now) (opens (spelled rows.now)
+            (positions asserted.old.items ++ side_positions (spelled rows.now) side)
+            asserted.old.items later.old.items)) }
     ensures longer { IfOk result (λ _. IsLonger refutation.old refutation.new) }
 {
     let is_open = descend(

@@ -10,7 +10,8 @@ use std::alloc::Global;
 /// Sets the flag of the place where it has this sign.
 fn set_flag(place: Place, negated: bool, flags: &mut [bool])
     requires { place.position < length flags.old }
-    ensures { (p : ℕ) → flag flags.new p ≡ (flag flags.old p || (is_sign negated place.negated && (place.position == p))) }
+    ensures { (p : ℕ) → flag flags.new p
+        ≡ (flag flags.old p || (is_sign negated place.negated && (place.position == p))) }
 {
     if place.negated == negated {
         flags[place.position] = true;
@@ -26,7 +27,8 @@ pub(crate) fn branch_flags(
 ) -> Result<Vec<bool>, Memory>
     requires { All (λ a. a.position < count) asserted.now }
     ensures all { IfOk result (λ flags. length flags.items ≡ count) }
-    ensures flags { IfOk result (λ flags. (p : ℕ) → flag flags.items p ≡ is_on (under negated (positions asserted.now)) p) }
+    ensures flags { IfOk result (λ flags.
+        (p : ℕ) → flag flags.items p ≡ is_on (under negated (positions asserted.now)) p) }
 {
     let mut flags = vec![in alloc; false; count]?;
     for place in asserted {

@@ -55,9 +55,11 @@ impl Model for Search {
 
     ghost Value = { Searched };
 
-    ghost view = { λ s. record { version = s.version; nodes = map key_node s.keys.items; rows = s.rows.items; graph = s.graph; steps = s.refutation; branches = branches_of s.rows.items s.asserted.items s.later.items } };
+    ghost view = { λ s. record { version = s.version; nodes = map key_node s.keys.items; rows = s.rows.items;
+        graph = s.graph; steps = s.refutation; branches = branches_of s.rows.items s.asserted.items s.later.items } };
 
-    ghost invariant = { λ s. IsSearch s.version s.keys.items s.rows.items s.graph s.asserted.items s.later.items s.refutation s.candidates.items };
+    ghost invariant = { λ s. IsSearch s.version s.keys.items s.rows.items s.graph s.asserted.items s.later.items
+        s.refutation s.candidates.items };
 }
 
 /// What a turn hands out.
@@ -84,7 +86,8 @@ fn settle(
     requires few { length keys.items ≤ MAX_NODES }
     requires distinct { AreDistinct (map key_node keys.items) }
     requires below { All (IsRowBelow (length keys.items)) rows.items }
-    requires status { IsStatus version (map key_node keys.items) rows.items graph asserted.items later.items refutation status }
+    requires status { IsStatus version (map key_node keys.items) rows.items graph asserted.items later.items refutation
+        status }
     ensures turn { IsTurn version (map key_node keys.items) rows.items result }
     ensures weight { turn_weight result ≡ status_weight rows.items asserted.items later.items status }
     ensures steps { GoesOn (λ old new. new ≡ old) refutation result }
@@ -129,7 +132,8 @@ fn find_first<L: Ledger>(
     requires asserted { asserted.old.items ≡ [] }
     requires later { later.old.items ≡ [] }
     requires steps { refutation.old ≡ [] }
-    ensures { IfOk result (IsStatus version (map key_node keys.now) rows.now graph.new asserted.new.items later.new.items refutation.new) }
+    ensures { IfOk result (IsStatus version (map key_node keys.now) rows.now graph.new asserted.new.items
+        later.new.items refutation.new) }
 {
     let root = row_at(rows, 0);
     if let RowKind::False = root.kind {
@@ -197,7 +201,8 @@ impl Search {
     ) -> Result<Turn, Memory>
         requires numbered { (t : Tree PlainNode) → tree.now ≡ rows_of t → numbering.now ≡ numbered t }
         requires folded { (t : Tree PlainNode) → tree.now ≡ rows_of t → IsFolded t }
-        ensures { IfOk result (λ turn. (t : Tree PlainNode) → tree.now ≡ rows_of t → IsTurnOf version numbering.now t turn) }
+        ensures { IfOk result (λ turn.
+            (t : Tree PlainNode) → tree.now ≡ rows_of t → IsTurnOf version numbering.now t turn) }
     {
         let _positions = tree.len();
         let count = numbering.len();

@@ -28,7 +28,8 @@ pub fn solve<L: Ledger>(
 ) -> Result<Answer, Memory>
     requires numbered { (t : Tree PlainNode) → tree.now ≡ rows_of t → numbering.now ≡ numbered t }
     requires folded { (t : Tree PlainNode) → tree.now ≡ rows_of t → IsFolded t }
-    ensures { IfOk result (λ answer. (t : Tree PlainNode) → tree.now ≡ rows_of t → IsAnswer version numbering.now t answer) }
+    ensures { IfOk result (λ answer.
+        (t : Tree PlainNode) → tree.now ≡ rows_of t → IsAnswer version numbering.now t answer) }
 {
     let mut turn = Search::begin(alloc, tree, numbering, version, steps)?;
     loop {
