@@ -7,6 +7,7 @@ use Rattle.line_judge.specs.JudgedLines.{IsWhole}
 use Rattle.line_judge.specs.Feeds.{IsRefusedBy}
 use Rattle.cert_check.specs.Certificates.{Question, IsCertificate}
 use Rattle.cert_check.specs.Verified.{IsCertificateText, Verified, seen, unseen, too_long, refused}
+use Rattle.cert_check.specs.Proper.{IsAsked}
 use Rattle.cert_check.specs.Questions.{question_of}
 use Rattle.cert_check.specs.Ends.{checked_of}
 use Rattle.cert_check.specs.Stages.{is_end}
@@ -17,7 +18,7 @@ use Rattle.cert_check.specs.declared.checked.Checked.TheVariants.{Refused}
 use Rattle.cert_check.specs.declared.stage.Stage.{Stage}
 use Rattle.cert_check.specs.declared.stage.Stage.TheVariants.{Start, Said, Graph, Tree, Ended}
 use Rattle.cert_check.specs.declared.judge.CertificateJudge.{CertificateJudge}
-use Rattle.cert_check.proofs.Raws.{to_certificate, to_refused}
+use Rattle.cert_check.proofs.Raws.{to_certificate, from_certificate, to_refused}
 use Rattle.cert_check.proofs.RawStages.{raw_done}
 use Rattle.cert_check.proofs.Words.{one_verdict}
 
@@ -68,11 +69,13 @@ whole_verified q start judge asks text short is_whole =
     let ended = (raw_done (question_of judge.front.now) judge.stage made.lines st).1 ((is_whole.alike.same_whole made.lines).0 made.accepted) in
     subst P asks (ended_verified own (question_of judge.front.now) text short made judge.stage st ended)
 
-pub refused_verified : (q : Question) (start : CertificateJudge) → question_of start.front.now ≡ q → (text : List ℕ) (number : ℕ)
+pub refused_verified : (q : Question) → IsAsked q → (start : CertificateJudge) → question_of start.front.now ≡ q → (text : List ℕ) (number : ℕ)
     → IsRefusedBy (judge_begins start) (judge_whole start) MAX_CERTIFICATE text number → Verified q text (Refused number)
-refused_verified q start asks text zero by = too_long (by.past refl)
-refused_verified q start asks text (suc k) by =
+refused_verified q asked start asks text zero by = too_long (by.past refl)
+refused_verified q asked start asks text (suc k) by =
     let own = question_of start.front.now in
+    let A : Question → Type 0 = λ p. IsAsked p in
     let P : Question → Type 0 = λ p. Verified p text (Refused (suc k)) in
     let some : 0 < suc k = omega arith in
-    subst P asks (refused (suc k) (by.within some) (to_refused own text (suc k) (by.line some)))
+    let at = by.line some in
+    subst P asks (refused (suc k) (by.within some) (λ v c. at.no_whole (from_certificate own (subst A (sym asks) asked) text v c)) (to_refused own text (suc k) at))

@@ -11,9 +11,10 @@ ghost use Rattle.cert_check.specs.Fed.{IsFed};
 
 use super::checked::Checked;
 use super::judge::CertificateJudge;
+use super::next::show_asked;
 use line_judge::{Feed, Finished};
 use pc_common::{MAX_CERTIFICATE, Memory};
-use pc_ground::Front;
+use pc_ground::{Front, NodeText};
 use std::alloc::Global;
 
 /// A check of one text against the model and the test of a front. The text comes in pieces, however it is cut,
@@ -57,6 +58,7 @@ impl<'a> Checker<'a> {
         ensures outcome { (f : AnyFront) (text : List ℕ) → IsFed self.entry (question_of f) text
             → IfOk result (SaysOutcome f) }
     {
+        show_asked(self.front, &NodeText::of(self.front));
         match self.feed.finish() {
             Finished::Whole(judge) => Ok(judge.verdict()),
             Finished::Refused(line) => Ok(Checked::Refused(line)),

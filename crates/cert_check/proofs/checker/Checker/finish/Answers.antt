@@ -1,4 +1,7 @@
+use Rattle.std.proofs.Common.{subst}
 use Rattle.pc_common.specs.declared.limits.TheConstants.{MAX_CERTIFICATE}
+use Rattle.cert_check.specs.Certificates.{Question}
+use Rattle.cert_check.specs.Proper.{IsAsked}
 use Rattle.cert_check.specs.Questions.{question_of}
 use Rattle.cert_check.proofs.Outcomes.{outcome_holds}
 use Rattle.cert_check.proofs.Verified.{whole_verified, refused_verified}
@@ -17,4 +20,5 @@ returns-in-Whole-clause-outcome c = λ front text fed.
 
 pub returns-in-Refused-clause-verified : goal.returns-in-Refused-clause-verified
 returns-in-Refused-clause-verified c = λ q text fed.
-    refused_verified q fed.start fed.asks text c.in-Refused.line (c.in-Refused.ensures fed.start MAX_CERTIFICATE text fed.taken)
+    let A : Question → Type 0 = λ p. IsAsked p in
+    refused_verified q (subst A fed.front (c.show_asked.ensures c.of.ensures.view)) fed.start fed.asks text c.in-Refused.line (c.in-Refused.ensures fed.start MAX_CERTIFICATE text fed.taken)
