@@ -1,7 +1,7 @@
 //! An independent check of certificates: it judges any text against a model and a test, whoever made it.
 //!
-//! A certificate is a graph whose world makes every axiom true, or a refutation of the ground tree; the lines
-//! are those of docs/certificates.md, and `specs/Certificates.antt` states what each has to be. `Checker` takes
+//! A certificate is a graph whose world makes every axiom true, or a refutation of the ground tree, of version 1
+//! or, where its third line says so, of version 2; the lines are those of docs/certificates.md, and `specs/Certificates.antt` states what each has to be. `Checker` takes
 //! a text in pieces and judges each line when it is whole; `check_text` takes a whole text. The answer is the
 //! verdict, or the first line that no certificate goes on with.
 //!
@@ -14,6 +14,7 @@ mod checker;
 mod header;
 mod judge;
 mod next;
+mod open_tree;
 mod stage;
 
 pub use checked::Checked;

@@ -3,13 +3,13 @@ use Rattle.std.proofs.Common.{◌≡◌, ◌≤◌, ◌+◌, ℕ, List, [], ◌�
 use Rattle.std.specs.List.{All}
 use Rattle.std.proofs.lemmas.List.{append-nil, append_cancel_left, take-append-drop, length-take-le, nil_from_length}
 use Rattle.std.proofs.lemmas.List.Elements.{All-take, All-push, All-nil}
-use Rattle.line_judge.specs.Texts.{IsLine, text_of_lines, BeginsWell, IsRefusedAt, HoldsRefused}
+use Rattle.line_judge.specs.Texts.{IsLine, text_of_lines, FirstLinesBegin, IsRefusedAt, HoldsRefused}
 use Rattle.line_judge.proofs.Cuts.{text_append, first_lines, fewer_lines}
 
 -- what begins well does so up to each of its lines
 begins_well : (begins : List (List ℕ) → Type 0) (first : (lines more : List (List ℕ)) → begins (lines ++ more) → begins lines)
     (lines : List (List ℕ)) (rest text : List ℕ) → All IsLine lines → text ≡ text_of_lines lines ++ rest → begins lines
-    → (k : ℕ) → k ≤ length lines → BeginsWell begins text k
+    → (k : ℕ) → k ≤ length lines → FirstLinesBegin begins text k
 begins_well begins first lines rest text are text_is begin k within =
     let split : take k lines ++ drop k lines ≡ lines = take-append-drop k lines in record {
       lines = take k lines;

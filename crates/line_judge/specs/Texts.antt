@@ -23,7 +23,7 @@ pub record IsMadeOf (whole : List (List ℕ) → Type 0) (text : List ℕ) : Typ
   pub accepted : whole lines
 
 -- the text's first n lines, each with its LF, are there and begin well
-pub record BeginsWell (begins : List (List ℕ) → Type 0) (text : List ℕ) (n : ℕ) : Type 0 where
+pub record FirstLinesBegin (begins : List (List ℕ) → Type 0) (text : List ℕ) (n : ℕ) : Type 0 where
   pub lines : List (List ℕ)
   pub rest : List ℕ
   pub count : length lines ≡ n
@@ -34,8 +34,8 @@ pub record BeginsWell (begins : List (List ℕ) → Type 0) (text : List ℕ) (n
 -- the first line that is refused, from 1: the text is not whole, and its lines before this one begin well, but not those through it
 pub record IsRefusedAt (begins whole : List (List ℕ) → Type 0) (text : List ℕ) (n : ℕ) : Type 0 where
   pub no_whole : IsMadeOf whole text → ⊥
-  pub before : (k : ℕ) → k < n → BeginsWell begins text k
-  pub here : BeginsWell begins text n → ⊥
+  pub before : (k : ℕ) → k < n → FirstLinesBegin begins text k
+  pub here : FirstLinesBegin begins text n → ⊥
 
 -- some first lines of the text, each with its LF, don't begin well
 pub record HoldsRefused (begins : List (List ℕ) → Type 0) (text : List ℕ) : Type 0 where

@@ -21,7 +21,7 @@ use Rattle.pc_ground.proofs.Turned.{size_turned, row_turned}
 use Rattle.pc_ground.proofs.Walks.{walk_side, walk_turn, walk_done, walk_within}
 use Rattle.tree_check.specs.Facts.{PlainFact, at_position, facts_of_literal, facts_of_part, facts_at, facts_of_kind, facts_on, HasAdded}
 use Rattle.tree_check.specs.Sides.{positions_of, positions_at}
-use Rattle.tree_check.specs.OpenBranches.{IsWhole, IsBranch}
+use Rattle.tree_check.specs.OpenBranches.{IsClosedUnderAnd, IsBranch}
 use Rattle.tree_check.proofs.BranchFacts.{position_of_fact, added_none, added_then, has_more, has_again, facts_none}
 use Rattle.tree_check.proofs.OrRows.{turned_flat}
 
@@ -191,8 +191,8 @@ side_whole t (both a b) root at p q u (inr i) f j =
     ]
 
 -- a branch with all that a part asserts
-whole_with : (t s : Tree Node) (ps : Branch) (n : Bool) (root : ℕ) → IsWhole t ps → subtree_at (turned n t) root ≡ Some s
-    → IsWhole t (ps ++ all_signed n (asserted s root))
+whole_with : (t s : Tree Node) (ps : Branch) (n : Bool) (root : ℕ) → IsClosedUnderAnd t ps → subtree_at (turned n t) root ≡ Some s
+    → IsClosedUnderAnd t (ps ++ all_signed n (asserted s root))
 whole_with t s ps n root whole at = λ m p q u has f j.
     let side = all_signed n (asserted s root) in
     contains_from_in (signed m q) (ps ++ side) (elim (in_either (signed m p) ps side (in_from_contains (signed m p) (ps ++ side) has)) [
@@ -207,11 +207,11 @@ whole_with t s ps n root whole at = λ m p q u has f j.
           in_back (signed m q) ps side (subst S sign (in_map (signed n) q (asserted s root) below)))
     ])
 
-whole_at : (t : Tree Node) (ps : Branch) (n : Bool) (root : ℕ) → IsWhole t ps → IsWhole t (ps ++ positions_at t n root)
+whole_at : (t : Tree Node) (ps : Branch) (n : Bool) (root : ℕ) → IsClosedUnderAnd t ps → IsClosedUnderAnd t (ps ++ positions_at t n root)
 whole_at t ps n root whole = go (subtree_at (turned n t) root) refl
   where
-    go : (o : Option (Tree Node)) → subtree_at (turned n t) root ≡ o → IsWhole t (ps ++ positions_of o n root)
-    go None e = (let P : Branch → Type 0 = λ xs. IsWhole t xs in subst P (sym (append-nil ps)) whole)
+    go : (o : Option (Tree Node)) → subtree_at (turned n t) root ≡ o → IsClosedUnderAnd t (ps ++ positions_of o n root)
+    go None e = (let P : Branch → Type 0 = λ xs. IsClosedUnderAnd t xs in subst P (sym (append-nil ps)) whole)
     go (Some s) e = whole_with t s ps n root whole e
 
 -- a part whose root is on the branch is on the branch

@@ -30,14 +30,14 @@ open_branches version rows facts later is_open =
     record { version = version; rows = rows; facts = facts; later = later; is_open = is_open }
 
 -- with a position, all that the part there asserts is on the branch
-abbrev pub IsWhole : Tree Node → Branch → Type 0
-IsWhole t ps =
+abbrev pub IsClosedUnderAnd : Tree Node → Branch → Type 0
+IsClosedUnderAnd t ps =
     (negated : Bool) (p q : ℕ) (s : Tree Node) → Contains ps (signed negated p) → subtree_at (turned negated t) p ≡ Some s
     → Contains (asserted s p) q → Contains ps (signed negated q)
 
--- these are the facts of the branch, and it is whole
+-- these are the facts of the branch, and they are closed under And
 abbrev pub IsBranch : Tree Node → List PlainFact → Branch → Type 0
-IsBranch t facts ps = HasFacts t facts ps × IsWhole t ps
+IsBranch t facts ps = HasFacts t facts ps × IsClosedUnderAnd t ps
 
 -- a waiting branch: one that has the first facts, with one side more
 pub record IsLater (t : Tree Node) (facts : List PlainFact) (l : Later) (qs : Branch) : Type 0 where

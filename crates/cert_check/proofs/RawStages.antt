@@ -3,19 +3,20 @@ use Rattle.std.proofs.Common.{◌≡◌, ℕ, Bool, true, false, List, [], ◌�
 use Rattle.std.specs.Prelude.{◌↔◌}
 use Rattle.pc_common.specs.World.{Node, Edge}
 use Rattle.pc_common.specs.Lines.{Line, Verdict as PlainVerdict, observable, unobservable, verdict, second, end, line_words}
-use Rattle.pc_ground.specs.Refutes.{Step}
+use Rattle.pc_common.specs.Steps.{Step}
+use Rattle.pc_ground.specs.declared.version.Version.{Version}
 use Rattle.graph_text.specs.Graphs.{graph_lines}
-use Rattle.refutation.specs.Steps.{step_line}
-use Rattle.cert_check.specs.Certificates.{Question, header, IsCertificate, BeginsWell, in_header, in_graph, in_tree, whole}
+use Rattle.cert_check.specs.Certificates.{Question, header, tree_lines, IsCertificate, BeginsWell, in_header, in_graph, in_tree, whole}
 use Rattle.cert_check.specs.Verdicts.{plain_verdict}
-use Rattle.cert_check.specs.Stages.{StandsAt, GoesOn, IsStuck, HasAdvanced, is_ended}
-use Rattle.cert_check.specs.RawLines.{RawBegins, RawWhole, RawStands}
+use Rattle.cert_check.specs.Stages.{StandsAt, GoesOn, IsStuck, HasAdvanced, is_end}
+use Rattle.cert_check.specs.RawLines.{RawFirst, RawWhole, RawStands}
 use Rattle.cert_check.specs.declared.stage.Stage.{Stage}
 use Rattle.cert_check.specs.declared.stage.Stage.TheVariants.{Start, Said, Graph, Tree, Ended}
 use Rattle.cert_check.proofs.Lasts.{last_map, map_snoc}
 use Rattle.cert_check.proofs.Firsts.{begins_before}
-use Rattle.cert_check.proofs.Raws.{raw_exact}
-use Rattle.cert_check.proofs.Beginnings.{unequal, graph_ends, steps_end}
+use Rattle.cert_check.proofs.Raws.{raw_begins}
+use Rattle.cert_check.proofs.BodyBegins.{unequal, graph_ends}
+use Rattle.cert_check.proofs.TreeLines.{tree_end}
 
 -- the lines of each stage begin well
 stage_begins : (q : Question) (stage : Stage) (lines : List Line) → StandsAt q stage lines → BeginsWell q lines
@@ -23,7 +24,7 @@ stage_begins q Start lines none = in_header observable (header q observable) (ap
 stage_begins q (Said v) lines said =
     in_header (plain_verdict v) (second (plain_verdict v) q.expectation ∷ []) (ap (λ (ls : List Line). ls ++ second (plain_verdict v) q.expectation ∷ []) said)
 stage_begins q (Graph g) lines so_far = in_graph g.nodes g.edges so_far.of_names so_far.ends so_far.lines_are
-stage_begins q (Tree o) lines so_far = in_tree so_far.steps so_far.opens so_far.partial so_far.lines_are
+stage_begins q (Tree o) lines so_far = in_tree so_far.version so_far.steps so_far.opens so_far.partial so_far.lines_are
 stage_begins q (Ended v) lines certificate = whole (plain_verdict v) certificate
 
 -- lines with these bytes are the known ones and one more
@@ -47,9 +48,9 @@ one_more q stage raws text st others are begins =
       begins = (let Q : List Line → Type 0 = λ ls. BeginsWell q (ls ++ m.1 ∷ []) in subst Q same together);
     }
 
-pub raw_goes : (q : Question) (old next : Stage) (raws : List (List ℕ)) (text : List ℕ) (st : RawStands q old raws) → GoesOn q st.lines text next
+pub raw_goes_on : (q : Question) (old next : Stage) (raws : List (List ℕ)) (text : List ℕ) (st : RawStands q old raws) → GoesOn q st.lines text next
     → RawStands q next (raws ++ text ∷ [])
-raw_goes q old next raws text st goes = record {
+raw_goes_on q old next raws text st goes = record {
   lines = st.lines ++ goes.line ∷ [];
   are =
       ap (λ (rs : List (List ℕ)). rs ++ text ∷ []) st.are ∙ ap (λ (t : List ℕ). map (line_words q.names) st.lines ++ t ∷ []) goes.text_is
@@ -62,19 +63,19 @@ raw_goes q old next raws text st goes = record {
 }
 
 pub raw_stuck : (q : Question) (old : Stage) (raws : List (List ℕ)) (text : List ℕ) (st : RawStands q old raws) → IsStuck q st.lines text
-    → RawBegins q (raws ++ text ∷ []) → ⊥
+    → RawFirst q (raws ++ text ∷ []) → ⊥
 raw_stuck q old raws text st stuck b =
-    let exact = raw_exact q (raws ++ text ∷ []) b in
+    let exact = raw_begins q (raws ++ text ∷ []) b in
     let more = one_more q old raws text st exact.lines exact.are exact.begins in stuck more.last more.text_is more.begins
 
 -- the same, by what came of the line
 pub raw_advanced : (q : Question) (old next : Stage) (raws : List (List ℕ)) (text : List ℕ) (st : RawStands q old raws) (good : Bool) → good ≡ true
     → HasAdvanced q st.lines text next good → RawStands q next (raws ++ text ∷ [])
-raw_advanced q old next raws text st true e goes = raw_goes q old next raws text st goes
+raw_advanced q old next raws text st true e goes = raw_goes_on q old next raws text st goes
 raw_advanced q old next raws text st false e stuck = cc
 
 pub raw_refused : (q : Question) (old next : Stage) (raws : List (List ℕ)) (text : List ℕ) (st : RawStands q old raws) (good : Bool) → good ≡ false
-    → HasAdvanced q st.lines text next good → RawBegins q (raws ++ text ∷ []) → ⊥
+    → HasAdvanced q st.lines text next good → RawFirst q (raws ++ text ∷ []) → ⊥
 raw_refused q old next raws text st true e goes = cc
 raw_refused q old next raws text st false e stuck = raw_stuck q old raws text st stuck
 
@@ -85,33 +86,33 @@ graph_whole q nodes edges observable lines is graph =
     let other = graph.lines_are in
     let bodies : graph_lines nodes edges ≡ graph_lines graph.nodes graph.edges ++ end ∷ [] = cc in
     graph_ends nodes edges (graph_lines graph.nodes graph.edges) bodies
-graph_whole q nodes edges unobservable lines is tree =
+graph_whole q nodes edges unobservable lines is (u, tree) =
     let other = tree.lines_are in
     let same : observable ≡ unobservable = cc in unequal same
 
-tree_whole : (q : Question) (steps : List (Step Node)) (v : PlainVerdict) (lines : List Line) → lines ≡ header q unobservable ++ map step_line steps
+tree_whole : (q : Question) (w : Version) (steps : List (Step Node)) (v : PlainVerdict) (lines : List Line) → lines ≡ header q unobservable ++ tree_lines w steps
     → IsCertificate q v lines → ⊥
-tree_whole q steps observable lines is graph =
+tree_whole q w steps observable lines is graph =
     let other = graph.lines_are in
     let same : observable ≡ unobservable = cc in unequal same
-tree_whole q steps unobservable lines is tree =
+tree_whole q w steps unobservable lines is (u, tree) =
     let other = tree.lines_are in
-    let bodies : map step_line steps ≡ map step_line tree.steps ++ end ∷ [] = cc in
-    steps_end steps (map step_line tree.steps) bodies
+    let bodies : tree_lines w steps ≡ tree_lines u tree.steps ++ end ∷ [] = cc in
+    tree_end w steps (tree_lines u tree.steps) bodies
 
 -- no certificate has one line or none
 few_lines : (q : Question) (v : PlainVerdict) (lines : List Line) → IsCertificate q v lines → (lines ≡ [] → ⊥) × ((l : Line) → lines ≡ l ∷ [] → ⊥)
 few_lines q observable lines graph = (let is = graph.lines_are in (λ none. cc, λ l one. cc))
-few_lines q unobservable lines tree = (let is = tree.lines_are in (λ none. cc, λ l one. cc))
+few_lines q unobservable lines (u, tree) = (let is = tree.lines_are in (λ none. cc, λ l one. cc))
 
-is_read : (q : Question) (stage : Stage) (lines : List Line) (v : PlainVerdict) → StandsAt q stage lines → IsCertificate q v lines → is_ended stage ≡ true
+is_read : (q : Question) (stage : Stage) (lines : List Line) (v : PlainVerdict) → StandsAt q stage lines → IsCertificate q v lines → is_end stage ≡ true
 is_read q Start lines v none certificate = absurd ((few_lines q v lines certificate).0 none)
 is_read q (Said u) lines v said certificate = absurd ((few_lines q v lines certificate).1 (verdict (plain_verdict u)) said)
 is_read q (Graph g) lines v so_far certificate = absurd (graph_whole q g.nodes g.edges v lines so_far.lines_are certificate)
-is_read q (Tree o) lines v so_far certificate = absurd (tree_whole q so_far.steps v lines so_far.lines_are certificate)
+is_read q (Tree o) lines v so_far certificate = absurd (tree_whole q so_far.version so_far.steps v lines so_far.lines_are certificate)
 is_read q (Ended u) lines v ended certificate = refl
 
-ended_whole : (q : Question) (stage : Stage) (raws : List (List ℕ)) → RawStands q stage raws → is_ended stage ≡ true → RawWhole q raws
+ended_whole : (q : Question) (stage : Stage) (raws : List (List ℕ)) → RawStands q stage raws → is_end stage ≡ true → RawWhole q raws
 ended_whole q Start raws st e = absurd (no e)
   where
     no : false ≡ true → ⊥
@@ -121,7 +122,7 @@ ended_whole q (Graph g) raws st e = cc
 ended_whole q (Tree o) raws st e = cc
 ended_whole q (Ended v) raws st e = record { verdict = plain_verdict v; lines = st.lines; are = st.are; certificate = st.stands }
 
-pub raw_done : (q : Question) (stage : Stage) (raws : List (List ℕ)) → RawStands q stage raws → (is_ended stage ≡ true) ↔ RawWhole q raws
+pub raw_done : (q : Question) (stage : Stage) (raws : List (List ℕ)) → RawStands q stage raws → (is_end stage ≡ true) ↔ RawWhole q raws
 raw_done q stage raws st = (
   ended_whole q stage raws st,
   λ w.
