@@ -196,8 +196,8 @@ fn start<L: Ledger>(
 }
 
 impl Search {
-    /// Begins the search over this tree, whose nodes the numbering lists. A constant stands in the tree only
-    /// where it is the whole tree.
+    /// Begins the search of this version over this tree, whose nodes the numbering lists. A constant stands
+    /// in the tree only where it is the whole tree.
     pub fn begin<L: Ledger>(
         alloc: Global,
         tree: &Flat,
