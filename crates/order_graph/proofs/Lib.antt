@@ -1,7 +1,4 @@
 pub mod Decide
-pub mod Widen
-pub mod Reached
-pub mod Nearest
 pub mod EdgeWays
 pub mod Chains
 pub mod OneMore
@@ -14,3 +11,6 @@ pub mod Results
 pub mod MarkLists
 pub mod Orders
 pub mod GeneratesWorld
+pub mod TakesEdge
+pub mod OnList
+pub mod IsSearched

@@ -8,8 +8,16 @@ use Rattle.order_graph.proofs.IsClash.{start_clash, end_clash, cycle_clash}
 use Rattle.order_graph.proofs.OneMore.{more}
 use Rattle.order_graph.proofs.Results.{if_ok}
 use Rattle.order_graph.proofs.Represents.{leads_reach}
+use Rattle.order_graph.proofs.TakesEdge.{known_consistent}
 use Rattle.order_graph.proofs.ClashOf.{edge_free, pairs_told, none_to}
 use Rattle.order_graph.proofs.clashes.edge_clash.Goals as goal
+
+pub returns-then-reaches : goal.returns-then-reaches
+returns-then-reaches c =
+    let wide = c.requires.sized.1 in
+    let b_in = c.requires.b_in in
+    known_consistent c.args.literals.now c.args.a c.args.b c.requires.represents.consistent
+    ((c.requires.represents.reach c.args.a c.args.b c.requires.a_in (omega arith)).0 (sym c.reaches.ensures ∙ c.if-reaches.true))
 
 pub returns-then-is_missing : goal.returns-then-is_missing
 returns-then-is_missing c =

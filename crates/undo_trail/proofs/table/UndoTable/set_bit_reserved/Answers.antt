@@ -1,10 +1,9 @@
-use Rattle.std.proofs.Common.{◌≡◌, ◌∙◌, ◌<◌, ◌*◌, ◌+◌, ◌/◌, ◌%◌, ◌^◌, List, ℕ, length, get_or, set, bit_or, ap, subst, arith}
+use Rattle.std.proofs.Common.{◌≡◌, ◌∙◌, ◌<◌, ◌*◌, ◌+◌, ◌/◌, ◌%◌, ◌^◌, ◌-◌, List, ℕ, length, vec_len, vec_capacity, get_or, set, bit_or, ap, subst, arith}
 use Rattle.std.proofs.lemmas.List.{with_items_is, get_or_read}
 use Rattle.undo_trail.specs.BitTable.{Extends}
 use Rattle.undo_trail.specs.Trail.{table_of}
-use Rattle.undo_trail.proofs.OnResults.{on_ok}
 use Rattle.undo_trail.proofs.BitWords.{has_set, place_in}
-use Rattle.undo_trail.proofs.table.UndoTable.set_bit.Goals as goal
+use Rattle.undo_trail.proofs.table.UndoTable.set_bit_reserved.Goals as goal
 
 pub returns-clause-set : goal.returns-clause-set
 returns-clause-set c =
@@ -23,17 +22,16 @@ returns-clause-set c =
     let inside : place < length t = omega arith in
     let word : c.index.result.now ≡ get_or t place 0 = get_or_read t place c.index.result.now inside c.index.ensures 0 in
     rw (← c.self.view_is, with_items_is s.table u size)
-    (on_ok c.put.result c.put.ensures.set
-    (λ is q d qh dh. has_set t s.words c.args.r c.args.c u inside column_low
-    (is ∙ ap (λ x. set x place (bit_or c.index.result.now (1 * 2 ^ (c.args.c % 64) % 2 ^ 64))) c.deref_mut.ensures.value
-    ∙ ap (λ w. set t place (bit_or w (1 * 2 ^ (c.args.c % 64) % 2 ^ 64))) word) q d dh))
+    (λ q d qh dh. has_set t s.words c.args.r c.args.c u inside column_low
+    (c.put.ensures.set ∙ ap (λ x. set x place (bit_or c.index.result.now (1 * 2 ^ (c.args.c % 64) % 2 ^ 64))) c.deref_mut.ensures.value
+    ∙ ap (λ w. set t place (bit_or w (1 * 2 ^ (c.args.c % 64) % 2 ^ 64))) word) q d dh)
 
 pub returns-clause-trail : goal.returns-clause-trail
 returns-clause-trail c =
     let s = c.self.inside in
     let u = c.put.new.table in
     let size : length u ≡ s.table.len = c.put.auto.table ∙ c.deref_mut.ensures.len in
-    rw (← c.self.view_is, with_items_is s.table u size)
-    (on_ok c.put.result c.put.ensures.grows (λ grows.
-    let P : List ℕ → Type 0 = λ t. Extends (table_of s.rows s.words s.trail.items t) (table_of s.rows s.words c.put.new.trail.items u) 1 in
-    subst P c.deref_mut.ensures.value (grows.extends s.rows s.words)))
+    let room = vec_capacity s.trail - vec_len s.trail in
+    let left = vec_capacity c.put.new.trail - vec_len c.put.new.trail in
+    let P : List ℕ → Type 0 = λ t. Extends (table_of s.rows s.words room s.trail.items t) (table_of s.rows s.words left c.put.new.trail.items u) 1 in
+    rw (← c.self.view_is, with_items_is s.table u size) (subst P c.deref_mut.ensures.value (c.put.ensures.grows.extends s.rows s.words room left))
