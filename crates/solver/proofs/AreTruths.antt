@@ -11,11 +11,11 @@ use Rattle.pc_ground.specs.declared.row.RowKind.TheVariants.{True, False, Lit, A
 use Rattle.pc_common.specs.Chain.{Chain}
 use Rattle.pc_ground.specs.Literals.{Joins, IsPresent, Holds}
 use Rattle.pc_ground.specs.Tree.{Tree, always, never, leaf, both, either, negation, turned, size_of}
-use Rattle.pc_ground.specs.Rows.{root_kind, rows_of, turned_rows}
+use Rattle.pc_ground.specs.Rows.{root_kind, rows_of}
 use Rattle.pc_ground.specs.declared.version.Version.{Version}
 use Rattle.pc_ground.specs.declared.version.Version.TheVariants.{One, Two}
-use Rattle.pc_ground.specs.Refutes.{Signed, signed, subtree_at, part_at}
-use Rattle.pc_ground.proofs.Turned.{subtree_denied, size_negation, size_turned}
+use Rattle.pc_ground.specs.Refutes.{Signed, subtree_at}
+use Rattle.pc_ground.proofs.Turned.{subtree_denied, size_negation}
 use Rattle.pc_ground.proofs.FlatRows.{length_rows, size_pos, subtree_size, subtree_past, children_both, children_either}
 use Rattle.pc_ground.proofs.StageWalks.{some_same}
 use Rattle.solver.specs.Spelled.{spelled, IsSpelled}

@@ -15,7 +15,7 @@ use Rattle.solver.specs.Spelled.{spelled, IsSpelled}
 use Rattle.solver.specs.Below.{IsKindBelow, IsRowBelow}
 use Rattle.pc_common.specs.World.{Node as PlainNode}
 use Rattle.pc_common.specs.Chain.{Leads}
-use Rattle.pc_common.specs.Steps.{Leaf, cycle, path, absent, close}
+use Rattle.pc_common.specs.Steps.{Leaf, path}
 use Rattle.pc_common.proofs.Elements.{In, in_from_contains, contains_from_in, in_map, from_map}
 use Rattle.pc_ground.specs.declared.literal.Literal.{Literal}
 use Rattle.pc_ground.specs.declared.literal.Literal.TheVariants.{Node, Edge, NoNode, NoEdge}
@@ -23,7 +23,6 @@ use Rattle.pc_ground.specs.Keys.{renamed, key_node}
 use Rattle.pc_ground.specs.Tree.{Tree, turned}
 use Rattle.pc_ground.specs.Literals.{Joins, IsPresent, as_node, as_start, as_end}
 use Rattle.pc_ground.specs.Refutes.{Branch, part_at, literal_of, literals_of, IsContradiction, a_cycle, a_path, an_absence, Closes, a_contradiction}
-use Rattle.pc_ground.proofs.Turned.{row_turned}
 use Rattle.refutation.specs.Steps.{HasItsNodes, IsLeaf}
 use Rattle.order_graph.specs.Ways.{IsBelow}
 use Rattle.order_graph.specs.Clashes.{leaf_of, IsClash}

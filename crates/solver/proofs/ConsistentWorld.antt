@@ -1,8 +1,8 @@
 -- Consistent literals over nodes are true in the world that they generate.
-use Rattle.std.proofs.Common.{◌≡◌, inl, inr, Bool, true, false, List, [], ◌∷◌, refl, sym, ap, subst}
-use Rattle.std.specs.Prelude.{Contains, IsTrue, not}
+use Rattle.std.proofs.Common.{inl, inr, List, [], ◌∷◌, refl, sym, subst}
+use Rattle.std.specs.Prelude.{Contains, IsTrue}
 use Rattle.std.specs.List.{flat_map}
-use Rattle.pc_common.specs.World.{Node, Edge, World, IsWorld, has_node, has_edge, same_node}
+use Rattle.pc_common.specs.World.{Node, Edge, World, has_node, has_edge, same_node}
 use Rattle.pc_common.specs.Chain.{Leads, Acyclic}
 use Rattle.pc_common.specs.Generated.{IsListed, HasEnds, IsGenerated}
 use Rattle.pc_common.proofs.Elements.{In, in_from_contains, contains_from_in, in_flat, from_flat}

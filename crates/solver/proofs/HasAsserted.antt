@@ -1,5 +1,5 @@
 -- Asserting a side: where a part's walk starts, one row more, one part more, and what a clash of a first part says of the whole.
-use Rattle.std.proofs.Common.{◌≡◌, ◌≤◌, ◌<◌, ℕ, ◌+◌, Bool, true, false, not, List, [], ◌∷◌, ◌++◌, Option, Some, None, map, take, length, refl, sym, ap, ◌∙◌, subst, arith, append_assoc}
+use Rattle.std.proofs.Common.{◌≡◌, ◌≤◌, ◌<◌, ℕ, ◌+◌, Bool, true, false, List, [], ◌∷◌, ◌++◌, Option, Some, None, map, take, length, refl, sym, ap, ◌∙◌, subst, arith, append_assoc}
 use Rattle.std.specs.Prelude.{slice_get, All}
 use Rattle.std.proofs.lemmas.List.{append-nil, take-append-le}
 use Rattle.std.proofs.lemmas.List.Elements.{All-contains, Contains-append_left}
@@ -15,7 +15,7 @@ use Rattle.pc_ground.specs.declared.row.RowKind.TheVariants.{True, False, Lit, A
 use Rattle.pc_ground.specs.Tree.{Tree, always, never, leaf, both, either, contrary, turned, size_of}
 use Rattle.pc_ground.specs.Rows.{rows_of, literals_of_kind, turned_kind, turned_row, turned_rows}
 use Rattle.pc_ground.specs.Literals.{Joins, IsPresent, as_node, as_start, as_end}
-use Rattle.pc_ground.specs.Refutes.{Signed, Branch, signed, all_signed, subtree_at, part_at, asserted, literal_of, literals_of, IsContradiction, a_cycle, a_path, an_absence}
+use Rattle.pc_ground.specs.Refutes.{Signed, Branch, all_signed, subtree_at, part_at, asserted, literal_of, literals_of, IsContradiction, a_cycle, a_path, an_absence}
 use Rattle.pc_ground.specs.Walks.{stride, Walk, literals_of_row}
 use Rattle.pc_ground.proofs.FlatRows.{root_of, row_subtree, subtree_within, subtree_row, subtree_size, length_rows, literal_by_row}
 use Rattle.pc_ground.proofs.Walks.{walk_side, walk_turn, walk_within}

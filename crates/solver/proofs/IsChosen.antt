@@ -7,9 +7,8 @@ use Rattle.pc_common.proofs.Elements.{in_from_contains, contains_from_in}
 use Rattle.pc_ground.specs.declared.literal.Literal.{Literal}
 use Rattle.pc_ground.specs.declared.row.Row.{Row}
 use Rattle.pc_ground.specs.declared.row.RowKind.TheVariants.{Or}
-use Rattle.pc_ground.specs.Rows.{rows_of, root_kind, turned_rows}
+use Rattle.pc_ground.specs.Rows.{root_kind, turned_rows}
 use Rattle.pc_ground.specs.Tree.{Tree, either, turned, size_of}
-use Rattle.pc_ground.specs.declared.version.Version.{Version}
 use Rattle.pc_ground.specs.declared.version.Version.TheVariants.{One}
 use Rattle.pc_ground.specs.Refutes.{Signed, Branch, signed, subtree_at, part_at, literals_of}
 use Rattle.pc_ground.proofs.Turned.{subtree_denied, size_turned}

@@ -1,5 +1,5 @@
 -- What a search keeps: after a split, after a side is entered, and after a side's clash.
-use Rattle.std.proofs.Common.{◌≡◌, ◌≤◌, ◌<◌, ℕ, zero, suc, ◌+◌, Bool, not, List, [], ◌∷◌, ◌++◌, Option, Some, None, take, drop, reverse, length, refl, sym, ap, ◌∙◌, subst, arith, append_assoc, length-append}
+use Rattle.std.proofs.Common.{◌≡◌, ◌≤◌, ◌<◌, ℕ, zero, suc, ◌+◌, Bool, not, List, [], ◌∷◌, ◌++◌, Option, Some, take, drop, reverse, length, refl, sym, ap, ◌∙◌, subst, arith, append_assoc, length-append}
 use Rattle.std.specs.Prelude.{slice_index, Contains}
 use Rattle.std.proofs.lemmas.List.{append-nil, take-append-le, length-map, length-take, get_or_append_left, reverse-append}
 use Rattle.std.specs.Option.{option_map}
@@ -9,7 +9,7 @@ use Rattle.pc_common.specs.Steps.{Leaf, Step, split, close}
 use Rattle.pc_ground.specs.Tree.{Tree, either, negation, turned, size_of}
 use Rattle.pc_ground.specs.declared.version.Version.{Version}
 use Rattle.pc_ground.specs.declared.version.Version.TheVariants.{One, Two}
-use Rattle.pc_ground.specs.Refutes.{Branch, Signed, signed, all_signed, subtree_at, part_at, asserted, literals_of, Closes, with_side, left_branch, right_branch, IsPartial}
+use Rattle.pc_ground.specs.Refutes.{Branch, Signed, signed, all_signed, subtree_at, part_at, asserted, literals_of, Closes, left_branch, right_branch, IsPartial}
 use Rattle.pc_ground.proofs.Turned.{subtree_denied, size_turned}
 use Rattle.pc_ground.proofs.FlatRows.{children_either, subtree_size, size_pos}
 use Rattle.order_graph.specs.State.{Graph, IsCut}
@@ -134,7 +134,7 @@ split_kept v nodes t g h aps ls ms ss us l n p a b kept on at same_literals same
       count = omega (arith, count, length_ps);
       live = omega (arith, mark, ap length marks, length-append g.marks (length g.literals ∷ []));
       literals = ap (slice_index h.marks) mark ∙ ap (λ xs. slice_index xs (length g.marks)) marks ∙ index_last g.marks (length g.literals)
-          ∙ ap length kept.stand ∙ ap (λ rs. length (literals_of t rs)) (sym whole);
+          ∙ ap length kept.literals ∙ ap (λ rs. length (literals_of t rs)) (sym whole);
       side = subst S (sym side) inside;
     } in
     let rest : B (take l.count ps) = subst B (sym whole) (subst M (sym all_marks) (marks_more t ps g.marks (length g.literals ∷ []) (reverse ls) kept.waits)) in
@@ -155,7 +155,7 @@ split_kept v nodes t g h aps ls ms ss us l n p a b kept on at same_literals same
     (subst (λ r. P here r (waiting t ps (reverse ls))) right
     (subst (λ u. P u (right_branch v ps n p x y) (waiting t ps (reverse ls))) left next)) in
     let Q : List (Step Node) → List Later → Type 0 = λ u w. IsPartial v T u (here ∷ waiting t ps w) in record {
-      stand = same_literals ∙ kept.stand;
+      literals = same_literals ∙ kept.literals;
       all_nodes = same_nodes ∙ kept.all_nodes;
       marks = omega (arith, kept.marks, ap length marks, length-append g.marks (length g.literals ∷ []), ap length steps, length-append ss (split n p ∷ []));
       waits = subst W (sym reversed) (first, rest);
@@ -180,7 +180,7 @@ entered_kept v nodes t g h aps bs ls ss more kept entered stand further =
     let B : Branch → Type 0 = λ qs. AreLater t qs g.marks (reverse ls) in
     let P : List Branch → Type 0 = IsPartial v (tree_over nodes t) ss in (
       record {
-        stand = stand;
+        literals = stand;
         all_nodes = further.same_nodes ∙ kept.all_nodes;
         marks = omega (arith, kept.marks, ap length further.same_marks);
         waits = subst M (sym further.same_marks) (subst B (sym entered) (later_more t ps more g.marks (reverse ls) kept.waits));
@@ -233,8 +233,8 @@ closed_kept v nodes t g h i aps bs cs ls ms ss us s l more kept closes steps pop
     omega (arith, ap length (take_length t l.count ps), length-take (length (literals_of t (take l.count ps))) (literals_of t ps)) in
     let stand : i.literals ≡ literals_of t (positions cs) =
     cut.literals ∙ ap (λ n. take n h.literals) index
-    ∙ take_shorter (length (literals_of t (take l.count ps))) g.literals h.literals (omega (arith, within, ap length kept.stand)) further.literals
-    ∙ ap (take (length (literals_of t (take l.count ps)))) kept.stand ∙ take_length t l.count ps ∙ ap (literals_of t) (sym qs_is) in
+    ∙ take_shorter (length (literals_of t (take l.count ps))) g.literals h.literals (omega (arith, within, ap length kept.literals)) further.literals
+    ∙ ap (take (length (literals_of t (take l.count ps)))) kept.literals ∙ take_length t l.count ps ∙ ap (literals_of t) (sym qs_is) in
     let marks : i.marks ≡ take (l.mark + 1) g.marks = cut.marks ∙ ap (take (l.mark + 1)) further.same_marks in
     let M : List ℕ → Type 0 = λ xs. AreLater t (positions cs) xs (reverse ms) in
     let B : Branch → Type 0 = λ rs. AreLater t rs (take (l.mark + 1) g.marks) (reverse ms) in
@@ -247,7 +247,7 @@ closed_kept v nodes t g h i aps bs cs ls ms ss us s l more kept closes steps pop
     let closed = runs_close v T ss (ps ++ more) (opens t (positions cs ++ side_positions t l.side) cs ms) s run closes in
     let Q : List (Step Node) → Type 0 = λ xs. IsPartial v T xs (opens t (positions cs ++ side_positions t l.side) cs ms) in (
       record {
-        stand = stand;
+        literals = stand;
         all_nodes = cut.same_nodes ∙ further.same_nodes ∙ kept.all_nodes;
         marks = omega (arith, kept.marks, ap length marks, length-take (l.mark + 1) g.marks, ap length steps, length-append ss (close s ∷ []));
         waits = subst M (sym marks) (subst B (sym qs_is) waits.1);

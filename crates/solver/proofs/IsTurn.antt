@@ -1,5 +1,5 @@
 -- From what a search keeps to what it hands out.
-use Rattle.std.proofs.Common.{◌≡◌, ◌<◌, inl, inr, ℕ, zero, suc, ◌+◌, ◌-◌, ◌^◌, true, not, List, [], ◌∷◌, Option, Some, None, map, reverse, length, refl, sym, ap, ◌∙◌, subst, arith, get_or}
+use Rattle.std.proofs.Common.{◌≡◌, ◌<◌, inl, inr, ℕ, zero, suc, ◌+◌, ◌-◌, ◌^◌, true, List, [], ◌∷◌, Option, Some, None, map, reverse, length, refl, sym, ap, ◌∙◌, subst, arith, get_or}
 use Rattle.std.specs.Prelude.{Contains, All, slice_get, Bool, false, ◌==◌, nat_lt}
 use Rattle.std.specs.Option.{option_map}
 use Rattle.std.proofs.lemmas.List.{append-nil}
@@ -18,12 +18,12 @@ use Rattle.pc_ground.specs.Tree.{Tree, always, never, leaf, both, either, turned
 use Rattle.pc_ground.specs.declared.version.Version.{Version}
 use Rattle.pc_ground.specs.declared.version.Version.TheVariants.{One, Two}
 use Rattle.pc_ground.specs.Literals.{IsConsistent}
-use Rattle.pc_ground.specs.Refutes.{Branch, Signed, signed, all_signed, subtree_at, part_at, asserted, literals_of, a_falsity, IsPartial, IsRefutation}
+use Rattle.pc_ground.specs.Refutes.{Branch, signed, all_signed, subtree_at, part_at, literals_of, a_falsity, IsPartial, IsRefutation}
 use Rattle.pc_ground.specs.Rows.{root_kind}
 use Rattle.pc_ground.proofs.FlatRows.{subtree_size, size_pos}
 use Rattle.pc_ground.proofs.Turned.{subtree_denied, size_turned}
 use Rattle.pc_ground.proofs.Bools.{not_both}
-use Rattle.pc_ground.proofs.Refuted.{refutation_sound, one_has_no_sign}
+use Rattle.pc_ground.proofs.Refuted.{one_has_no_sign}
 use Rattle.pc_ground.proofs.StageWalks.{some_same}
 use Rattle.pc_ground.specs.Folded.{HasNoConstant, IsFolded}
 use Rattle.pc_ground.specs.declared.row.RowKind.TheVariants.{False}
@@ -38,11 +38,11 @@ use Rattle.solver.specs.Met.{IsMet, IsMetUnder}
 use Rattle.solver.specs.Places.{place_signed, IsCandidate, HasSignsOf, AreChosen, root_side, side_positions}
 use Rattle.solver.specs.Opens.{positions, waiting, opens, IsState}
 use Rattle.solver.specs.Shown.{ArePresent, AreEdges}
-use Rattle.solver.specs.Answers.{IsWitness, IsUnsatisfied, IsAnswer}
+use Rattle.solver.specs.Answers.{IsWitness, IsAnswer}
 use Rattle.solver.specs.Turns.{IsTurn, IsTurnOf}
 use Rattle.solver.specs.declared.search.Turn.{Turn}
 use Rattle.solver.specs.declared.search.Turn.TheVariants.{More, Done}
-use Rattle.solver.specs.Searched.{Searched, searched_tree, IsSearching, IsSearch, branches_of}
+use Rattle.solver.specs.Searched.{IsSearching, IsSearch, branches_of}
 use Rattle.solver.specs.declared.place.Place.{Place}
 use Rattle.solver.specs.declared.later.Later.{Later}
 use Rattle.solver.proofs.RenamedTree.{part_renamed, size_renamed, asserted_renamed, tree_of_names}
@@ -99,8 +99,8 @@ pub kept_met : (v : Version) (nodes : List Node) (t : Tree ℕ) (g : Graph) (her
 kept_met v nodes t g here ls ss kept consistent chosen none =
     let P : List (Literal ℕ) → Type 0 = IsConsistent in
     let Q : List (Literal ℕ) → Type 0 = λ xs. IsMet xs t in
-    subst Q (sym kept.stand) (met_whole t (positions here) (kept_grown v nodes t g here ls ss kept)
-    (consistent_generate (literals_of t (positions here)) (subst P kept.stand consistent)).met chosen none)
+    subst Q (sym kept.literals) (met_whole t (positions here) (kept_grown v nodes t g here ls ss kept)
+    (consistent_generate (literals_of t (positions here)) (subst P kept.literals consistent)).met chosen none)
 
 rows_below : (n : ℕ) (t : Tree ℕ) → ((r : Row ℕ) → In r (rows_of t) → IsRowBelow n r) → AreBelow n t
 rows_below n always f = tt
@@ -177,12 +177,12 @@ searching v keys rows g here ls ss candidates s =
       branches = refl;
       partial = kept_run v nodes t g here ls ss s.state;
       nodes = s.state.all_nodes;
-      literals = s.state.stand;
+      literals = s.state.literals;
       place = q;
       part = part;
       on_branch = candidate.on_branch;
       at_place = plain_part t q.negated q.position (either candidate.left candidate.right) candidate.is_or;
-      not_met = λ h. candidate.is_false (subst P s.state.stand h);
+      not_met = λ h. candidate.is_false (subst P s.state.literals h);
     }
 
 pub candidates_small : (rows : List (Row ℕ)) (ps : Branch) (xs : List Place) → IsSpelled rows → length rows < 2 ^ 63
@@ -270,7 +270,7 @@ pub first_kept : (v : Version) (nodes : List Node) (t : Tree ℕ) (g : Graph) (h
 first_kept v nodes t g here ls ss all literals marks none_here none_later none_steps =
     let A : List Place → List Later → List (Step Node) → Type 0 = λ as' ls' ss'. IsState v nodes t g as' ls' ss' (side_positions t root_side) in
     let first : A [] [] [] = record {
-      stand = literals;
+      literals = literals;
       all_nodes = all;
       marks = omega (arith, ap length marks);
       waits = tt;

@@ -1,14 +1,15 @@
 -- The weight of open branches falls with each split, and with each branch that is closed.
-use Rattle.std.proofs.Common.{◌≡◌, ◌≤◌, ◌<◌, inl, inr, ℕ, zero, suc, ◌+◌, ◌-◌, ◌*◌, ◌^◌, Bool, true, false, not, ◌&&◌, ◌||◌, ◌⊎◌, List, [], ◌∷◌, ◌++◌, Option, Some, refl, sym, ap, ◌∙◌, subst, arith, eq-eqb, eqb-true}
+use Rattle.std.proofs.Common.{◌≡◌, ◌≤◌, ◌<◌, inl, inr, ℕ, zero, suc, ◌+◌, ◌-◌, ◌*◌, ◌^◌, Bool, true, false, not, ◌&&◌, ◌||◌, ◌⊎◌, List, [], ◌∷◌, ◌++◌, Option, Some, map, refl, sym, ap, ◌∙◌, subst, arith, eq-eqb, eqb-true}
 use Rattle.std.specs.Prelude.{if◌then◌else◌, nat_lt, ◌==◌}
 use Rattle.std.proofs.Math.Nat.{pow-le-pow_right, pow-suc, one-le-pow}
 use Rattle.std.proofs.lemmas.List.Sums.{sum_by-cons}
 use Rattle.std.proofs.lemmas.Bool.{ltb-false}
-use Rattle.pc_common.proofs.Elements.{In, in_front, in_back, in_map, any_holds, holds_any, true_or_false, or_first, or_later, or_second}
+use Rattle.pc_common.proofs.Elements.{In, in_from_contains, contains_from_in, in_front, in_back, in_map, any_holds, holds_any, true_or_false, or_first, or_later, or_second}
 use Rattle.pc_ground.specs.Tree.{Tree, always, never, leaf, both, either, negation, turned, size_of}
 use Rattle.pc_ground.specs.declared.version.Version.{Version}
 use Rattle.pc_ground.specs.declared.version.Version.TheVariants.{One, Two}
 use Rattle.pc_ground.specs.Refutes.{Branch, Signed, signed, all_signed, subtree_at, asserted, with_side, left_branch, right_branch}
+use Rattle.solver.specs.Places.{place_signed, HasSignsOf}
 use Rattle.solver.specs.Opens.{positions}
 use Rattle.solver.specs.declared.place.Place.{Place}
 use Rattle.solver.specs.Weights.{is_sign, under, is_on, pending_ors, pending_splits, weight}
@@ -187,6 +188,15 @@ or_none false = refl
 or_assoc : (u v w : Bool) → (u || (v || w)) ≡ ((u || v) || w)
 or_assoc true v w = refl
 or_assoc false v w = refl
+
+-- where no position has a sign, those without one are all
+pub plain_under : (xs : List Place) → HasSignsOf One (positions xs) → under false (positions xs) ≡ map (λ (a : Place). a.position) xs
+plain_under [] signs = refl
+plain_under (x ∷ xs) signs =
+    let here : x.negated ≡ false = signs (place_signed x) (contains_from_in (place_signed x) (positions (x ∷ xs)) (inl refl)) in
+    let is : is_sign false x.negated ≡ true = ap not here in
+    let rest = plain_under xs (λ q h. signs q (contains_from_in q (positions (x ∷ xs)) (inr (in_from_contains q (positions xs) h)))) in
+    rw is (ap (λ ps. x.position ∷ ps) rest)
 
 -- with one place more
 pub on_push : (n : Bool) (xs : List Place) (a : Place) (p : ℕ)

@@ -42,7 +42,7 @@ opens t ps asserted later = ps ∷ waiting t (positions asserted) (reverse later
 
 -- what is kept between the steps; the first open branch has the asserted positions and those of `more`
 pub record IsState (v : Version) (nodes : List Node) (t : Tree ℕ) (graph : Graph) (asserted : List Place) (later : List Later) (steps : List (Step Node)) (more : Branch) : Type 0 where
-  pub stand : graph.literals ≡ literals_of t (positions asserted)
+  pub literals : graph.literals ≡ literals_of t (positions asserted)
   pub all_nodes : graph.nodes ≡ length nodes
   pub marks : length graph.marks ≤ length steps
   pub waits : AreLater t (positions asserted) graph.marks (reverse later)

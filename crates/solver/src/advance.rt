@@ -51,7 +51,7 @@ pub(crate) fn advance<L: Ledger>(
         later.new.items refutation.new) }
     ensures lighter { IfOk result (λ found. status_weight rows.now asserted.new.items later.new.items found
         < 1 + weight (spelled rows.now)
-            (opens (spelled rows.now) (positions asserted.old.items) asserted.old.items later.old.items)) }
+        (opens (spelled rows.now) (positions asserted.old.items) asserted.old.items later.old.items)) }
     ensures longer { IfOk result (λ _. HasMore refutation.old refutation.new) }
 {
     let _steps_so_far = refutation.len();

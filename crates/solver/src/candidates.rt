@@ -7,7 +7,7 @@ ghost use Rattle.solver.specs.Flags.{flag, AreTruths};
 ghost use Rattle.solver.specs.Weights.{under, is_on};
 ghost use Rattle.solver.specs.Opens.{positions};
 
-use super::flags::branch_flags;
+use super::flags::{branch_flags, plain_flags};
 use super::place::Place;
 use super::rows::row_at;
 use super::truths::{child_flags, truths};
@@ -27,13 +27,7 @@ fn truth_under(negated: bool, truth: bool) -> bool
 /// on the branch. `truths` are those of the tree, and `on` says what is on the branch under this sign.
 // Inlined, so that version 1, which asks under no sign, tests no sign at each row.
 #[inline(always)]
-fn is_candidate(
-    rows: &[Row<u32>],
-    negated: bool,
-    truths: &[bool],
-    on: &[bool],
-    p: usize,
-) -> bool
+fn is_candidate(rows: &[Row<u32>], negated: bool, truths: &[bool], on: &[bool], p: usize) -> bool
     requires tree { IsSpelled rows.now }
     requires truths_count { length truths.now ≡ length rows.now }
     requires on_count { length on.now ≡ length rows.now }
@@ -41,7 +35,7 @@ fn is_candidate(
     ensures { (ps : Branch) → AreTruths (spelled rows.now) (literals_of (spelled rows.now) ps) 0 truths.now
         → ((q : ℕ) → flag on.now q ≡ is_on (under negated ps) q)
         → MatchBool result (IsCandidate (spelled rows.now) ps (signed negated p))
-            (IsChosen (spelled rows.now) ps (signed negated p)) }
+        (IsChosen (spelled rows.now) ps (signed negated p)) }
 {
     match row_at(rows, p).turned(negated).kind {
         RowKind::Or => {
@@ -94,10 +88,13 @@ fn plain_candidates(
     ensures all { IfOk result (λ found. AreCandidates (spelled rows.now) (positions asserted.now) found.items) }
     ensures none { IfOk result (λ found. found.items ≡ [] → AreChosen (spelled rows.now) (positions asserted.now)) }
 {
-    let on = branch_flags(alloc, rows.len(), false, asserted)?;
+    let on = plain_flags(alloc, rows.len(), asserted)?;
     let mut found = Vec::new(alloc);
     for position in 0..rows.len() {
-        let place = Place { negated: false, position };
+        let place = Place {
+            negated: false,
+            position,
+        };
         note_candidate(rows, place, truths, &on, &mut found)?;
     }
     Ok(found)
@@ -122,9 +119,15 @@ fn signed_candidates(
     let denied = branch_flags(alloc, rows.len(), true, asserted)?;
     let mut found = Vec::new(alloc);
     for position in 0..rows.len() {
-        let plain = Place { negated: false, position };
+        let plain = Place {
+            negated: false,
+            position,
+        };
         note_candidate(rows, plain, truths, &on, &mut found)?;
-        let negated = Place { negated: true, position };
+        let negated = Place {
+            negated: true,
+            position,
+        };
         note_candidate(rows, negated, truths, &denied, &mut found)?;
     }
     Ok(found)

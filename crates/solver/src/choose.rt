@@ -33,6 +33,8 @@ fn only_literal(rows: &[Row<u32>], side: Side) -> Option<Literal<u32>>
 
 /// Whether the side is closed at once: whether its literals clash with those asserted. A side of one
 /// literal is not entered. Graph and positions are as before.
+// Inlined, since most sides are one literal, for which no side has to be made.
+#[inline(always)]
 fn is_closed<L: Ledger>(
     rows: &[Row<u32>],
     side: Side,

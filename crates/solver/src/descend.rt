@@ -41,8 +41,8 @@ pub(crate) fn descend<L: Ledger>(
         later.old.items refutation.old (side_positions (spelled rows.now) side) }
     ensures descended { IfOk result (λ is_open. HasDescended version (map key_node keys.now) (spelled rows.now)
         (weight (spelled rows.now) (opens (spelled rows.now)
-            (positions asserted.old.items ++ side_positions (spelled rows.now) side)
-            asserted.old.items later.old.items) + 1)
+        (positions asserted.old.items ++ side_positions (spelled rows.now) side)
+        asserted.old.items later.old.items) + 1)
         graph.new asserted.new.items later.new.items refutation.new is_open) }
     ensures longer { IfOk result (λ _. IsLonger refutation.old refutation.new) }
 {

@@ -75,7 +75,10 @@ fn enter_part<L: Ledger>(
     let mut at = root;
     while at < end {
         let row = row_at(rows, at).turned(negated);
-        let place = Place { negated, position: at };
+        let place = Place {
+            negated,
+            position: at,
+        };
         if let Some(clash) = enter_row(row, place, graph, asserted, steps)? {
             return Ok(Some(clash));
         }

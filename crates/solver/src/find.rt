@@ -65,8 +65,8 @@ pub(crate) fn find<L: Ledger>(
         later.new.items refutation.new) }
     ensures lighter { IfOk result (λ found. status_weight rows.now asserted.new.items later.new.items found
         ≤ 1 + weight (spelled rows.now) (opens (spelled rows.now)
-            (positions asserted.old.items ++ side_positions (spelled rows.now) side)
-            asserted.old.items later.old.items)) }
+        (positions asserted.old.items ++ side_positions (spelled rows.now) side)
+        asserted.old.items later.old.items)) }
     ensures longer { IfOk result (λ _. IsLonger refutation.old refutation.new) }
 {
     let is_open = descend(

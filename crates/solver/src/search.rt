@@ -55,8 +55,14 @@ impl Model for Search {
 
     ghost Value = { Searched };
 
-    ghost view = { λ s. record { version = s.version; nodes = map key_node s.keys.items; rows = s.rows.items;
-        graph = s.graph; steps = s.refutation; branches = branches_of s.rows.items s.asserted.items s.later.items } };
+    ghost view = { λ s. record {
+      version = s.version;
+      nodes = map key_node s.keys.items;
+      rows = s.rows.items;
+      graph = s.graph;
+      steps = s.refutation;
+      branches = branches_of s.rows.items s.asserted.items s.later.items;
+    } };
 
     ghost invariant = { λ s. IsSearch s.version s.keys.items s.rows.items s.graph s.asserted.items s.later.items
         s.refutation s.candidates.items };
@@ -190,8 +196,8 @@ fn start<L: Ledger>(
 }
 
 impl Search {
-    /// Begins the search over this tree, whose nodes the numbering lists. A constant stands in the tree only
-    /// where it is the whole tree.
+    /// Begins the search of this version over this tree, whose nodes the numbering lists. A constant stands
+    /// in the tree only where it is the whole tree.
     pub fn begin<L: Ledger>(
         alloc: Global,
         tree: &Flat,
@@ -209,7 +215,15 @@ impl Search {
         let keys = keys_by_number(alloc, numbering)?;
         let rows = number_rows(alloc, tree, numbering)?;
         let graph = OrderGraph::new(alloc, count)?;
-        let turn = start(alloc, keys, rows, version, graph, Refutation::new(alloc), steps)?;
+        let turn = start(
+            alloc,
+            keys,
+            rows,
+            version,
+            graph,
+            Refutation::new(alloc),
+            steps,
+        )?;
         Ok(turn)
     }
 
@@ -260,7 +274,7 @@ impl Search {
             steps,
         )?;
         Ok(settle(
-        alloc, version, keys, rows, graph, asserted, later, refutation, status,
-    ))
+            alloc, version, keys, rows, graph, asserted, later, refutation, status,
+        ))
     }
 }

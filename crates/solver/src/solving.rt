@@ -14,11 +14,10 @@ use std::alloc::Global;
 use std::sync::ledger::Ledger;
 use undo_trail::Steps;
 
-/// Whether some world satisfies the tree: a graph that generates one, or a refutation.
+/// Whether some world satisfies the tree: a graph that generates one, or a refutation of this version.
 ///
 /// The numbering lists the tree's nodes, and a constant stands in the tree only where it is the whole tree.
-/// Answers Memory only where memory is refused; each turn takes time in proportion to the tree's positions,
-/// and the number of turns has no such bound.
+/// Returns `Memory` where memory is refused. How many turns the search takes has no bound but the tree's.
 pub fn solve<L: Ledger>(
     alloc: Global,
     tree: &Flat,

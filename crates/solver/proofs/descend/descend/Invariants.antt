@@ -1,4 +1,4 @@
-use Rattle.std.proofs.Common.{◌≤◌, ◌<◌, ◌++◌, length, map}
+use Rattle.std.proofs.Common.{◌≤◌, ◌++◌, length, map}
 use Rattle.pc_ground.specs.Keys.{key_node}
 use Rattle.solver.specs.Spelled.{spelled}
 use Rattle.solver.specs.Places.{side_positions, IsSideIn}

@@ -1,6 +1,5 @@
-use Rattle.std.proofs.Common.{◌+◌, ℕ, ◌++◌, List, refl, sym, ap, ◌∙◌, subst, arith}
+use Rattle.std.proofs.Common.{◌+◌, ℕ, ◌++◌, refl, sym, ap, ◌∙◌, subst, arith}
 use Rattle.std.specs.Prelude.{Option, All}
-use Rattle.pc_ground.specs.declared.row.Row.{Row}
 use Rattle.pc_ground.specs.Tree.{turned}
 use Rattle.pc_ground.specs.Rows.{turned_row, turned_rows}
 use Rattle.pc_ground.specs.Refutes.{all_signed, signed, subtree_at}

@@ -1,4 +1,4 @@
-use Rattle.std.proofs.Common.{◌≡◌, ℕ, List, length, take, subst, sym}
+use Rattle.std.proofs.Common.{◌≡◌, ℕ, length, take, subst, sym}
 use Rattle.std.specs.Prelude.{Option, All}
 use Rattle.order_graph.specs.declared.clash.Clash.{Clash}
 use Rattle.order_graph.proofs.Results.{if_ok}
