@@ -15,7 +15,7 @@ use Rattle.ll_grammar.proofs.DerivesLaws.Each.{none, class, part}
 use Rattle.uspec_lexer.specs.Token.{Token, Kind}
 use Rattle.litmus_reader.specs.Expected.{Expected, a_word, word_at, a_number, number_at, a_text, a_symbol, Is, Spell}
 use Rattle.litmus_reader.specs.Syntax.{spelled_page, spelled_address, spelled_entry, spelled_value, spelled_stated, spelled_touch, spelled_access, spelled_head, spelled_statement, spelled_item, spelled_items, spelled_test, open_, close_, dot, arrow, format_word, IsAddressOf, IsValueOf, IsActionOf, IsItemOf, AreItemsOf, IsTest}
-use Rattle.litmus_reader.specs.Terminals.{word_terminal, symbol_terminal, kind_terminal, terminal_of, is_name}
+use Rattle.litmus_reader.specs.Terminals.{spelling, word_terminal, symbol_terminal, kind_terminal, terminal_of, is_name}
 use Rattle.litmus_reader.specs.Phrases.{behind, may_end, deep, rules}
 use Rattle.litmus_reader.specs.declared.item.Numeral.{Numeral}
 use Rattle.litmus_reader.specs.declared.format.Format.{Format}
@@ -34,7 +34,7 @@ use Rattle.litmus_reader.specs.declared.terminal.Terminal.{Terminal}
 use Rattle.litmus_reader.specs.declared.terminal.Terminal.TheVariants.{Litmus, Litmus2, Microop, Relationship, Init, Final, Permitted, Forbidden, Read, Write, Fence, Va, Pa, Entry, Data, Maps, Name, Number, Text, Open, Close, Dot, Arrow, Other}
 use Rattle.litmus_reader.specs.declared.phrase.Phrase.{Phrase}
 use Rattle.litmus_reader.specs.declared.phrase.Phrase.TheVariants.{Test, Items, Access, Types, AnyName, VirtualPage, Address as AddressPart, AddressInside, ReadValue, WriteValue, ValueInside, StatedValue}
-use Rattle.litmus_reader.proofs.Words.{spelling, sort_of, name-of_kind, number-of_kind, text-of_kind, word-of_kind, symbol-of_kind, is_name-sort, word_is_name}
+use Rattle.litmus_reader.proofs.Words.{sort_of, name-of_kind, number-of_kind, text-of_kind, word-of_kind, symbol-of_kind, is_name-sort, word_is_name}
 use Rattle.litmus_reader.proofs.Spelling.{spell-append, map-head, map-part}
 
 -- From the table to the grammar: tokens of these terminals spell a text.

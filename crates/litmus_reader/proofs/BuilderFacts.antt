@@ -1,4 +1,4 @@
--- What is kept of the lines, line by line.
+-- What a builder holds of the lines, line by line.
 use Rattle.std.proofs.Common.{◌≡◌, zero, ◌<◌, ◌≤◌, Bool, true, false, List, [], ◌∷◌, ◌++◌, Option, Some, None, Result, Ok, Err, OnOk, IfOk, IfErr, length, map, refl, sym, ap, ◌∙◌, arith, append_assoc, inl, inr}
 use Rattle.std.specs.List.{filter_map, cons_option}
 use Rattle.std.proofs.lemmas.List.{map-append, append-nil}
@@ -12,7 +12,7 @@ use Rattle.pc_case.specs.Plain.{micro_op, dependency}
 use Rattle.pc_case.specs.declared.stated.Stated.{Stated}
 use Rattle.litmus_reader.specs.Items.{microop_of, relationship_of, initial_of, final_of, expectation_of, microops_in, heads_in, relationships_in, initial_in, final_in, expectations_in, op_of, is_named, place_in, dependency_of}
 use Rattle.litmus_reader.specs.Content.{Never, First, Unknown, AgainExpected}
-use Rattle.litmus_reader.specs.Builder.{stated_of, stances, HasLines, AddsMicroop, AddsRelationship}
+use Rattle.litmus_reader.specs.Builder.{stated_of, stated_expectations, HasLines, AddsMicroop, AddsRelationship}
 use Rattle.litmus_reader.specs.declared.item.Head.{Head}
 use Rattle.litmus_reader.specs.declared.item.End.{End}
 use Rattle.litmus_reader.specs.declared.item.Microop.{Microop}
@@ -21,7 +21,7 @@ use Rattle.litmus_reader.specs.declared.item.ValueLine.{ValueLine}
 use Rattle.litmus_reader.specs.declared.item.Item.{Item}
 use Rattle.litmus_reader.specs.declared.item.Item.TheVariants.{Microop as microop, Relationship as relationship, Initial as initial, Final as final}
 use Rattle.litmus_reader.specs.declared.builder.CaseBuilder.{CaseBuilder}
-use Rattle.litmus_reader.specs.declared.builder.Stance.{Stance}
+use Rattle.litmus_reader.specs.declared.builder.StatedExpectation.{StatedExpectation}
 use Rattle.litmus_reader.proofs.RowFacts.{place_in-none}
 
 pub place_in_within : (heads : List Head) (x : End) → place_in heads x ≤ length heads
@@ -96,14 +96,14 @@ has_microop old new before m k a = record {
       ∙ ap (map (dependency_of (heads_in (before ++ microop m ∷ []) ++ more))) (sym (same relationship_of before (microop m) refl));
   initial = a.initial ∙ k.initial ∙ ap (map stated_of) (sym (same initial_of before (microop m) refl));
   final_values = a.final_values ∙ k.final_values ∙ ap (map stated_of) (sym (same final_of before (microop m) refl));
-  stance = ap stances a.stance ∙ k.stance ∙ sym (same expectation_of before (microop m) refl);
+  expected = ap stated_expectations a.expected ∙ k.expected ∙ sym (same expectation_of before (microop m) refl);
 }
 
 -- what a line that is no micro-op and no relationship keeps
 has_others : (old new : CaseBuilder) (before : List Item) (i : Item) → microop_of i ≡ None → relationship_of i ≡ None
     → HasLines old before → new.heads ≡ old.heads → new.ops ≡ old.ops → new.dependencies ≡ old.dependencies
     → new.initial ≡ map stated_of (initial_in (before ++ i ∷ [])) → new.final_values ≡ map stated_of (final_in (before ++ i ∷ []))
-    → stances new.stance ≡ expectations_in (before ++ i ∷ []) → HasLines new (before ++ i ∷ [])
+    → stated_expectations new.expected ≡ expectations_in (before ++ i ∷ []) → HasLines new (before ++ i ∷ [])
 has_others old new before i no_op no_line k h o d initials finals stands = record {
   heads = ap (λ v. v.items) h ∙ k.heads ∙ sym (same_heads before i no_op);
   ops = ap (map micro_op) o ∙ k.ops ∙ ap (map op_of) (sym (same microop_of before i no_op));
@@ -113,7 +113,7 @@ has_others old new before i no_op no_line k h o d initials finals stands = recor
       ∙ ap (map (dependency_of (heads_in (before ++ i ∷ []) ++ more))) (sym (same relationship_of before i no_line));
   initial = initials;
   final_values = finals;
-  stance = stands;
+  expected = stands;
 }
 
 pub has_relationship : (old new : CaseBuilder) (before : List Item) (r : Relationship) → HasLines old before
@@ -133,7 +133,7 @@ has_relationship old new before r k never a =
           ∙ ap (λ (hs : List Head). map (dependency_of (hs ++ more)) (relationships_in (before ++ i ∷ []))) (sym (same_heads before i refl));
       initial = a.initial ∙ k.initial ∙ ap (map stated_of) (sym (same initial_of before i refl));
       final_values = a.final_values ∙ k.final_values ∙ ap (map stated_of) (sym (same final_of before i refl));
-      stance = ap stances a.stance ∙ k.stance ∙ sym (same expectation_of before i refl);
+      expected = ap stated_expectations a.expected ∙ k.expected ∙ sym (same expectation_of before i refl);
     }
 
 pub has_initial : (old : CaseBuilder) (before : List Item) (v : ValueLine) (lines : List Stated) → HasLines old before
@@ -144,7 +144,7 @@ has_initial old before v lines k e =
     (e ∙ ap (λ (ls : List Stated). ls ++ stated_of v ∷ []) k.initial ∙ sym (map-append stated_of (initial_in before) (v ∷ []))
     ∙ ap (map stated_of) (sym (added initial_of before i v refl)))
     (k.final_values ∙ ap (map stated_of) (sym (same final_of before i refl)))
-    (k.stance ∙ sym (same expectation_of before i refl))
+    (k.expected ∙ sym (same expectation_of before i refl))
 
 pub has_final : (old : CaseBuilder) (before : List Item) (v : ValueLine) (lines : List Stated) → HasLines old before
     → lines ≡ old.final_values ++ stated_of v ∷ [] → HasLines (record old { final_values = lines }) (before ++ final v ∷ [])
@@ -154,19 +154,19 @@ has_final old before v lines k e =
     (k.initial ∙ ap (map stated_of) (sym (same initial_of before i refl)))
     (e ∙ ap (λ (ls : List Stated). ls ++ stated_of v ∷ []) k.final_values ∙ sym (map-append stated_of (final_in before) (v ∷ []))
     ∙ ap (map stated_of) (sym (added final_of before i v refl)))
-    (k.stance ∙ sym (same expectation_of before i refl))
+    (k.expected ∙ sym (same expectation_of before i refl))
 
 -- no expectation stands before one that is no fault
 pub none_expected : (es : List (Expectation × Place)) (at : Place) → Never (AgainExpected es at) → es ≡ []
 none_expected [] at never = refl
 none_expected (e ∷ es) at never = absurd (never _ at (e, (zero, omega arith, refl), refl, refl))
 
-pub has_expectation : (old : CaseBuilder) (before : List Item) (i : Item) (s : Stance) (e : Expectation × Place) → HasLines old before
+pub has_expectation : (old : CaseBuilder) (before : List Item) (i : Item) (s : StatedExpectation) (e : Expectation × Place) → HasLines old before
     → microop_of i ≡ None → relationship_of i ≡ None → initial_of i ≡ None → final_of i ≡ None → expectation_of i ≡ Some e
-    → stances (Some s) ≡ e ∷ [] → (at : Place) → Never (AgainExpected (expectations_in before) at)
-    → HasLines (record old { stance = Some s }) (before ++ i ∷ [])
+    → stated_expectations (Some s) ≡ e ∷ [] → (at : Place) → Never (AgainExpected (expectations_in before) at)
+    → HasLines (record old { expected = Some s }) (before ++ i ∷ [])
 has_expectation old before i s e k no_op no_line no_initial no_final is said at never =
-    has_others old (record old { stance = Some s }) before i no_op no_line k refl refl refl
+    has_others old (record old { expected = Some s }) before i no_op no_line k refl refl refl
     (k.initial ∙ ap (map stated_of) (sym (same initial_of before i no_initial)))
     (k.final_values ∙ ap (map stated_of) (sym (same final_of before i no_final)))
     (said ∙ ap (λ (es : List (Expectation × Place)). es ++ e ∷ []) (sym (none_expected (expectations_in before) at never))

@@ -7,7 +7,7 @@ use Rattle.uspec_lexer.specs.Token.{Token}
 use Rattle.uspec_lexer.proofs.SpellsLaws.{spells-unique, spells-no_fault}
 use Rattle.litmus_reader.specs.Syntax.{IsTestOf, IsTest}
 use Rattle.litmus_reader.specs.Items.{case_of}
-use Rattle.litmus_reader.specs.Answer.{IsTextOf, CaseOf, IsRefusal}
+use Rattle.litmus_reader.specs.Answer.{IsTextOf, CaseOf, IsCaseFault}
 use Rattle.litmus_reader.specs.declared.item.Item.{Item}
 use Rattle.litmus_reader.specs.declared.fault.CaseFault.{CaseFault}
 use Rattle.litmus_reader.specs.declared.fault.CaseFault.TheVariants.{Lexical, Syntax, Content, Memory}
@@ -29,7 +29,7 @@ no_syntax_fault ts k test f =
     f.through (omega arith) (drop (k + 1) ts, subst IsTest (sym (take-append-drop (k + 1) ts)) test)
 
 -- a text with a case has no fault
-pub no_fault : (bytes : List ℕ) (c : Case) (fault : CaseFault) → CaseOf bytes c → fault ≢ Memory → IsRefusal bytes fault → ⊥
+pub no_fault : (bytes : List ℕ) (c : Case) (fault : CaseFault) → CaseOf bytes c → fault ≢ Memory → IsCaseFault bytes fault → ⊥
 no_fault bytes c (Lexical place) s not f = spells-no_fault s.text.spelled f
 no_fault bytes c (Syntax place) s not f =
     no_syntax_fault f.tokens f.k (s.items, subst (IsTestOf s.items) (spells-unique s.text.spelled f.spelled) s.text.test) f.fault

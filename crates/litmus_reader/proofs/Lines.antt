@@ -1,15 +1,15 @@
 -- What stands in the lines of a test, place by place.
-use Rattle.std.proofs.Common.{◌≡◌, ◌≢◌, ℕ, ◌+◌, ◌<◌, ◌≤◌, List, [], ◌∷◌, ◌++◌, Some, map, codes, length, slice_get, refl, sym, ap, subst, ◌∙◌, arith, append_assoc, ◌⊎◌, inl, inr}
+use Rattle.std.proofs.Common.{◌≡◌, ◌≢◌, ℕ, ◌+◌, ◌<◌, ◌≤◌, List, [], ◌∷◌, ◌++◌, Some, map, codes, length, slice_get, refl, sym, ap, subst, ◌∙◌, arith, append_assoc}
 use Rattle.std.proofs.lemmas.List.{length-append, length-map}
 use Rattle.pc_case.specs.declared.address.Page.{Page}
 use Rattle.pc_case.specs.declared.address.Address.{Address}
 use Rattle.pc_case.specs.declared.address.Address.TheVariants.{Page as PageAddress, Entry as EntryAddress}
 use Rattle.pc_common.specs.declared.place.Place.{Place}
 use Rattle.uspec_lexer.specs.Token.{Token}
-use Rattle.litmus_reader.specs.Expected.{Expected, a_word, word_at, a_number, number_at, a_symbol}
+use Rattle.litmus_reader.specs.Expected.{Expected, a_word, word_at, a_number, a_symbol}
 use Rattle.litmus_reader.specs.Syntax.{spelled_page, spelled_address, spelled_entry, spelled_value, spelled_stated, spelled_touch, spelled_action, spelled_access, spelled_head, spelled_statement, spelled_item, action_word, open_, close_, dot}
 use Rattle.litmus_reader.specs.Terminals.{word_terminal, symbol_terminal, terminal_of}
-use Rattle.litmus_reader.specs.Reading.{StandsAt, IsPageAt, IsNameAt, BeginsAt, NamesAt, SomeAt, IsReadAt, SomeEntryAt, IsEntryAt, SomeActionAt, IsActionAt, IsValueLineAt, terminal_of_action, spelled_microop, spelled_relationship}
+use Rattle.litmus_reader.specs.Reading.{StandsAt, IsPageAt, IsNameAt, BeginsAt, NamesAt, SomeAt, IsReadAt, IsValueLineAt, terminal_of_action, spelled_microop, spelled_relationship}
 use Rattle.litmus_reader.specs.declared.item.Numeral.{Numeral}
 use Rattle.litmus_reader.specs.declared.item.ValueText.{ValueText}
 use Rattle.litmus_reader.specs.declared.item.ValueText.TheVariants.{Number as number_text, Entry as entry_text}
@@ -22,7 +22,7 @@ use Rattle.litmus_reader.specs.declared.item.ValueLine.{ValueLine}
 use Rattle.litmus_reader.specs.declared.item.Item.{Item}
 use Rattle.litmus_reader.specs.declared.item.Item.TheVariants.{Microop as microop, Relationship as relationship, Initial as initial, Final as final, Permitted as permitted, Forbidden as forbidden}
 use Rattle.litmus_reader.specs.declared.terminal.Terminal.{Terminal}
-use Rattle.litmus_reader.specs.declared.terminal.Terminal.TheVariants.{Microop, Relationship, Init, Final, Permitted, Forbidden, Read, Write, Fence, Pa, Entry, Data, Maps, Number, Open}
+use Rattle.litmus_reader.specs.declared.terminal.Terminal.TheVariants.{Microop, Relationship, Init, Final, Permitted, Forbidden, Pa, Entry, Data, Maps, Number, Open}
 use Rattle.litmus_reader.proofs.Bridge.{terminal, terminal-of_token}
 use Rattle.litmus_reader.proofs.Places.{stands, place-stands, stands-first, begins-behind, begins-front, begins-within}
 

@@ -126,8 +126,8 @@ one_stated word lines v apart j k p q (e, c, same_a, is_a, at_a) (f, d, same_b, 
     let twin = alone SameAddress lines apart e f c d (same_a ∙ sym same_b) in
     (is_a ∙ ap (λ (z : ValueLine). word (value_of z.value) (value_of v.value)) twin ∙ sym is_b, at_a ∙ sym at_b)
 
-one_stance : (es : List (Expectation × Place)) (at : Place) → length es ≤ 1 → IsOne (AgainExpected es at)
-one_stance es at few j k p q (e, c, is_a, at_a) (f, d, is_b, at_b) =
+one_expectation : (es : List (Expectation × Place)) (at : Place) → length es ≤ 1 → IsOne (AgainExpected es at)
+one_expectation es at few j k p q (e, c, is_a, at_a) (f, d, is_b, at_b) =
     let first : c.0 ≡ d.0 = let a = c.1 in let b = d.1 in omega arith in
     let twin : e ≡ f = let a = got es e c in let b = got es f d in cc in
     (is_a ∙ ap (λ (z : Expectation × Place). AgainExpectation z.1 at) twin ∙ sym is_b, at_a ∙ sym at_b)
@@ -163,8 +163,8 @@ one_fault_of before (initial v) clean =
 one_fault_of before (final v) clean =
     one-first (AgainStated AgainFinal (final_in before) v) (MarkFault v.value)
     (one_stated AgainFinal (final_in before) v (pages final_of AgainFinal judged_final before clean)) (one_mark v.value)
-one_fault_of before (permitted at) clean = one_stance (expectations_in before) at (one_expected before clean)
-one_fault_of before (forbidden at) clean = one_stance (expectations_in before) at (one_expected before clean)
+one_fault_of before (permitted at) clean = one_expectation (expectations_in before) at (one_expected before clean)
+one_fault_of before (forbidden at) clean = one_expectation (expectations_in before) at (one_expected before clean)
 
 -- two places of one list
 parted : {X : Type 0} (xs ys : List X) (x y : X) (us vs : List X) → xs ++ x ∷ us ≡ ys ++ y ∷ vs

@@ -6,8 +6,7 @@ use Rattle.pc_case.specs.declared.address.Address.{Address}
 use Rattle.pc_case.specs.declared.address.Address.TheVariants.{Page as PageAddress, Entry as EntryAddress}
 use Rattle.uspec_lexer.specs.Token.{Token, name, symbol}
 use Rattle.litmus_reader.specs.Expected.{Expected, a_word, word_at, a_number, number_at, a_symbol, Spell}
-use Rattle.litmus_reader.specs.Syntax.{spelled_address, spelled_entry, spelled_value, spelled_stated, spelled_touch, spelled_action, spelled_access, spelled_head, spelled_statement, spelled_item, spelled_items, close_, IsTestOf}
-use Rattle.litmus_reader.specs.Terminals.{word_terminal, terminal_of}
+use Rattle.litmus_reader.specs.Syntax.{spelled_address, spelled_entry, spelled_value, spelled_stated, spelled_touch, spelled_action, spelled_head, spelled_statement, spelled_item, spelled_items, IsTestOf}
 use Rattle.litmus_reader.specs.Reading.{StandsAt, IsNameAt, BeginsAt, NamesAt, terminal_of_action}
 use Rattle.litmus_reader.specs.declared.item.Numeral.{Numeral}
 use Rattle.litmus_reader.specs.declared.item.ValueText.{ValueText}

@@ -7,7 +7,7 @@ use Rattle.uspec_lexer.specs.Token.{Token}
 use Rattle.litmus_reader.specs.Expected.{Expected, Spell}
 use Rattle.litmus_reader.specs.Syntax.{spelled_item, spelled_items, IsTestOf, IsTest}
 use Rattle.litmus_reader.specs.Content.{Never, IsFaultOf, IsClean, IsContentFault}
-use Rattle.litmus_reader.specs.Answer.{IsContentRefusal}
+use Rattle.litmus_reader.specs.Answer.{IsContentFaultIn}
 use Rattle.litmus_reader.specs.Builder.{HasLines, IsLineFault}
 use Rattle.litmus_reader.specs.Reading.{BeginsAt, SomeAt, IsReadAt}
 use Rattle.litmus_reader.specs.declared.fault.CaseFault.{CaseFault}
@@ -20,7 +20,7 @@ use Rattle.litmus_reader.proofs.Places.{spell-behind, begins-front}
 use Rattle.litmus_reader.proofs.Lines.{item-within}
 use Rattle.litmus_reader.proofs.CleanFacts.{clean-none, clean-push}
 
--- the lines up to `at` are read, have no fault and are kept
+-- the lines up to `at` are read and have no fault, and the builder holds them
 pub record Reached (ts : List Token) (at : ℕ) (k : CaseBuilder) : Type 0 where
   pub within : at ≤ length ts
   pub before : List Item
@@ -127,7 +127,7 @@ fault-of r item to s kind place here = (
 )
 
 pub content_fault-of : {ts : List Token} {at : ℕ} {k : CaseBuilder} (r : Reached ts at k) (item : Item) (to : ℕ) (s : ReadLine ts at r.rest item to)
-    → (fault : CaseFault) → IsLineFault r.before item fault → IsContentRefusal ts fault
+    → (fault : CaseFault) → IsLineFault r.before item fault → IsContentFaultIn ts fault
 content_fault-of r item to s (Content kind place) here = fault-of r item to s kind place here
 content_fault-of r item to s Memory here = tt
 content_fault-of r item to s (Lexical place) here = absurd here

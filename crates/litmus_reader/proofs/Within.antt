@@ -8,7 +8,7 @@ use Rattle.uspec_lexer.proofs.Order.{spells-get, token-within}
 use Rattle.litmus_reader.specs.Expected.{Expected, a_word, word_at, number_at, Is, Spell}
 use Rattle.litmus_reader.specs.Syntax.{spelled_page, spelled_address, spelled_entry, spelled_value, spelled_stated, spelled_touch, action_word, spelled_action, spelled_access, spelled_head, spelled_statement, spelled_item, spelled_items, open_, close_, dot, IsTestOf}
 use Rattle.litmus_reader.specs.Content.{First, OverMark, MarkFault, ActionFault, IsFaultOf}
-use Rattle.litmus_reader.specs.Answer.{IsRefusal}
+use Rattle.litmus_reader.specs.Answer.{IsCaseFault}
 use Rattle.litmus_reader.specs.Laws.{IsWithin}
 use Rattle.litmus_reader.specs.Reading.{BeginsAt}
 use Rattle.litmus_reader.specs.declared.item.Numeral.{Numeral}
@@ -130,7 +130,7 @@ syntax_within {bytes} {ts} k spelled = by (slice_get ts k) refl
     by (Some t) e = place_within k t spelled e
 
 -- a fault stands within the text
-pub fault_within : (bytes : List ℕ) (fault : CaseFault) → IsRefusal bytes fault → IsWithin bytes fault
+pub fault_within : (bytes : List ℕ) (fault : CaseFault) → IsCaseFault bytes fault → IsWithin bytes fault
 fault_within bytes (Lexical place) f = omega (arith, f.inside)
 fault_within bytes (Syntax place) f = omega (arith, f.at, syntax_within f.k f.spelled)
 fault_within bytes (Content kind place) (items, said, f) =

@@ -35,19 +35,19 @@ pub record IsSyntaxFault (bytes : List ℕ) (place : Place) : Type 0 where
   pub at : place.offset ≡ token_place bytes tokens k
 
 -- the first fault of a test; want of memory is tied to nothing
-abbrev pub IsRefusal : List ℕ → CaseFault → Type 0
-IsRefusal bytes (Lexical place) = IsLexicalFault bytes place.offset
-IsRefusal bytes (Syntax place) = IsSyntaxFault bytes place
-IsRefusal bytes (Content kind place) = (items : List Item) × IsTextOf bytes items × IsContentFault items kind place
-IsRefusal bytes Memory = ⊤
+abbrev pub IsCaseFault : List ℕ → CaseFault → Type 0
+IsCaseFault bytes (Lexical place) = IsLexicalFault bytes place.offset
+IsCaseFault bytes (Syntax place) = IsSyntaxFault bytes place
+IsCaseFault bytes (Content kind place) = (items : List Item) × IsTextOf bytes items × IsContentFault items kind place
+IsCaseFault bytes Memory = ⊤
 
 -- the tokens, which are a test, say this case
 abbrev pub CaseIn : List Token → Case → Type 0
 CaseIn ts case = (items : List Item) × IsTestOf items ts × IsClean items × (case ≡ case_of items)
 
 -- their first fault
-abbrev pub IsContentRefusal : List Token → CaseFault → Type 0
-IsContentRefusal ts (Content kind place) = (items : List Item) × IsTestOf items ts × IsContentFault items kind place
-IsContentRefusal ts Memory = ⊤
-IsContentRefusal ts (Lexical place) = ⊥
-IsContentRefusal ts (Syntax place) = ⊥
+abbrev pub IsContentFaultIn : List Token → CaseFault → Type 0
+IsContentFaultIn ts (Content kind place) = (items : List Item) × IsTestOf items ts × IsContentFault items kind place
+IsContentFaultIn ts Memory = ⊤
+IsContentFaultIn ts (Lexical place) = ⊥
+IsContentFaultIn ts (Syntax place) = ⊥

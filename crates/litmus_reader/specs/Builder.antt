@@ -1,5 +1,5 @@
 -- What the builder of a case holds of the lines so far.
-use Rattle.std.specs.Prelude.{◌≡◌, ℕ, ⊤, List, [], ◌∷◌, ◌++◌, Option, Some, None, map}
+use Rattle.std.specs.Prelude.{◌≡◌, ⊤, List, [], ◌∷◌, ◌++◌, Option, Some, None, map}
 use Rattle.pc_common.specs.declared.place.Place.{Place}
 use Rattle.pc_common.specs.declared.value.Value.{Value}
 use Rattle.pc_common.specs.Case.{Expectation}
@@ -20,7 +20,7 @@ use Rattle.litmus_reader.specs.declared.item.ValueLine.{ValueLine}
 use Rattle.litmus_reader.specs.declared.item.Item.{Item}
 use Rattle.litmus_reader.specs.declared.builder.When.{When}
 use Rattle.litmus_reader.specs.declared.builder.When.TheVariants.{Initial, Final}
-use Rattle.litmus_reader.specs.declared.builder.Stance.{Stance}
+use Rattle.litmus_reader.specs.declared.builder.StatedExpectation.{StatedExpectation}
 use Rattle.litmus_reader.specs.declared.builder.CaseBuilder.{CaseBuilder}
 
 abbrev pub stated_of : ValueLine → Stated
@@ -32,18 +32,19 @@ word_of Initial = AgainInitial
 word_of Final = AgainFinal
 
 -- the expectation that was stated, if one was
-abbrev pub stances : Option Stance → List (Expectation × Place)
-stances None = []
-stances (Some s) = (expectation s.expect, s.at) ∷ []
+abbrev pub stated_expectations : Option StatedExpectation → List (Expectation × Place)
+stated_expectations None = []
+stated_expectations (Some s) = (expectation s.expect, s.at) ∷ []
 
 pub record HasLines (k : CaseBuilder) (before : List Item) : Type 0 where
   pub heads : k.heads.items ≡ heads_in before
   pub ops : map micro_op k.ops ≡ map op_of (microops_in before)
   -- whatever micro-ops come behind
-  pub dependencies : (more : List Head) → map dependency k.dependencies ≡ map (dependency_of (heads_in before ++ more)) (relationships_in before)
+  pub dependencies : (more : List Head)
+      → map dependency k.dependencies ≡ map (dependency_of (heads_in before ++ more)) (relationships_in before)
   pub initial : k.initial ≡ map stated_of (initial_in before)
   pub final_values : k.final_values ≡ map stated_of (final_in before)
-  pub stance : stances k.stance ≡ expectations_in before
+  pub expected : stated_expectations k.expected ≡ expectations_in before
 
 -- one more micro-op
 pub record AddsMicroop (old new : CaseBuilder) (m : Microop) : Type 0 where
@@ -52,16 +53,17 @@ pub record AddsMicroop (old new : CaseBuilder) (m : Microop) : Type 0 where
   pub dependencies : new.dependencies ≡ old.dependencies
   pub initial : new.initial ≡ old.initial
   pub final_values : new.final_values ≡ old.final_values
-  pub stance : new.stance ≡ old.stance
+  pub expected : new.expected ≡ old.expected
 
 -- one more dependency
 pub record AddsRelationship (old new : CaseBuilder) (r : Relationship) : Type 0 where
   pub heads : new.heads ≡ old.heads
   pub ops : new.ops ≡ old.ops
-  pub dependencies : map dependency new.dependencies ≡ map dependency old.dependencies ++ dependency_of old.heads.items r ∷ []
+  pub dependencies :
+      map dependency new.dependencies ≡ map dependency old.dependencies ++ dependency_of old.heads.items r ∷ []
   pub initial : new.initial ≡ old.initial
   pub final_values : new.final_values ≡ old.final_values
-  pub stance : new.stance ≡ old.stance
+  pub expected : new.expected ≡ old.expected
 
 -- the tokens are a test of lines without a fault, and it holds these
 abbrev pub HasTest : List Token → CaseBuilder → Type 0

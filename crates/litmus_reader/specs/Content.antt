@@ -1,6 +1,6 @@
 -- The content faults of a test. An item is judged by the items before it, row by row of its table, and the first row
 -- that applies names the fault; the first item with a fault names that of the test.
-use Rattle.std.specs.Prelude.{◌≡◌, ◌≢◌, ℕ, ◌<◌, ◌≤◌, List, ◌∷◌, ◌++◌, length, ◌⊎◌, Contains}
+use Rattle.std.specs.Prelude.{◌≡◌, ◌≢◌, ◌<◌, ◌≤◌, List, ◌∷◌, ◌++◌, length, ◌⊎◌, Contains}
 use Rattle.pc_common.specs.declared.place.Place.{Place}
 use Rattle.pc_common.specs.declared.fault.FaultKind.{FaultKind}
 use Rattle.pc_common.specs.declared.fault.FaultKind.TheVariants.{CoreNumber, TooManyOps, SplitInstruction, DuplicateOp, OpUnknown, AgainInitial, AgainFinal, AgainExpectation, MarkValue}
@@ -40,7 +40,8 @@ abbrev pub SplitFrom : Head → Head → FaultKind → Place → Type 0
 SplitFrom h e kind at =
     (e.g.value ≡ h.g.value) ×
     (((e.core.value ≢ h.core.value) × (kind ≡ SplitInstruction e.core.value h.core.value) × (at ≡ h.core.at))
-    ⊎ ((e.core.value ≡ h.core.value) × (e.thread.value ≢ h.thread.value) × (kind ≡ SplitInstruction e.thread.value h.thread.value) × (at ≡ h.thread.at)))
+    ⊎ ((e.core.value ≡ h.core.value) × (e.thread.value ≢ h.thread.value)
+    × (kind ≡ SplitInstruction e.thread.value h.thread.value) × (at ≡ h.thread.at)))
 
 -- the earlier micro-op has this g and this n: at g
 abbrev pub DuplicateOf : Head → Head → FaultKind → Place → Type 0
@@ -53,12 +54,14 @@ SomeEarlier before Row kind at = (e : Head) × Contains before e × Row e kind a
 -- no earlier micro-op is the end: at its g
 abbrev pub Unknown : List Head → End → FaultKind → Place → Type 0
 Unknown before x kind at =
-    ((e : Head) → Contains before e → e.g.value ≡ x.g.value → e.n ≢ x.n) × (kind ≡ OpUnknown x.g.value x.n) × (at ≡ x.g.at)
+    ((e : Head) → Contains before e → e.g.value ≡ x.g.value → e.n ≢ x.n)
+    × (kind ≡ OpUnknown x.g.value x.n) × (at ≡ x.g.at)
 
 -- an earlier line of this kind has this address: at the line's word
 abbrev pub AgainStated : (Value → Value → FaultKind) → List ValueLine → ValueLine → FaultKind → Place → Type 0
 AgainStated word before v kind at =
-    (e : ValueLine) × Contains before e × (e.pa ≡ v.pa) × (kind ≡ word (value_of e.value) (value_of v.value)) × (at ≡ v.at)
+    (e : ValueLine) × Contains before e × (e.pa ≡ v.pa)
+    × (kind ≡ word (value_of e.value) (value_of v.value)) × (at ≡ v.at)
 
 -- an earlier line states an expectation: at the word
 abbrev pub AgainExpected : List (Expectation × Place) → Place → FaultKind → Place → Type 0
@@ -85,7 +88,8 @@ ValueFault word before v = First (AgainStated word before v) (MarkFault v.value)
 
 abbrev pub HeadFault : List Head → Head → FaultKind → Place → Type 0
 HeadFault before h =
-    First (OverCore h) (First (OverMany before h) (First (SomeEarlier before (SplitFrom h)) (SomeEarlier before (DuplicateOf h))))
+    First (OverCore h)
+    (First (OverMany before h) (First (SomeEarlier before (SplitFrom h)) (SomeEarlier before (DuplicateOf h))))
 
 -- the fault of an item behind these
 abbrev pub IsFaultOf : List Item → Item → FaultKind → Place → Type 0
@@ -98,7 +102,9 @@ IsFaultOf before (forbidden at) = AgainExpected (expectations_in before) at
 
 -- no item has a fault
 abbrev pub IsClean : List Item → Type 0
-IsClean items = (before : List Item) (item : Item) (after : List Item) → items ≡ before ++ item ∷ after → Never (IsFaultOf before item)
+IsClean items =
+    (before : List Item) (item : Item) (after : List Item) → items ≡ before ++ item ∷ after
+    → Never (IsFaultOf before item)
 
 -- the fault of the first item that has one
 pub record IsContentFault (items : List Item) (kind : FaultKind) (at : Place) : Type 0 where

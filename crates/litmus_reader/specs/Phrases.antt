@@ -18,9 +18,15 @@ abbrev pub behind : Phrase → Terminal → Option (List (Symbol Terminal Phrase
 behind Test Litmus = Some (Class Text ∷ Class Dot ∷ Part (Items One) ∷ [])
 behind Test Litmus2 = Some (Class Text ∷ Class Dot ∷ Part (Items Two) ∷ [])
 behind (Items f) Microop =
-    Some (Class Number ∷ Class Number ∷ Class Number ∷ Class Number ∷ Class Open ∷ Part (Access f) ∷ Class Close ∷ Class Dot ∷ Part (Items f) ∷ [])
+    Some (
+    Class Number ∷ Class Number ∷ Class Number ∷ Class Number ∷ Class Open ∷ Part (Access f) ∷ Class Close ∷ Class Dot
+    ∷ Part (Items f) ∷ []
+    )
 behind (Items f) Relationship =
-    Some (Part AnyName ∷ Class Number ∷ Class Number ∷ Class Arrow ∷ Class Number ∷ Class Number ∷ Class Dot ∷ Part (Items f) ∷ [])
+    Some (
+    Part AnyName ∷ Class Number ∷ Class Number ∷ Class Arrow ∷ Class Number ∷ Class Number ∷ Class Dot
+    ∷ Part (Items f) ∷ []
+    )
 behind (Items f) Init = Some (Part (Address f) ∷ Part (StatedValue f) ∷ Class Dot ∷ Part (Items f) ∷ [])
 behind (Items f) Final = Some (Part (Address f) ∷ Part (StatedValue f) ∷ Class Dot ∷ Part (Items f) ∷ [])
 behind (Items f) Permitted = Some (Class Dot ∷ Part (Items f) ∷ [])
@@ -77,8 +83,8 @@ follow _ _ = false
 
 abbrev pub terminals : List Terminal
 terminals =
-    Litmus ∷ Microop ∷ Relationship ∷ Init ∷ Final ∷ Permitted ∷ Forbidden ∷ Read ∷ Write ∷ Fence ∷ Va ∷ Pa ∷ Data ∷ Name ∷ Number ∷ Text
-    ∷ Open ∷ Close ∷ Dot ∷ Arrow ∷ Other ∷ Litmus2 ∷ Entry ∷ Maps ∷ []
+    Litmus ∷ Microop ∷ Relationship ∷ Init ∷ Final ∷ Permitted ∷ Forbidden ∷ Read ∷ Write ∷ Fence ∷ Va ∷ Pa ∷ Data
+    ∷ Name ∷ Number ∷ Text ∷ Open ∷ Close ∷ Dot ∷ Arrow ∷ Other ∷ Litmus2 ∷ Entry ∷ Maps ∷ []
 
 abbrev pub place : Terminal → ℕ
 place Litmus = 0

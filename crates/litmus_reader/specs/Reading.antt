@@ -13,7 +13,6 @@ use Rattle.litmus_reader.specs.declared.item.ValueText.TheVariants.{Entry}
 use Rattle.litmus_reader.specs.declared.item.End.{End}
 use Rattle.litmus_reader.specs.declared.item.ValueLine.{ValueLine}
 use Rattle.litmus_reader.specs.declared.item.Relationship.{Relationship}
-use Rattle.litmus_reader.specs.declared.item.Item.{Item}
 use Rattle.litmus_reader.specs.declared.item.Item.TheVariants.{Microop as microop, Relationship as relationship}
 use Rattle.litmus_reader.specs.declared.item.Microop.{Microop}
 use Rattle.litmus_reader.specs.declared.item.Action.{Action}
@@ -63,12 +62,14 @@ IsReadAt {X} spelled ts k x next = (y : X) → BeginsAt ts k (spelled y) → (x 
 
 -- an entry begins at k
 abbrev pub SomeEntryAt : List Token → ℕ → Type 0
-SomeEntryAt ts k = (tag : ℕ) × (accessed : Numeral) × (dirty : Numeral) × BeginsAt ts k (spelled_entry tag accessed dirty)
+SomeEntryAt ts k =
+    (tag : ℕ) × (accessed : Numeral) × (dirty : Numeral) × BeginsAt ts k (spelled_entry tag accessed dirty)
 
 -- whatever entry begins at k is this one
 abbrev pub IsEntryAt : List Token → ℕ → ValueText → Type 0
 IsEntryAt ts k value =
-    (tag : ℕ) (accessed dirty : Numeral) → BeginsAt ts k (spelled_entry tag accessed dirty) → value ≡ Entry tag accessed dirty
+    (tag : ℕ) (accessed dirty : Numeral) → BeginsAt ts k (spelled_entry tag accessed dirty)
+    → value ≡ Entry tag accessed dirty
 
 abbrev pub terminal_of_action : Action → Terminal
 terminal_of_action (Read t) = ReadWord
@@ -86,7 +87,8 @@ IsActionAt ts word k action next =
 
 -- what stands in a micro-op's brackets begins at k, up to the one that closes them
 abbrev pub SomeAccessAt : List Token → ℕ → Type 0
-SomeAccessAt ts k = (types : List (List ℕ)) × (action : Action) × BeginsAt ts k (spelled_access types action ++ close_ ∷ [])
+SomeAccessAt ts k =
+    (types : List (List ℕ)) × (action : Action) × BeginsAt ts k (spelled_access types action ++ close_ ∷ [])
 
 abbrev pub IsAccessAt : List Token → ℕ → List (List ℕ) → Action → ℕ → Type 0
 IsAccessAt ts k types action next =

@@ -6,7 +6,7 @@ ghost use Rattle.pc_common.specs.declared.limits.TheConstants.{MAX_CORE, MAX_OPS
 ghost use Rattle.litmus_reader.specs.Items.{op_of, dependency_of, expectation_among, case_of};
 ghost use Rattle.litmus_reader.specs.Content.{Never, AgainStated, ValueFault, AgainExpected, IsFaultOf, IsClean};
 ghost use Rattle.litmus_reader.specs.Rows.{Answers};
-ghost use Rattle.litmus_reader.specs.Builder.{stated_of, word_of, stances, HasLines, AddsMicroop, AddsRelationship, IsLineFault};
+ghost use Rattle.litmus_reader.specs.Builder.{stated_of, word_of, stated_expectations, HasLines, AddsMicroop, AddsRelationship, IsLineFault};
 ghost use Rattle.litmus_reader.specs.declared.item.ValueLine.{ValueLine as ValueLineText};
 ghost use Rattle.litmus_reader.specs.declared.item.Item.{Item as ItemText};
 
@@ -22,7 +22,7 @@ use std::alloc::Global;
 
 /// An expectation, and where its word stands.
 #[derive(Clone, Copy)]
-pub(crate) struct Stance {
+pub(crate) struct StatedExpectation {
     pub(crate) expect: Expect,
     pub(crate) at: Place,
 }
@@ -35,7 +35,7 @@ pub(crate) struct CaseBuilder {
     pub(crate) dependencies: Dependencies,
     pub(crate) initial: Values,
     pub(crate) final_values: Values,
-    pub(crate) stance: Option<Stance>,
+    pub(crate) expected: Option<StatedExpectation>,
 }
 
 fn op_from(microop: Microop) -> Op
@@ -112,10 +112,10 @@ fn value_fault(when: When, values: &Values, line: ValueLine) -> Option<ContentFa
     mark_fault(line.value)
 }
 
-fn expectation_fault(stance: Option<Stance>, at: Place) -> Option<ContentFault>
-    ensures { Answers (AgainExpected (stances stance) at) result }
+fn expectation_fault(expected: Option<StatedExpectation>, at: Place) -> Option<ContentFault>
+    ensures { Answers (AgainExpected (stated_expectations expected) at) result }
 {
-    match stance {
+    match expected {
         None => None,
         Some(first) => Some(ContentFault {
             kind: FaultKind::AgainExpectation {
@@ -127,12 +127,12 @@ fn expectation_fault(stance: Option<Stance>, at: Place) -> Option<ContentFault>
     }
 }
 
-fn expect_of(stance: Option<Stance>) -> Expect
-    ensures { expectation result ≡ expectation_among (stances stance) }
+fn expect_of(expected: Option<StatedExpectation>) -> Expect
+    ensures { expectation result ≡ expectation_among (stated_expectations expected) }
 {
-    match stance {
+    match expected {
         None => Expect::Unstated,
-        Some(stance) => stance.expect,
+        Some(expected) => expected.expect,
     }
 }
 
@@ -146,7 +146,7 @@ impl CaseBuilder {
             dependencies: Listed::new(alloc),
             initial: Values::new(alloc),
             final_values: Values::new(alloc),
-            stance: None,
+            expected: None,
         }
     }
 
@@ -159,8 +159,8 @@ impl CaseBuilder {
             Item::Relationship(line) => relationship_fault(&self.heads, line.source, line.target),
             Item::Initial(line) => value_fault(When::Initial, &self.initial, *line),
             Item::Final(line) => value_fault(When::Final, &self.final_values, *line),
-            Item::Permitted(at) => expectation_fault(self.stance, *at),
-            Item::Forbidden(at) => expectation_fault(self.stance, *at),
+            Item::Permitted(at) => expectation_fault(self.expected, *at),
+            Item::Forbidden(at) => expectation_fault(self.expected, *at),
         }
     }
 
@@ -185,7 +185,8 @@ impl CaseBuilder {
         requires { (before : List ItemText) × HasLines self.old before × IsClean before }
         ensures ok { OnOk result ((before : List ItemText) → HasLines self.old before → IsClean before
             → Never (IsFaultOf before item) × HasLines self.new (before ++ item ∷ [])) }
-        ensures err { IfErr result (λ e. (before : List ItemText) → HasLines self.old before → IsLineFault before item e) }
+        ensures err { IfErr result (λ e. (before : List ItemText) → HasLines self.old before
+            → IsLineFault before item e) }
     {
         if let Some(fault) = self.fault(&item) {
             return Err(CaseFault::Content(fault.kind, fault.place));
@@ -196,7 +197,8 @@ impl CaseBuilder {
 
     /// Takes one more line, which has no fault.
     fn append(&mut self, item: Item) -> Result<(), Memory>
-        requires { (before : List ItemText) × HasLines self.old before × IsClean before × Never (IsFaultOf before item) }
+        requires { (before : List ItemText) × HasLines self.old before × IsClean before
+            × Never (IsFaultOf before item) }
         ensures { OnOk result ((before : List ItemText) → HasLines self.old before → IsClean before
             → Never (IsFaultOf before item) → HasLines self.new (before ++ item ∷ [])) }
     {
@@ -206,14 +208,14 @@ impl CaseBuilder {
             Item::Initial(line) => self.initial.add(line.pa, line.value.value()),
             Item::Final(line) => self.final_values.add(line.pa, line.value.value()),
             Item::Permitted(at) => {
-                self.stance = Some(Stance {
+                self.expected = Some(StatedExpectation {
                     expect: Expect::Permitted,
                     at,
                 });
                 Ok(())
             }
             Item::Forbidden(at) => {
-                self.stance = Some(Stance {
+                self.expected = Some(StatedExpectation {
                     expect: Expect::Forbidden,
                     at,
                 });
@@ -235,10 +237,11 @@ impl CaseBuilder {
     /// The case that the lines say.
     pub(crate) fn finish(self, alloc: Global) -> Result<Case, Memory>
         requires { (items : List ItemText) × HasLines self items × IsClean items }
-        ensures { IfOk result (λ c. (items : List ItemText) → HasLines self items → IsClean items → c ≡ case_of items) }
+        ensures { IfOk result (λ c. (items : List ItemText) → HasLines self items → IsClean items
+            → c ≡ case_of items) }
     {
         let (initial, final_values) = self.values(alloc)?;
-        let expect = expect_of(self.stance);
+        let expect = expect_of(self.expected);
         Case::full(
             alloc,
             self.ops,

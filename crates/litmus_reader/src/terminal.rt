@@ -68,6 +68,8 @@ fn word_terminal(word: &[u8]) -> Terminal
 {
     if is(word, b"Litmus") {
         Terminal::Litmus
+    } else if is(word, b"Litmus2") {
+        Terminal::Litmus2
     } else if is(word, b"Microop") {
         Terminal::Microop
     } else if is(word, b"Relationship") {
@@ -90,12 +92,10 @@ fn word_terminal(word: &[u8]) -> Terminal
         Terminal::Va
     } else if is(word, b"PA") {
         Terminal::Pa
-    } else if is(word, b"Data") {
-        Terminal::Data
-    } else if is(word, b"Litmus2") {
-        Terminal::Litmus2
     } else if is(word, b"Entry") {
         Terminal::Entry
+    } else if is(word, b"Data") {
+        Terminal::Data
     } else if is(word, b"Maps") {
         Terminal::Maps
     } else {

@@ -11,7 +11,7 @@ use Rattle.undo_trail.specs.BitTable.{BitTable, bit_now}
 use Rattle.order_graph.specs.declared.clash.Clash.{Clash}
 use Rattle.order_graph.specs.declared.clash.Clash.TheVariants.{Absent}
 use Rattle.order_graph.specs.Ways.{IsBelow}
-use Rattle.order_graph.specs.Rows.{pair_row, present_row, missing_row, Represents, leads_to, IsOver}
+use Rattle.order_graph.specs.Rows.{pair_row, present_row, missing_row, Represents, leads_to, IsOver, JoinsDenied, JoinsNoneFrom}
 use Rattle.order_graph.specs.Clashes.{JoinsNone, IsClash}
 use Rattle.order_graph.proofs.OneMore.{more, older, edge_chain, consistent_node, consistent_no_node, consistent_no_edge, consistent_edge}
 use Rattle.order_graph.proofs.Represents.{leads_reach}
@@ -56,11 +56,11 @@ told_over n v ls p q x y s wide ph qh xh yh r t =
 
 -- where the rows have no such pair
 pub joins_none : (n : ℕ) (v : BitTable) (ls : List (Literal ℕ)) (p q : ℕ) → Represents n v.words ls v.now → n ≤ 64 * v.words → p < n → q < n
-    → ((x y : ℕ) → x < n → y < 64 * v.words → IsOver v p q x y → bit_now v (pair_row n x) y ≡ false) → JoinsNone ls p q
+    → JoinsNoneFrom n v p q 0 n → JoinsNone ls p q
 joins_none n v ls p q s wide ph qh none x y h r t =
     let below = pair_below n ls x y s.below h in
     let low : y < 64 * v.words = (let b = below.1 in omega arith) in
-    both_ways (bit_now v (pair_row n x) y) (none x y below.0 low (told_over n v ls p q x y s wide ph qh below.0 low r t)) ((s.pairs x y below.0 low).1 h)
+    both_ways (bit_now v (pair_row n x) y) (none x y (omega arith) below.0 below.0 low (s.denying x y below.0 h) (told_over n v ls p q x y s wide ph qh below.0 low r t)) ((s.pairs x y below.0 low).1 h)
 
 -- where the list has no such pair
 pub none_listed : (n : ℕ) (v : BitTable) (ls : List (Literal ℕ)) (p q : ℕ) → Represents n v.words ls v.now → n ≤ 64 * v.words → p < n → q < n
@@ -101,8 +101,7 @@ none_to Q (Some x) h f = h
 pub pairs_told : (n : ℕ) (v : BitTable) (ls : List (Literal ℕ)) (p q : ℕ) → Represents n v.words ls v.now → n ≤ 64 * v.words → p < n → q < n
     → bit_now v (missing_row n) p ≡ false → bit_now v (missing_row n) q ≡ false → leads_to v q p ≡ false
     → (r : Bool)
-    → MatchBool r ((x : ℕ) × (y : ℕ) × (x < n) × (y < 64 * v.words) × IsOver v p q x y × (bit_now v (pair_row n x) y ≡ true))
-    ((x y : ℕ) → x < n → y < 64 * v.words → IsOver v p q x y → bit_now v (pair_row n x) y ≡ false)
+    → MatchBool r (JoinsDenied n v p q) (JoinsNoneFrom n v p q 0 n)
     → MatchBool r (IsConsistent (more ls (Edge p q)) → ⊥) (IsConsistent (more ls (Edge p q)))
 pairs_told n v ls p q s wide ph qh start end back true (x, y, xh, yh, over, bit) =
     let both = over_told n v ls p q x y s wide ph qh xh yh over in

@@ -47,6 +47,7 @@ represents_first n words size = record {
   pairs = λ x y xh yh. unset (has words (replicate size 0) (pair_row n x) y) (has-clear words size (pair_row n x) y) (nothing (NoEdge x y));
   present = λ x xh. unset (has words (replicate size 0) (present_row n) x) (has-clear words size (present_row n) x) (none_present x);
   missing = λ x xh. unset (has words (replicate size 0) (missing_row n) x) (has-clear words size (missing_row n) x) (nothing (NoNode x));
+  denying = λ x y xh h. absurd (nothing (NoEdge x y) h);
   below = All-nil (IsBelow n);
   consistent = record {
     acyclic = λ a c. no_chain a a c;
@@ -56,7 +57,7 @@ represents_first n words size = record {
 }
 
 pub order_first : (n : ℕ) (v : BitTable) → n ≤ MAX_NODES
-    → v ≡ record { rows = 2 * n + 2; words = words_for n; past = []; now = replicate ((2 * n + 2) * words_for n) 0 }
+    → v ≡ record { rows = 2 * n + 3; words = words_for n; past = []; now = replicate ((2 * n + 3) * words_for n) 0; room = v.room }
     → IsOrder n v [] (0 ∷ []) (0 ∷ []) 0
 order_first n v few is =
     let P : BitTable → Type 0 = λ w. IsOrder n w [] (0 ∷ []) (0 ∷ []) 0 in
@@ -69,7 +70,7 @@ order_first n v few is =
       counts_all = omega arith;
       last = refl;
       rising = λ i h. absurd (omega arith);
-      represents = λ i h. let e : i ≡ 0 = omega arith in rw e (represents_first n (words_for n) ((2 * n + 2) * words_for n));
+      represents = λ i h. let e : i ≡ 0 = omega arith in rw e (represents_first n (words_for n) ((2 * n + 3) * words_for n));
       lived = refl;
     }
 

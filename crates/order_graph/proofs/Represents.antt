@@ -9,7 +9,7 @@ use Rattle.pc_ground.specs.declared.literal.Literal.TheVariants.{Node, Edge, NoN
 use Rattle.pc_ground.specs.Literals.{Joins, IsPresent, IsConsistent, as_node, as_start, as_end}
 use Rattle.undo_trail.specs.BitTable.{BitTable, bit_now}
 use Rattle.order_graph.specs.Ways.{IsBelow}
-use Rattle.order_graph.specs.Rows.{pair_row, present_row, missing_row, Represents, leads_to, Enters}
+use Rattle.order_graph.specs.Rows.{pair_row, present_row, missing_row, denier_row, Represents, leads_to, Enters}
 use Rattle.order_graph.proofs.OneMore.{more, older, newest, which, node_is_none, no_node_is_none, no_edge_is_none, chain_older, chain_newer, chain_edge, edge_chain, Brings, present_older, present_which, node_brings, edge_brings, no_node_brings, no_edge_brings}
 
 -- a bit that is another, which says P, says what P says
@@ -54,6 +54,7 @@ represents_more n v w ls (Node p) s below wide same e c =
           (λ f. let P : ℕ → Type 0 = IsPresent (more ls l) in subst P (sym f) (as_node (newest ls l)))
           (λ q. elim (present_which ls l x q) [ inl old ↦ inl old | inr new ↦ inr (node_brings p x new) ]);
       missing = λ x xh. says (bit_now w (missing_row n) x) (bit_now v (missing_row n) x) (e.missing x xh) (s.missing x xh) (older ls l (NoNode x)) (same_contained ls l (NoNode x) (λ f. cc));
+      denying = λ x y xh h. e.denying x xh ∙ s.denying x y xh (same_contained ls l (NoEdge x y) (λ f. cc) h);
       below = All-push (IsBelow n) ls l s.below below;
       consistent = c;
     }
@@ -67,6 +68,7 @@ represents_more n v w ls (NoNode p) s below wide same e c =
       missing = λ x xh. bit_more (bit_now w (missing_row n) x) (bit_now v (missing_row n) x) x p (e.missing x xh) (s.missing x xh) (older ls l (NoNode x))
           (λ f. let P : ℕ → Type 0 = λ z. Contains (more ls l) (NoNode z) in subst P (sym f) (newest ls l))
           (λ q. elim (which ls l (NoNode x) q) [ inl old ↦ inl old | inr new ↦ inr cc ]);
+      denying = λ x y xh h. e.denying x xh ∙ s.denying x y xh (same_contained ls l (NoEdge x y) (λ f. cc) h);
       below = All-push (IsBelow n) ls l s.below below;
       consistent = c;
     }
@@ -92,6 +94,10 @@ represents_more n v w ls (NoEdge p r) s below wide same e c =
           );
       present = λ x xh. says (bit_now w (present_row n) x) (bit_now v (present_row n) x) (e.present x xh) (s.present x xh) (present_older ls l x) (same_present ls l x (no_edge_brings p r x));
       missing = λ x xh. says (bit_now w (missing_row n) x) (bit_now v (missing_row n) x) (e.missing x xh) (s.missing x xh) (older ls l (NoNode x)) (same_contained ls l (NoNode x) (λ f. cc));
+      denying = λ x y xh h. e.denying x xh ∙ elim (which ls l (NoEdge x y) h) [
+        | inl old ↦ or_left (bit_now v (denier_row n) x) (x == p) (s.denying x y xh old)
+        | inr new ↦ or_right (bit_now v (denier_row n) x) (x == p) (eq-eqb x p cc)
+      ];
       below = All-push (IsBelow n) ls l s.below below;
       consistent = c;
     }
@@ -136,6 +142,7 @@ represents_more n v w ls (Edge p r) s below wide same e c =
             ]),
           );
       missing = λ x xh. says (bit_now w (missing_row n) x) (bit_now v (missing_row n) x) (e.missing x xh) (s.missing x xh) (older ls l (NoNode x)) (same_contained ls l (NoNode x) (λ f. cc));
+      denying = λ x y xh h. e.denying x xh ∙ s.denying x y xh (same_contained ls l (NoEdge x y) (λ f. cc) h);
       below = All-push (IsBelow n) ls l s.below below;
       consistent = c;
     }

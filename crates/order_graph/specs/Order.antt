@@ -9,7 +9,7 @@ use Rattle.order_graph.specs.Marks.{marks_from}
 
 pub record IsOrder (n : ℕ) (v : BitTable) (ls : List (Literal ℕ)) (moments counts : List ℕ) (live : ℕ) : Type 0 where
   pub few : n ≤ MAX_NODES
-  pub rows : v.rows ≡ 2 * n + 2
+  pub rows : v.rows ≡ 2 * n + 3
   pub words : v.words ≡ words_for n
   pub moments_all : length moments ≡ length ls + 1
   pub counts_all : length counts ≡ length ls + 1

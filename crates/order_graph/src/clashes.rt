@@ -1,14 +1,15 @@
 ghost use Rattle.std.specs.Prelude.{◌≡◌, ◌<◌, ◌≤◌, ◌+◌, ◌*◌, ◌++◌, [], ◌∷◌, ℕ, List, true, false, All, Contains, IfOk, MatchOption, MatchBool};
+ghost use Rattle.pc_common.specs.declared.limits.TheConstants.{MAX_NODES};
 ghost use Rattle.undo_trail.specs.BitTable.{bit_now};
 ghost use Rattle.pc_ground.specs.Literals.{Joins, IsConsistent};
 ghost use Rattle.pc_ground.specs.declared.literal.Literal.{Literal as AnyLiteral};
 ghost use Rattle.order_graph.specs.Ways.{IsBelow};
-ghost use Rattle.order_graph.specs.Rows.{pair_row, leads_to, IsSized, IsOver, Represents};
+ghost use Rattle.order_graph.specs.Rows.{pair_row, leads_to, IsSized, IsOver, JoinsDenied, JoinsNoneFrom, Represents};
 ghost use Rattle.order_graph.specs.Clashes.{IsClash, JoinsNone};
 
 use super::chain::way;
 use super::clash::{Clash, Numbers};
-use super::rows::{is_missing, is_present, leads_to, reaches};
+use super::rows::{is_denier, is_missing, is_present, leads_to, reaches};
 use pc_common::Memory;
 use pc_ground::Literal;
 use std::alloc::Global;
@@ -25,15 +26,50 @@ fn is_denied_past(table: &UndoTable, nodes: u32, x: u32, b: u32) -> bool
     table.bit(row, b as usize) || meets_words(table.row(b as usize), table.row(row))
 }
 
-/// Whether the edge from `a` to `b` would join a denied pair.
+/// Where the columns of this word of a row end.
+fn end_of_word(nodes: u32, word: u32) -> u32
+    requires word_in { 64 * word < nodes }
+    requires few { nodes ≤ MAX_NODES }
+    ensures low { result ≤ nodes }
+    ensures all { (x : ℕ) → x < 64 * word + 64 → x < nodes → x < result }
+{
+    let end = 64 * word + 64;
+    if end < nodes { end } else { nodes }
+}
+
+/// Whether the edge from `a` to `b` would join a pair that is denied from a node of this word of a row.
+fn word_joins_denied(table: &UndoTable, nodes: u32, word: u32, a: u32, b: u32) -> bool
+    requires sized { IsSized nodes table.now }
+    requires word_in { 64 * word < nodes }
+    requires a_in { a < nodes }
+    requires b_in { b < nodes }
+    ensures { MatchBool result (JoinsDenied nodes table.now a b) (JoinsNoneFrom nodes table.now a b (64 * word) (64 * word + 64)) }
+{
+    let deniers = table.row(2 * nodes as usize + 2);
+    if deniers[word as usize] == 0 {
+        return false;
+    }
+    for x in 64 * word..end_of_word(nodes, word) {
+        if is_denier(table, nodes, x)
+            && leads_to(table, x, a)
+            && is_denied_past(table, nodes, x, b)
+        {
+            return true;
+        }
+    }
+    false
+}
+
+/// Whether the edge from `a` to `b` would join a denied pair. Where no pair is denied from the nodes of a
+/// word, they are passed over.
 fn joins_denied(table: &UndoTable, nodes: u32, a: u32, b: u32) -> bool
     requires sized { IsSized nodes table.now }
     requires a_in { a < nodes }
     requires b_in { b < nodes }
-    ensures { MatchBool result ((x : ℕ) × (y : ℕ) × (x < nodes) × (y < 64 * table.now.words) × IsOver table.now a b x y × (bit_now table.now (pair_row nodes x) y ≡ true)) ((x y : ℕ) → x < nodes → y < 64 * table.now.words → IsOver table.now a b x y → bit_now table.now (pair_row nodes x) y ≡ false) }
+    ensures { MatchBool result (JoinsDenied nodes table.now a b) (JoinsNoneFrom nodes table.now a b 0 nodes) }
 {
-    for x in 0..nodes {
-        if leads_to(table, x, a) && is_denied_past(table, nodes, x, b) {
+    for word in 0..(nodes + 63) / 64 {
+        if word_joins_denied(table, nodes, word, a, b) {
             return true;
         }
     }

@@ -12,7 +12,7 @@ use super::clash::Added;
 use super::clashes::{clash_of, would_clash};
 use super::counts::count_at;
 use super::mark::Mark;
-use super::rows::{enter_whole, is_present, is_true, reaches};
+use super::rows::{enter, is_present, is_true, reaches};
 use pc_common::Memory;
 use pc_ground::Literal;
 use std::alloc::Global;
@@ -64,13 +64,12 @@ fn keep<L: Ledger>(
     ensures moments { OnOk result (moments.new.items ≡ moments.old.items ++ length table.new.past ∷ []) }
     ensures counts { OnOk result (counts.new.items ≡ counts.old.items ++ 0 ∷ []) }
     ensures err { OnErr result ((table.new ≡ table.old) × (literals.new.items ≡ literals.old.items) × (moments.new.items ≡ moments.old.items) × (counts.new.items ≡ counts.old.items)) }
-    ensures cost { OnOk result (steps.new ≤ steps.old + nodes) }
-    ensures most { steps.new ≤ steps.old + nodes + (nodes * (table.old.words + 1) + 2) }
+    ensures cost { steps.new ≤ steps.old + nodes }
 {
     literals.reserve(1)?;
     moments.reserve(1)?;
     counts.reserve(1)?;
-    enter_whole(table, nodes, literal, steps)?;
+    enter(table, nodes, literal, steps)?;
     literals.push(literal)?;
     moments.push(table.mark())?;
     counts.push(0)?;
@@ -85,7 +84,7 @@ impl OrderGraph {
         ensures { IfOk result (λ g. g ≡ record { nodes = nodes; literals = []; marks = []; recorded = 0 ∷ [] }) }
     {
         let words = (nodes as usize + 63) / 64;
-        let table = UndoTable::new(alloc, 2 * nodes as usize + 2, words)?;
+        let table = UndoTable::new(alloc, 2 * nodes as usize + 3, words)?;
         let moments = vec![in alloc; table.mark()]?;
         let counts = vec![in alloc; 0]?;
         Ok(OrderGraph {
@@ -163,9 +162,8 @@ impl OrderGraph {
         requires { IsBelow self.old.nodes literal }
         ensures added { IfOk result (λ added. IsAdded self.old literal self.new added) }
         ensures err { OnErr result (self.new ≡ self.old) }
-        // each joined row is a step; where memory is refused, words that are put back are steps too
-        ensures cost { OnOk result (steps.new ≤ steps.old + self.old.nodes) }
-        ensures most { steps.new ≤ steps.old + self.old.nodes + most_words self.old.nodes }
+        // each joined row is a step
+        ensures cost { steps.new ≤ steps.old + self.old.nodes }
     {
         let alloc = *self.literals.allocator();
         let found = clash_of(alloc, &self.table, self.nodes, &self.literals, literal)?;

@@ -16,7 +16,7 @@ use Rattle.pc_syntax.proofs.ClosingStages.{closing_within}
 use Rattle.uspec_parser.proofs.StageNames.{stage_is_named}
 use Rattle.pc_common.specs.Case.{Case}
 use Rattle.pc_common.specs.declared.fault.Which.{Which}
-use Rattle.litmus_reader.specs.Answer.{IsRefusal}
+use Rattle.litmus_reader.specs.Answer.{IsCaseFault}
 use Rattle.litmus_reader.specs.declared.fault.CaseFault.{CaseFault}
 use Rattle.litmus_reader.specs.declared.fault.CaseFault.TheVariants.{Lexical as a_lexical_fault, Syntax as a_syntax_fault, Content as a_fault_of_content, Memory as no_room}
 use Rattle.pc_ground.proofs.KeptTrees.{closed_tree}
@@ -78,7 +78,7 @@ model_end model test (Refused fault) is =
 model_end model test Memory is = tt
 
 -- beside a model without fault, the first fault of a test is that of the two files
-pub test_end : (model test : List ℕ) (m : WrittenModel) (fault : CaseFault) → SaysModel model m → IsRefusal test fault → IsEnd model test (case_end fault)
+pub test_end : (model test : List ℕ) (m : WrittenModel) (fault : CaseFault) → SaysModel model m → IsCaseFault test fault → IsEnd model test (case_end fault)
 test_end model test m (a_lexical_fault at) says is = in_test says (record { found = a_lexical_fault at; first = is; fault_is = refl })
 test_end model test m (a_syntax_fault at) says is = in_test says (record { found = a_syntax_fault at; first = is; fault_is = refl })
 test_end model test m (a_fault_of_content kind at) says is =

@@ -9,7 +9,7 @@ use Rattle.pc_common.specs.declared.fault.Which.TheVariants.{Model, Test}
 use Rattle.pc_common.specs.declared.place.Place.{Place}
 use Rattle.pc_syntax.specs.Written.{WrittenModel}
 use Rattle.pc_syntax.specs.ModelFault.{first_model_fault}
-use Rattle.litmus_reader.specs.Answer.{CaseOf, IsRefusal}
+use Rattle.litmus_reader.specs.Answer.{CaseOf, IsCaseFault}
 use Rattle.litmus_reader.specs.declared.fault.CaseFault.{CaseFault}
 use Rattle.litmus_reader.specs.declared.fault.CaseFault.TheVariants.{Lexical as a_lexical_fault, Syntax as a_syntax_fault, Content as a_fault_of_content, Memory as no_memory}
 use Rattle.pc_syntax.specs.declared.closed.Closed.{Closed}
@@ -35,7 +35,7 @@ case_fault_of no_memory = None
 -- the first fault of a test's bytes
 pub record IsTestFault (bytes : List ℕ) (fault : InputFault) : Type 0 where
   pub found : CaseFault
-  pub first : IsRefusal bytes found
+  pub first : IsCaseFault bytes found
   pub fault_is : case_fault_of found ≡ Some fault
 
 -- the bytes say this model, and it has no fault

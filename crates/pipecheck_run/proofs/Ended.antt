@@ -17,7 +17,7 @@ use Rattle.pc_case.specs.MicroOps.{AreMicroOps}
 use Rattle.pc_ground.specs.declared.front.Front.{Front}
 use Rattle.pc_front.specs.Front.{SayFront}
 use Rattle.litmus_reader.specs.Answer.{CaseOf}
-use Rattle.litmus_reader.proofs.CleanFacts.{ops_kept}
+use Rattle.litmus_reader.proofs.CleanFacts.{are_micro_ops}
 use Rattle.pipecheck_run.specs.declared.refusal.Refusal.{Refusal}
 use Rattle.pipecheck_run.specs.declared.answer.Answer.{Answer}
 use Rattle.pipecheck_run.specs.declared.answer.Answer.TheVariants.{Usage as a_usage, ReadFault as a_read_fault, Memory as a_memory, Refused as a_refusal, Checked as a_verdict, Verified as a_check, Generated as a_report}
@@ -123,7 +123,7 @@ fault_held holds i f (in_bytes rm rt is) (inr (first, none)) = some_none (sym rt
 
 -- a test that is read keeps its micro-ops
 pub test_kept : (bytes : List ℕ) (c : Case) → CaseOf bytes c → AreMicroOps c.ops
-test_kept bytes c said = subst (λ (d : Case). AreMicroOps d.ops) (sym said.is) (ops_kept said.items said.clean)
+test_kept bytes c said = subst (λ (d : Case). AreMicroOps d.ops) (sym said.is) (are_micro_ops said.items said.clean)
 
 ended_writable : (file : Which) (end : ReadEnd) (a : Answer) → IsEnded file end a → CanBeWritten a
 ended_writable file an_outside_fault a is = subst CanBeWritten (sym is) tt

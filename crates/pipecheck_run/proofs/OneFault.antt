@@ -8,7 +8,7 @@ use Rattle.pc_common.specs.declared.fault.InputFault.{InputFault}
 use Rattle.pc_common.specs.declared.fault.Which.TheVariants.{Model, Test}
 use Rattle.pc_common.specs.declared.place.Place.{Place}
 use Rattle.pc_syntax.specs.Written.{WrittenModel}
-use Rattle.litmus_reader.specs.Answer.{CaseOf, IsRefusal}
+use Rattle.litmus_reader.specs.Answer.{CaseOf, IsCaseFault}
 use Rattle.litmus_reader.specs.declared.fault.CaseFault.{CaseFault}
 use Rattle.litmus_reader.specs.declared.fault.CaseFault.TheVariants.{Lexical as a_lexical_fault, Syntax as a_syntax_fault, Content as a_fault_of_content, Memory as no_room}
 use Rattle.litmus_reader.proofs.OneFault.{one_fault}
@@ -59,7 +59,7 @@ pub case_or_first_fault : (holds : Contents) (i : Inputs) (mb tb : List ℕ) →
     → ((m : WrittenModel) × (c : Case) × Says holds i m c) ⊎ ((f : InputFault) × IsFirstFault holds i f)
 case_or_first_fault holds i mb tb rm rt = of_model (model_or_fault mb)
   where
-    told : (m : WrittenModel) → SaysModel mb m → (f : CaseFault) → f ≢ no_room → IsRefusal tb f → (g : InputFault) × IsFirstFault holds i g
+    told : (m : WrittenModel) → SaysModel mb m → (f : CaseFault) → f ≢ no_room → IsCaseFault tb f → (g : InputFault) × IsFirstFault holds i g
     told m says (a_lexical_fault at) some is =
         (fault_at Test Lexical at, in_bytes rm rt (in_test says (record { found = a_lexical_fault at; first = is; told = refl })))
     told m says (a_syntax_fault at) some is =
@@ -68,7 +68,7 @@ case_or_first_fault holds i mb tb rm rt = of_model (model_or_fault mb)
         (fault_at Test kind at, in_bytes rm rt (in_test says (record { found = a_fault_of_content kind at; first = is; told = refl })))
     told m says no_room some is = absurd (some refl)
 
-    of_test : (m : WrittenModel) → SaysModel mb m → ((c : Case) × CaseOf tb c) ⊎ ((f : CaseFault) × (f ≢ no_room) × IsRefusal tb f)
+    of_test : (m : WrittenModel) → SaysModel mb m → ((c : Case) × CaseOf tb c) ⊎ ((f : CaseFault) × (f ≢ no_room) × IsCaseFault tb f)
         → ((n : WrittenModel) × (c : Case) × Says holds i n c) ⊎ ((f : InputFault) × IsFirstFault holds i f)
     of_test m says (inl (c, is)) =
         inl (m, c, record { model_bytes = mb; test_bytes = tb; model_read = rm; test_read = rt; says_model = says; says_test = is })

@@ -9,7 +9,7 @@ ghost use Rattle.solver.specs.Answers.{IsAnswer};
 use super::answer::Answer;
 use super::search::{Search, Turn};
 use pc_common::Memory;
-use pc_ground::{Flat, Numbering};
+use pc_ground::{Flat, Numbering, Version};
 use std::alloc::Global;
 use std::sync::ledger::Ledger;
 use undo_trail::Steps;
@@ -23,13 +23,15 @@ pub fn solve<L: Ledger>(
     alloc: Global,
     tree: &Flat,
     numbering: &Numbering,
+    version: Version,
     steps: &mut Steps<L>,
 ) -> Result<Answer, Memory>
     requires numbered { (t : Tree PlainNode) → tree.now ≡ rows_of t → numbering.now ≡ numbered t }
     requires folded { (t : Tree PlainNode) → tree.now ≡ rows_of t → IsFolded t }
-    ensures { IfOk result (λ answer. (t : Tree PlainNode) → tree.now ≡ rows_of t → IsAnswer numbering.now t answer) }
+    ensures { IfOk result (λ answer.
+        (t : Tree PlainNode) → tree.now ≡ rows_of t → IsAnswer version numbering.now t answer) }
 {
-    let mut turn = Search::begin(alloc, tree, numbering, steps)?;
+    let mut turn = Search::begin(alloc, tree, numbering, version, steps)?;
     loop {
         match turn {
             Turn::Done(answer) => return Ok(answer),

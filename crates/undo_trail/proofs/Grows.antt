@@ -5,7 +5,7 @@ use Rattle.std.proofs.lemmas.List.Elements.{All-push, All-take}
 use Rattle.undo_trail.specs.declared.trail.Change.{Change}
 use Rattle.undo_trail.specs.BitTable.{IsBitTable}
 use Rattle.undo_trail.specs.Trail.{back, past, table_of, IsChanging, IsTrail, Grows}
-use Rattle.undo_trail.proofs.ExtendsLaws.{extends_same, extends_then}
+use Rattle.undo_trail.proofs.ExtendsLaws.{extends_roomy, extends_then}
 use Rattle.undo_trail.proofs.Back.{back_push, past_push, changing_push, length-back, back_split, changing_split, history}
 
 -- the change of a word
@@ -32,7 +32,7 @@ grows_one cs t place word inside other =
             (λ e. other (sym (get_or-set_same t place word 0 inside) ∙ sym e));
         cleared = back_is ∙ k.cleared;
       };
-      extends = λ rows words. record {
+      extends = λ rows words room left. record {
         same_rows = refl;
         same_words = refl;
         same_tables = rw past_is (take_at (past cs t ++ t ∷ []) (u ∷ []) (length (past cs t) + 1) (length_push (past cs t) t));
@@ -45,7 +45,7 @@ pub grows_same : (cs : List Change) (t : List ℕ) (n : ℕ) → Grows cs t cs t
 grows_same cs t n = record {
   same_size = refl;
   keeps = λ size k. k;
-  extends = λ rows words. extends_same (table_of rows words cs t) n;
+  extends = λ rows words room left. extends_roomy (table_of rows words room cs t) (table_of rows words left cs t) n refl;
 }
 
 pub grows_then : (xs : List Change) (t : List ℕ) (ys : List Change) (u : List ℕ) (zs : List Change) (v : List ℕ) (m n : ℕ)
@@ -53,7 +53,9 @@ pub grows_then : (xs : List Change) (t : List ℕ) (ys : List Change) (u : List 
 grows_then xs t ys u zs v m n g h = record {
   same_size = h.same_size ∙ g.same_size;
   keeps = λ size k. h.keeps size (g.keeps size k);
-  extends = λ rows words. extends_then (table_of rows words xs t) (table_of rows words ys u) (table_of rows words zs v) m n (g.extends rows words) (h.extends rows words);
+  extends = λ rows words room left.
+      extends_then (table_of rows words room xs t) (table_of rows words left ys u) (table_of rows words left zs v) m n
+      (g.extends rows words room left) (h.extends rows words left left);
 }
 
 -- what is left of the trail after the later changes are taken back
@@ -69,8 +71,8 @@ first_is : (cs : List Change) (t : List ℕ) → slice_get (past cs t ++ t ∷ [
 first_is [] t = refl
 first_is (c ∷ cs) t = refl
 
-pub is_bit_table : (rows words : ℕ) (cs : List Change) (t : List ℕ) → IsTrail (rows * words) cs t → IsBitTable (table_of rows words cs t)
-is_bit_table rows words cs t k = record {
+pub is_bit_table : (rows words room : ℕ) (cs : List Change) (t : List ℕ) → IsTrail (rows * words) cs t → IsBitTable (table_of rows words room cs t)
+is_bit_table rows words room cs t k = record {
   first = first_is cs t ∙ ap Some k.cleared;
   history = history cs t (rw k.all k.inside) k.changing;
   size = k.all;

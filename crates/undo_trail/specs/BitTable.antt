@@ -9,10 +9,16 @@ pub record BitTable : Type 0 where
   -- the tables before, oldest first
   pub past : List (List ℕ)
   pub now : List ℕ
+  -- how many words can be recorded before the trail takes memory
+  pub room : ℕ
 
 -- all tables; a mark is a place in this list
 abbrev pub tables : BitTable → List (List ℕ)
 tables v = v.past ++ v.now ∷ []
+
+-- the same bits and the same tables before them, with other room
+abbrev pub IsSameTable : BitTable → BitTable → Type 0
+IsSameTable old new = new ≡ record { rows = old.rows; words = old.words; past = old.past; now = old.now; room = new.room }
 
 abbrev pub bit_now : BitTable → ℕ → ℕ → Bool
 bit_now v r c = has v.words v.now r c

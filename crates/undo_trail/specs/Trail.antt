@@ -18,8 +18,8 @@ abbrev pub IsChanging : List Change → List ℕ → Type 0
 IsChanging [] t = Unit {0}
 IsChanging (c ∷ cs) t = (c.old ≢ slice_index (back cs t) c.place) × IsChanging cs t
 
-abbrev pub table_of : ℕ → ℕ → List Change → List ℕ → BitTable
-table_of rows words trail t = record { rows = rows; words = words; past = past trail t; now = t }
+abbrev pub table_of : ℕ → ℕ → ℕ → List Change → List ℕ → BitTable
+table_of rows words room trail t = record { rows = rows; words = words; past = past trail t; now = t; room = room }
 
 -- what the trail of a table of so many words keeps
 pub record IsTrail (size : ℕ) (trail : List Change) (t : List ℕ) : Type 0 where
@@ -32,4 +32,4 @@ pub record IsTrail (size : ℕ) (trail : List Change) (t : List ℕ) : Type 0 wh
 pub record Grows (old : List Change) (t : List ℕ) (new : List Change) (u : List ℕ) (n : ℕ) : Type 0 where
   pub same_size : length u ≡ length t
   pub keeps : (size : ℕ) → IsTrail size old t → IsTrail size new u
-  pub extends : (rows words : ℕ) → Extends (table_of rows words old t) (table_of rows words new u) n
+  pub extends : (rows words room left : ℕ) → Extends (table_of rows words room old t) (table_of rows words left new u) n

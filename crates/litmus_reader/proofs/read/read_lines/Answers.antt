@@ -1,6 +1,6 @@
 use Rattle.std.proofs.Common.{Result, IfErr, subst, sym, arith}
 use Rattle.std.proofs.lemmas.Result.{err_from_is_err_and}
-use Rattle.litmus_reader.specs.Answer.{IsContentRefusal}
+use Rattle.litmus_reader.specs.Answer.{IsContentFaultIn}
 use Rattle.litmus_reader.specs.Builder.{IsLineFault}
 use Rattle.litmus_reader.specs.declared.fault.CaseFault.{CaseFault}
 use Rattle.litmus_reader.proofs.Walk.{reached-first, reached-item, read_line, reached-next, content_fault-of, reached-end}
@@ -21,7 +21,7 @@ returns-in_err-add-clause-err c =
     let r = c.loop-at.invariant in
     let s = read_line r (omega arith) c.in_ok-item.item c.in_ok-item.next c.in_ok-item.ensures in
     let (fault, is, same) = err_from_is_err_and c.from_residual-in_err-add.result c.from_residual-in_err-add.ensures.1 in
-    subst (λ (result : Result Unit CaseFault). IfErr result (IsContentRefusal c.args.tokens.now)) (sym is)
+    subst (λ (result : Result Unit CaseFault). IfErr result (IsContentFaultIn c.args.tokens.now)) (sym is)
     (content_fault-of r c.in_ok-item.item c.in_ok-item.next s fault
     (subst (IsLineFault r.before c.in_ok-item.item) (sym same) (c.in_err-add.ensures.err r.before r.keeps)))
 

@@ -1,4 +1,4 @@
-use Rattle.std.proofs.Common.{◌≡◌, ◌∙◌, ℕ, subst, sym, arith}
+use Rattle.std.proofs.Common.{◌∙◌, ℕ, subst, sym, arith}
 use Rattle.litmus_reader.specs.Syntax.{spelled_action}
 use Rattle.litmus_reader.specs.Reading.{BeginsAt}
 use Rattle.litmus_reader.proofs.Lines.{access-first, access-terminal, access-names, access-action, access-length}

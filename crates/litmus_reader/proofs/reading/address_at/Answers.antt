@@ -1,4 +1,4 @@
-use Rattle.std.proofs.Common.{◌≡◌, ℕ, length, sym, ap, ◌∙◌, arith}
+use Rattle.std.proofs.Common.{length, sym, ap, ◌∙◌, arith}
 use Rattle.pc_case.specs.declared.address.Page.{Page as PagePair}
 use Rattle.pc_case.specs.declared.address.Address.{Address}
 use Rattle.pc_case.specs.declared.address.Address.TheVariants.{Page, Entry}

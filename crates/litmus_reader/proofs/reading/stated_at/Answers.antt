@@ -2,7 +2,7 @@ use Rattle.std.proofs.Common.{length, sym, ap, ◌∙◌, arith}
 use Rattle.litmus_reader.specs.Syntax.{spelled_stated}
 use Rattle.litmus_reader.specs.declared.item.ValueText.{ValueText}
 use Rattle.litmus_reader.specs.declared.item.ValueText.TheVariants.{Number}
-use Rattle.litmus_reader.proofs.Lines.{stated-seen, stated-within, stated-room, stated_number, stated_entry, stated_known}
+use Rattle.litmus_reader.proofs.Lines.{stated-seen, stated-within, stated_number, stated_entry, stated_known}
 use Rattle.litmus_reader.proofs.reading.stated_at.Goals as goal
 
 pub numeral_at-requires : goal.numeral_at-requires

@@ -14,12 +14,12 @@ use Rattle.litmus_reader.proofs.BuilderFacts.{on_ok, never-first, has_microop, h
 use Rattle.litmus_reader.proofs.CleanFacts.{core_fits, head_never, few}
 use Rattle.litmus_reader.proofs.builder.CaseBuilder.append.Goals as goal
 
--- what is said of an item, of the variant that it is
-judged : (before : List Item) (item said : Item) → item ≡ said → Never (IsFaultOf before item) → Never (IsFaultOf before said)
-judged before item said e never = subst (λ (i : Item). Never (IsFaultOf before i)) e never
+-- what is same of an item, of the variant that it is
+judged : (before : List Item) (item same : Item) → item ≡ same → Never (IsFaultOf before item) → Never (IsFaultOf before same)
+judged before item same e never = subst (λ (i : Item). Never (IsFaultOf before i)) e never
 
-kept : (new : CaseBuilder) (before : List Item) (item said : Item) → item ≡ said → HasLines new (before ++ said ∷ []) → HasLines new (before ++ item ∷ [])
-kept new before item said e k = subst (λ (i : Item). HasLines new (before ++ i ∷ [])) (sym e) k
+has_line : (new : CaseBuilder) (before : List Item) (item same : Item) → item ≡ same → HasLines new (before ++ same ∷ []) → HasLines new (before ++ item ∷ [])
+has_line new before item same e k = subst (λ (i : Item). HasLines new (before ++ i ∷ [])) (sym e) k
 
 pub add_microop-requires : goal.add_microop-requires
 add_microop-requires c =
@@ -50,14 +50,14 @@ add-requires-in-Final c =
 pub returns-in-Microop : goal.returns-in-Microop
 returns-in-Microop c =
     on_ok c.add_microop.result
-    (λ adds before k clean never. kept c.add_microop.new.self before c.args.item _ c.in-Microop.is
+    (λ adds before k clean never. has_line c.add_microop.new.self before c.args.item _ c.in-Microop.is
     (has_microop c.args.self.now c.add_microop.new.self before c.in-Microop.microop k adds))
     c.add_microop.ensures
 
 pub returns-in-Relationship : goal.returns-in-Relationship
 returns-in-Relationship c =
     on_ok c.add_relationship.result
-    (λ adds before k clean never. kept c.add_relationship.new.self before c.args.item _ c.in-Relationship.is
+    (λ adds before k clean never. has_line c.add_relationship.new.self before c.args.item _ c.in-Relationship.is
     (has_relationship c.args.self.now c.add_relationship.new.self before c.in-Relationship.relationship k
     (judged before c.args.item _ c.in-Relationship.is never) adds))
     c.add_relationship.ensures
@@ -65,7 +65,7 @@ returns-in-Relationship c =
 pub returns-in-Initial : goal.returns-in-Initial
 returns-in-Initial c =
     on_ok c.add.result
-    (λ adds before k clean never. kept _ before c.args.item _ c.in-Initial.is
+    (λ adds before k clean never. has_line _ before c.args.item _ c.in-Initial.is
     (has_initial c.args.self.now before c.in-Initial.line c.add.new.self k
     (adds ∙ ap (λ (x : Value). c.args.self.now.initial ++ record { pa = c.in-Initial.line.pa; value = x } ∷ []) c.value.ensures)))
     c.add.ensures
@@ -73,19 +73,19 @@ returns-in-Initial c =
 pub returns-in-Final : goal.returns-in-Final
 returns-in-Final c =
     on_ok c.add-in-Final.result
-    (λ adds before k clean never. kept _ before c.args.item _ c.in-Final.is
+    (λ adds before k clean never. has_line _ before c.args.item _ c.in-Final.is
     (has_final c.args.self.now before c.in-Final.line c.add-in-Final.new.self k
     (adds ∙ ap (λ (x : Value). c.args.self.now.final_values ++ record { pa = c.in-Final.line.pa; value = x } ∷ []) c.value-in-Final.ensures)))
     c.add-in-Final.ensures
 
 pub returns-in-Permitted : goal.returns-in-Permitted
 returns-in-Permitted c = λ before k clean never.
-    kept _ before c.args.item _ c.in-Permitted.is
+    has_line _ before c.args.item _ c.in-Permitted.is
     (has_expectation c.args.self.now before _ _ (permitted, c.in-Permitted.at) k refl refl refl refl refl refl c.in-Permitted.at
     (judged before c.args.item _ c.in-Permitted.is never))
 
 pub returns-in-Forbidden : goal.returns-in-Forbidden
 returns-in-Forbidden c = λ before k clean never.
-    kept _ before c.args.item _ c.in-Forbidden.is
+    has_line _ before c.args.item _ c.in-Forbidden.is
     (has_expectation c.args.self.now before _ _ (forbidden, c.in-Forbidden.at) k refl refl refl refl refl refl c.in-Forbidden.at
     (judged before c.args.item _ c.in-Forbidden.is never))

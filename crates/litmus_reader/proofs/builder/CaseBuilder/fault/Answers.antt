@@ -30,9 +30,9 @@ returns-in-Final c = λ before k.
 pub returns-in-Permitted : goal.returns-in-Permitted
 returns-in-Permitted c = λ before k.
     subst (λ (i : Item). Answers (IsFaultOf before i) c.expectation_fault.result) (sym c.in-Permitted.is)
-    (subst (λ (es : List (Expectation × Place)). Answers (AgainExpected es c.in-Permitted.at) c.expectation_fault.result) k.stance c.expectation_fault.ensures)
+    (subst (λ (es : List (Expectation × Place)). Answers (AgainExpected es c.in-Permitted.at) c.expectation_fault.result) k.expected c.expectation_fault.ensures)
 
 pub returns-in-Forbidden : goal.returns-in-Forbidden
 returns-in-Forbidden c = λ before k.
     subst (λ (i : Item). Answers (IsFaultOf before i) c.expectation_fault-in-Forbidden.result) (sym c.in-Forbidden.is)
-    (subst (λ (es : List (Expectation × Place)). Answers (AgainExpected es c.in-Forbidden.at) c.expectation_fault-in-Forbidden.result) k.stance c.expectation_fault-in-Forbidden.ensures)
+    (subst (λ (es : List (Expectation × Place)). Answers (AgainExpected es c.in-Forbidden.at) c.expectation_fault-in-Forbidden.result) k.expected c.expectation_fault-in-Forbidden.ensures)

@@ -48,13 +48,10 @@ returns-clause-added g c =
     )
 
 pub returns-clause-cost : goal.returns-clause-cost
-returns-clause-cost g c = rw (← c.self.view_is) c.in_ok-keep.ensures.cost
+returns-clause-cost g c = rw (← c.self.view_is) c.keep.ensures.cost
 
-pub returns-clause-most : goal.returns-clause-most
-returns-clause-most g c = rw (← c.self.view_is, ← c.self.invariant.words) c.keep.ensures.most
-
-pub returns-in_err-keep-clause-most : goal.returns-in_err-keep-clause-most
-returns-in_err-keep-clause-most g c = rw (← c.self.view_is, ← c.self.invariant.words) c.keep.ensures.most
+pub returns-in_err-keep-clause-cost : goal.returns-in_err-keep-clause-cost
+returns-in_err-keep-clause-cost g c = rw (← c.self.view_is) c.keep.ensures.cost
 
 pub invariant_of-self : goal.invariant_of-self
 invariant_of-self g c =
