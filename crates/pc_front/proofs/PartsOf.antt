@@ -90,7 +90,7 @@ pub parts_are : (m : WrittenModel) (c : Case) (part : ModelFront) (parts : Parts
     → parts.case ≡ c → parts.stages ≡ part.stages → parts.axioms ≡ part.axioms → ArePartsOf m c parts.case parts.stages parts.axioms
 parts_are m c part parts of case stages axioms =
     let same : part ≡ record { stages = parts.stages; axioms = parts.axioms } =
-        λ i. record { stages = sym stages i; axioms = sym axioms i } in
+    λ i. record { stages = sym stages i; axioms = sym axioms i } in
     record { case = case; model = subst (IsModelFrontOf m) same of }
 
 -- a front of these parts
@@ -98,9 +98,9 @@ pub front_is : (m : WrittenModel) (c : Case) (parts : Parts) (front : Front) →
     → front.case ≡ parts.case → front.stages ≡ parts.stages → front.axioms ≡ parts.axioms → IsFrontOf m c front
 front_is m c parts front of case stages axioms =
     let own : ArePartsOf m c front.case front.stages front.axioms =
-        subst (λ d. ArePartsOf m c d front.stages front.axioms) (sym case)
-        (subst (λ ss. ArePartsOf m c parts.case ss front.axioms) (sym stages)
-        (subst (λ as_. ArePartsOf m c parts.case parts.stages as_) (sym axioms) of)) in record {
+    subst (λ d. ArePartsOf m c d front.stages front.axioms) (sym case)
+    (subst (λ ss. ArePartsOf m c parts.case ss front.axioms) (sym stages)
+    (subst (λ as_. ArePartsOf m c parts.case parts.stages as_) (sym axioms) of)) in record {
       parts = own;
       tree = front.grounded ∙ ap rows_of (
           ap (λ d. closed_ground_tree d (plain_axioms front.axioms)) own.case

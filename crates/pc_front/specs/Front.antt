@@ -1,8 +1,6 @@
 -- What the bytes of a model and of a test say together: a front, or the first fault of the two files.
-use Rattle.std.specs.Prelude.{◌≡◌, ⊤, ℕ, List, [], Option, Some, None, map}
-use Rattle.std.specs.List.{list_all}
+use Rattle.std.specs.Prelude.{◌≡◌, ⊤, ℕ, List, Option, Some, None}
 use Rattle.pc_common.specs.Case.{Case}
-use Rattle.pc_common.specs.World.{Node, World}
 use Rattle.pc_common.specs.declared.fault.FaultKind.{FaultKind}
 use Rattle.pc_common.specs.declared.fault.FaultKind.TheVariants.{Lexical, Syntax}
 use Rattle.pc_common.specs.declared.fault.InputFault.{InputFault}
@@ -10,8 +8,6 @@ use Rattle.pc_common.specs.declared.fault.Which.{Which}
 use Rattle.pc_common.specs.declared.fault.Which.TheVariants.{Model, Test}
 use Rattle.pc_common.specs.declared.place.Place.{Place}
 use Rattle.pc_syntax.specs.Written.{WrittenModel}
-use Rattle.pc_syntax.specs.Observable.{axioms_of, satisfies}
-use Rattle.pc_syntax.specs.Closed.{closed_true}
 use Rattle.pc_syntax.specs.ModelFault.{first_model_fault}
 use Rattle.litmus_reader.specs.Answer.{CaseOf, IsCaseFault}
 use Rattle.litmus_reader.specs.declared.fault.CaseFault.{CaseFault}
@@ -22,7 +18,6 @@ use Rattle.pc_ground.specs.declared.parts.Parts.{Parts}
 use Rattle.pc_ground.specs.declared.front.Front.{Front}
 use Rattle.pc_ground.specs.Rows.{rows_of}
 use Rattle.pc_ground.specs.GroundTree.{ground_tree}
-use Rattle.pc_ground.specs.Stages.{plain_stage, plain_axioms}
 use Rattle.pc_front.specs.declared.model_front.FrontEnd.{FrontEnd}
 use Rattle.pc_front.specs.declared.model_front.FrontEnd.TheVariants.{Refused, Memory}
 use Rattle.pc_front.specs.ModelFront.{ModelOf, IsModelFault, IsModelFrontOf}

@@ -15,11 +15,7 @@ use std::alloc::Global;
 ///
 /// `Refused` comes with the first fault of the two files: the model's, and where it has none, the test's.
 /// The sizes of the files aren't judged.
-pub fn read_parts(
-    alloc: Global,
-    model_bytes: &[u8],
-    test_bytes: &[u8],
-) -> Result<Parts, FrontEnd>
+pub fn read_parts(alloc: Global, model_bytes: &[u8], test_bytes: &[u8]) -> Result<Parts, FrontEnd>
     requires model_short { length model_bytes.now < 2 ^ 32 }
     requires test_short { length test_bytes.now < 2 ^ 32 }
     ensures ok { IfOk result (SayParts model_bytes.now test_bytes.now) }
