@@ -1,11 +1,13 @@
-//! Small models and litmus tests that the tables of the crates of tests judge.
+//! Small models, litmus tests and certificates that the tables of the crates of tests judge.
 //!
 //! They are constants alone, in a crate of their own, so that each text stands once.
 #![tactic(auto)]
 
+mod certificates;
 mod litmus;
 mod models;
 
+pub use certificates::TWO_IN_ORDER;
 pub use litmus::{
     EMPTY, FIRST_IS_LAST, MESSAGE_PASSING, ONE, STORE_BUFFERING, TWO, TWO_CORES, TWO_FORBIDDEN,
 };

@@ -55,7 +55,7 @@ impl<R: rt::Files> Files for RealFiles<R> {
 
     ghost calm = { λ files. false };
 
-    ghost calm_told = { λ files calm. calm };
+    ghost failing_modelled = { λ files calm. calm };
 
     fn start(&mut self, name: &str) -> Result<(), Failed>
         ensures starts { is_some self.new.started ≡ is_ok result }

@@ -1,16 +1,10 @@
 ghost use Rattle.std.specs.Prelude.{◌≡◌, ◌∷◌, [], ℕ, List, map, MatchOption, codes};
 ghost use Rattle.std.specs.String.{string_bytes};
-ghost use Rattle.pipecheck_run.specs.Command.{Inputs as Names, IsCommand, IsNoCommand};
-ghost use Rattle.pipecheck_run.specs.Parsed.{said};
+ghost use Rattle.command_base.specs.Inputs.{Inputs as Names};
+ghost use Rattle.pipecheck_run.specs.Command.{plain_command, IsCommand, IsNoCommand};
 
-use super::ring::cores_behind;
-
-/// The model and the test of a command, by their names.
-#[derive(Clone, Copy)]
-pub(crate) struct Inputs<'a> {
-    pub(crate) model: &'a str,
-    pub(crate) test: &'a str,
-}
+use super::cores::cores_behind;
+use command_base::Inputs;
 
 /// A command by its words, without options.
 #[derive(Clone, Copy)]
@@ -65,7 +59,7 @@ fn three_behind<'a>(word: &str, words: &'a [String]) -> Option<(Inputs<'a>, &'a 
 
 /// The command that the words are, if they are one.
 pub(crate) fn parse<'a>(words: &'a [String]) -> Option<Command<'a>>
-    ensures { MatchOption result (IsNoCommand (map string_bytes words.now)) (λ c. IsCommand (map string_bytes words.now) (said c)) }
+    ensures { MatchOption result (IsNoCommand (map string_bytes words.now)) (λ c. IsCommand (map string_bytes words.now) (plain_command c)) }
 {
     if let Some(inputs) = inputs_behind("check", words) {
         return Some(Command::Check(inputs));

@@ -9,8 +9,6 @@ mod brackets;
 #[cfg(test)]
 mod cases;
 #[cfg(test)]
-mod checking;
-#[cfg(test)]
 mod formulas;
 #[cfg(test)]
 mod macros;
@@ -35,8 +33,4 @@ mod shown_closed;
 #[cfg(test)]
 mod texts;
 #[cfg(test)]
-mod ties;
-#[cfg(test)]
 mod trees;
-#[cfg(test)]
-mod verdicts;
