@@ -9,7 +9,7 @@ use Rattle.pc_common.specs.Faults.{Rose}
 use Rattle.pc_common.specs.Reads.{Reads}
 use Rattle.pc_common.specs.declared.fault.InputFault.{InputFault}
 use Rattle.pc_common.specs.declared.fault.Which.{Which}
-use Rattle.pc_common.specs.declared.fault.Which.TheVariants.{Model, Test}
+use Rattle.pc_common.specs.declared.fault.Which.TheVariants.{Model, Test, Query}
 use Rattle.pc_common.specs.declared.reading.ReadEnd.{ReadEnd}
 use Rattle.pc_common.specs.declared.reading.ReadEnd.TheVariants.{ReadFault as an_outside_fault, TooLarge as past_limit, Memory as no_memory}
 use Rattle.pc_common.specs.declared.status.Status.TheVariants.{Usage, Refused, ReadFault, Memory}
@@ -22,7 +22,7 @@ use Rattle.command_base.specs.declared.ending.Ending.{Ending}
 use Rattle.command_base.specs.declared.ending.Ending.TheVariants.{ReadFault as a_read_fault, Memory as a_memory, Refused as a_refusal}
 use Rattle.command_base.specs.Words.{fault_word, file_word}
 use Rattle.command_base.specs.Inputs.{Inputs, Contents, IsRead, IsTooLarge, IsFirstFault, large_model, large_test, in_bytes, too_large, LacksInput, Says}
-use Rattle.command_base.specs.SecondFiles.{SaysFront, SaysNone}
+use Rattle.command_base.specs.SecondFiles.{IsOfTwo, SaysFront, SaysNone}
 use Rattle.command_base.specs.Refusals.{IsRefusal, refusal, refused_text, name_of}
 use Rattle.command_base.specs.Endings.{refusal_text, ending_text, ending_status, bytes_of, IsBytesEnding, IsUnread}
 use Rattle.command_base.specs.Outcomes.{HasFront, IsInputsEnding}
@@ -89,29 +89,33 @@ refusal_of {first_fault} holds i bytes f r first held e l c =
     subst Q (refusal_is bytes f r e l c) (refusal first held)
 
 -- a file past the limit is held, and says nothing
-large_held : (holds : Contents) (i : Inputs) (file : Which) → IsTooLarge holds (name_of file i) → LacksInput holds i
+large_held : (holds : Contents) (i : Inputs) (file : Which) → IsOfTwo file → IsTooLarge holds (name_of file i) → LacksInput holds i
     → (file ≡ Test → (bytes : List ℕ) × IsRead holds i.model bytes) → ⊥
-large_held holds i Model l (inl none) read = some_none (sym l.held ∙ none)
-large_held holds i Model l (inr ((bytes, is), none)) read = never_both holds i.model bytes is l
-large_held holds i Test l (inl none) read = (let model = read refl in some_none (sym model.1.held ∙ none))
-large_held holds i Test l (inr (first, none)) read = some_none (sym l.held ∙ none)
+large_held holds i Model two l (inl none) read = some_none (sym l.held ∙ none)
+large_held holds i Model two l (inr ((bytes, is), none)) read = never_both holds i.model bytes is l
+large_held holds i Test two l (inl none) read = (let model = read refl in some_none (sym model.1.held ∙ none))
+large_held holds i Test two l (inr (first, none)) read = some_none (sym l.held ∙ none)
+large_held holds i Query two l lacks read = absurd two
 
-large_says_none : {case_of : List ℕ → Case → Type 0} (holds : Contents) (i : Inputs) (file : Which) → IsTooLarge holds (name_of file i)
+large_says_none : {case_of : List ℕ → Case → Type 0} (holds : Contents) (i : Inputs) (file : Which) → IsOfTwo file → IsTooLarge holds (name_of file i)
     → (m : WrittenModel) (c : Case) → Says case_of holds i m c → ⊥
-large_says_none holds i Model l m c says = never_both holds i.model says.model_bytes says.model_read l
-large_says_none holds i Test l m c says = never_both holds i.test says.test_bytes says.test_read l
+large_says_none holds i Model two l m c says = never_both holds i.model says.model_bytes says.model_read l
+large_says_none holds i Test two l m c says = never_both holds i.test says.test_bytes says.test_read l
+large_says_none holds i Query two l m c says = absurd two
 
 -- the first fault of a file past the limit
-large_first : {first_fault : List ℕ → List ℕ → InputFault → Type 0} (holds : Contents) (i : Inputs) (file : Which) → IsTooLarge holds (name_of file i)
+large_first : {first_fault : List ℕ → List ℕ → InputFault → Type 0} (holds : Contents) (i : Inputs) (file : Which) → IsOfTwo file → IsTooLarge holds (name_of file i)
     → (file ≡ Test → (bytes : List ℕ) × IsRead holds i.model bytes) → IsFirstFault first_fault holds i (too_large file)
-large_first holds i Model l read = large_model l
-large_first holds i Test l read = (let model = read refl in large_test model.1 l)
+large_first holds i Model two l read = large_model l
+large_first holds i Test two l read = (let model = read refl in large_test model.1 l)
+large_first holds i Query two l read = absurd two
 
 -- the file that a fault is in holds these bytes
-held_in : (holds : Contents) (i : Inputs) (mb tb : List ℕ) (file : Which) → IsRead holds i.model mb → IsRead holds i.test tb
+held_in : (holds : Contents) (i : Inputs) (mb tb : List ℕ) (file : Which) → IsOfTwo file → IsRead holds i.model mb → IsRead holds i.test tb
     → holds (name_of file i) ≡ Some (bytes_of file mb tb)
-held_in holds i mb tb Model rm rt = rm.held
-held_in holds i mb tb Test rm rt = rt.held
+held_in holds i mb tb Model two rm rt = rm.held
+held_in holds i mb tb Test two rm rt = rt.held
+held_in holds i mb tb Query two rm rt = absurd two
 
 -- bytes that say nothing are those of two files that say nothing
 says_none : {case_of : List ℕ → Case → Type 0} (holds : Contents) (i : Inputs) (mb tb : List ℕ) → IsRead holds i.model mb → IsRead holds i.test tb
@@ -187,35 +191,35 @@ module _ {F : Type 0} {view : F → FilesView} {old new : F}
   }
 
   -- a file could not be read whole
-  pub unread_ends : (file : Which) (end : ReadEnd) (e : Ending) → IsUnread file end e
+  pub unread_ends : (file : Which) → IsOfTwo file → (end : ReadEnd) (e : Ending) → IsUnread file end e
       → (end ≡ an_outside_fault → Rose (view old).faults (view new).faults)
       → (IsTrue (view old).only_missing_fail → end ≡ an_outside_fault → LacksInput (view old).holds i)
       → (IsTrue (view old).modelled → end ≡ past_limit → IsTooLarge (view old).holds (name_of file i))
       → (IsTrue (view old).modelled → file ≡ Test → (bytes : List ℕ) × IsRead (view old).holds i.model bytes)
       → IsInputsEnding view case_of first_fault i old new e
-  unread_ends file an_outside_fault e is rose lacking large read =
+  unread_ends file two an_outside_fault e is rose lacking large read =
       let P : Ending → Type 0 = λ a. IsInputsEnding view case_of first_fault i old new a in
       subst P (sym is) (fault_ends (rose refl) (λ c. lacking c refl))
-  unread_ends file no_memory e is rose lacking large read =
+  unread_ends file two no_memory e is rose lacking large read =
       let P : Ending → Type 0 = λ a. IsInputsEnding view case_of first_fault i old new a in
       subst P (sym is) memory_ends
-  unread_ends file past_limit (a_refusal r) is rose lacking large read = refusal_ends r
-      (λ t. let l = large t refl in refusal_of (view old).holds i l.bytes (too_large file) r (large_first (view old).holds i file l (read t)) (held_large l) is.0 is.1 is.2)
-      (λ t. large_says_none (view old).holds i file (large t refl))
-      (λ c l. large_held (view old).holds i file (large (failing_modelled c) refl) l (read (failing_modelled c)))
+  unread_ends file two past_limit (a_refusal r) is rose lacking large read = refusal_ends r
+      (λ t. let l = large t refl in refusal_of (view old).holds i l.bytes (too_large file) r (large_first (view old).holds i file two l (read t)) (held_large l) is.0 is.1 is.2)
+      (λ t. large_says_none (view old).holds i file two (large t refl))
+      (λ c l. large_held (view old).holds i file two (large (failing_modelled c) refl) l (read (failing_modelled c)))
     where
       held_large : (l : IsTooLarge (view old).holds (name_of file i)) → (view old).holds (name_of file i) ≡ Some l.bytes
       held_large l = l.held
-  unread_ends file past_limit a_read_fault is rose lacking large read = absurd is
-  unread_ends file past_limit a_memory is rose lacking large read = absurd is
+  unread_ends file two past_limit a_read_fault is rose lacking large read = absurd is
+  unread_ends file two past_limit a_memory is rose lacking large read = absurd is
 
   -- these bytes say no front
   pub bytes_end : (mb tb : List ℕ) (read : IsTrue (view old).modelled → IsRead (view old).holds i.model mb × IsRead (view old).holds i.test tb)
       (e : Ending) → IsBytesEnding case_of first_fault mb tb e → IsInputsEnding view case_of first_fault i old new e
   bytes_end mb tb read (a_refusal r) is = refusal_ends r
       (λ t. refusal_of (view old).holds i (bytes_of r.fault.file mb tb) r.fault r (in_bytes (read t).0 (read t).1 is.0)
-      (held_in (view old).holds i mb tb r.fault.file (read t).0 (read t).1) refl is.2.0 is.2.1)
-      (λ t. says_none (view old).holds i mb tb (read t).0 (read t).1 is.1)
+      (held_in (view old).holds i mb tb r.fault.file is.1 (read t).0 (read t).1) refl is.3.0 is.3.1)
+      (λ t. says_none (view old).holds i mb tb (read t).0 (read t).1 is.2)
       (λ c. both_held (view old).holds i mb tb (read (failing_modelled c)))
   bytes_end mb tb read a_memory is = memory_ends
   bytes_end mb tb read a_read_fault is = absurd is

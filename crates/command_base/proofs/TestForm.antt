@@ -7,12 +7,12 @@ use Rattle.pc_common.specs.declared.fault.FaultKind.TheVariants.{Lexical, Syntax
 use Rattle.pc_common.specs.declared.fault.InputFault.{InputFault}
 use Rattle.pc_common.specs.declared.fault.Which.TheVariants.{Model, Test}
 use Rattle.pc_common.specs.declared.place.Place.{Place}
-use Rattle.pc_case.specs.Kept.{IsKept}
+use Rattle.pc_case.specs.MicroOps.{AreMicroOps}
 use Rattle.pc_syntax.specs.Written.{WrittenModel}
-use Rattle.litmus_reader.specs.Answer.{CaseOf, IsRefusal}
+use Rattle.litmus_reader.specs.Answer.{CaseOf, IsCaseFault}
 use Rattle.litmus_reader.specs.declared.fault.CaseFault.{CaseFault}
 use Rattle.litmus_reader.specs.declared.fault.CaseFault.TheVariants.{Lexical as a_lexical_fault, Syntax as a_syntax_fault, Content as a_fault_of_content, Memory as no_room}
-use Rattle.litmus_reader.proofs.CleanFacts.{ops_kept}
+use Rattle.litmus_reader.proofs.CleanFacts.{are_micro_ops}
 use Rattle.litmus_reader.proofs.Exclusive.{one_case, no_fault}
 use Rattle.litmus_reader.proofs.OneFault.{one_fault}
 use Rattle.litmus_reader.proofs.Totality.{case_or_fault}
@@ -57,14 +57,14 @@ case_or_fault_of : (mb tb : List ℕ)
     → ((m : WrittenModel) × (c : Case) × SaysModel mb m × CaseOf tb c) ⊎ ((f : InputFault) × IsFirstFault mb tb f)
 case_or_fault_of mb tb = of_model (model_or_fault mb)
   where
-    told : (m : WrittenModel) → SaysModel mb m → (f : CaseFault) → f ≢ no_room → IsRefusal tb f → (g : InputFault) × IsFirstFault mb tb g
+    told : (m : WrittenModel) → SaysModel mb m → (f : CaseFault) → f ≢ no_room → IsCaseFault tb f → (g : InputFault) × IsFirstFault mb tb g
     told m says (a_lexical_fault at) some is = (fault_at Test Lexical at, in_test says (record { found = a_lexical_fault at; first = is; told = refl }))
     told m says (a_syntax_fault at) some is = (fault_at Test Syntax at, in_test says (record { found = a_syntax_fault at; first = is; told = refl }))
     told m says (a_fault_of_content kind at) some is =
         (fault_at Test kind at, in_test says (record { found = a_fault_of_content kind at; first = is; told = refl }))
     told m says no_room some is = absurd (some refl)
 
-    of_test : (m : WrittenModel) → SaysModel mb m → ((c : Case) × CaseOf tb c) ⊎ ((f : CaseFault) × (f ≢ no_room) × IsRefusal tb f)
+    of_test : (m : WrittenModel) → SaysModel mb m → ((c : Case) × CaseOf tb c) ⊎ ((f : CaseFault) × (f ≢ no_room) × IsCaseFault tb f)
         → ((n : WrittenModel) × (c : Case) × SaysModel mb n × CaseOf tb c) ⊎ ((f : InputFault) × IsFirstFault mb tb f)
     of_test m says (inl (c, is)) = inl (m, c, says, is)
     of_test m says (inr (f, some, is)) = inr (told m says f some is)
@@ -78,8 +78,8 @@ pub test_form : IsForm CaseOf IsFirstFault
 test_form = record { one_case = one_case; one_fault = one_fault_of; no_fault = no_fault_of; some = case_or_fault_of }
 
 -- a test that is read keeps its micro-ops
-test_kept : (bytes : List ℕ) (c : Case) → CaseOf bytes c → IsKept c.ops
-test_kept bytes c said = subst (λ (d : Case). IsKept d.ops) (sym said.is) (ops_kept said.items said.clean)
+test_kept : (bytes : List ℕ) (c : Case) → CaseOf bytes c → AreMicroOps c.ops
+test_kept bytes c said = subst (λ (d : Case). AreMicroOps d.ops) (sym said.is) (are_micro_ops said.items said.clean)
 
 pub test_front : (mb tb : List ℕ) (front : Front) → SayFront mb tb front → SaysFront CaseOf mb tb front
 test_front mb tb front say = record {

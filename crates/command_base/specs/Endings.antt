@@ -7,7 +7,7 @@ use Rattle.pc_common.specs.declared.status.Status.{Status}
 use Rattle.pc_common.specs.declared.status.Status.TheVariants.{Refused, ReadFault, Memory}
 use Rattle.pc_common.specs.declared.fault.InputFault.{InputFault}
 use Rattle.pc_common.specs.declared.fault.Which.{Which}
-use Rattle.pc_common.specs.declared.fault.Which.TheVariants.{Model, Test}
+use Rattle.pc_common.specs.declared.fault.Which.TheVariants.{Model, Test, Query}
 use Rattle.pc_common.specs.declared.reading.ReadEnd.{ReadEnd}
 use Rattle.pc_common.specs.declared.reading.ReadEnd.TheVariants.{ReadFault as an_outside_fault, TooLarge as past_limit, Memory as no_memory}
 use Rattle.command_base.specs.declared.refusal.Refusal.{Refusal}
@@ -15,7 +15,7 @@ use Rattle.command_base.specs.declared.ending.Ending.{Ending}
 use Rattle.command_base.specs.declared.ending.Ending.TheVariants.{ReadFault as a_read_fault, Memory as a_memory, Refused as a_refusal}
 use Rattle.command_base.specs.Words.{fault_word, file_word}
 use Rattle.command_base.specs.Inputs.{too_large}
-use Rattle.command_base.specs.SecondFiles.{SaysNone}
+use Rattle.command_base.specs.SecondFiles.{SaysNone, IsOfTwo}
 
 abbrev pub refusal_text : Refusal → List ℕ
 refusal_text r =
@@ -50,11 +50,12 @@ IsPlaced bytes r = (r.line ≡ line_of bytes r.fault.place.offset) × (r.column 
 abbrev pub bytes_of : Which → List ℕ → List ℕ → List ℕ
 bytes_of Model model second = model
 bytes_of Test model second = second
+bytes_of Query model second = []  -- no query is read
 
 -- the ending where the bytes of two files that were read say no front
 abbrev pub IsBytesEnding : (List ℕ → Case → Type 0) → (List ℕ → List ℕ → InputFault → Type 0) → List ℕ → List ℕ → Ending → Type 0
 IsBytesEnding case_of first_fault model second (a_refusal r) =
-    first_fault model second r.fault × SaysNone case_of model second × IsPlaced (bytes_of r.fault.file model second) r
+    first_fault model second r.fault × IsOfTwo r.fault.file × SaysNone case_of model second × IsPlaced (bytes_of r.fault.file model second) r
 IsBytesEnding case_of first_fault model second a_memory = ⊤
 IsBytesEnding case_of first_fault model second a_read_fault = ⊥
 

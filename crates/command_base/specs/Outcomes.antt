@@ -7,7 +7,7 @@ use Rattle.pc_common.specs.Reads.{Reads}
 use Rattle.pc_common.specs.declared.fault.InputFault.{InputFault}
 use Rattle.pc_common.specs.declared.status.Status.{Status}
 use Rattle.pc_common.specs.declared.status.Status.TheVariants.{Usage, Refused, ReadFault, Memory}
-use Rattle.pc_case.specs.Kept.{IsKept}
+use Rattle.pc_case.specs.MicroOps.{AreMicroOps}
 use Rattle.pc_syntax.specs.Written.{WrittenModel}
 use Rattle.pc_ground.specs.declared.front.Front.{Front}
 use Rattle.pc_front.specs.Front.{IsFrontOf}
@@ -23,7 +23,7 @@ pub record HasFront {F : Type 0} (view : F → FilesView)
   pub m : WrittenModel
   pub c : Case
   pub front_of : IsFrontOf m c front
-  pub kept : IsKept c.ops
+  pub kept : AreMicroOps c.ops
   pub says : IsTrue (view old).modelled → Says case_of (view old).holds i m c
   pub held : IsTrue (view old).only_missing_fail → LacksInput (view old).holds i → ⊥
 

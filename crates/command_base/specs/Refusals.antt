@@ -4,7 +4,7 @@ use Rattle.std.specs.Fmt.{decimal}
 use Rattle.pc_common.specs.declared.status.Status.{Status}
 use Rattle.pc_common.specs.declared.status.Status.TheVariants.{Refused}
 use Rattle.pc_common.specs.declared.fault.Which.{Which}
-use Rattle.pc_common.specs.declared.fault.Which.TheVariants.{Model, Test}
+use Rattle.pc_common.specs.declared.fault.Which.TheVariants.{Model, Test, Query}
 use Rattle.pc_common.specs.declared.fault.InputFault.{InputFault}
 use Rattle.pc_common.specs.LineColumn.{line_of, column_of}
 use Rattle.command_base.specs.Words.{fault_word, file_word}
@@ -19,6 +19,7 @@ refused_text bytes f =
 abbrev pub name_of : Which → Inputs → List ℕ
 name_of Model i = i.model
 name_of Test i = i.test
+name_of Query i = []  -- no query is read
 
 -- the two files are refused by their first fault
 pub data IsRefusal (first_fault : List ℕ → List ℕ → InputFault → Type 0) (holds : Contents) (i : Inputs) : Status → List ℕ → Type 0 where

@@ -54,6 +54,7 @@ fn bytes_of<'a>(file: Which, model: &'a [u8], second: &'a [u8]) -> &'a [u8]
     match file {
         Which::Model => model,
         Which::Test => second,
+        Which::Query => b"",
     }
 }
 

@@ -36,6 +36,13 @@ pub(crate) fn fault_word(kind: FaultKind) -> &'static [u8]
         FaultKind::AgainInitial { .. } => b"again-initial",
         FaultKind::AgainFinal { .. } => b"again-final",
         FaultKind::AgainExpectation { .. } => b"again-expectation",
+        FaultKind::MarkValue { .. } => b"mark-value",
+        FaultKind::TooManyRows { .. } => b"too-many-rows",
+        FaultKind::X86Column => b"x86-column",
+        FaultKind::X86Reload => b"x86-reload",
+        FaultKind::X86Unloaded => b"x86-unloaded",
+        FaultKind::X86Again => b"x86-again",
+        FaultKind::X86Open => b"x86-open",
     }
 }
 
@@ -47,5 +54,6 @@ pub(crate) fn file_word(file: Which) -> &'static [u8]
     match file {
         Which::Model => b"model",
         Which::Test => b"test",
+        Which::Query => b"query",
     }
 }

@@ -6,7 +6,7 @@ use Rattle.pc_common.specs.World.{Node}
 use Rattle.pc_common.specs.Lines.{Verdict as Kind, observable, unobservable}
 use Rattle.pc_common.specs.declared.status.Status.{Status}
 use Rattle.pc_common.specs.declared.status.Status.TheVariants.{Observable as is_observable, Unobservable as is_unobservable}
-use Rattle.pc_case.specs.Kept.{IsKept}
+use Rattle.pc_case.specs.MicroOps.{AreMicroOps}
 use Rattle.pc_syntax.specs.Written.{WrittenModel}
 use Rattle.pc_ground.specs.declared.front.Front.{Front}
 use Rattle.pc_ground.specs.GroundTree.{ground_tree}
@@ -62,7 +62,7 @@ counted_kind m c text nodes (a_refutation r) refuted is =
     of_tree {lines = certificate_lines (question_by m c) unobservable (map step_line r)} (record { steps = r; lines_are = refl; refutes = refuted.0 })
 
 -- the report says it
-summary_of : (n : ℕ) (m : WrittenModel) (c : Case) (v : Verdict) (r : Report) → IsKept c.ops → IsVerdict m c v → IsReport n v r
+summary_of : (n : ℕ) (m : WrittenModel) (c : Case) (v : Verdict) (r : Report) → AreMicroOps c.ops → IsVerdict m c v → IsReport n v r
     → IsSummary m c (plain_verdict r.verdict) r.nodes r.splits r.leaves
 summary_of n m c v r kept verdict report =
     let certified : IsCertified m c (status_of v.found) (verdict_text v) = verdict_certified m c v kept verdict in

@@ -2,7 +2,7 @@
 use Rattle.std.proofs.Common.{◌≡◌}
 use Rattle.pc_common.specs.Case.{Case}
 use Rattle.pc_common.specs.World.{Node}
-use Rattle.pc_case.specs.Kept.{IsKept}
+use Rattle.pc_case.specs.MicroOps.{AreMicroOps}
 use Rattle.pc_syntax.specs.Written.{WrittenModel}
 use Rattle.pc_ground.specs.declared.front.Front.{Front}
 use Rattle.pc_ground.specs.Tree.{Tree}
@@ -20,5 +20,5 @@ pub verdict_is : (m : WrittenModel) (c : Case) (front : Front) → IsFrontOf m c
     → ((t : Tree Node) → front.tree ≡ rows_of t → IsAnswer front.numbering t found) → IsVerdict m c (record { front = front; found = found })
 verdict_is m c front is found each = record { front_of = is; found = each (ground_tree m c) is.tree }
 
-pub verdict_writable : (m : WrittenModel) (c : Case) (v : Verdict) → IsKept c.ops → IsVerdict m c v → IsWritable (names_of v.front) v.found
+pub verdict_writable : (m : WrittenModel) (c : Case) (v : Verdict) → AreMicroOps c.ops → IsVerdict m c v → IsWritable (names_of v.front) v.found
 verdict_writable m c v kept is = writable m c v.front is.front_of kept v.found is.found

@@ -4,7 +4,7 @@ use Rattle.std.specs.Prelude.{Contains, All}
 use Rattle.pc_common.specs.Case.{Case}
 use Rattle.pc_common.specs.World.{Node, Edge}
 use Rattle.pc_common.proofs.Elements.{In, in_map, contains_from_in}
-use Rattle.pc_case.specs.Kept.{IsKept}
+use Rattle.pc_case.specs.MicroOps.{AreMicroOps}
 use Rattle.pc_syntax.specs.Written.{stage_numbers, WrittenModel}
 use Rattle.pc_syntax.specs.Observable.{IsNodeOf}
 use Rattle.pc_ground.specs.declared.front.Front.{Front}
@@ -52,9 +52,9 @@ all_images P f xs each k d inside = each (f (get_or xs k d)) (contains_from_in _
 pub all_nodes : (P : Node → Type 0) (xs : List Node) → ((a : Node) → Contains xs a → P a) → All P xs
 all_nodes P xs each k d inside = each (get_or xs k d) (contains_from_in (get_or xs k d) xs (placed xs k d inside))
 
-module _ (m : WrittenModel) (c : Case) (front : Front) (is : IsFrontOf m c front) (kept : IsKept c.ops) where
-  kept_here : IsKept front.case.ops
-  kept_here = subst (λ (d : Case). IsKept d.ops) (sym is.case) kept
+module _ (m : WrittenModel) (c : Case) (front : Front) (is : IsFrontOf m c front) (kept : AreMicroOps c.ops) where
+  kept_here : AreMicroOps front.case.ops
+  kept_here = subst (λ (d : Case). AreMicroOps d.ops) (sym is.case) kept
 
   -- each node of the tree is written by the front's names
   tree_node : (a : Node) → Contains (nodes_of_tree (ground_tree m c)) a → IsNodeIn (names_of front) a

@@ -4,7 +4,7 @@ use Rattle.std.specs.Prelude.{codes, Contains}
 use Rattle.pc_common.specs.Case.{Case, Expectation}
 use Rattle.pc_common.specs.World.{Node}
 use Rattle.pc_common.specs.Lines.{Names, Line as Line', Verdict as Kind, observable, unobservable, end, lines_text, verdict_text as verdict_words, second_text}
-use Rattle.pc_case.specs.Kept.{IsKept}
+use Rattle.pc_case.specs.MicroOps.{AreMicroOps}
 use Rattle.pc_syntax.specs.Written.{stage_numbers, WrittenModel}
 use Rattle.pc_syntax.specs.Observable.{IsNodeOf, IsWorldOf, satisfies}
 use Rattle.pc_ground.specs.declared.front.Front.{Front}
@@ -47,7 +47,7 @@ module _ (m : WrittenModel) (c : Case) (front : Front) (is : IsFrontOf m c front
       ∙ certificate_text (question_by m c) kind body
 
 -- the verdict is one on the model and the case, and so is its text
-pub verdict_certified : (m : WrittenModel) (c : Case) (v : Verdict) → IsKept c.ops → IsVerdict m c v
+pub verdict_certified : (m : WrittenModel) (c : Case) (v : Verdict) → AreMicroOps c.ops → IsVerdict m c v
     → IsCertified m c (status_of v.found) (verdict_text v)
 unfolding text_by
 verdict_certified m c v kept is = go v.found is.found
