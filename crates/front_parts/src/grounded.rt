@@ -17,8 +17,10 @@ pub(crate) fn grounded(
     case: &Case,
     axioms: &Axioms,
 ) -> Result<(Flat, Numbering), Memory>
-    ensures tree { IfOk result (λ made. made.0 ≡ rows_of (closed_ground_tree case.now (plain_axioms axioms.now))) }
-    ensures numbered { IfOk result (λ made. made.1 ≡ numbered (closed_ground_tree case.now (plain_axioms axioms.now))) }
+    ensures tree { let t = closed_ground_tree case.now (plain_axioms axioms.now) in
+        IfOk result (λ made. made.0 ≡ rows_of t) }
+    ensures numbered { let t = closed_ground_tree case.now (plain_axioms axioms.now) in
+        IfOk result (λ made. made.1 ≡ numbered t) }
 {
     let tree = tree_of(alloc, case, axioms)?;
     let numbering = number(alloc, &tree)?;

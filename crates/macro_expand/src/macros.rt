@@ -55,7 +55,8 @@ impl<'a> Macros<'a> {
 
     /// The macros of these items.
     pub(crate) fn of(alloc: Global, items: &'a [Item]) -> Result<Macros<'a>, Memory>
-        ensures { IfOk result (λ ms. plain_macros ms ≡ first_of_names (flat_map macro_of (map written_item items.now))) }
+        ensures { let all = flat_map macro_of (map written_item items.now) in
+            IfOk result (λ ms. plain_macros ms ≡ first_of_names all) }
     {
         let mut macros = Macros::new(alloc);
         for item in items {
