@@ -18,30 +18,30 @@ use Rattle.litmus_reader.proofs.OneFault.{one_fault}
 use Rattle.litmus_reader.proofs.Totality.{case_or_fault}
 use Rattle.pc_ground.specs.declared.front.Front.{Front}
 use Rattle.pc_front.specs.ModelFront.{IsModelFault}
-use Rattle.pc_front.specs.Front.{SaysModel, SayFront, IsEnd, fault_at, told_fault, IsTestFault, IsFirstFault, in_model, in_test}
+use Rattle.pc_front.specs.Front.{SaysModel, SayFront, IsEnd, fault_at, case_fault_of, IsTestFault, IsFirstFault, in_model, in_test}
 use Rattle.pc_front.specs.declared.model_front.FrontEnd.{FrontEnd}
 use Rattle.pc_front.specs.declared.model_front.FrontEnd.TheVariants.{Refused as a_refusal, Memory as no_memory}
 use Rattle.pc_front.proofs.OneModel.{no_whole_fault, one_model_fault}
 use Rattle.pc_front.proofs.ModelOrFault.{model_or_fault}
-use Rattle.command_base.specs.SecondFiles.{SaysFront, SaysNone, IsFrontEnd, IsForm}
+use Rattle.command_base.specs.SecondFiles.{SaysFront, SaysNone, IsOfTwo, IsFrontEnd, IsForm}
 
 -- want of memory is no fault of a test
-untold : (f : InputFault) → told_fault no_room ≡ Some f → ⊥
+untold : (f : InputFault) → case_fault_of no_room ≡ Some f → ⊥
 untold f told = cc
 
 -- the bytes of two files that say something have no fault
 no_fault_of : (mb tb : List ℕ) (f : InputFault) → IsFirstFault mb tb f → SaysNone CaseOf mb tb
 no_fault_of mb tb _ (in_model {kind} {at} is) m c says said = no_whole_fault mb m says.model says.no_fault kind at is
 no_fault_of mb tb f (in_test other is) m c says said =
-    no_fault tb c is.found said (λ memory. untold f (sym (ap told_fault memory) ∙ is.told)) is.first
+    no_fault tb c is.found said (λ memory. untold f (sym (ap case_fault_of memory) ∙ is.fault_is)) is.first
 
 -- a test has one first fault
 one_test_fault : (bytes : List ℕ) (f g : InputFault) → IsTestFault bytes f → IsTestFault bytes g → f ≡ g
 one_test_fault bytes f g x y =
     let same = one_fault bytes x.found y.found
-    (λ memory. untold f (sym (ap told_fault memory) ∙ x.told)) (λ memory. untold g (sym (ap told_fault memory) ∙ y.told))
+    (λ memory. untold f (sym (ap case_fault_of memory) ∙ x.fault_is)) (λ memory. untold g (sym (ap case_fault_of memory) ∙ y.fault_is))
     x.first y.first in
-    ap (λ o. unwrap_or o f) (sym x.told ∙ ap told_fault same ∙ y.told)
+    ap (λ o. unwrap_or o f) (sym x.fault_is ∙ ap case_fault_of same ∙ y.fault_is)
 
 -- the bytes of two files have one first fault
 one_fault_of : (mb tb : List ℕ) (f g : InputFault) → IsFirstFault mb tb f → IsFirstFault mb tb g → f ≡ g
@@ -58,10 +58,10 @@ case_or_fault_of : (mb tb : List ℕ)
 case_or_fault_of mb tb = of_model (model_or_fault mb)
   where
     told : (m : WrittenModel) → SaysModel mb m → (f : CaseFault) → f ≢ no_room → IsCaseFault tb f → (g : InputFault) × IsFirstFault mb tb g
-    told m says (a_lexical_fault at) some is = (fault_at Test Lexical at, in_test says (record { found = a_lexical_fault at; first = is; told = refl }))
-    told m says (a_syntax_fault at) some is = (fault_at Test Syntax at, in_test says (record { found = a_syntax_fault at; first = is; told = refl }))
+    told m says (a_lexical_fault at) some is = (fault_at Test Lexical at, in_test says (record { found = a_lexical_fault at; first = is; fault_is = refl }))
+    told m says (a_syntax_fault at) some is = (fault_at Test Syntax at, in_test says (record { found = a_syntax_fault at; first = is; fault_is = refl }))
     told m says (a_fault_of_content kind at) some is =
-        (fault_at Test kind at, in_test says (record { found = a_fault_of_content kind at; first = is; told = refl }))
+        (fault_at Test kind at, in_test says (record { found = a_fault_of_content kind at; first = is; fault_is = refl }))
     told m says no_room some is = absurd (some refl)
 
     of_test : (m : WrittenModel) → SaysModel mb m → ((c : Case) × CaseOf tb c) ⊎ ((f : CaseFault) × (f ≢ no_room) × IsCaseFault tb f)
@@ -76,6 +76,17 @@ case_or_fault_of mb tb = of_model (model_or_fault mb)
 
 pub test_form : IsForm CaseOf IsFirstFault
 test_form = record { one_case = one_case; one_fault = one_fault_of; no_fault = no_fault_of; some = case_or_fault_of }
+
+-- a fault of the two stands in one of them
+of_test_file : (found : CaseFault) (f : InputFault) → case_fault_of found ≡ Some f → IsOfTwo f.file
+of_test_file (a_lexical_fault at) f e = subst (λ o. IsOfTwo (unwrap_or o f).file) e tt
+of_test_file (a_syntax_fault at) f e = subst (λ o. IsOfTwo (unwrap_or o f).file) e tt
+of_test_file (a_fault_of_content kind at) f e = subst (λ o. IsOfTwo (unwrap_or o f).file) e tt
+of_test_file no_room f e = absurd (untold f e)
+
+of_two : (mb tb : List ℕ) (f : InputFault) → IsFirstFault mb tb f → IsOfTwo f.file
+of_two mb tb _ (in_model is) = tt
+of_two mb tb f (in_test says is) = of_test_file is.found f is.fault_is
 
 -- a test that is read keeps its micro-ops
 test_kept : (bytes : List ℕ) (c : Case) → CaseOf bytes c → AreMicroOps c.ops
@@ -92,5 +103,5 @@ test_front mb tb front say = record {
 }
 
 pub test_end : (mb tb : List ℕ) (end : FrontEnd) → IsEnd mb tb end → IsFrontEnd CaseOf IsFirstFault mb tb end
-test_end mb tb (a_refusal fault) is = (is, no_fault_of mb tb fault is)
+test_end mb tb (a_refusal fault) is = (is, of_two mb tb fault is, no_fault_of mb tb fault is)
 test_end mb tb no_memory is = tt

@@ -54,7 +54,7 @@ all_nodes P xs each k d inside = each (get_or xs k d) (contains_from_in (get_or 
 
 module _ (m : WrittenModel) (c : Case) (front : Front) (is : IsFrontOf m c front) (kept : AreMicroOps c.ops) where
   kept_here : AreMicroOps front.case.ops
-  kept_here = subst (λ (d : Case). AreMicroOps d.ops) (sym is.case) kept
+  kept_here = subst (λ (d : Case). AreMicroOps d.ops) (sym is.parts.case) kept
 
   -- each node of the tree is written by the front's names
   tree_node : (a : Node) → Contains (nodes_of_tree (ground_tree m c)) a → IsNodeIn (names_of front) a
@@ -68,12 +68,12 @@ module _ (m : WrittenModel) (c : Case) (front : Front) (is : IsFrontOf m c front
       (subst (λ (ns : List Node). Contains ns a) (front.counted ∙ ap numbered (same_tree m c front is)) in_numbering))
 
   numbers_are : numbers_of (map plain_stage front.stages) ≡ stage_numbers m.stages
-  numbers_are = ap numbers_of is.stages ∙ numbers_same m.stages
+  numbers_are = ap numbers_of is.parts.model.stages ∙ numbers_same m.stages
 
   -- each numbered node is of the model and of the test
   pub node_of_both : (a : Node) → Contains front.numbering a → IsNodeOf (stage_numbers m.stages) c.ops a
   node_of_both a in_numbering =
-      subst (λ (d : Case). IsNodeOf (stage_numbers m.stages) d.ops a) is.case
+      subst (λ (d : Case). IsNodeOf (stage_numbers m.stages) d.ops a) is.parts.case
       (subst (λ ns. IsNodeOf ns front.case.ops a) numbers_are (numbered_node a in_numbering))
 
   pub writable : (found : Found) → IsAnswer front.numbering (ground_tree m c) found → IsWritable (names_of front) found

@@ -43,7 +43,7 @@ module _ (m : WrittenModel) (c : Case) (front : Front) (is : IsFrontOf m c front
       → text_by kind body (names_of front) front.case.expectation ≡ lines_text (names_by m c) (certificate_lines (question_by m c) kind body)
   moved_text kind body =
       ap (λ ns. text_by kind body ns front.case.expectation) (names_same m c front is)
-      ∙ ap (λ (d : Case). text_by kind body (names_by m c) d.expectation) is.case
+      ∙ ap (λ (d : Case). text_by kind body (names_by m c) d.expectation) is.parts.case
       ∙ certificate_text (question_by m c) kind body
 
 -- the verdict is one on the model and the case, and so is its text
