@@ -231,7 +231,7 @@ tree_ended q o lines text so_far is none = record {
     go other same (step_next s next at run) = absurd (no_end_step q.names s (sym (ap (line_words q.names) at) ∙ sym same ∙ is))
     go other same (last_next at none) = at
 
--- the line of version 2, which stands behind the header
+-- the line of version 2, which stands after the header
 pub version_goes : (q : Question) (o new : OpenTree) (lines : List Line) (text : List ℕ) (so_far : IsTreeSoFar q o lines) → o.is_new ≡ true → new.is_new ≡ false
     → text ≡ codes "version 2" → ((v : Version) (t : GroundTree Node) (opens : List Branch) → Stands o.branches v t opens → Stands new.branches Two t opens)
     → GoesOn q lines text (Tree new)
@@ -311,7 +311,7 @@ tree_goes q asked o new lines text so_far is_other is_old s next is only run sta
         at ∙ ap step (only r (line_of_run q asked so_far.version r so_far.opens after text run_r (same ∙ ap (line_words q.names) at)))
     go other same (last_next at ended) = absurd (is_other.no_end (same ∙ ap (line_words q.names) at))
 
--- behind the last line
+-- after the last line
 pub ended_stuck : (q : Question) (lines : List Line) (text : List ℕ) (v : Verdict) → IsCertificate q (plain_verdict v) lines → IsStuck q lines text
 ended_stuck q lines text v certificate l same begins = no_more q (plain_verdict v) lines l certificate begins
 

@@ -13,7 +13,7 @@ use Rattle.graph_text.specs.Graphs.{graph_lines}
 use Rattle.cert_check.specs.Certificates.{Question, header, tree_lines, IsGraphCertificate, IsTreeCertificate, BeginsWell, in_header, in_graph, in_tree, whole}
 use Rattle.cert_check.proofs.GraphLines.{LastOfGraph, a_node, an_edge, last_line}
 
--- what stands behind a header that begins well
+-- what stands after a header that begins well
 pub data BodyBegins (q : Question) (v : Verdict) (body : List Line) : Type 0 where
   no_body : body ≡ [] → BodyBegins q v body
   graph_body : v ≡ observable → (nodes : List Node) (edges : List Edge) → All (IsNodeIn q.names) nodes → HasEnds nodes edges

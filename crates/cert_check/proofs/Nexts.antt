@@ -49,7 +49,7 @@ tree_shown q v steps w l tree =
     let Q : Version → Type 0 = λ u. IsPartial u q.tree steps [] in
     (parts.1, subst Q (sym same.0) (subst P (sym same.1) tree.refutes))
 
--- the line behind a graph's lines
+-- the line after a graph's lines
 pub data GraphNext (q : Question) (nodes : List Node) (edges : List Edge) (l : Line) : Type 0 where
   node_next : (a : Node) → l ≡ node a → edges ≡ [] → IsNodeIn q.names a → GraphNext q nodes edges l
   edge_next : (a b : Node) → l ≡ edge a b → Contains nodes a → Contains nodes b → GraphNext q nodes edges l
@@ -76,7 +76,7 @@ next_in_graph q nodes edges l begins = go (body_begins q observable q.expectatio
     go (whole_graph seen graph) = (let r = graph_shown q nodes edges l graph in graph_end r.0 r.1)
     go (whole_tree other w tree) = absurd (unequal other)
 
--- the line behind the lines of a refutation
+-- the line after the lines of a refutation
 pub data TreeNext (q : Question) (v : Version) (steps : List (Step Node)) (opens : List Branch) (l : Line) : Type 0 where
   version_next : l ≡ version_two → v ≡ One → steps ≡ [] → TreeNext q v steps opens l
   step_next : (s : Step Node) (next : List Branch) → l ≡ step s → Runs v q.tree (s ∷ []) opens next → TreeNext q v steps opens l
@@ -108,7 +108,7 @@ next_in_tree q v steps opens l run begins = go (body_begins q unobservable q.exp
         let r = tree_shown q v steps w l tree in
         last_next r.0 (runs_one v q.tree steps root opens [] run r.1)
 
--- no line stands behind a whole certificate
+-- no line stands after a whole certificate
 no_graph_more : (q : Question) (nodes : List Node) (edges : List Edge) (l : Line)
     → BeginsWell q (header q observable ++ ((graph_lines nodes edges ++ end ∷ []) ++ l ∷ [])) → ⊥
 no_graph_more q nodes edges l begins = go (body_begins q observable q.expectation ((graph_lines nodes edges ++ end ∷ []) ++ l ∷ []) refl begins)

@@ -46,9 +46,9 @@ some_world front g p nodes edges b is true_now all =
     subst P nodes (subst Q edges (shown_world front g (subst R (sym nodes) all) (is.0 true_now)))
 
 pub asked_of : (front : Front) → AreReadable (names_of front) → AreMicroOps front.case.ops → length front.tree < 9223372036854775808 → IsAsked (question_of front)
-asked_of front readable kept small = record {
+asked_of front readable are_ops small = record {
   readable = readable;
-  named = λ a has. nodes_are_of front.case (numbers_of (map plain_stage front.stages)) front.axioms kept front.within a has;
+  named = λ a has. nodes_are_of front.case (numbers_of (map plain_stage front.stages)) front.axioms are_ops front.within a has;
   small =
       let rows : length front.tree ≡ size_of (closed_ground_tree front.case (plain_axioms front.axioms)) = ap length front.grounded ∙ length_rows (closed_ground_tree front.case (plain_axioms front.axioms)) in
       omega arith;

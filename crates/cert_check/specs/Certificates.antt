@@ -1,4 +1,4 @@
--- What a certificate is: a graph whose world satisfies, or a refutation of the ground tree; and what one may begin with.
+-- What a certificate is: a graph whose world satisfies, or a refutation of the ground tree. And what one may begin with.
 use Rattle.std.specs.Prelude.{◌≡◌, Bool, List, [], ◌∷◌, ◌++◌, map, All, IsTrue}
 use Rattle.pc_common.specs.Case.{Expectation}
 use Rattle.pc_common.specs.World.{Node, Edge, World}
@@ -14,7 +14,7 @@ use Rattle.pc_ground.specs.declared.version.Version.TheVariants.{One, Two}
 use Rattle.pc_ground.specs.Refutes.{Branch, IsPartial, IsRefutation}
 use Rattle.graph_text.specs.Graphs.{graph_lines}
 
--- what a certificate is of: what its nodes are written by, what the test states, the ground tree, and which worlds satisfy
+-- what a certificate is of: what its nodes are written by, what the test states, the ground tree, which worlds satisfy
 pub record Question : Type 0 where
   pub names : Names
   pub expectation : Expectation
@@ -55,8 +55,8 @@ abbrev pub IsCertificate : Question → Verdict → List Line → Type 0
 IsCertificate q observable lines = IsGraphCertificate q lines
 IsCertificate q unobservable lines = (version : Version) × IsTreeCertificate q version lines
 
--- what a certificate may begin with: a part of a header; a header and node lines, then edge lines between the listed nodes; a header
--- and the steps of a refutation so far, of one version; a whole certificate
+-- what a certificate may begin with: a part of a header; a header and node lines, then edge lines between the listed
+-- nodes; a header and the steps of a refutation so far, of one version; a whole certificate
 pub data BeginsWell (q : Question) (lines : List Line) : Type 0 where
   in_header : (v : Verdict) (more : List Line) → lines ++ more ≡ header q v → BeginsWell q lines
   in_graph : (nodes : List Node) (edges : List Edge) → All (IsNodeIn q.names) nodes → HasEnds nodes edges

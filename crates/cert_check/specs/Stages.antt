@@ -25,7 +25,7 @@ pub record IsGraphSoFar (q : Question) (g : PlainGraph) (lines : List Line) : Ty
   pub ends : HasEnds g.nodes g.edges
   pub lines_are : lines ≡ header q observable ++ graph_lines g.nodes g.edges
 
--- a header and steps of one version, which leave these branches open; a new one has no line behind the header
+-- a header and steps of one version, which leave these branches open; a new one has no line after the header
 pub record IsTreeSoFar (q : Question) (o : OpenTree) (lines : List Line) : Type 0 where
   pub version : Version
   pub steps : List (Step Node)
@@ -60,7 +60,7 @@ abbrev pub Advances : Question → List Line → List ℕ → Option Stage → T
 Advances q lines text None = IsStuck q lines text
 Advances q lines text (Some next) = GoesOn q lines text next
 
--- what came of the next line: where it is good, the stage behind it stands; else it is stuck
+-- what came of the next line: where it is good, the stage after it stands; else it is stuck
 abbrev pub HasAdvanced : Question → List Line → List ℕ → Stage → Bool → Type 0
 HasAdvanced q lines text new true = GoesOn q lines text new
 HasAdvanced q lines text new false = IsStuck q lines text
@@ -70,7 +70,8 @@ abbrev pub StepsOn : Names → Version → GroundTree Node → List Branch → L
 StepsOn names v t opens text new true =
     (s : Step Node) × IsLineOf names text s × ((r : Step Node) → IsLineOf names text r → r ≡ s)
     × ((next : List Branch) × Runs v t (s ∷ []) opens next × Stands new v t next)
-StepsOn names v t opens text new false = (s : Step Node) (next : List Branch) → IsLineOf names text s → Runs v t (s ∷ []) opens next → ⊥
+StepsOn names v t opens text new false =
+    (s : Step Node) (next : List Branch) → IsLineOf names text s → Runs v t (s ∷ []) opens next → ⊥
 
 -- a whole certificate was read
 abbrev pub is_end : Stage → Bool

@@ -14,8 +14,8 @@ pub record IsCertificateText (q : Question) (v : Verdict) (text : List ℕ) : Ty
   pub text_is : text ≡ lines_text q.names lines
   pub certificate : IsCertificate q v lines
 
--- the verdict whose certificate the text is; or, where it is none's, the first line with which it doesn't begin well any more;
--- or 0 where it is longer than the limit
+-- the verdict whose certificate the text is; or, where it is none's, the first line with which it doesn't begin well
+-- any more; or 0 where it is longer than the limit
 pub data Verified (q : Question) (text : List ℕ) : Checked → Type 0 where
   seen : length text ≤ MAX_CERTIFICATE → IsCertificateText q observable text → Verified q text Observable
   unseen : length text ≤ MAX_CERTIFICATE → IsCertificateText q unobservable text → Verified q text Unobservable

@@ -17,14 +17,14 @@ use pc_ground::{Front, NodeText};
 use refutation::NodeRow;
 use std::alloc::Global;
 
-/// The stage behind the first line: a verdict.
+/// The stage after the first line: a verdict.
 fn after_start<'a>(line: &[u8]) -> Option<Stage<'a>>
     ensures { (q : Question) (lines : List Line) → StandsAt q Start lines → Advances q lines line.now result }
 {
     Some(Stage::Said(verdict_of(line)?))
 }
 
-/// The stage behind the second line: how the verdict compares with what the test states.
+/// The stage after the second line: how the verdict compares with what the test states.
 fn after_verdict<'a>(
     alloc: Global,
     front: &'a Front,
@@ -50,7 +50,7 @@ fn is_end(line: &[u8]) -> bool
     line == b"end".as_slice()
 }
 
-/// The stage behind the last line of a graph, whose world has to satisfy.
+/// The stage after the last line of a graph, whose world has to satisfy.
 fn end_graph<'a>(
     alloc: Global,
     front: &'a Front,
@@ -65,9 +65,10 @@ fn end_graph<'a>(
     Ok(Some(Stage::Ended(Verdict::Observable)))
 }
 
-/// The stage behind the last line of a refutation, where no branch may be open.
+/// The stage after the last line of a refutation, where no branch may be open.
 fn end_tree<'a>(tree: &OpenTree<'_>) -> Option<Stage<'a>>
-    ensures { (q : Question) (lines : List Line) → IsTreeSoFar q tree.now lines → Advances q lines (codes "end") result }
+    ensures { (q : Question) (lines : List Line) → IsTreeSoFar q tree.now lines
+        → Advances q lines (codes "end") result }
 {
     if !tree.branches.is_closed() {
         return None;
@@ -96,7 +97,7 @@ fn go_on<'a>(stage: &mut Stage<'a>, next: Option<Stage<'a>>) -> bool
     true
 }
 
-/// Takes the next line, so that the stage is the one behind it. Answers whether a certificate goes on so.
+/// Takes the next line, so that the stage is the one after it. Answers whether a certificate goes on so.
 /// After false, or where memory is refused, nothing is said of the stage.
 ///
 /// A line of a graph or of a refutation changes the stage where it is.
@@ -108,8 +109,9 @@ pub(crate) fn advance<'a>(
     stage: &mut Stage<'a>,
     line: &[u8],
 ) -> Result<bool, Memory>
-    ensures { IfOk result (λ good. IsAsked (question_of front.now) → names.now ≡ names_of front.now → (lines : List Line)
-        → StandsAt (question_of front.now) stage.old lines → HasAdvanced (question_of front.now) lines line.now stage.new good) }
+    ensures { IfOk result (λ good. IsAsked (question_of front.now) → names.now ≡ names_of front.now
+        → (lines : List Line) → StandsAt (question_of front.now) stage.old lines
+        → HasAdvanced (question_of front.now) lines line.now stage.new good) }
 {
     let next = match stage {
         Stage::Start => after_start(line),

@@ -27,7 +27,7 @@ use tree_check::{Branches, Leaf};
 pub(crate) struct OpenTree<'a> {
     /// The branches that its steps leave open.
     pub(crate) branches: Branches<'a>,
-    /// Whether no line stands behind the header yet, so that the next one may say the version.
+    /// Whether no line has come after the header yet, so that the next one may say the version.
     pub(crate) is_new: bool,
 }
 
@@ -86,7 +86,7 @@ fn take_line(
 }
 
 impl<'a> OpenTree<'a> {
-    /// The refutation of no step, behind the two lines of a header.
+    /// The refutation of no step, after the two lines of a header.
     pub(crate) fn new(alloc: Global, front: &'a Front) -> Result<OpenTree<'a>, Memory>
         ensures { IfOk result (λ tree. (lines : List Line) → lines ≡ verdict unobservable ∷ [] → (text : _)
             → text ≡ second_text unobservable (question_of front.now).expectation
@@ -98,7 +98,7 @@ impl<'a> OpenTree<'a> {
         })
     }
 
-    /// Takes the next line, which is not the last one: the line of version 2 behind the header, or a step line.
+    /// Takes the next line, which is not the last one: the line of version 2 after the header, or a step line.
     /// Answers whether a certificate goes on so. After false, or where memory is refused, nothing is said of the
     /// refutation.
     pub(crate) fn take(

@@ -51,7 +51,7 @@ settled_by_text begins whole stands first stands_begins start limit text feed af
     refused_is false holds good = absurd (holds_none (begins start) (first start) good.lines feed.judged.part.items text good.are_lines good.is_open good.text_is
         ((good.alike.same_begins good.lines).1 (stands_begins feed.judged.judge good.lines good.stand)) holds)
 
--- with a piece that goes past the limit, or behind a refused line, a feed is settled
+-- with a piece that goes past the limit, or after a refused line, a feed is settled
 pub settles : {J : Type 0} (begins whole stands : J → List (List ℕ) → Type 0)
     (first : (judge : J) → (lines more : List (List ℕ)) → begins judge (lines ++ more) → begins judge lines)
     (stands_begins : (judge : J) → (lines : List (List ℕ)) → stands judge lines → begins judge lines)

@@ -9,7 +9,7 @@ use Rattle.line_judge.specs.declared.judged.Judged.{Judged}
 use Rattle.line_judge.proofs.Cuts.{text_append, lines_within}
 use Rattle.line_judge.proofs.Refusals.{refused_at_line, refused_at_end}
 
--- the open line and its end, behind the lines so far
+-- the open line and its end, after the lines so far
 line_ends : (lines : List (List ℕ)) (part end line : List ℕ) → line ≡ part ++ end
     → (text_of_lines lines ++ part) ++ (end ++ 10 ∷ []) ≡ text_of_lines (lines ++ line ∷ []) ++ []
 line_ends lines part end line is =

@@ -10,7 +10,7 @@ IsLine line = All (λ byte. byte ≢ 10) line
 abbrev pub text_of_lines : List (List ℕ) → List ℕ
 text_of_lines lines = flat_map (λ line. line ++ codes "\n") lines
 
--- the text up to its first LF, and what stands behind that
+-- the text up to its first LF, and what stands after that
 pub record IsFirstLine (text line rest : List ℕ) : Type 0 where
   pub is_line : IsLine line
   pub text_is : text ≡ (line ++ codes "\n") ++ rest
@@ -31,7 +31,8 @@ pub record FirstLinesBegin (begins : List (List ℕ) → Type 0) (text : List �
   pub text_is : text ≡ text_of_lines lines ++ rest
   pub begin : begins lines
 
--- the first line that is refused, from 1: the text is not whole, and its lines before this one begin well, but not those through it
+-- the first line that is refused, from 1: the text is not whole, and its lines before this one begin well, but not
+-- those through it
 pub record IsRefusedAt (begins whole : List (List ℕ) → Type 0) (text : List ℕ) (n : ℕ) : Type 0 where
   pub no_whole : IsMadeOf whole text → ⊥
   pub before : (k : ℕ) → k < n → FirstLinesBegin begins text k

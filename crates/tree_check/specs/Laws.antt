@@ -14,4 +14,6 @@ RunsAreJoined =
 
 -- the steps lead to one list of branches
 abbrev pub OneListIsLeft : Type 0
-OneListIsLeft = (v : Version) (t : Tree Node) (ss : List (Step Node)) (a b c : List Branch) → Runs v t ss a b → Runs v t ss a c → b ≡ c
+OneListIsLeft =
+    (v : Version) (t : Tree Node) (ss : List (Step Node)) (a b c : List Branch)
+    → Runs v t ss a b → Runs v t ss a c → b ≡ c

@@ -32,8 +32,8 @@ open_branches version rows facts later is_open =
 -- with a position, all that the part there asserts is on the branch
 abbrev pub IsClosedUnderAnd : Tree Node → Branch → Type 0
 IsClosedUnderAnd t ps =
-    (negated : Bool) (p q : ℕ) (s : Tree Node) → Contains ps (signed negated p) → subtree_at (turned negated t) p ≡ Some s
-    → Contains (asserted s p) q → Contains ps (signed negated q)
+    (negated : Bool) (p q : ℕ) (s : Tree Node)
+    → Contains ps (signed negated p) → subtree_at (turned negated t) p ≡ Some s → Contains (asserted s p) q → Contains ps (signed negated q)
 
 -- these are the facts of the branch, and they are closed under And
 abbrev pub IsBranch : Tree Node → List PlainFact → Branch → Type 0

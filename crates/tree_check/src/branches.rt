@@ -66,7 +66,8 @@ impl<'a> Branches<'a> {
 
     /// Reads the steps from here on as those of version 2. The branches stay the same. Takes no memory.
     pub fn begin_two(&mut self)
-        ensures { (v : AnyVersion) (t : Tree Node) (opens : List Branch) → Stands self.old v t opens → Stands self.new Two t opens }
+        ensures { (v : AnyVersion) (t : Tree Node) (opens : List Branch) → Stands self.old v t opens
+            → Stands self.new Two t opens }
     {
         self.version = Version::Two;
     }
@@ -76,8 +77,8 @@ impl<'a> Branches<'a> {
     /// no Or is asserted there on the first one. After false, or where memory is refused, nothing is said of the
     /// branches.
     pub fn split(&mut self, negated: bool, position: u64) -> Result<bool, Memory>
-        ensures { IfOk result (λ good. (v : AnyVersion) (t : Tree Node) (opens : List Branch) → Stands self.old v t opens
-            → HasStepped v t (split_step negated position) opens self.new good) }
+        ensures { IfOk result (λ good. (v : AnyVersion) (t : Tree Node) (opens : List Branch)
+            → Stands self.old v t opens → HasStepped v t (split_step negated position) opens self.new good) }
     {
         if !self.is_open {
             return Ok(false);
@@ -98,8 +99,8 @@ impl<'a> Branches<'a> {
     /// is open, or the leaf does not close the first one. After false, or where memory is refused, nothing
     /// is said of the branches.
     pub fn close(&mut self, leaf: Leaf<'_>) -> Result<bool, Memory>
-        ensures { IfOk result (λ good. (v : AnyVersion) (t : Tree Node) (opens : List Branch) → Stands self.old v t opens
-            → HasStepped v t (close_step (plain_leaf leaf.entry)) opens self.new good) }
+        ensures { IfOk result (λ good. (v : AnyVersion) (t : Tree Node) (opens : List Branch)
+            → Stands self.old v t opens → HasStepped v t (close_step (plain_leaf leaf.entry)) opens self.new good) }
     {
         if !self.is_open {
             return Ok(false);

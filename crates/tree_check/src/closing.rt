@@ -59,7 +59,8 @@ fn is_absent(facts: &Facts, node: NodeKey) -> bool
 
 /// Whether the leaf closes the branch of these facts. A look-up for each node or edge; takes no memory.
 pub(crate) fn closes(tree: &Flat, facts: &Facts, leaf: Leaf<'_>) -> bool
-    ensures { (t : Tree Node) (ps : Branch) → tree.now ≡ rows_of t → HasFacts t facts.now ps → IsTrue result ↔ Closes t (literals_of t ps) (plain_leaf leaf.entry) }
+    ensures { (t : Tree Node) (ps : Branch) → tree.now ≡ rows_of t → HasFacts t facts.now ps
+        → IsTrue result ↔ Closes t (literals_of t ps) (plain_leaf leaf.entry) }
 {
     match leaf {
         Leaf::Cycle(nodes) => is_cycle(facts, nodes),

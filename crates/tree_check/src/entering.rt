@@ -39,7 +39,8 @@ fn add_row(
     position: usize,
     row: Row<NodeKey>,
 ) -> Result<(), Memory>
-    ensures { OnOk result (HasAdded facts.old (facts_of_kind (signed negated position) (row_node row).kind) facts.new) }
+    ensures { OnOk result (HasAdded facts.old
+        (facts_of_kind (signed negated position) (row_node row).kind) facts.new) }
 {
     match row.kind {
         RowKind::Lit(literal) => add_literal(facts, literal),

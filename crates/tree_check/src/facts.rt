@@ -46,7 +46,7 @@ impl Facts {
         self.set.contains(&fact)
     }
 
-    /// Adds a fact behind the others, where it is none of them.
+    /// Adds a fact after the others, if it is none of them.
     pub(crate) fn add(&mut self, fact: Fact) -> Result<(), Memory>
         ensures { OnOk result (HasAdded self.old (plain_fact fact ∷ []) self.new) }
     {
