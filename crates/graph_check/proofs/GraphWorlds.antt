@@ -12,6 +12,7 @@ use Rattle.pc_syntax.specs.Closed.{PlainClosed, closed_satisfies}
 use Rattle.pc_ground.specs.Numbers.{IsNumberOf}
 use Rattle.graph_text.specs.Graphs.{graph_nodes, graph_edges}
 use Rattle.graph_text.specs.OpenGraphs.{PlainGraph}
+use Rattle.graph_text.specs.GraphReading.{plain_graph}
 use Rattle.graph_text.specs.declared.graph.Graph.{Graph}
 use Rattle.graph_check.specs.Orders.{AreNotNumbered, IsOrdered, AreArcsOf}
 use Rattle.graph_check.specs.Arcs.{Arcs, Joins}
@@ -97,3 +98,11 @@ shown c axioms g b o true_in = (
       record { world = r.0; generated = r.1; is_world = r.2; satisfied = sym (true_in r.0 r.1) ∙ e }),
   (λ s. true_in s.world s.generated ∙ s.satisfied),
 )
+
+-- the same of an answer
+pub shown_answer : {E : Type 0} (c : Case) (axioms : List PlainClosed) (g : Graph) (h : PlainGraph) → h ≡ plain_graph g → IsOrdered h.nodes h.edges → (result : Result Bool E)
+    → IfOk result (λ b. (w : World Node) → IsGenerated h.nodes h.edges w → b ≡ closed_satisfies axioms c w) → IfOk result (λ b. (b ≡ true) ↔ IsShownOf c axioms g)
+shown_answer c axioms g h same o (Ok b) is =
+    let P : PlainGraph → Type 0 = λ x. IsOrdered x.nodes x.edges in
+    shown c axioms g b (subst P same o) (λ w made. is w (generated_at w h (plain_graph g) same made))
+shown_answer c axioms g h same o (Err fault) is = is
