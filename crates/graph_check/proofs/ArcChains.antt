@@ -1,5 +1,5 @@
 -- The edges of a graph by the numbers of their ends: one more of them, and their chains.
-use Rattle.std.proofs.Common.{◌≡◌, ℕ, zero, suc, ◌+◌, ◌<◌, ◌⊎◌, inl, inr, List, [], ◌∷◌, ◌++◌, Some, length, map, take, slice_get, refl, sym, ◌∙◌, ap, subst, arith}
+use Rattle.std.proofs.Common.{◌≡◌, ℕ, zero, suc, ◌+◌, ◌<◌, ◌⊎◌, inl, inr, List, [], ◌∷◌, ◌++◌, Some, length, map, take, slice_get, sym, ◌∙◌, ap, subst, arith}
 use Rattle.std.specs.Prelude.{Contains, ◌↔◌, unwrap_or}
 use Rattle.std.proofs.lemmas.Option.{slice_get_within, slice_get-get_or, get_or_from_slice_get}
 use Rattle.pc_common.specs.World.{Node, Edge}
@@ -11,7 +11,7 @@ use Rattle.pc_ground.specs.Numbers.{IsNumberOf, AreDistinct}
 use Rattle.graph_text.specs.Graphs.{key_edge}
 use Rattle.static_preds.proofs.Walked.{map_take}
 use Rattle.graph_check.specs.Arcs.{Arcs, Joins, AreLinked}
-use Rattle.graph_check.specs.Orders.{AreNotNumbered, IsOrdered, AreArcsOf}
+use Rattle.graph_check.specs.Orders.{AreNotNumbered, AreArcsOf}
 use Rattle.graph_check.proofs.Links.{one_item}
 use Rattle.graph_check.proofs.Numbers.{numbered_there, number_of, one_more}
 

@@ -3,14 +3,13 @@ use Rattle.std.proofs.Common.{◌≡◌, ℕ, zero, suc, ◌+◌, ◌-◌, ◌<�
 use Rattle.std.specs.Prelude.{◌↔◌, slice_index}
 use Rattle.std.specs.Global.{Vec}
 use Rattle.std.proofs.lemmas.Bool.{cases_eq, cases_lt}
-use Rattle.std.proofs.lemmas.List.{get_or-set_same, get_or-set_other, get_or-replicate, get_or_past, length-replicate, length-set, take-append-le, take_all}
-use Rattle.std.proofs.lemmas.Option.{slice_get_within, slice_get-get_or, slice_get_read, get_or_from_slice_get}
+use Rattle.std.proofs.lemmas.List.{get_or-set_same, get_or-set_other, get_or-replicate, get_or_past, length-replicate, length-set, take_all}
+use Rattle.std.proofs.lemmas.Option.{slice_get_read, get_or_from_slice_get}
 use Rattle.std.proofs.lemmas.Grind.{get_or_default_zero}
 use Rattle.pc_common.specs.Chain.{Leads, Chain, Acyclic}
-use Rattle.pc_common.proofs.Elements.{In, in_front, in_back, in_either}
-use Rattle.static_preds.proofs.Walked.{map_take}
+use Rattle.pc_common.proofs.Elements.{In}
 use Rattle.graph_check.specs.Arcs.{Arcs, Joins}
-use Rattle.graph_check.specs.Searches.{IsSorted, IsTopological}
+use Rattle.graph_check.specs.Searches.{IsTopological}
 use Rattle.graph_check.specs.Columns.{is_set, IsColumn, AreColumns}
 use Rattle.graph_check.specs.declared.columns.Columns.{Columns}
 use Rattle.graph_check.proofs.Links.{at_front, at_last, one_item, not_both}
@@ -44,7 +43,7 @@ in_place (y ∷ ys) zero x at = inl (one_item y x at)
 in_place (y ∷ ys) (suc k) x at = inr (in_place ys k x at)
 
 -- the flags of the first nodes in order: what is set leads to b, and of the first k all that do are set
-pub record IsBegun (v : Arcs) (b : ℕ) (order : List ℕ) (column : List Bool) (k : ℕ) : Type 0 where
+pub record AreFlags (v : Arcs) (b : ℕ) (order : List ℕ) (column : List Bool) (k : ℕ) : Type 0 where
   pub sized : length column ≡ length v.heads
   pub sound : (x : ℕ) → is_set column x ≡ true → Chain (Joins v) x b
   pub whole : (x : ℕ) → In x (take k order) → Chain (Joins v) x b → is_set column x ≡ true
@@ -58,14 +57,14 @@ flags_clear n x = elim (cases_lt x n) [
     clear : List Bool
     clear = replicate n false
 
-pub begun_first : (v : Arcs) (b : ℕ) (order : List ℕ) (column : List Bool) → column ≡ replicate (length v.heads) false → IsBegun v b order column 0
+pub begun_first : (v : Arcs) (b : ℕ) (order : List ℕ) (column : List Bool) → column ≡ replicate (length v.heads) false → AreFlags v b order column 0
 begun_first v b order column is = record {
   sized = ap length is ∙ length-replicate (length v.heads) false;
   sound = λ x set_x. absurd (not_both (is_set column x) set_x (ap (λ xs. is_set xs x) is ∙ flags_clear (length v.heads) x));
   whole = λ x i chain. absurd i;
 }
 
-module _ (v : Arcs) (b : ℕ) (order : List ℕ) (column : List Bool) (k a : ℕ) (t : IsTopological v order) (at : slice_get order k ≡ Some a) (h : IsBegun v b order column k) where
+module _ (v : Arcs) (b : ℕ) (order : List ℕ) (column : List Bool) (k a : ℕ) (t : IsTopological v order) (at : slice_get order k ≡ Some a) (h : AreFlags v b order column k) where
   -- a node leads to b by an edge to it, or to a node whose flag is set
   leads_by : (c : ℕ) → Joins v a c → (c ≡ b) ⊎ (is_set column c ≡ true) → Chain (Joins v) a b
   leads_by c joins how = with_step v a b c joins (elim how [ inl e ↦ inl e | inr set_c ↦ inr (h.sound c set_c) ])
@@ -76,7 +75,7 @@ module _ (v : Arcs) (b : ℕ) (order : List ℕ) (column : List Bool) (k a : ℕ
       (step.0, step.1, elim step.2 [ inl e ↦ inl e | inr rest ↦ inr (h.whole step.0 (t.sorted k a step.0 at step.1) rest) ])
 
   pub begun_passed : (leads : Bool) → (leads ≡ true) ↔ ((c : ℕ) × Joins v a c × ((c ≡ b) ⊎ (is_set column c ≡ true))) → leads ≡ false
-      → IsBegun v b order column (k + 1)
+      → AreFlags v b order column (k + 1)
   begun_passed leads is no_lead = record {
     sized = h.sized;
     sound = h.sound;
@@ -87,7 +86,7 @@ module _ (v : Arcs) (b : ℕ) (order : List ℕ) (column : List Bool) (k a : ℕ
   }
 
   pub begun_set : (leads : Bool) → (leads ≡ true) ↔ ((c : ℕ) × Joins v a c × ((c ≡ b) ⊎ (is_set column c ≡ true))) → leads ≡ true
-      → a < length column → IsBegun v b order (set column a true) (k + 1)
+      → a < length column → AreFlags v b order (set column a true) (k + 1)
   begun_set leads is leads_on low = record {
     sized = length-set column a true ∙ h.sized;
     sound = λ x set_x. elim (cases_eq x a) [
@@ -103,7 +102,7 @@ module _ (v : Arcs) (b : ℕ) (order : List ℕ) (column : List Bool) (k a : ℕ
     ];
   }
 
-pub column_done : (v : Arcs) (b : ℕ) (order : List ℕ) (column : List Bool) (k : ℕ) → IsTopological v order → IsBegun v b order column k → length order ≤ k → IsColumn v b column
+pub column_done : (v : Arcs) (b : ℕ) (order : List ℕ) (column : List Bool) (k : ℕ) → IsTopological v order → AreFlags v b order column k → length order ≤ k → IsColumn v b column
 column_done v b order column k t h past = record {
   sized = h.sized;
   flags = λ x low. (

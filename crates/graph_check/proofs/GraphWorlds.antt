@@ -5,7 +5,7 @@ use Rattle.std.specs.Option.{is_some}
 use Rattle.pc_common.specs.Case.{Case}
 use Rattle.pc_common.specs.Chain.{Chain}
 use Rattle.pc_common.specs.World.{Node, Edge, World, IsWorld, has_node, has_edge, same_node}
-use Rattle.pc_common.specs.Generated.{IsListed, HasEnds, IsGenerated}
+use Rattle.pc_common.specs.Generated.{IsListed, IsGenerated}
 use Rattle.pc_common.proofs.Nodes.{has_node_is, has_edge_is}
 use Rattle.pc_common.proofs.GeneratedWorlds.{generates, node_tells, generated_world}
 use Rattle.pc_syntax.specs.Closed.{PlainClosed, closed_satisfies}

@@ -1,18 +1,17 @@
 -- What a search along edges keeps, step by step.
-use Rattle.std.proofs.Common.{◌≡◌, ℕ, zero, suc, ◌+◌, ◌<◌, ◌≤◌, ◌⊎◌, inl, inr, List, [], ◌∷◌, ◌++◌, Some, map, length, set, take, get_or, slice_get, refl, sym, ◌∙◌, ap, subst, arith}
-use Rattle.std.specs.List.{sum_by}
+use Rattle.std.proofs.Common.{◌≡◌, ℕ, ◌+◌, ◌<◌, ◌≤◌, ◌⊎◌, inl, inr, List, [], ◌∷◌, ◌++◌, Some, length, set, take, get_or, slice_get, refl, sym, ◌∙◌, ap, subst, arith}
 use Rattle.std.proofs.lemmas.Bool.{cases_eq, cases_lt}
 use Rattle.std.proofs.lemmas.List.{map-append, get_or-set_same, get_or-set_other, length-set, length-append, take-append-le, take_all}
 use Rattle.std.proofs.lemmas.List.Sums.{sum_by_push, sum_by-set}
 use Rattle.std.proofs.lemmas.Option.{slice_get_within, slice_get_read, get_or_from_slice_get}
-use Rattle.pc_common.specs.Chain.{Leads, Chain, Acyclic}
-use Rattle.pc_common.proofs.Elements.{In, in_front, in_back, in_either, in_map, from_map}
+use Rattle.pc_common.specs.Chain.{Chain, Acyclic}
+use Rattle.pc_common.proofs.Elements.{In, in_front, in_back, in_either}
 use Rattle.pc_common.proofs.Chains.{chain_join}
 use Rattle.graph_check.specs.declared.search.Mark.{Mark}
 use Rattle.graph_check.specs.declared.search.Mark.TheVariants.{New, Open, Done}
 use Rattle.graph_check.specs.declared.search.Visit.{Visit}
 use Rattle.graph_check.specs.Arcs.{Arcs, Joins, IsWalk, ComesTo}
-use Rattle.graph_check.specs.Searches.{Progress, with_visit, mark_of, nodes_of, IsLed, IsSorted, IsTopological, IsSearching, steps_of, steps_left, IsFurther}
+use Rattle.graph_check.specs.Searches.{Progress, with_visit, mark_of, nodes_of, IsPath, IsTopological, IsSearching, steps_of, steps_left, IsFurther}
 use Rattle.graph_check.proofs.Links.{at_old, at_last, one_item, walk_done}
 
 -- a mark that was written, and any other
@@ -52,11 +51,11 @@ last_of : {X : Type 0} (y : X) (xs : List X) (x : X) → In y (xs ++ x ∷ []) �
 last_of y xs x i = elim (in_either y xs (x ∷ []) i) [ inl j ↦ inl j | inr j ↦ elim j [ inl e ↦ inr e | inr k ↦ absurd k ] ]
 
 module _ (v : Arcs) where
-  led_front : (xs ys : List ℕ) → IsLed v (xs ++ ys) → IsLed v xs
+  led_front : (xs ys : List ℕ) → IsPath v (xs ++ ys) → IsPath v xs
   led_front [] ys l = tt
   led_front (x ∷ xs) ys l = ((λ y i. l.0 y (in_front y xs ys i)), led_front xs ys l.1)
 
-  led_more : (xs : List ℕ) (y : ℕ) → IsLed v xs → ((x : ℕ) → In x xs → Chain (Joins v) x y) → IsLed v (xs ++ y ∷ [])
+  led_more : (xs : List ℕ) (y : ℕ) → IsPath v xs → ((x : ℕ) → In x xs → Chain (Joins v) x y) → IsPath v (xs ++ y ∷ [])
   led_more [] y l h = ((λ z i. absurd i), tt)
   led_more (x ∷ xs) y l h = (
     (λ z i. elim (last_of z xs y i) [
@@ -66,7 +65,7 @@ module _ (v : Arcs) where
     led_more xs y l.1 (λ w i. h w (inr i)),
   )
 
-  led_to : (xs : List ℕ) (y : ℕ) → IsLed v (xs ++ y ∷ []) → (x : ℕ) → In x xs → Chain (Joins v) x y
+  led_to : (xs : List ℕ) (y : ℕ) → IsPath v (xs ++ y ∷ []) → (x : ℕ) → In x xs → Chain (Joins v) x y
   led_to [] y l x i = absurd i
   led_to (z ∷ zs) y l x (inl e) = (let P : ℕ → Type 0 = λ n. Chain (Joins v) n y in subst P e (l.0 y (in_back y zs (y ∷ []) (inl refl))))
   led_to (z ∷ zs) y l x (inr i) = led_to zs y l.1 x i
@@ -98,7 +97,7 @@ module _ (v : Arcs) where
     ];
     known = s.known;
     sorted = s.sorted;
-    led = (let P : List ℕ → Type 0 = λ ns. IsLed v ns in subst P (sym (nodes_more p.path x)) (led_more (nodes_of p.path) node s.led led));
+    is_path = (let P : List ℕ → Type 0 = λ ns. IsPath v ns in subst P (sym (nodes_more p.path x)) (led_more (nodes_of p.path) node s.is_path led));
   }
     where
       x : Visit
@@ -128,8 +127,8 @@ module _ (v : Arcs) where
     pub visit_walk : IsWalk v x.node x.at
     visit_walk = (s.walks x here).1
 
-    led_here : IsLed v (nodes_of p.path ++ x.node ∷ [])
-    led_here = (let P : List ℕ → Type 0 = λ ns. IsLed v ns in subst P (nodes_more p.path x) s.led)
+    led_here : IsPath v (nodes_of p.path ++ x.node ∷ [])
+    led_here = (let P : List ℕ → Type 0 = λ ns. IsPath v ns in subst P (nodes_more p.path x) s.is_path)
 
     -- all nodes of the path lead to what an edge of the last one leads to
     pub leads_on : (to : ℕ) → Joins v x.node to → (a : ℕ) → In a (nodes_of (p.path ++ x ∷ [])) → Chain (Joins v) a to
@@ -163,7 +162,7 @@ module _ (v : Arcs) where
       done = s.done;
       known = s.known;
       sorted = s.sorted;
-      led = (let P : List ℕ → Type 0 = λ ns. IsLed v ns in subst P (nodes_more p.path x ∙ sym (nodes_more p.path y)) s.led);
+      is_path = (let P : List ℕ → Type 0 = λ ns. IsPath v ns in subst P (nodes_more p.path x ∙ sym (nodes_more p.path y)) s.is_path);
     }
       where
         y : Visit
@@ -210,7 +209,7 @@ module _ (v : Arcs) where
             let longer = length-append p.order (x.node ∷ []) in
             last_sorted k a b (omega (arith, within, longer, past)) at joins
       ];
-      led = led_front (nodes_of p.path) (x.node ∷ []) led_here;
+      is_path = led_front (nodes_of p.path) (x.node ∷ []) led_here;
     }
       where
         low : x.node < length p.marks
@@ -273,7 +272,7 @@ clear v marks sized new = record {
   done = λ b is. absurd (new_done (sym (new b) ∙ is));
   known = λ a i. absurd i;
   sorted = λ k a b at joins. absurd (none k a at);
-  led = tt;
+  is_path = tt;
 }
   where
     none : (k a : ℕ) → slice_get {X = ℕ} [] k ≡ Some a → ⊥

@@ -30,9 +30,9 @@ abbrev pub nodes_of : List Visit → List ℕ
 nodes_of path = map (λ x. x.node) path
 
 -- each node leads to all behind it
-abbrev pub IsLed : Arcs → List ℕ → Type 0
-IsLed v [] = Unit {0}
-IsLed v (x ∷ xs) = ((y : ℕ) → In y xs → Chain (Joins v) x y) × IsLed v xs
+abbrev pub IsPath : Arcs → List ℕ → Type 0
+IsPath v [] = Unit {0}
+IsPath v (x ∷ xs) = ((y : ℕ) → In y xs → Chain (Joins v) x y) × IsPath v xs
 
 -- each node stands behind those that its edges lead to
 abbrev pub IsSorted : Arcs → List ℕ → Type 0
@@ -53,7 +53,7 @@ pub record IsSearching (v : Arcs) (p : Progress) : Type 0 where
   pub done : (b : ℕ) → mark_of p.marks b ≡ Done → In b p.order
   pub known : (a : ℕ) → In a p.order → a < length v.heads
   pub sorted : IsSorted v p.order
-  pub led : IsLed v (nodes_of p.path)
+  pub is_path : IsPath v (nodes_of p.path)
 
 -- what a mark costs at most: a walk over all edges, where it is new
 abbrev pub steps_of : ℕ → Mark → ℕ

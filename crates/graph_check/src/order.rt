@@ -82,7 +82,8 @@ impl<'a> Order<'a> {
     ///
     /// It takes time and memory in proportion to nodes and edges. The one error is that memory was refused.
     pub(crate) fn of(alloc: Global, graph: &'a Graph) -> Result<Option<Order<'a>>, Memory>
-        ensures { IfOk result (λ found. MatchOption found (IsOrdered (graph_nodes graph.now) (graph_edges graph.now) → ⊥)
+        ensures { IfOk result (λ found. MatchOption found
+            (IsOrdered (graph_nodes graph.now) (graph_edges graph.now) → ⊥)
             (λ order. (order ≡ plain_graph graph.now) × IsOrdered order.nodes order.edges)) }
     {
         let nodes = number_all(alloc, graph.nodes.as_slice())?;

@@ -41,7 +41,8 @@ fn open(search: &mut Search, adjacency: &Adjacency, node: usize) -> Result<(), M
     requires is_new { mark_of search.old.marks.items node ≡ New }
     requires led { (a : ℕ) → In a (nodes_of search.old.path.items) → Chain (Joins adjacency.now) a node }
     ensures searching { OnOk result (IsSearching adjacency.now (progress search.new)) }
-    ensures less { OnOk result (steps_left adjacency.now (progress search.new) < steps_left adjacency.now (progress search.old)) }
+    ensures less { OnOk result
+        (steps_left adjacency.now (progress search.new) < steps_left adjacency.now (progress search.old)) }
     ensures further { OnOk result (IsFurther search.old.marks.items search.new.marks.items) }
     ensures marked { OnOk result (mark_of search.new.marks.items node ≡ New → ⊥) }
 {
@@ -60,7 +61,8 @@ fn step(search: &mut Search, adjacency: &Adjacency, visit: Visit) -> Result<bool
     ensures searching { IfOk result (λ good. MatchBool good (IsSearching adjacency.now (progress search.new))
         (Acyclic (Joins adjacency.now) → ⊥)) }
     ensures less { IfOk result (λ good. good ≡ true
-        → steps_left adjacency.now (progress search.new) < steps_left adjacency.now (with_visit (progress search.old) visit)) }
+        → steps_left adjacency.now (progress search.new)
+        < steps_left adjacency.now (with_visit (progress search.old) visit)) }
     ensures further { OnOk result (IsFurther search.old.marks.items search.new.marks.items) }
 {
     let Visit { node, at } = visit;

@@ -15,7 +15,11 @@ use pc_syntax::{Closed, ClosedArgs, ClosedEdge, ClosedFormula, ClosedNode, Env, 
 use static_preds::{bind_next, copy_of, holds, node_key, range_len, value_in_range, with_values};
 
 /// Whether each axiom is true. None behind one that is false is walked. The one error is that memory was refused.
-pub(crate) fn are_true(case: &Case, order: &mut Order<'_>, axioms: &[Closed]) -> Result<bool, Memory>
+pub(crate) fn are_true(
+    case: &Case,
+    order: &mut Order<'_>,
+    axioms: &[Closed],
+) -> Result<bool, Memory>
     ensures same { order.new ≡ order.old }
     ensures truth { IfOk result (λ yes. (w : World Node) → IsGenerated order.old.nodes order.old.edges w
         → yes ≡ closed_satisfies (plain_axioms axioms.now) case.now w) }
@@ -32,7 +36,12 @@ pub(crate) fn are_true(case: &Case, order: &mut Order<'_>, axioms: &[Closed]) ->
 /// Whether a formula is true, where its slots stand for what `env` says. What the left side decides is not
 /// walked.
 #[cycle(walk)]
-fn is_true(case: &Case, order: &mut Order<'_>, env: &Env, formula: &ClosedFormula) -> Result<bool, Memory>
+fn is_true(
+    case: &Case,
+    order: &mut Order<'_>,
+    env: &Env,
+    formula: &ClosedFormula,
+) -> Result<bool, Memory>
     requires closed { IsClosed (scope_of env.now.items) (plain_closed formula.now) }
     requires range { AreInRange case.now env.now.items }
     ensures same { order.new ≡ order.old }
@@ -73,7 +82,13 @@ fn is_true(case: &Case, order: &mut Order<'_>, env: &Env, formula: &ClosedFormul
 
 /// Whether the body of a quantifier is true at each value of its range.
 #[cycle(walk)]
-fn is_true_for_all(case: &Case, order: &mut Order<'_>, env: &Env, sort: Sort, body: &ClosedFormula) -> Result<bool, Memory>
+fn is_true_for_all(
+    case: &Case,
+    order: &mut Order<'_>,
+    env: &Env,
+    sort: Sort,
+    body: &ClosedFormula,
+) -> Result<bool, Memory>
     requires room { length env.now.items < MAX_VARIABLES }
     requires closed { IsClosed (with_sort (scope_of env.now.items) sort) (plain_closed body.now) }
     requires range { AreInRange case.now env.now.items }
@@ -93,7 +108,13 @@ fn is_true_for_all(case: &Case, order: &mut Order<'_>, env: &Env, sort: Sort, bo
 
 /// Whether the body of a quantifier is true at some value of its range.
 #[cycle(walk)]
-fn is_true_for_some(case: &Case, order: &mut Order<'_>, env: &Env, sort: Sort, body: &ClosedFormula) -> Result<bool, Memory>
+fn is_true_for_some(
+    case: &Case,
+    order: &mut Order<'_>,
+    env: &Env,
+    sort: Sort,
+    body: &ClosedFormula,
+) -> Result<bool, Memory>
     requires room { length env.now.items < MAX_VARIABLES }
     requires closed { IsClosed (with_sort (scope_of env.now.items) sort) (plain_closed body.now) }
     requires range { AreInRange case.now env.now.items }
@@ -145,7 +166,12 @@ fn has_nodes(case: &Case, order: &Order<'_>, env: &Env, nodes: &[ClosedNode]) ->
 }
 
 /// Whether the ends of each of the edges are in this order.
-fn has_edges(case: &Case, order: &mut Order<'_>, env: &Env, edges: &[ClosedEdge]) -> Result<bool, Memory>
+fn has_edges(
+    case: &Case,
+    order: &mut Order<'_>,
+    env: &Env,
+    edges: &[ClosedEdge],
+) -> Result<bool, Memory>
     requires fit { FitEdges (scope_of env.now.items) edges.now }
     requires range { AreInRange case.now env.now.items }
     ensures same { order.new ≡ order.old }

@@ -1,7 +1,7 @@
-use Rattle.std.proofs.Common.{ℕ, Bool, ◌+◌, length, slice_get, Some, get_or, sym, subst, refl, arith}
+use Rattle.std.proofs.Common.{Bool, ◌+◌, get_or, sym, subst, arith}
 use Rattle.std.proofs.lemmas.Option.{slice_get-get_or}
 use Rattle.std.specs.Global.{Vec}
-use Rattle.graph_check.proofs.ColumnFlags.{IsBegun, in_place, begun_passed, begun_set, column_done}
+use Rattle.graph_check.proofs.ColumnFlags.{AreFlags, in_place, begun_passed, begun_set, column_done}
 use Rattle.graph_check.proofs.columns.column_of.Goals.{then-leads, else-leads}
 use Rattle.graph_check.proofs.columns.column_of.Goals as goal
 
@@ -18,7 +18,7 @@ loop-a-preserved c =
     let a = get_or order k 0 in
     let at = slice_get-get_or order k 0 c.loop-a-test.true in
     let is = rw c.deref.ensures.value at c.leads.ensures in
-    let P : Vec Bool → Type 0 = λ u. IsBegun v c.args.b order u.items (k + 1) in
+    let P : Vec Bool → Type 0 = λ u. AreFlags v c.args.b order u.items (k + 1) in
     let low = c.requires.order.known a (in_place order k a at) in
     let sized = c.loop-a.invariant.sized in
     elim c.if-leads.branch [

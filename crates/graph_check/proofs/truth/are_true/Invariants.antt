@@ -10,5 +10,5 @@ abbrev pub invariant-loop-axiom : goal.invariant-loop-axiom
 invariant-loop-axiom l = record {
   same : l.order ≡ l.fn.order;
   truth : (w : World Node) → IsGenerated l.fn.order.nodes l.fn.order.edges w
-    → closed_satisfies (plain_axioms l.axioms) l.case w ≡ closed_satisfies (plain_axioms (drop l.axiom-index l.axioms)) l.case w;
+      → closed_satisfies (plain_axioms l.axioms) l.case w ≡ closed_satisfies (plain_axioms (drop l.axiom-index l.axioms)) l.case w;
 }

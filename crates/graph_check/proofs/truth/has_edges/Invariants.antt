@@ -10,6 +10,6 @@ abbrev pub invariant-loop-edge : goal.invariant-loop-edge
 invariant-loop-edge l = record {
   same : l.order ≡ l.fn.order;
   truth : (w : World Node) → IsGenerated l.fn.order.nodes l.fn.order.edges w
-    → closed_true l.case w (meanings l.env.items) (closed_edges l.edges)
-    ≡ closed_true l.case w (meanings l.env.items) (closed_edges (drop l.edge-index l.edges));
+      → closed_true l.case w (meanings l.env.items) (closed_edges l.edges)
+      ≡ closed_true l.case w (meanings l.env.items) (closed_edges (drop l.edge-index l.edges));
 }

@@ -1,5 +1,5 @@
-use Rattle.std.proofs.Common.{◌≡◌, ◌⊎◌, ℕ, true, false, inl, inr, refl, sym, ◌∙◌, ap, subst, arith}
-use Rattle.graph_check.specs.Arcs.{Joins, ComesTo}
+use Rattle.std.proofs.Common.{ℕ, inl, inr, refl, sym, ◌∙◌, ap, subst, arith}
+use Rattle.graph_check.specs.Arcs.{ComesTo}
 use Rattle.graph_check.specs.Columns.{is_set}
 use Rattle.graph_check.proofs.Links.{walk_done, not_both}
 use Rattle.graph_check.proofs.adjacency.Adjacency.leads.Goals.{then-arc-b-via-then-arc-b, then-arc-b-via-else-arc-b+then-column-arc}
