@@ -62,8 +62,7 @@ impl Adjacency {
 
     /// How many nodes there are.
     pub(crate) fn nodes(&self) -> usize
-        ensures count { result ≡ length self.now.heads }
-        ensures linked { AreLinked self.now }
+        ensures { result ≡ length self.now.heads }
     {
         self.heads.len()
     }

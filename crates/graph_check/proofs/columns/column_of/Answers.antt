@@ -10,6 +10,15 @@ leads-requires-clause-a_in c =
     let order = c.args.order.now in
     c.requires.order.known (get_or order c.loop-a.a-index 0) (in_place order c.loop-a.a-index (get_or order c.loop-a.a-index 0) (slice_get-get_or order c.loop-a.a-index 0 c.loop-a-test.true))
 
+pub index_mut-requires : goal.index_mut-requires
+index_mut-requires c =
+    let order = c.args.order.now in
+    let k = c.loop-a.a-index in
+    let a = get_or order k 0 in
+    let low = c.requires.order.known a (in_place order k a (slice_get-get_or order k 0 c.loop-a-test.true)) in
+    let sized = c.loop-a.invariant.sized in
+    omega (arith, low, sized, c.loop-a.column.ok)
+
 pub loop-a-preserved : goal.loop-a-preserved
 loop-a-preserved c =
     let v = c.args.adjacency.now in
