@@ -83,7 +83,8 @@ impl OpenGraph {
 
     /// Puts an edge line last where both of its ends are listed.
     fn take_edge(&mut self, from: NodeKey, to: NodeKey) -> Result<bool, Memory>
-        ensures taken { IfOk result (λ taken. MatchBool taken (IsWithLine self.old self.new (edge (key_node from) (key_node to)))
+        ensures taken { IfOk result (λ taken. MatchBool taken
+            (IsWithLine self.old self.new (edge (key_node from) (key_node to)))
             ((Follows self.old (edge (key_node from) (key_node to)) → ⊥) × (self.new ≡ self.old))) }
         ensures kept { OnErr result (self.new ≡ self.old) }
     {
