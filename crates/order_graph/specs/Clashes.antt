@@ -1,11 +1,13 @@
 -- What a clash tells of a list of literals that can't stand together.
-use Rattle.std.specs.Prelude.{ℕ, List, Contains}
+use Rattle.std.specs.Prelude.{ℕ, Bool, List, [], ◌∷◌, ◌++◌, Contains, MatchBool}
 use Rattle.pc_common.specs.Chain.{Reach}
 use Rattle.pc_common.specs.Steps.{Leaf, cycle, path, absent}
 use Rattle.pc_ground.specs.declared.literal.Literal.{Literal}
 use Rattle.pc_ground.specs.declared.literal.Literal.TheVariants.{NoEdge}
-use Rattle.pc_ground.specs.Literals.{Joins}
+use Rattle.pc_ground.specs.Literals.{Joins, IsConsistent}
 use Rattle.pc_ground.specs.Refutes.{IsContradiction}
+use Rattle.undo_trail.specs.BitTable.{BitTable}
+use Rattle.order_graph.specs.Rows.{Represents}
 use Rattle.order_graph.specs.declared.clash.Clash.{Clash}
 use Rattle.order_graph.specs.declared.clash.Clash.TheVariants.{Cycle, Path, Absent}
 
@@ -22,3 +24,8 @@ leaf_of (Absent a) = absent a
 -- what the clash tells is a contradiction of these literals
 abbrev pub IsClash : List (Literal ℕ) → Clash → Type 0
 IsClash ls k = IsContradiction ls (leaf_of k)
+
+-- the answer tells whether the literal clashes with those that the table represents, whichever they are
+abbrev pub TellsClash : ℕ → BitTable → Literal ℕ → Bool → Type 0
+TellsClash n v l answer = (ls : List (Literal ℕ)) → Represents n v.words ls v.now
+    → MatchBool answer (IsConsistent (ls ++ l ∷ []) → ⊥) (IsConsistent (ls ++ l ∷ []))

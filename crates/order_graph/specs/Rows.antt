@@ -119,6 +119,13 @@ row_words v is_sink = if is_sink then 1 else v.words + 1
 abbrev pub IsOver : BitTable → ℕ → ℕ → ℕ → ℕ → Type 0
 IsOver v a b x y = (leads_to v x a ≡ true) × (leads_to v b y ≡ true)
 
+-- x is denied to come before b, or before a node that b reaches
+abbrev pub IsDeniedPast : ℕ → BitTable → ℕ → ℕ → Type 0
+IsDeniedPast n v x b = (y : ℕ) × (y < 64 * v.words) × (leads_to v b y ≡ true) × (bit_now v (pair_row n x) y ≡ true)
+
+abbrev pub IsDeniedNowherePast : ℕ → BitTable → ℕ → ℕ → Type 0
+IsDeniedNowherePast n v x b = (y : ℕ) → y < 64 * v.words → leads_to v b y ≡ true → bit_now v (pair_row n x) y ≡ false
+
 -- the edge from a to b joins a pair that the rows deny
 abbrev pub JoinsDenied : ℕ → BitTable → ℕ → ℕ → Type 0
 JoinsDenied n v a b =

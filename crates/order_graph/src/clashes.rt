@@ -4,8 +4,8 @@ ghost use Rattle.undo_trail.specs.BitTable.{bit_now};
 ghost use Rattle.pc_ground.specs.Literals.{Joins, IsConsistent};
 ghost use Rattle.pc_ground.specs.declared.literal.Literal.{Literal as AnyLiteral};
 ghost use Rattle.order_graph.specs.Ways.{IsBelow};
-ghost use Rattle.order_graph.specs.Rows.{pair_row, leads_to, IsSized, IsOver, JoinsDenied, JoinsNoneFrom, Represents};
-ghost use Rattle.order_graph.specs.Clashes.{IsClash, JoinsNone};
+ghost use Rattle.order_graph.specs.Rows.{IsSized, IsOver, IsDeniedPast, IsDeniedNowherePast, JoinsDenied, JoinsNoneFrom, Represents};
+ghost use Rattle.order_graph.specs.Clashes.{IsClash, JoinsNone, TellsClash};
 
 use super::chain::way;
 use super::clash::{Clash, Numbers};
@@ -20,7 +20,7 @@ fn is_denied_past(table: &UndoTable, nodes: u32, x: u32, b: u32) -> bool
     requires sized { IsSized nodes table.now }
     requires x_in { x < nodes }
     requires b_in { b < nodes }
-    ensures { MatchBool result ((y : ℕ) × (y < 64 * table.now.words) × (leads_to table.now b y ≡ true) × (bit_now table.now (pair_row nodes x) y ≡ true)) ((y : ℕ) → y < 64 * table.now.words → leads_to table.now b y ≡ true → bit_now table.now (pair_row nodes x) y ≡ false) }
+    ensures { MatchBool result (IsDeniedPast nodes table.now x b) (IsDeniedNowherePast nodes table.now x b) }
 {
     let row = nodes as usize + x as usize;
     table.bit(row, b as usize) || meets_words(table.row(b as usize), table.row(row))
@@ -81,7 +81,7 @@ fn edge_would_clash(table: &UndoTable, nodes: u32, a: u32, b: u32) -> bool
     requires sized { IsSized nodes table.now }
     requires a_in { a < nodes }
     requires b_in { b < nodes }
-    ensures { (ls : List (AnyLiteral ℕ)) → Represents nodes table.now.words ls table.now.now → MatchBool result (IsConsistent (ls ++ Literal.Edge a b ∷ []) → ⊥) (IsConsistent (ls ++ Literal.Edge a b ∷ [])) }
+    ensures { TellsClash nodes table.now (Literal.Edge a b) result }
 {
     // an edge that a chain goes over changes nothing
     if reaches(table, a, b) {
@@ -97,7 +97,7 @@ fn edge_would_clash(table: &UndoTable, nodes: u32, a: u32, b: u32) -> bool
 pub fn would_clash(table: &UndoTable, nodes: u32, literal: Literal<u32>) -> bool
     requires sized { IsSized nodes table.now }
     requires below { IsBelow nodes literal }
-    ensures { (ls : List (AnyLiteral ℕ)) → Represents nodes table.now.words ls table.now.now → MatchBool result (IsConsistent (ls ++ literal ∷ []) → ⊥) (IsConsistent (ls ++ literal ∷ [])) }
+    ensures { TellsClash nodes table.now literal result }
 {
     match literal {
         Literal::Node(a) => is_missing(table, nodes, a),
