@@ -18,4 +18,5 @@ graph_observable m c text t =
 
 pub tree_unobservable : (m : WrittenModel) (c : Case) (text : List ℕ) → IsCertificateText (question_by m c) unobservable text → Observable m c → ⊥
 tree_unobservable m c text t (w, of_both, satisfied) =
-    refutation_sound (ground_tree m c) t.certificate.steps t.certificate.refutes w of_both.0 (sym (ground_tree_true m c w) ∙ satisfied)
+    let r = t.certificate.1 in
+    refutation_sound t.certificate.0 (ground_tree m c) r.steps r.refutes w of_both.0 (sym (ground_tree_true m c w) ∙ satisfied)

@@ -16,39 +16,39 @@ use Rattle.pipecheck_run.proofs.OneCommand.{one_command}
 pub answer_to_command : {words : List (List ℕ)} {holds : Contents} {status : Status} {text : List ℕ} → Answers words holds status text
     → (c : Command) → IsCommand words c → AnswersCommand holds c status text
 answer_to_command (usage none) c is = absurd (none c is)
-answer_to_command {words} {holds} {status} {text} (answered {c = d} other a) c is =
+answer_to_command {words} {holds} {status} {text} (answered d other a) c is =
     let P : Command → Type 0 = λ k. AnswersCommand holds k status text in subst P (one_command words d c other is) a
 
-true_to : {holds : Contents} (c : Command) {status : Status} {text : List ℕ} → AnswersCommand holds c status text → IsTrueTo holds c status
-true_to (check i) a = check_true test_form a
-true_to (verify i certificate) a = verify_true test_form a
-true_to (gen n) a = tt
+true_to : (holds : Contents) (status : Status) (text : List ℕ) (c : Command) → AnswersCommand holds c status text → IsTrueTo holds c status
+true_to holds status text (check i) a = check_true test_form a
+true_to holds status text (verify i certificate) a = verify_true test_form a
+true_to holds status text (gen n) a = tt
 
-due_to : {holds : Contents} (c : Command) {status : Status} {text : List ℕ} → AnswersCommand holds c status text → IsDueTo holds c status
-due_to (check i) a = check_due test_form a
-due_to (verify i certificate) a = verify_due test_form a
-due_to (gen n) a = gen_due a
+due_to : (holds : Contents) (status : Status) (text : List ℕ) (c : Command) → AnswersCommand holds c status text → IsDueTo holds c status
+due_to holds status text (check i) a = check_due test_form a
+due_to holds status text (verify i certificate) a = verify_due test_form a
+due_to holds status text (gen n) a = gen_due a
 
 pub answer_true : {words : List (List ℕ)} {holds : Contents} {status : Status} {text : List ℕ}
     → Answers words holds status text → IsTrueOf words holds status
-answer_true a c is = true_to c (answer_to_command a c is)
+answer_true {holds = holds} {status = status} {text = text} a c is = true_to holds status text c (answer_to_command a c is)
 
 pub answer_due : {words : List (List ℕ)} {holds : Contents} {status : Status} {text : List ℕ}
     → Answers words holds status text → IsDue words holds status
-answer_due a c is = due_to c (answer_to_command a c is)
+answer_due {holds = holds} {status = status} {text = text} a c is = due_to holds status text c (answer_to_command a c is)
 
 -- a status that is no verdict's says nothing
-silent_true : {holds : Contents} (status : Status) → status ≢ Observable → status ≢ Unobservable → (c : Command) → IsTrueTo holds c status
-silent_true status no_o no_u (check i) = λ m k says. (λ e. absurd (no_o e), λ e. absurd (no_u e))
-silent_true status no_o no_u (verify i certificate) = λ m k says. (λ e. absurd (no_o e), λ e. absurd (no_u e))
-silent_true status no_o no_u (gen n) = tt
+silent_true : (holds : Contents) (status : Status) → status ≢ Observable → status ≢ Unobservable → (c : Command) → IsTrueTo holds c status
+silent_true holds status no_o no_u (check i) = λ m k says. (λ e. absurd (no_o e), λ e. absurd (no_u e))
+silent_true holds status no_o no_u (verify i certificate) = λ m k says. (λ e. absurd (no_o e), λ e. absurd (no_u e))
+silent_true holds status no_o no_u (gen n) = tt
 
 -- the status of a run is true, as some answer has it where nothing failed
 pub status_true : {words : List (List ℕ)} {holds : Contents} (status : Status)
     → (status ≢ ReadFault → status ≢ Memory → status ≢ WriteFault → (text : List ℕ) × Answers words holds status text) → IsTrueOf words holds status
-status_true ReadFault a = λ c is. silent_true ReadFault (λ e. cc) (λ e. cc) c
-status_true Memory a = λ c is. silent_true Memory (λ e. cc) (λ e. cc) c
-status_true WriteFault a = λ c is. silent_true WriteFault (λ e. cc) (λ e. cc) c
+status_true {holds = holds} ReadFault a = λ c is. silent_true holds ReadFault (λ e. cc) (λ e. cc) c
+status_true {holds = holds} Memory a = λ c is. silent_true holds Memory (λ e. cc) (λ e. cc) c
+status_true {holds = holds} WriteFault a = λ c is. silent_true holds WriteFault (λ e. cc) (λ e. cc) c
 status_true Observable a = answer_true (a (λ e. cc) (λ e. cc) (λ e. cc)).1
 status_true Unobservable a = answer_true (a (λ e. cc) (λ e. cc) (λ e. cc)).1
 status_true Done a = answer_true (a (λ e. cc) (λ e. cc) (λ e. cc)).1

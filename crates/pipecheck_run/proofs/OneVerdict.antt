@@ -11,7 +11,7 @@ use Rattle.cert_check.specs.declared.checked.Checked.TheVariants.{Observable, Un
 use Rattle.command_base.specs.Inputs.{Inputs, Contents, Says, IsRead}
 use Rattle.command_base.specs.Questions.{question_by}
 use Rattle.command_base.specs.Refusals.{refusal}
-use Rattle.command_base.specs.Outcomes.{refused, found}
+use Rattle.command_base.specs.Outcomes.{refused as is_refused, found as is_found}
 use Rattle.command_base.proofs.OneCase.{one_held, no_fault_said}
 use Rattle.command_base.proofs.TestForm.{test_form}
 use Rattle.command_base.proofs.AnsweredFiles.{found_of}
@@ -54,14 +54,16 @@ module _ (holds later : Contents) (i : Inputs) (certificate : List ℕ) (model :
 
   same_status : {status second : Status} {text line : List ℕ} → AnswersCheck CaseOf IsTestFault holds i status text → length text ≤ text_limit
       → later certificate ≡ Some text → AnswersVerify CaseOf IsTestFault later i certificate second line → second ≡ status
-  same_status (refused (refusal first at)) short held (refused (refusal first2 at2)) = refl
-  same_status (refused (refusal {fault = f} first at)) short held (found {m = m} {c = c} says is) =
+  same_status (is_refused (refusal first at)) short held (is_refused (refusal first2 at2)) = refl
+  same_status (is_refused (refusal {fault = f} first at)) short held (is_found {m = m} {c = c} says is) =
       absurd (no_fault_said test_form holds i m c f (says_alike later holds i m c (sym model) (sym test) says) first)
-  same_status (found {m = m} {c = c} says certified) short held (refused (refusal {fault = f} first at)) =
+  same_status (is_found {m = m} {c = c} says certified) short held (is_refused (refusal {fault = f} first at)) =
       absurd (no_fault_said test_form later i m c f (says_alike holds later i m c model test says) first)
-  same_status {status} {second} {text} {line} (found {m = m} {c = c} says certified) short held (found {m = n} {c = d} says2 is) =
-      judged_alike m c text certified short held
-      (found_of test_form (found {m = n} {c = d} says2 is) m c (says_alike holds later i m c model test says))
+  same_status {status} {second} {text} {line} (is_found {m = m} {c = c} says certified) short held (is_found {m = n} {c = d} says2 is) =
+      let theirs : IsJudged later certificate m c second line =
+          found_of test_form {finds = IsJudged later certificate} {status = second} {text = line} (is_found {m = n} {c = d} says2 is)
+          m c (says_alike holds later i m c model test says) in
+      judged_alike m c text certified short held theirs
 
 pub one_status : (holds later : Contents) → HasOneStatus holds later
 one_status holds later i certificate text line words again status second is on model test a short held b =

@@ -37,7 +37,7 @@ module _ {F : Type 0} {view : F → FilesView} {old new : F} where
     cause = d.cause;
     missing_only = λ x e. (c, is, d.missing_only x e);
     missing_due = λ x comes. d.missing_due x (let P : Command → Type 0 = λ k. Lacks (view old).holds k in subst P (one_command words comes.0 c comes.1 is) comes.2);
-    answers = λ known no_fault memory. answered is (d.answers (known c is) no_fault memory);
+    answers = λ known no_fault memory. answered c is (d.answers (known c is) no_fault memory);
   }
 
   -- what is known of files that are told, is known where this says that they are

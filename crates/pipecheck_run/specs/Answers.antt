@@ -23,7 +23,7 @@ AnswersCommand holds (gen n) = AnswersGen n
 -- the answer to the words, where the names hold these contents, with its text
 pub data Answers (words : List (List ℕ)) (holds : Contents) : Status → List ℕ → Type 0 where
   usage : IsNoCommand words → Answers words holds Usage usage_text
-  answered : {c : Command} {status : Status} {text : List ℕ} → IsCommand words c → AnswersCommand holds c status text
+  answered : {status : Status} {text : List ℕ} (c : Command) → IsCommand words c → AnswersCommand holds c status text
       → Answers words holds status text
 
 -- the order of work of a command comes to a name that is not held
