@@ -6,6 +6,7 @@ use Rattle.pc_common.specs.declared.fault.InputFault.{InputFault}
 use Rattle.pc_common.specs.declared.status.Status.{Status}
 use Rattle.pc_syntax.specs.Written.{WrittenModel}
 use Rattle.pc_ground.specs.declared.front.Front.{Front}
+use Rattle.pc_ground.specs.declared.version.Version.{Version}
 use Rattle.command_base.specs.Inputs.{Inputs, Contents, Says}
 use Rattle.command_base.specs.SecondFiles.{IsForm}
 use Rattle.command_base.specs.VerdictStatus.{IsTrueStatus}
@@ -22,13 +23,13 @@ module _ {F : Type 0} {view : F → FilesView} {old new : F}
     {case_of : List ℕ → Case → Type 0} {first_fault : List ℕ → List ℕ → InputFault → Type 0} {i : Inputs} where
   -- the verdict on the front of the two files
   pub verdict_outcome : {front : Front} (f : HasFront view case_of i old new front) (v : Verdict) → IsVerdict f.m f.c v
-      → IsFilesOutcome view case_of first_fault i IsCertified old new (status_of v.found) (verdict_text v)
+      → IsFilesOutcome view case_of first_fault i (IsCertified v.version) old new (status_of v.found) (verdict_text v)
   verdict_outcome f v is =
-      found_outcome IsCertified f (status_of v.found) (verdict_text v) (no_usage_of v.found) (no_read_fault_of v.found)
+      found_outcome (IsCertified v.version) f (status_of v.found) (verdict_text v) (no_usage_of v.found) (no_read_fault_of v.found)
       (verdict_certified f.m f.c v f.kept is)
 
 module _ {case_of : List ℕ → Case → Type 0} {first_fault : List ℕ → List ℕ → InputFault → Type 0} (form : IsForm case_of first_fault)
-    {holds : Contents} {i : Inputs} {status : Status} {text : List ℕ} (a : AnswersCheck case_of first_fault holds i status text) where
+    {holds : Contents} {i : Inputs} {version : Version} {status : Status} {text : List ℕ} (a : AnswersCheck case_of first_fault holds i version status text) where
   pub check_true : (m : WrittenModel) (c : Case) → Says case_of holds i m c → IsTrueStatus m c status
   check_true m c says = certified_true (found_of form a m c says)
 

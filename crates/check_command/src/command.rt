@@ -8,16 +8,18 @@ ghost use Rattle.verdicts.specs.Certified.{IsCertified};
 
 use command_base::{Ending, Inputs, SecondFile, read_inputs};
 use pc_common::{Files, Memory};
+use pc_ground::Version;
 use std::alloc::Global;
 use verdicts::{Verdict, verdict_on};
 
-/// Reads the two files and searches: the verdict on them, or how the command ends before it.
+/// Reads the two files and searches, with refutations of this version: the verdict on them, or how the command ends before it.
 pub fn check<S: SecondFile, F: Files>(
     alloc: Global,
     inputs: Inputs<'_>,
+    version: Version,
     files: &mut F,
 ) -> Result<Verdict, Ending>
-    ensures outcome { IsFilesOutcome F.view S.case_of S.first_fault (plain_inputs inputs.entry) IsCertified
+    ensures outcome { IsFilesOutcome F.view S.case_of S.first_fault (plain_inputs inputs.entry) (IsCertified version)
         files.old files.new (returned_status (λ v. status_of v.found) result) (returned_text verdict_text result) }
     ensures writable { IfOk result (λ v. IsWritable (names_of v.front) v.found) }
 {
@@ -25,7 +27,7 @@ pub fn check<S: SecondFile, F: Files>(
         Ok(front) => front,
         Err(ending) => return Err(ending),
     };
-    match verdict_on(alloc, front) {
+    match verdict_on(alloc, front, version) {
         Ok(verdict) => Ok(verdict),
         Err(Memory) => Err(Ending::Memory),
     }

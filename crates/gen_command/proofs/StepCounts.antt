@@ -4,7 +4,7 @@ use Rattle.std.specs.List.{slice_get}
 use Rattle.std.proofs.lemmas.List.Filters.{length-filter_more, length-filter_both}
 use Rattle.std.proofs.lemmas.Option.{slice_get_within, get_or_from_slice_get}
 use Rattle.pc_common.specs.World.{Node}
-use Rattle.pc_ground.specs.Refutes.{Step}
+use Rattle.pc_common.specs.Steps.{Step}
 use Rattle.gen_command.specs.Summaries.{splits, splits_of, leaves_of}
 
 -- one step more

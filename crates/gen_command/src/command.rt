@@ -12,7 +12,7 @@ use super::report::{Report, report_of};
 use command_base::{Ending, TestFile, front_of};
 use gen_texts::gen_texts;
 use pc_common::Memory;
-use pc_ground::Front;
+use pc_ground::{Front, Version};
 use std::alloc::Global;
 use verdicts::verdict_on;
 
@@ -37,7 +37,7 @@ pub fn generate(alloc: Global, n: u8) -> Result<Report, Ending>
         Ok(front) => front,
         Err(ending) => return Err(ending),
     };
-    match verdict_on(alloc, front) {
+    match verdict_on(alloc, front, Version::One) {
         Ok(verdict) => {
             let report = report_of(n, &verdict);
             drop(verdict);

@@ -39,7 +39,7 @@ fn splits_in(step: &Step) -> usize
     ensures bound { result ≤ 1 }
 {
     match step {
-        Step::Split(_) => 1,
+        Step::Split { .. } => 1,
         Step::Cycle(_) => 0,
         Step::Path(_) => 0,
         Step::Absent(_) => 0,

@@ -4,6 +4,7 @@ use Rattle.pc_common.specs.declared.status.Status.{Status}
 use Rattle.pc_common.specs.declared.status.Status.TheVariants.{Usage}
 use Rattle.litmus_reader.specs.Answer.{CaseOf}
 use Rattle.pc_front.specs.Front.{IsFirstFault as IsTestFault}
+use Rattle.pc_ground.specs.declared.version.Version.TheVariants.{One}
 use Rattle.command_base.specs.Inputs.{Contents, LacksInput}
 use Rattle.command_base.specs.Outcomes.{LacksThird}
 use Rattle.check_command.specs.CheckAnswers.{AnswersCheck}
@@ -16,7 +17,7 @@ usage_text = codes "pipecheck: bad command line\n"
 
 -- the answer to a command
 abbrev pub AnswersCommand : Contents → Command → Status → List ℕ → Type 0
-AnswersCommand holds (check i) = AnswersCheck CaseOf IsTestFault holds i
+AnswersCommand holds (check i) = AnswersCheck CaseOf IsTestFault holds i One
 AnswersCommand holds (verify i certificate) = AnswersVerify CaseOf IsTestFault holds i certificate
 AnswersCommand holds (gen n) = AnswersGen n
 

@@ -1,7 +1,7 @@
 -- What holds of all words, and of every two runs.
 use Rattle.std.specs.Prelude.{◌≡◌, ◌≤◌, List, ℕ, Some, length}
 use Rattle.pc_common.specs.declared.status.Status.{Status}
-use Rattle.cert_check.specs.Verified.{text_limit}
+use Rattle.pc_common.specs.declared.limits.TheConstants.{MAX_CERTIFICATE}
 use Rattle.command_base.specs.Inputs.{Inputs, Contents}
 use Rattle.pipecheck_run.specs.Command.{Command, check, verify, IsCommand}
 use Rattle.pipecheck_run.specs.Answers.{Answers}
@@ -16,5 +16,5 @@ abbrev pub HasOneStatus : Contents → Contents → Type 0
 HasOneStatus holds later =
     (i : Inputs) (certificate text line : List ℕ) (words again : List (List ℕ)) (status second : Status)
     → IsCommand words (check i) → IsCommand again (verify i certificate) → later i.model ≡ holds i.model → later i.test ≡ holds i.test
-    → Answers words holds status text → length text ≤ text_limit → later certificate ≡ Some text → Answers again later second line
+    → Answers words holds status text → length text ≤ MAX_CERTIFICATE → later certificate ≡ Some text → Answers again later second line
     → second ≡ status

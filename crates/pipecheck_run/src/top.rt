@@ -18,6 +18,7 @@ use check_command::check;
 use command_base::{Ending, Inputs, TestFile};
 use gen_command::generate;
 use pc_common::{Failed, Files, Sink, Status};
+use pc_ground::Version;
 use std::alloc::Global;
 use verify_command::verify;
 
@@ -27,7 +28,7 @@ fn check_answer<F: Files>(alloc: Global, inputs: Inputs<'_>, files: &mut F) -> A
         (answer_status result) (answer_text result) }
     ensures writable { CanBeWritten result }
 {
-    match check::<TestFile, F>(alloc, inputs, files) {
+    match check::<TestFile, F>(alloc, inputs, Version::One, files) {
         Ok(verdict) => Answer::Checked(verdict),
         Err(ending) => Answer::Ended(ending),
     }

@@ -8,6 +8,7 @@ use Rattle.pc_case.specs.MicroOps.{AreMicroOps}
 use Rattle.pc_syntax.specs.Written.{stage_numbers, WrittenModel}
 use Rattle.pc_syntax.specs.Observable.{IsNodeOf}
 use Rattle.pc_ground.specs.declared.front.Front.{Front}
+use Rattle.pc_ground.specs.declared.version.Version.{Version}
 use Rattle.pc_ground.specs.Keys.{key_node}
 use Rattle.pc_ground.specs.Tree.{Tree}
 use Rattle.pc_ground.specs.Numbers.{nodes_of_tree, numbered}
@@ -76,11 +77,11 @@ module _ (m : WrittenModel) (c : Case) (front : Front) (is : IsFrontOf m c front
       subst (λ (d : Case). IsNodeOf (stage_numbers m.stages) d.ops a) is.parts.case
       (subst (λ ns. IsNodeOf ns front.case.ops a) numbers_are (numbered_node a in_numbering))
 
-  pub writable : (found : Found) → IsAnswer front.numbering (ground_tree m c) found → IsWritable (names_of front) found
-  writable (a_graph g) w =
+  pub writable : (version : Version) (found : Found) → IsAnswer version front.numbering (ground_tree m c) found → IsWritable (names_of front) found
+  writable version (a_graph g) w =
       let each : (a : Node) → Contains (graph_nodes g) a → IsNodeIn (names_of front) a = λ a i. numbered_node a (w.known a i) in (
         all_images (IsNodeIn (names_of front)) key_node g.nodes each,
         all_images (λ (e : Edge). IsNodeIn (names_of front) e.0 × IsNodeIn (names_of front) e.1) key_edge g.edges
             (λ e i. let ends = w.ends e.0 e.1 i in (each e.0 ends.0, each e.1 ends.1)),
       )
-  writable (a_refutation r) is_refuted = refutation_in (names_of front) (ground_tree m c) r is_refuted.0 tree_node
+  writable version (a_refutation r) is_refuted = refutation_in (names_of front) version (ground_tree m c) r is_refuted.0 tree_node

@@ -11,7 +11,7 @@ ghost use Rattle.verdicts.specs.Verdicts.{kind_of, status_of, IsVerdict};
 
 use cert_check::Verdict as Kind;
 use pc_common::{Memory, Status};
-use pc_ground::Front;
+use pc_ground::{Front, Version};
 use solver::{Answer as Found, solve};
 use std::alloc::Global;
 use std::marker::Brand;
@@ -22,27 +22,39 @@ use undo_trail::Steps;
 #[derive(Drop)]
 pub struct Verdict {
     pub front: Front,
+    /// That of the refutation, where there is one.
+    pub version: Version,
     pub found: Found,
 }
 
 /// What the search finds of a front. The ledger is of this call alone: nobody reads its count of steps.
-fn search<L: Ledger>(alloc: Global, front: &Front, blank: Blank) -> Result<Found, Memory>
+fn search<L: Ledger>(
+    alloc: Global,
+    front: &Front,
+    version: Version,
+    blank: Blank,
+) -> Result<Found, Memory>
     requires name { blank.name ≡ L.name }
     requires parts { blank.parts ≡ L.parts }
     requires whole { 0 < L.parts }
-    ensures { IfOk result (λ found. (t : Tree PlainNode) → front.now.tree ≡ rows_of t → IsAnswer front.now.numbering t found) }
+    ensures { IfOk result (λ found. (t : Tree PlainNode) → front.now.tree ≡ rows_of t → IsAnswer version front.now.numbering t found) }
 {
     let mut steps: Steps<L> = Steps::open(blank);
-    solve(alloc, &front.tree, &front.numbering, &mut steps)
+    solve(alloc, &front.tree, &front.numbering, version, &mut steps)
 }
 
 /// What the search finds of a front: a verdict on each model and case that it is the front of.
-pub fn verdict_on(alloc: Global, front: Front) -> Result<Verdict, Memory>
+pub fn verdict_on(alloc: Global, front: Front, version: Version) -> Result<Verdict, Memory>
     ensures front { IfOk result (λ v. v.front ≡ front) }
+    ensures version { IfOk result (λ v. v.version ≡ version) }
     ensures verdict { IfOk result (λ v. (m : WrittenModel) (c : PlainCase) → IsFrontOf m c front → IsVerdict m c v) }
 {
-    let found = search::<Brand>(alloc, &front, Blank::new(1))?;
-    Ok(Verdict { front, found })
+    let found = search::<Brand>(alloc, &front, version, Blank::new(1))?;
+    Ok(Verdict {
+        front,
+        version,
+        found,
+    })
 }
 
 /// The status of a verdict.

@@ -6,7 +6,10 @@ use Rattle.pc_common.specs.declared.status.Status.TheVariants.{Observable as is_
 use Rattle.pc_common.specs.Lines.{observable, unobservable}
 use Rattle.pc_syntax.specs.Written.{WrittenModel}
 use Rattle.cert_check.specs.Certificates.{Question}
-use Rattle.cert_check.specs.Verified.{text_limit, IsRefusedAt, Verified, seen, unseen, too_long, refused}
+use Rattle.pc_common.specs.declared.limits.TheConstants.{MAX_CERTIFICATE}
+use Rattle.line_judge.specs.Texts.{IsRefusedAt}
+use Rattle.cert_check.specs.RawLines.{RawBegins, RawWhole}
+use Rattle.cert_check.specs.Verified.{Verified, seen, unseen, too_long, refused}
 use Rattle.cert_check.specs.Fed.{IsFed}
 use Rattle.cert_check.specs.declared.checker.Checker.{Checker}
 use Rattle.cert_check.specs.declared.checked.Checked.{Checked}
@@ -32,10 +35,10 @@ pub verified_true : (m : WrittenModel) (c : Case) (text : List ℕ) (found : Che
 verified_true m c text found (seen short graph) = (λ e. graph_observable m c text graph, λ e. absurd (one_verdict e))
 verified_true m c text found (unseen short tree) = (λ e. absurd (one_verdict (sym e)), λ e. tree_unobservable m c text tree)
 verified_true m c text found (too_long long) = (λ e. absurd (refused_seen e), λ e. absurd (refused_unseen e))
-verified_true m c text found (refused n short is) = (λ e. absurd (refused_seen e), λ e. absurd (refused_unseen e))
+verified_true m c text found (refused n short none is) = (λ e. absurd (refused_seen e), λ e. absurd (refused_unseen e))
 
 -- a text is refused at one line
-one_line : (q : Question) (text : List ℕ) (n k : ℕ) → IsRefusedAt q text n → IsRefusedAt q text k → n ≡ k
+one_line : (q : Question) (text : List ℕ) (n k : ℕ) → IsRefusedAt (RawBegins q) (RawWhole q) text n → IsRefusedAt (RawBegins q) (RawWhole q) text k → n ≡ k
 one_line q text n k x y = go (cases_order n k)
   where
     go : (n ≡ k) ⊎ ((n < k) ⊎ (k < n)) → n ≡ k
@@ -43,7 +46,7 @@ one_line q text n k x y = go (cases_order n k)
     go (inr (inl less)) = absurd (x.here (y.before n less))
     go (inr (inr more)) = absurd (y.here (x.before k more))
 
-both_lengths : (text : List ℕ) → length text ≤ text_limit → text_limit < length text → ⊥
+both_lengths : (text : List ℕ) → length text ≤ MAX_CERTIFICATE → MAX_CERTIFICATE < length text → ⊥
 both_lengths text short long = omega (arith, short, long)
 
 -- a text is one thing
@@ -51,25 +54,25 @@ pub one_found : (m : WrittenModel) (c : Case) (text : List ℕ) (a b : Checked) 
 one_found m c text a b (seen short x) (seen short2 y) = refl
 one_found m c text a b (seen short x) (unseen short2 y) = absurd (tree_unobservable m c text y (graph_observable m c text x))
 one_found m c text a b (seen short x) (too_long long) = absurd (both_lengths text short long)
-one_found m c text a b (seen short x) (refused n short2 y) = absurd (y.none observable x)
+one_found m c text a b (seen short x) (refused n short2 none y) = absurd (none observable x)
 one_found m c text a b (unseen short x) (seen short2 y) = absurd (tree_unobservable m c text x (graph_observable m c text y))
 one_found m c text a b (unseen short x) (unseen short2 y) = refl
 one_found m c text a b (unseen short x) (too_long long) = absurd (both_lengths text short long)
-one_found m c text a b (unseen short x) (refused n short2 y) = absurd (y.none unobservable x)
+one_found m c text a b (unseen short x) (refused n short2 none y) = absurd (none unobservable x)
 one_found m c text a b (too_long long) (seen short y) = absurd (both_lengths text short long)
 one_found m c text a b (too_long long) (unseen short y) = absurd (both_lengths text short long)
 one_found m c text a b (too_long long) (too_long long2) = refl
-one_found m c text a b (too_long long) (refused n short y) = absurd (both_lengths text short long)
-one_found m c text a b (refused n short x) (seen short2 y) = absurd (x.none observable y)
-one_found m c text a b (refused n short x) (unseen short2 y) = absurd (x.none unobservable y)
-one_found m c text a b (refused n short x) (too_long long) = absurd (both_lengths text short long)
-one_found m c text a b (refused n short x) (refused k short2 y) = ap Refused (one_line (question_by m c) text n k x y)
+one_found m c text a b (too_long long) (refused n short none y) = absurd (both_lengths text short long)
+one_found m c text a b (refused n short none x) (seen short2 y) = absurd (none observable y)
+one_found m c text a b (refused n short none x) (unseen short2 y) = absurd (none unobservable y)
+one_found m c text a b (refused n short none x) (too_long long) = absurd (both_lengths text short long)
+one_found m c text a b (refused n short none x) (refused k short2 other y) = ap Refused (one_line (question_by m c) text n k x y)
 
 -- what the first bytes past the limit are, all of the file is
-pub verified_past : (q : Question) (text rest : List ℕ) (found : Checked) → text_limit < length text → Verified q text found → Verified q (text ++ rest) found
+pub verified_past : (q : Question) (text rest : List ℕ) (found : Checked) → MAX_CERTIFICATE < length text → Verified q text found → Verified q (text ++ rest) found
 verified_past q text rest found long (seen short x) = absurd (both_lengths text short long)
 verified_past q text rest found long (unseen short x) = absurd (both_lengths text short long)
-verified_past q text rest found long (refused n short x) = absurd (both_lengths text short long)
+verified_past q text rest found long (refused n short none x) = absurd (both_lengths text short long)
 verified_past q text rest found long (too_long long2) = too_long (let a = length-append text rest in omega (arith, a, long))
 
 -- a checker of a question that took nothing before, and then a file
@@ -86,6 +89,6 @@ file_verified {q = q} {after = after} found fed file finish = (file.whole, file.
     P : List ℕ → Type 0
     P t = Verified q t found
 
-    go : (after ≡ []) ⊎ (length bytes ≡ text_limit + 1) → Verified q file.whole found
+    go : (after ≡ []) ⊎ (length bytes ≡ MAX_CERTIFICATE + 1) → Verified q file.whole found
     go (inl none) = subst P (sym (file.first.are_first ∙ ap (λ (xs : List ℕ). bytes ++ xs) none ∙ append_nil bytes)) here
     go (inr long) = subst P (sym file.first.are_first) (verified_past q bytes after found (omega (arith, long)) here)

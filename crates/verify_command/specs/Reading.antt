@@ -1,7 +1,7 @@
 -- What a checker is fed of a file, and what a command returns by it.
 use Rattle.std.specs.Prelude.{◌≡◌, ◌⊎◌, ◌≤◌, ◌+◌, ◌++◌, ℕ, List, [], Option, Some, Result, Ok, Err, length}
 use Rattle.cert_check.specs.Certificates.{Question}
-use Rattle.cert_check.specs.Verified.{text_limit}
+use Rattle.pc_common.specs.declared.limits.TheConstants.{MAX_CERTIFICATE}
 use Rattle.cert_check.specs.Fed.{IsFed}
 use Rattle.cert_check.specs.declared.checker.Checker.{Checker}
 use Rattle.cert_check.specs.declared.checked.Checked.{Checked}
@@ -18,8 +18,8 @@ Took old new bytes = (q : Question) (text : List ℕ) → IsFed old q text → I
 pub record TookFirst (old new : Checker) (before after : List ℕ) : Type 0 where
   pub bytes : List ℕ
   pub are_first : before ≡ bytes ++ after
-  pub within : length bytes ≤ text_limit + 1
-  pub enough : (after ≡ []) ⊎ (length bytes ≡ text_limit + 1)
+  pub within : length bytes ≤ MAX_CERTIFICATE + 1
+  pub enough : (after ≡ []) ⊎ (length bytes ≡ MAX_CERTIFICATE + 1)
   pub took : Took old new bytes
 
 -- so of a file that is held, of which this is left
