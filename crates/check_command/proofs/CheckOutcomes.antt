@@ -1,5 +1,5 @@
 -- The outcome of `check`: what its answer says, and that it is due.
-use Rattle.std.proofs.Common.{◌≡◌, ℕ, Bool, List}
+use Rattle.std.proofs.Common.{◌≡◌, ℕ, Bool, List, subst}
 use Rattle.pc_common.specs.Outside.{FilesView}
 use Rattle.pc_common.specs.Case.{Case}
 use Rattle.pc_common.specs.declared.fault.InputFault.{InputFault}
@@ -22,11 +22,13 @@ use Rattle.check_command.specs.CheckAnswers.{AnswersCheck, IsCheckDue}
 module _ {F : Type 0} {view : F → FilesView} {old new : F}
     {case_of : List ℕ → Case → Type 0} {first_fault : List ℕ → List ℕ → InputFault → Type 0} {i : Inputs} where
   -- the verdict on the front of the two files
-  pub verdict_outcome : {front : Front} (f : HasFront view case_of i old new front) (v : Verdict) → IsVerdict f.m f.c v
-      → IsFilesOutcome view case_of first_fault i (IsCertified v.version) old new (status_of v.found) (verdict_text v)
-  verdict_outcome f v is =
-      found_outcome (IsCertified v.version) f (status_of v.found) (verdict_text v) (no_usage_of v.found) (no_read_fault_of v.found)
-      (verdict_certified f.m f.c v f.kept is)
+  pub verdict_outcome : {front : Front} (f : HasFront view case_of i old new front) (v : Verdict) (version : Version)
+      → v.version ≡ version → IsVerdict f.m f.c v
+      → IsFilesOutcome view case_of first_fault i (IsCertified version) old new (status_of v.found) (verdict_text v)
+  verdict_outcome f v version same is =
+      let P : Version → Type 0 = λ x. IsFilesOutcome view case_of first_fault i (IsCertified x) old new (status_of v.found) (verdict_text v) in
+      subst P same (found_outcome (IsCertified v.version) f (status_of v.found) (verdict_text v) (no_usage_of v.found) (no_read_fault_of v.found)
+      (verdict_certified f.m f.c v f.kept is))
 
 module _ {case_of : List ℕ → Case → Type 0} {first_fault : List ℕ → List ℕ → InputFault → Type 0} (form : IsForm case_of first_fault)
     {holds : Contents} {i : Inputs} {version : Version} {status : Status} {text : List ℕ} (a : AnswersCheck case_of first_fault holds i version status text) where

@@ -9,9 +9,9 @@ returns-in-Err-clause-outcome g c = ending_outcome (IsCertified c.args.version) 
 
 pub returns-in-Ok-verdict_on-clause-outcome : goal.returns-in-Ok-verdict_on-clause-outcome
 returns-in-Ok-verdict_on-clause-outcome g c =
-    rw c.in-Ok-verdict_on.ensures.version at
-    (verdict_outcome {first_fault = g.S.SecondFile.first_fault} c.in-Ok.ensures c.in-Ok-verdict_on.verdict
-    (c.in-Ok-verdict_on.ensures.verdict c.in-Ok.ensures.m c.in-Ok.ensures.c c.in-Ok.ensures.front_of))
+    verdict_outcome {first_fault = g.S.SecondFile.first_fault} c.in-Ok.ensures c.in-Ok-verdict_on.verdict c.args.version
+    c.in-Ok-verdict_on.ensures.version
+    (c.in-Ok-verdict_on.ensures.verdict c.in-Ok.ensures.m c.in-Ok.ensures.c c.in-Ok.ensures.front_of)
 
 pub returns-in-Ok-verdict_on-clause-writable : goal.returns-in-Ok-verdict_on-clause-writable
 returns-in-Ok-verdict_on-clause-writable g c =
