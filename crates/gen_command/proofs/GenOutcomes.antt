@@ -60,7 +60,7 @@ ending_outcome n (a_refusal r) is = record {
   no_read_fault = refused_no_read_fault;
   answers = λ memory.
       let P : List ℕ → Type 0 = λ text. AnswersGen n Refused text in
-      subst P (refusal_is (bytes_of r.fault.file ring_model (ring_test n)) r.fault r refl is.2.0 is.2.1) (refused_ring is.0);
+      subst P (refusal_is (bytes_of r.fault.file ring_model (ring_test n)) r.fault r refl is.3.0 is.3.1) (refused_ring is.0);
 }
 ending_outcome n a_memory is = memory_outcome n
 ending_outcome n a_read_fault is = absurd is

@@ -46,7 +46,7 @@ certified_found : (m : WrittenModel) (c : Case) (status : Status) (text : List �
     → Verified (question_by m c) text found → checked_status found ≡ status
 certified_found m c status text found (seen graph) short is = ap checked_status (one_found m c text found Observable is (a_graph_text short graph))
 certified_found m c status text found (unseen lines text_is tree) short is =
-    ap checked_status (one_found m c text found Unobservable is (a_tree_text short (refutation_text text_is tree)))
+    ap checked_status (one_found m c text found Unobservable is (a_tree_text short (refutation_text m c text_is tree)))
 
 module _ (holds later : Contents) (i : Inputs) (certificate : List ℕ) (model : later i.model ≡ holds i.model) (test : later i.test ≡ holds i.test) where
   -- what is judged of a written certificate
