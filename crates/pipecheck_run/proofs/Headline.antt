@@ -20,12 +20,12 @@ answer_to_command {words} {holds} {status} {text} (answered d other a) c is =
     let P : Command → Type 0 = λ k. AnswersCommand holds k status text in subst P (one_command words d c other is) a
 
 true_to : (holds : Contents) (status : Status) (text : List ℕ) (c : Command) → AnswersCommand holds c status text → IsTrueTo holds c status
-true_to holds status text (check i) a = check_true test_form a
+true_to holds status text (check version i) a = check_true test_form a
 true_to holds status text (verify i certificate) a = verify_true test_form a
 true_to holds status text (gen n) a = tt
 
 due_to : (holds : Contents) (status : Status) (text : List ℕ) (c : Command) → AnswersCommand holds c status text → IsDueTo holds c status
-due_to holds status text (check i) a = check_due test_form a
+due_to holds status text (check version i) a = check_due test_form a
 due_to holds status text (verify i certificate) a = verify_due test_form a
 due_to holds status text (gen n) a = gen_due a
 
@@ -39,7 +39,7 @@ answer_due {holds = holds} {status = status} {text = text} a c is = due_to holds
 
 -- a status that is no verdict's says nothing
 silent_true : (holds : Contents) (status : Status) → status ≢ Observable → status ≢ Unobservable → (c : Command) → IsTrueTo holds c status
-silent_true holds status no_o no_u (check i) = λ m k says. (λ e. absurd (no_o e), λ e. absurd (no_u e))
+silent_true holds status no_o no_u (check version i) = λ m k says. (λ e. absurd (no_o e), λ e. absurd (no_u e))
 silent_true holds status no_o no_u (verify i certificate) = λ m k says. (λ e. absurd (no_o e), λ e. absurd (no_u e))
 silent_true holds status no_o no_u (gen n) = tt
 

@@ -5,6 +5,7 @@ use Rattle.std.specs.Fmt.{decimal}
 use Rattle.std.specs.Cmp.Lexicographic.{pointwise, same_text, bytes_decides}
 use Rattle.std.proofs.lemmas.Bool.{cases_order}
 use Rattle.std.proofs.lemmas.Fmt.{decimal_injective}
+use Rattle.pc_ground.specs.declared.version.Version.TheVariants.{One, Two}
 use Rattle.command_base.specs.Inputs.{Inputs}
 use Rattle.pipecheck_run.specs.Command.{Command, check, verify, gen, words_of, IsWithin, IsCommand, IsNoCommand}
 
@@ -45,13 +46,15 @@ number_found (suc k) n few some small =
 -- the command that the first word tells
 command_by : List (List ℕ) → Command
 command_by words =
-    cond (pointwise nat_eq (name_at 0 words) (codes "check")) (check (inputs_at words))
+    cond (pointwise nat_eq (name_at 0 words) (codes "check")) (check One (inputs_at words))
+    (cond (pointwise nat_eq (name_at 0 words) (codes "check2")) (check Two (inputs_at words))
     (cond (pointwise nat_eq (name_at 0 words) (codes "verify")) (verify (inputs_at words) (name_at 3 words))
-    (gen (number_in 16 (name_at 1 words))))
+    (gen (number_in 16 (name_at 1 words)))))
 
 spelt : (c : Command) → IsWithin c → command_by (words_of c) ≡ c
 unfolding name_at inputs_at command_by
-spelt (check i) within = refl
+spelt (check One i) within = refl
+spelt (check Two i) within = refl
 spelt (verify i certificate) within = refl
 spelt (gen n) within = ap gen (let some = within.0 in number_found 16 n (omega arith) (omega arith) within.1)
 
@@ -63,8 +66,10 @@ within_of words c is = is.1
 
 -- words of no form
 pub no_form : (words : List (List ℕ)) → ((i : Inputs) → words ≡ codes "check" ∷ i.model ∷ i.test ∷ [] → ⊥)
+    → ((i : Inputs) → words ≡ codes "check2" ∷ i.model ∷ i.test ∷ [] → ⊥)
     → ((i : Inputs) (third : List ℕ) → words ≡ codes "verify" ∷ i.model ∷ i.test ∷ third ∷ [] → ⊥)
     → ((n : ℕ) → IsCommand words (gen n) → ⊥) → IsNoCommand words
-no_form words no_check no_verify no_gen (check i) is = no_check i is.0
-no_form words no_check no_verify no_gen (verify i certificate) is = no_verify i certificate is.0
-no_form words no_check no_verify no_gen (gen n) is = no_gen n is
+no_form words no_check no_check2 no_verify no_gen (check One i) is = no_check i is.0
+no_form words no_check no_check2 no_verify no_gen (check Two i) is = no_check2 i is.0
+no_form words no_check no_check2 no_verify no_gen (verify i certificate) is = no_verify i certificate is.0
+no_form words no_check no_check2 no_verify no_gen (gen n) is = no_gen n is

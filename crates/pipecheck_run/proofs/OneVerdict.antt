@@ -6,7 +6,7 @@ use Rattle.pc_syntax.specs.Written.{WrittenModel}
 use Rattle.litmus_reader.specs.Answer.{CaseOf}
 use Rattle.pc_front.specs.Front.{IsFirstFault as IsTestFault}
 use Rattle.pc_common.specs.declared.limits.TheConstants.{MAX_CERTIFICATE}
-use Rattle.pc_ground.specs.declared.version.Version.TheVariants.{One}
+use Rattle.pc_ground.specs.declared.version.Version.{Version}
 use Rattle.verdicts.proofs.CertifiedTruth.{refutation_text}
 use Rattle.cert_check.specs.Verified.{Verified, seen as a_graph_text, unseen as a_tree_text}
 use Rattle.cert_check.specs.declared.checked.Checked.{Checked}
@@ -42,7 +42,7 @@ says_alike holds later i m c model test says = record {
 }
 
 -- a certificate that is written, and what its text is found to be
-certified_found : (m : WrittenModel) (c : Case) (status : Status) (text : List ℕ) (found : Checked) → IsCertified One m c status text → length text ≤ MAX_CERTIFICATE
+certified_found : {version : Version} (m : WrittenModel) (c : Case) (status : Status) (text : List ℕ) (found : Checked) → IsCertified version m c status text → length text ≤ MAX_CERTIFICATE
     → Verified (question_by m c) text found → checked_status found ≡ status
 certified_found m c status text found (seen graph) short is = ap checked_status (one_found m c text found Observable is (a_graph_text short graph))
 certified_found m c status text found (unseen lines text_is tree) short is =
@@ -50,13 +50,13 @@ certified_found m c status text found (unseen lines text_is tree) short is =
 
 module _ (holds later : Contents) (i : Inputs) (certificate : List ℕ) (model : later i.model ≡ holds i.model) (test : later i.test ≡ holds i.test) where
   -- what is judged of a written certificate
-  judged_alike : (m : WrittenModel) (c : Case) (text : List ℕ) {status second : Status} {line : List ℕ} → IsCertified One m c status text → length text ≤ MAX_CERTIFICATE
+  judged_alike : (m : WrittenModel) (c : Case) (text : List ℕ) {version : Version} {status second : Status} {line : List ℕ} → IsCertified version m c status text → length text ≤ MAX_CERTIFICATE
       → later certificate ≡ Some text → IsJudged later certificate m c second line → second ≡ status
   judged_alike m c text {status} certified short held (judged {bytes = bytes} {found = what} held2 is) =
       let Q : List ℕ → Type 0 = λ t. Verified (question_by m c) t what in
       certified_found m c status text what certified short (subst Q (one_held later certificate bytes text held2 held) is)
 
-  same_status : {status second : Status} {text line : List ℕ} → AnswersCheck CaseOf IsTestFault holds i One status text → length text ≤ MAX_CERTIFICATE
+  same_status : {version : Version} {status second : Status} {text line : List ℕ} → AnswersCheck CaseOf IsTestFault holds i version status text → length text ≤ MAX_CERTIFICATE
       → later certificate ≡ Some text → AnswersVerify CaseOf IsTestFault later i certificate second line → second ≡ status
   same_status (is_refused (refusal first at)) short held (is_refused (refusal first2 at2)) = refl
   same_status (is_refused (refusal {fault = f} first at)) short held (is_found {m = m} {c = c} says is) =
@@ -70,5 +70,5 @@ module _ (holds later : Contents) (i : Inputs) (certificate : List ℕ) (model :
       judged_alike m c text certified short held theirs
 
 pub one_status : (holds later : Contents) → HasOneStatus holds later
-one_status holds later i certificate text line words again status second is on model test a short held b =
-    same_status holds later i certificate model test (answer_to_command a (check i) is) short held (answer_to_command b (verify i certificate) on)
+one_status holds later version i certificate text line words again status second is on model test a short held b =
+    same_status holds later i certificate model test (answer_to_command a (check version i) is) short held (answer_to_command b (verify i certificate) on)

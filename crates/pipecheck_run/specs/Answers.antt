@@ -4,7 +4,6 @@ use Rattle.pc_common.specs.declared.status.Status.{Status}
 use Rattle.pc_common.specs.declared.status.Status.TheVariants.{Usage}
 use Rattle.litmus_reader.specs.Answer.{CaseOf}
 use Rattle.pc_front.specs.Front.{IsFirstFault as IsTestFault}
-use Rattle.pc_ground.specs.declared.version.Version.TheVariants.{One}
 use Rattle.command_base.specs.Inputs.{Contents, LacksInput}
 use Rattle.command_base.specs.Outcomes.{LacksThird}
 use Rattle.check_command.specs.CheckAnswers.{AnswersCheck}
@@ -17,7 +16,7 @@ usage_text = codes "pipecheck: bad command line\n"
 
 -- the answer to a command
 abbrev pub AnswersCommand : Contents → Command → Status → List ℕ → Type 0
-AnswersCommand holds (check i) = AnswersCheck CaseOf IsTestFault holds i One
+AnswersCommand holds (check version i) = AnswersCheck CaseOf IsTestFault holds i version
 AnswersCommand holds (verify i certificate) = AnswersVerify CaseOf IsTestFault holds i certificate
 AnswersCommand holds (gen n) = AnswersGen n
 
@@ -29,7 +28,7 @@ pub data Answers (words : List (List ℕ)) (holds : Contents) : Status → List 
 
 -- the order of work of a command comes to a name that is not held
 abbrev pub Lacks : Contents → Command → Type 0
-Lacks holds (check i) = LacksInput holds i
+Lacks holds (check version i) = LacksInput holds i
 Lacks holds (verify i certificate) = LacksInput holds i ⊎ LacksThird CaseOf holds i certificate
 Lacks holds (gen n) = ⊥
 

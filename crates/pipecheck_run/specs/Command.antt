@@ -1,12 +1,15 @@
 -- A command, and which words are one.
 use Rattle.std.specs.Prelude.{◌≡◌, ◌≤◌, ⊤, ℕ, List, [], ◌∷◌, Bool, Option, Some, None, IsTrue, codes}
 use Rattle.std.specs.Fmt.{decimal}
+use Rattle.pc_ground.specs.declared.version.Version.{Version}
+use Rattle.pc_ground.specs.declared.version.Version.TheVariants.{One, Two}
 use Rattle.command_base.specs.Inputs.{Inputs, plain_inputs}
 use Rattle.pipecheck_run.specs.declared.command.Command.{Command as CodeCommand}
 use Rattle.pipecheck_run.specs.declared.command.Command.TheVariants.{Check, Verify, Gen}
 
 pub data Command : Type 0 where
-  check : Inputs → Command
+  -- with refutations of this version
+  check : Version → Inputs → Command
   -- with the name of a certificate
   verify : Inputs → List ℕ → Command
   -- a number of cores
@@ -14,19 +17,20 @@ pub data Command : Type 0 where
 
 -- without pointers
 abbrev pub plain_command : CodeCommand → Command
-plain_command (Check i) = check (plain_inputs i)
+plain_command (Check version i) = check version (plain_inputs i)
 plain_command (Verify i certificate) = verify (plain_inputs i) certificate.now
 plain_command (Gen n) = gen n
 
 -- the words by which a command is spelt; no two commands have one first word
 abbrev pub words_of : Command → List (List ℕ)
-words_of (check i) = codes "check" ∷ i.model ∷ i.test ∷ []
+words_of (check One i) = codes "check" ∷ i.model ∷ i.test ∷ []
+words_of (check Two i) = codes "check2" ∷ i.model ∷ i.test ∷ []
 words_of (verify i certificate) = codes "verify" ∷ i.model ∷ i.test ∷ certificate ∷ []
 words_of (gen n) = codes "gen" ∷ decimal n ∷ []
 
 -- the command is within its limits
 abbrev pub IsWithin : Command → Type 0
-IsWithin (check i) = ⊤
+IsWithin (check version i) = ⊤
 IsWithin (verify i certificate) = ⊤
 IsWithin (gen n) = (2 ≤ n) × (n ≤ 16)
 
@@ -38,7 +42,7 @@ IsNoCommand words = (c : Command) → IsCommand words c → ⊥
 
 -- the model and the second file that a command reads, where it reads two
 abbrev pub inputs_of : Command → Option Inputs
-inputs_of (check i) = Some i
+inputs_of (check version i) = Some i
 inputs_of (verify i certificate) = Some i
 inputs_of (gen n) = None
 

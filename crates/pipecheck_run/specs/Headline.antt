@@ -15,7 +15,7 @@ use Rattle.pipecheck_run.specs.Command.{Command, check, verify, gen, IsCommand}
 -- what the statuses of a verdict say to a command: observable only where some choice of nodes with some strict order makes every axiom
 -- true of the case, and unobservable only where none does; whatever a third file holds. `gen` has no such status
 abbrev pub IsTrueTo : Contents → Command → Status → Type 0
-IsTrueTo holds (check i) status = (m : WrittenModel) (c : Case) → Says CaseOf holds i m c → IsTrueStatus m c status
+IsTrueTo holds (check version i) status = (m : WrittenModel) (c : Case) → Says CaseOf holds i m c → IsTrueStatus m c status
 IsTrueTo holds (verify i certificate) status = (m : WrittenModel) (c : Case) → Says CaseOf holds i m c → IsTrueStatus m c status
 IsTrueTo holds (gen n) status = ⊤
 
@@ -24,7 +24,7 @@ IsTrueOf words holds status = (c : Command) → IsCommand words c → IsTrueTo h
 
 -- the status that is due of a command
 abbrev pub IsDueTo : Contents → Command → Status → Type 0
-IsDueTo holds (check i) = IsCheckDue CaseOf IsTestFault holds i
+IsDueTo holds (check version i) = IsCheckDue CaseOf IsTestFault holds i
 IsDueTo holds (verify i certificate) = IsVerifyDue CaseOf IsTestFault holds i certificate
 IsDueTo holds (gen n) = IsGenDue n
 

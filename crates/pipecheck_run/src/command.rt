@@ -5,12 +5,13 @@ ghost use Rattle.pipecheck_run.specs.Command.{plain_command, IsCommand, IsNoComm
 
 use super::cores::cores_behind;
 use command_base::Inputs;
+use pc_ground::Version;
 
 /// A command by its words, without options.
 #[derive(Clone, Copy)]
 pub(crate) enum Command<'a> {
-    /// `check MODEL TEST`
-    Check(Inputs<'a>),
+    /// `check MODEL TEST`, or `check2 MODEL TEST` for refutations of version 2
+    Check(Version, Inputs<'a>),
     /// `verify MODEL TEST CERT`
     Verify {
         inputs: Inputs<'a>,
@@ -62,7 +63,10 @@ pub(crate) fn parse<'a>(words: &'a [String]) -> Option<Command<'a>>
     ensures { MatchOption result (IsNoCommand (map string_bytes words.now)) (λ c. IsCommand (map string_bytes words.now) (plain_command c)) }
 {
     if let Some(inputs) = inputs_behind("check", words) {
-        return Some(Command::Check(inputs));
+        return Some(Command::Check(Version::One, inputs));
+    }
+    if let Some(inputs) = inputs_behind("check2", words) {
+        return Some(Command::Check(Version::Two, inputs));
     }
     if let Some((inputs, certificate)) = three_behind("verify", words) {
         return Some(Command::Verify {

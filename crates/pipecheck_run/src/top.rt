@@ -22,13 +22,18 @@ use pc_ground::Version;
 use std::alloc::Global;
 use verify_command::verify;
 
-/// The answer to `check MODEL TEST`.
-fn check_answer<F: Files>(alloc: Global, inputs: Inputs<'_>, files: &mut F) -> Answer
-    ensures outcome { IsCommandOutcome F.view (check_of (plain_inputs inputs.entry)) files.old files.new
+/// The answer to `check MODEL TEST` or, in version 2, to `check2 MODEL TEST`.
+fn check_answer<F: Files>(
+    alloc: Global,
+    version: Version,
+    inputs: Inputs<'_>,
+    files: &mut F,
+) -> Answer
+    ensures outcome { IsCommandOutcome F.view (check_of version (plain_inputs inputs.entry)) files.old files.new
         (answer_status result) (answer_text result) }
     ensures writable { CanBeWritten result }
 {
-    match check::<TestFile, F>(alloc, inputs, Version::One, files) {
+    match check::<TestFile, F>(alloc, inputs, version, files) {
         Ok(verdict) => Answer::Checked(verdict),
         Err(ending) => Answer::Ended(ending),
     }
@@ -72,7 +77,7 @@ fn answer_to<F: Files>(alloc: Global, command: Command<'_>, files: &mut F) -> An
     ensures idle { inputs_of (plain_command command.entry) ≡ None → (files.new ≡ files.old) × (answer_status result ≢ SReadFault) }
 {
     match command {
-        Command::Check(inputs) => check_answer(alloc, inputs, files),
+        Command::Check(version, inputs) => check_answer(alloc, version, inputs, files),
         Command::Verify {
             inputs,
             certificate,
@@ -121,7 +126,8 @@ fn tell<K: Sink>(out: &mut K, answer: &Answer) -> Status
 
 /// Answers a command. `check MODEL TEST` reads the two named files, at most 1,048,576 bytes each,
 /// decides whether the outcome of the test is observable on the model, and writes the verdict with
-/// its certificate, or the first fault of the files. `verify MODEL TEST CERT` reads the first two so,
+/// its certificate, or the first fault of the files. `check2 MODEL TEST` does the same with refutations of
+/// version 2, whose splits keep that their left side failed. `verify MODEL TEST CERT` reads the first two so,
 /// and where they have no fault the third, to its end or to one byte past 67,108,864: it writes the
 /// verdict whose certificate the third is, or the line at which it is refused, without a search. `gen N`,
 /// with N from 2 to 16 in decimal, makes the two texts of the ring of N cores, searches as `check` does,
@@ -142,7 +148,7 @@ fn tell<K: Sink>(out: &mut K, answer: &Answer) -> Status
 /// - `write_cause`: `WriteFault` comes only where a call of the sink failed.
 /// - `quiet`, `answers`, `short`: what was written.
 /// - `headline`, `due`: the verdict is true of the bytes of the two files, whatever a third holds, and it
-///   comes: from `check` by the outcome, from `verify` by what the third file is. From `gen` `Done` comes,
+///   comes: from `check` and `check2` by the outcome, from `verify` by what the third file is. From `gen` `Done` comes,
 ///   or `Refused` where its two texts have a fault.
 pub fn run<F: Files, K: Sink>(alloc: Global, words: &[String], files: &mut F, out: &mut K) -> Status
     ensures files { Reads F.view files.old files.new }
