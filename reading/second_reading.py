@@ -2,13 +2,14 @@
 """A second judge of models, tests and certificates, apart from the proved program and sharing no code with it.
 
     second_reading.py check MODEL TEST         the verdict with its certificate
+    second_reading.py check2 MODEL TEST        the same; a refutation is of version 2
     second_reading.py verify MODEL TEST CERT   whether CERT is a certificate of this model and test
     second_reading.py dimacs MODEL TEST        the question for a SAT solver
     second_reading.py smt MODEL TEST           the question for an SMT solver
 
 The modules are in second/. All text goes to standard output, in the lines and with the exit statuses that the program
 has: 0 observable, 1 unobservable, 2 words that are no command, 3 a file with a fault, 4 a file that cannot be read, 6 a
-refused certificate. The verdict of `check` is found in two ways, by a search of this reading's own and by one that makes
+refused certificate. The verdict of `check` and `check2` is found in two ways, by a search of this reading's own and by one that makes
 the program's choices and gives the text; they have to agree, and the certificate is judged before it is written. `verify`
 judges certificates of version 1 and of version 2.
 """
@@ -22,7 +23,7 @@ from second.dimacs import write_dimacs
 from second.evaluating import false_axioms
 from second.grounding import ground
 from second.judging import Refused as CertificateRefused
-from second.judging import judge
+from second.judging import VERSION_2, judge
 from second.models import Model
 from second.positions import NodeNames, Positions
 from second.scopes import read_model
@@ -32,7 +33,7 @@ from second.tokens import Fault
 
 Read = TypeVar("Read", Model, Case)
 LIMIT = 1_048_576
-WORDS = {"check": 3, "verify": 4, "dimacs": 3, "smt": 3}
+WORDS = {"check": 3, "check2": 3, "verify": 4, "dimacs": 3, "smt": 3}
 
 
 class Refused(Exception):
@@ -78,17 +79,18 @@ def second_lines(case: Case) -> dict[bool, str]:
     return {is_observable: second_line(is_observable, case) for is_observable in (True, False)}
 
 
-def certificate(model: Model, case: Case) -> str:
-    """The text of the answer."""
+def certificate(model: Model, case: Case, version: int) -> str:
+    """The text of the answer, a refutation in this version."""
     positions = Positions(model, case)
-    found = answer(positions)
+    found = answer(positions, version)
     names = NodeNames(model, case)
     words = [names.write(node) for node in positions.nodes]
     if isinstance(found, Graph):
         body = [f"node {words[k]}" for k in found.nodes]
         body += [f"edge {words[start]} {words[end]}" for start, end in found.edges]
     else:
-        body = [step_line(step, words) for step in found] or ["false"]
+        body = [VERSION_2] if version == 2 else []
+        body += [step_line(step, words) for step in found] or ["false"]
     is_observable = isinstance(found, Graph)
     first = "observable" if is_observable else "unobservable"
     return "\n".join([first, second_line(is_observable, case), *body, "end", ""])
@@ -98,16 +100,17 @@ def step_line(step: Step, words: list[str]) -> str:
     """The line of a split or of a clash."""
     if isinstance(step, Clash):
         return " ".join([step.word, *(words[k] for k in step.nodes)])
-    return f"split {step}"
+    position, is_denied = step
+    return f"split {'~' if is_denied else ''}{position}"
 
 
-def check(model: Model, case: Case) -> tuple[str, int]:
+def check(model: Model, case: Case, version: int = 1) -> tuple[str, int]:
     """The certificate and the exit status."""
     witness = search(ground(model, case))
     if witness is not None and false_axioms(model, case, witness.nodes, witness.edges):
         raise AssertionError("the witness makes an axiom false")
     is_observable = witness is not None
-    text = certificate(model, case)
+    text = certificate(model, case, version)
     if judge(model, case, second_lines(case), text.encode("ascii")) is not is_observable:
         raise AssertionError("the two searches differ")
     return text, 0 if is_observable else 1
@@ -129,8 +132,8 @@ def run(words: list[str], out: TextIO) -> int:
         return 2
     try:
         model, case = read_both(words[1], words[2])
-        if words[0] == "check":
-            text, status = check(model, case)
+        if words[0] in ("check", "check2"):
+            text, status = check(model, case, 2 if words[0] == "check2" else 1)
         elif words[0] == "verify":
             with open(words[3], "rb") as file:
                 text, status = verify(model, case, file.read())

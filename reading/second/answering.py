@@ -11,9 +11,14 @@ which refutation. The choices are these.
 3. A pending disjunction is a candidate where the world of the asserted literals does not make it true. The first
    candidate in position order is split that has a member which clashes by itself; where there is none, the first
    candidate. The left member is searched first. Without a candidate the outcome is observable.
+
+In version 2 positions have signs, as in `judging.py`. The right side of a split asserts first that the left member does not
+hold, in the trials of rule 3 too. A denied conjunction is a choice as a disjunction is one, and a candidate where the world
+makes it true.
 """
 from dataclasses import dataclass
 
+from .judging import Signed
 from .positions import Inner, Leaf, Positions
 
 
@@ -33,53 +38,54 @@ class Graph:
     edges: list[tuple[int, int]]
 
 
-Step = int | Clash
+Step = Signed | Clash
 
 
-def answer(positions: Positions) -> Graph | list[Step]:
-    """The graph of an observable outcome, or the steps of a refutation: positions of splits and clashes. The steps of
-    a tree that is False are none."""
+def answer(positions: Positions, version: int = 1) -> Graph | list[Step]:
+    """The graph of an observable outcome, or the steps of a refutation: signed positions of splits, and clashes. The steps
+    of a tree that is False are none."""
     if positions.constant is not None:
         return Graph([], []) if positions.constant else []
     steps: list[Step] = []
     # the right sides of the splits above, the nearest one last
-    waiting: list[tuple[Branch, int]] = []
-    branch, clash = Branch(positions), None
-    clash = branch.assert_position(0)
+    waiting: list[tuple[Branch, list[Signed]]] = []
+    branch = Branch(positions, version)
+    clash = branch.assert_side([(0, False)])
     while True:
         if clash is not None:
             steps.append(clash)
             if not waiting:
                 return steps
-            branch, position = waiting.pop()
-            clash = branch.assert_position(position)
+            branch, side = waiting.pop()
+            clash = branch.assert_side(side)
             continue
         chosen = branch.candidate()
         if chosen is None:
             return branch.graph()
         steps.append(chosen)
         branch.pending.remove(chosen)
-        members = branch.members(chosen)
-        waiting.append((branch.copy(), members.right))
-        clash = branch.assert_position(members.left)
+        left, right = branch.sides(chosen)
+        waiting.append((branch.copy(), right))
+        clash = branch.assert_side(left)
 
 
 class Branch:
     """What is asserted on a branch, and the order that it generates; sets of nodes are bit sets."""
 
-    def __init__(self, positions: Positions) -> None:
+    def __init__(self, positions: Positions, version: int) -> None:
         self.positions = positions
+        self.version = version
         self.after = [0] * len(positions.nodes)
         self.before = [0] * len(positions.nodes)
         self.present = 0
         self.absent = 0
         self.denied: list[tuple[int, int]] = []
         self.edges: dict[tuple[int, int], None] = {}
-        self.pending: list[int] = []
+        self.pending: list[Signed] = []
 
     def copy(self) -> "Branch":
         """A branch that begins with all of this one."""
-        other = Branch(self.positions)
+        other = Branch(self.positions, self.version)
         other.after, other.before = self.after[:], self.before[:]
         other.present, other.absent = self.present, self.absent
         other.denied, other.edges = self.denied[:], dict(self.edges)
@@ -91,26 +97,28 @@ class Branch:
         nodes = [k for k in range(len(self.after)) if self.present >> k & 1]
         return Graph(nodes, list(self.edges))
 
-    def members(self, position: int) -> Inner:
-        """The disjunction at a position."""
+    def sides(self, choice: Signed) -> tuple[list[Signed], list[Signed]]:
+        """What the left and the right side of a split assert, in this order."""
+        position, is_denied = choice
         row = self.positions.rows[position]
         assert isinstance(row, Inner)
-        return row
+        not_left = [(row.left, not is_denied)] if self.version == 2 else []
+        return [(row.left, is_denied)], [*not_left, (row.right, is_denied)]
 
-    def assert_position(self, position: int) -> Clash | None:
-        """Asserts all that a position asserts, up to the first clash."""
-        waiting = [position]
+    def assert_side(self, side: list[Signed]) -> Clash | None:
+        """Asserts all that these positions assert, in preorder, up to the first clash."""
+        waiting = side[::-1]
         while waiting:
-            here = waiting.pop()
+            here, is_denied = waiting.pop()
             row = self.positions.rows[here]
             if isinstance(row, Leaf):
-                clash = self.assert_literal(row)
+                clash = self.assert_literal(Leaf(row.start, row.end, row.wanted is not is_denied))
                 if clash is not None:
                     return clash
-            elif row.is_disjunction:
-                self.pending.append(here)
+            elif row.is_disjunction is not is_denied:
+                self.pending.append((here, is_denied))
             else:
-                waiting += [row.right, row.left]
+                waiting += [(row.right, is_denied), (row.left, is_denied)]
         return None
 
     def assert_literal(self, leaf: Leaf) -> Clash | None:
@@ -188,15 +196,14 @@ class Branch:
             return bool(self.present >> row.start & 1) is row.wanted
         return bool(self.after[row.start] >> row.end & 1) is row.wanted
 
-    def clashes(self, position: int) -> bool:
-        """Whether asserting a position alone closes the branch."""
-        return self.copy().assert_position(position) is not None
+    def clashes(self, side: list[Signed]) -> bool:
+        """Whether asserting a side alone closes the branch."""
+        return self.copy().assert_side(side) is not None
 
-    def candidate(self) -> int | None:
-        """The disjunction that is split next; None where none is a candidate."""
-        candidates = [p for p in sorted(self.pending) if not self.is_true(p)]
-        for position in candidates:
-            row = self.members(position)
-            if self.clashes(row.left) or self.clashes(row.right):
-                return position
+    def candidate(self) -> Signed | None:
+        """The choice that is split next; None where none is a candidate."""
+        candidates = [choice for choice in sorted(self.pending) if self.is_true(choice[0]) is choice[1]]
+        for choice in candidates:
+            if any(self.clashes(side) for side in self.sides(choice)):
+                return choice
         return candidates[0] if candidates else None

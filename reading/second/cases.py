@@ -5,8 +5,45 @@ from .tokens import Fault, Reader, Token, tokens
 
 GREATEST_CORE = 63
 MOST_OPS = 64
+GREATEST_MARK = 1
 
-Page = tuple[int, int]
+
+@dataclass(frozen=True)
+class Page:
+    """An address: a tag, and an index inside the page."""
+
+    tag: int
+    index: int
+
+    def __str__(self) -> str:
+        return f"PA {self.tag} {self.index}"
+
+
+@dataclass(frozen=True)
+class EntryAddress:
+    """The address of the page-table entry of a virtual tag."""
+
+    tag: int
+
+    def __str__(self) -> str:
+        return f"Entry {self.tag}"
+
+
+@dataclass(frozen=True)
+class Entry:
+    """What a page-table entry holds: the physical tag that it maps to, its accessed mark and its dirty mark."""
+
+    tag: int
+    accessed: int
+    dirty: int
+
+    def __str__(self) -> str:
+        return f"Maps {self.tag} {self.accessed} {self.dirty}"
+
+
+# a physical address, and what is read or written there
+Address = Page | EntryAddress
+Value = int | Entry
 
 
 @dataclass(frozen=True)
@@ -20,8 +57,8 @@ class Op:
     access: str
     types: frozenset[str]
     va: Page | None = None
-    pa: Page | None = None
-    value: int | None = None
+    pa: Address | None = None
+    value: Value | None = None
 
 
 @dataclass
@@ -31,14 +68,19 @@ class Case:
     title: str
     ops: list[Op] = field(default_factory=list)
     dependencies: set[tuple[str, int, int]] = field(default_factory=set)
-    initial: dict[Page, int] = field(default_factory=dict)
-    final: dict[Page, int] = field(default_factory=dict)
+    initial: dict[Address, Value] = field(default_factory=dict)
+    final: dict[Address, Value] = field(default_factory=dict)
     expectation: str = "unstated"
 
     @property
     def cores(self) -> range:
         """The cores from 0 to the greatest one in use."""
         return range(1 + max((op.core for op in self.ops), default=-1))
+
+    def initial_at(self, address: Address) -> Value:
+        """The value at the start: without a line 0 at a page, and at the entry of a tag that very tag without marks."""
+        default = 0 if isinstance(address, Page) else Entry(address.tag, 0, 0)
+        return self.initial.get(address, default)
 
     def find(self, g: int, n: int) -> int | None:
         """The place of a micro-op, where the test has it so far."""
@@ -64,6 +106,21 @@ def read_items(data: bytes) -> "tuple[Case, list[Item]]":
 
 
 @dataclass(frozen=True)
+class MarkAt:
+    """A mark of an entry, with its place."""
+
+    mark: int
+    at: int
+
+
+def judge_marks(marks: tuple[MarkAt, ...]) -> None:
+    """The marks of an item are 0 or 1, the accessed one first. It is the last that is asked of the item."""
+    for mark in marks:
+        if mark.mark > GREATEST_MARK:
+            raise Fault("mark-value", mark.at)
+
+
+@dataclass(frozen=True)
 class OpItem:
     """A `Microop`, with the places where its faults stand, and of what a reader may want to see."""
 
@@ -76,6 +133,7 @@ class OpItem:
     types_at: tuple[tuple[str, int], ...] = ()
     pa_at: int = 0
     value_at: int = 0
+    marks: tuple[MarkAt, ...] = ()
 
     def add_to(self, case: Case) -> None:
         """Judges the micro-op by the earlier ones and puts it last."""
@@ -90,6 +148,7 @@ class OpItem:
                 raise Fault("split-instruction", self.thread_at)
         if case.find(self.op.g, self.op.n) is not None:
             raise Fault("duplicate-op", self.g_at)
+        judge_marks(self.marks)
         case.ops.append(self.op)
 
 
@@ -118,14 +177,16 @@ class ValueItem:
 
     word: str
     at: int
-    pa: Page
-    value: int
+    pa: Address
+    value: Value
+    marks: tuple[MarkAt, ...] = ()
 
     def add_to(self, case: Case) -> None:
         """A second value at one address is a fault."""
         values, fault = {"Init": (case.initial, "again-initial"), "Final": (case.final, "again-final")}[self.word]
         if self.pa in values:
             raise Fault(fault, self.at)
+        judge_marks(self.marks)
         values[self.pa] = self.value
 
 
@@ -147,14 +208,16 @@ Item = OpItem | DependencyItem | ValueItem | ExpectationItem
 
 
 class CaseReader(Reader):
-    """Reads tests. None of their words is reserved: its place says what it is."""
+    """Reads tests. None of their words is reserved: its place says what it is. A file that begins with `Litmus2` may have
+    page-table entries as addresses and values, one that begins with `Litmus` may not."""
 
     def __init__(self, all_tokens: list[Token]) -> None:
         super().__init__(all_tokens)
+        self.has_entries = False
 
     def items(self) -> tuple[str, list[Item]]:
         """The title and the items of the whole file."""
-        self.expect("Litmus")
+        self.has_entries = self.expect("Litmus", "Litmus2").piece == "Litmus2"
         title = self.expect_kind("text").content
         self.expect(".")
         found = []
@@ -174,8 +237,13 @@ class CaseReader(Reader):
             self.expect("->")
             return DependencyItem(kind.piece, (start, self.op_name()), kind.at)
         if first.piece in ("Init", "Final"):
-            page = self.page("PA")
-            return ValueItem(first.piece, first.at, page, self.number())
+            address = self.address()
+            if self.has_entries and self.sees("("):
+                self.take()
+                self.expect("Maps")
+                entry, marks = self.entry()
+                return ValueItem(first.piece, first.at, address, entry, marks)
+            return ValueItem(first.piece, first.at, address, self.number())
         return ExpectationItem(first.piece, first.at)
 
     def op_name(self) -> tuple[int, int, int]:
@@ -185,13 +253,32 @@ class CaseReader(Reader):
         return g, self.number(), at
 
     def page(self, word: str) -> Page:
-        """An address behind its word, in brackets."""
+        """A page behind its word, in brackets."""
         self.expect("(")
         self.expect(word)
         tag = self.number()
         index = self.number()
         self.expect(")")
-        return tag, index
+        return Page(tag, index)
+
+    def address(self) -> Address:
+        """A physical address, in brackets."""
+        self.expect("(")
+        word = self.expect("PA", "Entry") if self.has_entries else self.expect("PA")
+        tag = self.number()
+        address = EntryAddress(tag) if word.piece == "Entry" else Page(tag, self.number())
+        self.expect(")")
+        return address
+
+    def entry(self) -> tuple[Entry, tuple[MarkAt, ...]]:
+        """An entry behind its word, up to its bracket, and its marks with their places."""
+        tag = self.number()
+        marks = []
+        for _ in range(2):
+            at = self.next.at
+            marks.append(MarkAt(self.number(), at))
+        self.expect(")")
+        return Entry(tag, marks[0].mark, marks[1].mark), tuple(marks)
 
     def types(self) -> tuple[tuple[str, int], ...]:
         """All names that follow, with their places."""
@@ -215,17 +302,22 @@ class CaseReader(Reader):
         types_at = self.types()
         types = frozenset(name for name, _ in types_at)
         pa_at = value_at = 0
+        marks: tuple[MarkAt, ...] = ()
         if access == "Fence":
             op = Op(g, n, core, thread, access, types)
         else:
             va = self.page("VA")
             pa_at = self.next.at
-            pa = self.page("PA")
+            pa = self.address()
             self.expect("(")
-            self.expect("Data")
+            word = self.expect("Data", "Maps") if self.has_entries else self.expect("Data")
             value_at = self.next.at
-            value = self.number()
-            self.expect(")")
+            value: Value
+            if word.piece == "Maps":
+                value, marks = self.entry()
+            else:
+                value = self.number()
+                self.expect(")")
             op = Op(g, n, core, thread, access, types, va, pa, value)
         self.expect(")")
-        return OpItem(op, first.at, g_at, core_at, thread_at, types_at, pa_at, value_at)
+        return OpItem(op, first.at, g_at, core_at, thread_at, types_at, pa_at, value_at, marks)

@@ -1,7 +1,7 @@
 """A certificate in the words of the model. The text has to be one that a judge accepted."""
 from typing import Iterator
 
-from .cases import Case, Page
+from .cases import Address, Case
 from .grounding import Node
 from .judging import VERSION_2
 from .models import Model
@@ -27,13 +27,13 @@ class Names:
         self.text = model_text
         pages = dict.fromkeys([op.pa for op in case.ops if op.pa is not None] + [*case.initial, *case.final])
         letters = LETTERS if len(pages) <= len(LETTERS) else ()
-        self.pages = {page: letters[k] if letters else f"PA {page[0]} {page[1]}" for k, page in enumerate(pages)}
+        self.pages = {page: letters[k] if letters else str(page) for k, page in enumerate(pages)}
 
     def microop(self, op: int) -> str:
         """The name of a micro-op."""
         return f"{self.case.ops[op].g}.{self.case.ops[op].n}"
 
-    def page(self, page: Page) -> str:
+    def page(self, page: Address) -> str:
         """An address."""
         return f"[{self.pages[page]}]"
 
@@ -101,7 +101,7 @@ def key(case: Case, names: Names) -> Iterator[str]:
         for page, value in values.items():
             yield f"  {word} {names.page(page)} = {value}"
     if names.pages and len(names.pages) <= len(LETTERS):
-        yield "  " + ", ".join(f"[{letter}] is PA {page[0]} {page[1]}" for page, letter in names.pages.items())
+        yield "  " + ", ".join(f"[{letter}] is {page}" for page, letter in names.pages.items())
 
 
 class Refutation:

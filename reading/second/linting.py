@@ -8,7 +8,8 @@ import re
 from dataclasses import dataclass, replace
 from typing import Iterable, Iterator
 
-from .cases import Case, DependencyItem, Item, OpItem, Page, ValueItem, read_items
+from .cases import Address, Case, DependencyItem, Entry, EntryAddress, Item, OpItem, Page, Value, ValueItem
+from .cases import read_items
 from .models import Arg, Axiom, Binary, Edges, Expand, Formula, Macro, Model, NodeTerm, Nodes, Not, Number, Quantified
 from .models import Static
 from .predicates import CORE, MICROOP, PLAIN, PREDICATES
@@ -278,13 +279,15 @@ def not_asked(model_path: str, asked: Asked, test: TestFile) -> Iterator[Slip]:
     """Types, dependency kinds and values of the test that no axiom asks for."""
     rest = f"no axiom of {model_path} asks for it"
     of_reads = {"SameData", "DataFromInitialStateAtPA"}
+    of_entries = {"MapsTagOf", "MarkedAccessed", "MarkedDirty"}
     of_state = {"Init": "DataFromInitialStateAtPA", "Final": "DataFromFinalStateAtPA"}
     for item in test.items:
         if isinstance(item, OpItem):
             for name, at in item.types_at:
                 if name not in asked.types:
                     yield Slip(test.path, at, "not-asked", name, f"type {name}: {rest}")
-            if item.op.access == "Read" and not asked.predicates & of_reads:
+            of_value = of_reads | of_entries if isinstance(item.op.value, Entry) else of_reads
+            if item.op.access == "Read" and not asked.predicates & of_value:
                 yield Slip(test.path, item.value_at, "not-asked", "Data", f"the value of a read: {rest}")
         elif isinstance(item, DependencyItem) and item.kind not in asked.kinds:
             yield Slip(test.path, item.at, "not-asked", item.kind, f"a dependency of kind {item.kind}: {rest}")
@@ -294,8 +297,8 @@ def not_asked(model_path: str, asked: Asked, test: TestFile) -> Iterator[Slip]:
 
 def value_slips(test: TestFile) -> Iterator[Slip]:
     """Values that nothing writes, and values that are written twice."""
-    writes: dict[tuple[Page, int], int] = {}
-    pages: set[Page] = set()
+    writes: dict[tuple[Address, Value], int] = {}
+    pages: set[Address] = set()
     for op in test.case.ops:
         if op.access == "Write" and op.pa is not None and op.value is not None:
             writes[op.pa, op.value] = 0
@@ -303,28 +306,30 @@ def value_slips(test: TestFile) -> Iterator[Slip]:
     for item in test.items:
         if isinstance(item, OpItem) and item.op.pa is not None and item.op.value is not None:
             key = item.op.pa, item.op.value
-            address = f"PA {key[0][0]} {key[0][1]}"
+            address = str(key[0])
             if item.op.access == "Write":
                 writes[key] += 1
                 if writes[key] > 1:
                     sentence = f"{key[1]} is written to {address} a second time: a read does not tell which of the two it sees"
                     yield Slip(test.path, item.value_at, "same-value", "", sentence)
-            elif key not in writes and test.case.initial.get(key[0], 0) != key[1]:
+            elif key not in writes and test.case.initial_at(key[0]) != key[1]:
                 sentence = f"the read gets {key[1]}, which is not the value of {address} at the start, and nothing writes it there"
                 yield Slip(test.path, item.value_at, "unwritten", "", sentence)
         elif isinstance(item, ValueItem) and item.word == "Final" and (item.pa, item.value) not in writes:
             # without a write the value at the start stays
-            if item.pa in pages or test.case.initial.get(item.pa, 0) != item.value:
-                sentence = f"no write of PA {item.pa[0]} {item.pa[1]} has the value {item.value}, so that no axiom can see this"
+            if item.pa in pages or test.case.initial_at(item.pa) != item.value:
+                sentence = f"no write of {item.pa} has the value {item.value}, so that no axiom can see this"
                 yield Slip(test.path, item.at, "final-unwritten", "", sentence)
 
 
 def page_slips(test: TestFile) -> Iterator[Slip]:
-    """One virtual address with two physical ones."""
+    """One virtual address with two physical ones. Where the test speaks of the page-table entry of its tag, that is what the
+    test is about."""
     first: dict[Page, Page] = {}
+    spoken = {*test.case.initial, *(op.pa for op in test.case.ops)}
     for item in test.items:
-        if isinstance(item, OpItem) and item.op.va is not None and item.op.pa is not None:
+        if isinstance(item, OpItem) and item.op.va is not None and isinstance(item.op.pa, Page):
             known = first.setdefault(item.op.va, item.op.pa)
-            if known != item.op.pa:
-                sentence = f"VA {item.op.va[0]} {item.op.va[1]} stands beside PA {known[0]} {known[1]} in an earlier micro-op"
+            if known != item.op.pa and EntryAddress(item.op.va.tag) not in spoken:
+                sentence = f"VA {item.op.va.tag} {item.op.va.index} stands beside {known} in an earlier micro-op"
                 yield Slip(test.path, item.pa_at, "two-pages", "", sentence)

@@ -1,7 +1,7 @@
-"""The 22 static predicates: what each takes, and when it holds in a case."""
+"""The 26 static predicates: what each takes, and when it holds in a case."""
 from typing import Callable
 
-from .cases import Case, Op, Page
+from .cases import Case, Entry, EntryAddress, Op, Page
 from .models import Arg, Word
 
 # what a place in the arguments asks for
@@ -48,18 +48,43 @@ def of_access(word: str) -> Row:
 
 def tag(page: Page | None) -> int | None:
     """The tag of an address, where there is one."""
-    return None if page is None else page[0]
+    return None if page is None else page.tag
 
 
 def index(page: Page | None) -> int | None:
     """The index of an address, where there is one."""
-    return None if page is None else page[1]
+    return None if page is None else page.index
+
+
+def same_physical_tag(i: Op, j: Op) -> bool:
+    """Both are at pages, of one tag."""
+    return isinstance(i.pa, Page) and isinstance(j.pa, Page) and i.pa.tag == j.pa.tag
+
+
+def entry_of(i: Op, j: Op) -> bool:
+    """i is at the page-table entry of j's virtual tag."""
+    return j.va is not None and i.pa == EntryAddress(j.va.tag)
+
+
+def maps_tag_of(i: Op, j: Op) -> bool:
+    """i's value is an entry that maps to the tag of j's page."""
+    return isinstance(i.value, Entry) and isinstance(j.pa, Page) and i.value.tag == j.pa.tag
+
+
+def of_entry(test: Callable[[Entry], bool]) -> Row:
+    """The value of a micro-op is an entry of this kind."""
+
+    def holds(case: Case, i: int) -> bool:
+        value = case.ops[i].value
+        return isinstance(value, Entry) and test(value)
+
+    return (MICROOP,), holds
 
 
 def from_initial(case: Case, i: int) -> bool:
-    """The value is the initial one at its physical address, 0 where none is stated."""
+    """The value is the initial one at its physical address."""
     op = case.ops[i]
-    return op.pa is not None and op.value == case.initial.get(op.pa, 0)
+    return op.pa is not None and op.value == case.initial_at(op.pa)
 
 
 def from_final(case: Case, i: int) -> bool:
@@ -110,10 +135,14 @@ PREDICATES: dict[str, Row] = {
     "SameVirtualAddress": of_accesses(lambda op: op.va),
     "SamePhysicalAddress": of_accesses(lambda op: op.pa),
     "SameVirtualTag": of_accesses(lambda op: tag(op.va)),
-    "SamePhysicalTag": of_accesses(lambda op: tag(op.pa)),
+    "SamePhysicalTag": of_pair(same_physical_tag),
     "SameIndex": of_accesses(lambda op: index(op.va)),
     "SameData": of_accesses(lambda op: op.value),
     "DataFromInitialStateAtPA": ((MICROOP,), from_initial),
     "DataFromFinalStateAtPA": ((MICROOP,), from_final),
     "HasDependency": ((PLAIN, MICROOP, MICROOP), has_dependency),
+    "EntryOf": of_pair(entry_of),
+    "MapsTagOf": of_pair(maps_tag_of),
+    "MarkedAccessed": of_entry(lambda entry: entry.accessed == 1),
+    "MarkedDirty": of_entry(lambda entry: entry.dirty == 1),
 }

@@ -1,26 +1,30 @@
 """Litmus tests as the machines run them: each core's micro-ops in program order, and the stated outcome.
 
-This reads the files of examples/tests with a few patterns. It is made for files that are well-formed, and shares no
+This reads the files of examples/ with a few patterns, in both formats. It is made for files that are well-formed, and shares no
 code with the program or with the second reading.
 """
 import re
-from dataclasses import dataclass
+from dataclasses import dataclass, replace
 from typing import Callable, Hashable, Iterable, Iterator
 
+FORMAT_2 = re.compile(r"\s*Litmus2\b")
 COMMENT = re.compile(r"\(\*.*?\*\)|%[^\n]*|//[^\n]*", re.DOTALL)
 MICROOP = re.compile(
     r"""Microop \s+ (\d+) \s+ (\d+) \s+ (\d+) \s+ (\d+) \s* \( \s*
         (Read|Write|Fence) \b ([^()]*)
-        (?: \( \s* VA [^()]* \) \s* \( \s* PA \s+ (\d+) \s+ (\d+) \s* \) \s* \( \s* Data \s+ (\d+) \s* \) )?
+        (?: \( \s* VA \s+ (\d+) \s+ (\d+) \s* \) \s* \( \s* ((?:PA|Entry) [^()]*) \) \s* \( \s* ((?:Data|Maps) [^()]*) \) )?
         \s* \) \s* \.""",
     re.VERBOSE,
 )
 DEPENDENCY = re.compile(r"Relationship\s+(\w+)\s+(\d+)\s+(\d+)\s*->\s*(\d+)\s+(\d+)\s*\.")
-VALUE = re.compile(r"(Init|Final)\s*\(\s*PA\s+(\d+)\s+(\d+)\s*\)\s*(\d+)\s*\.")
+VALUE = re.compile(r"(Init|Final)\s*\(\s*((?:PA|Entry)[^()]*)\)\s*(\d+|\(\s*Maps[^()]*\))\s*\.")
 
-Address = tuple[int, int]
+# a tag and an index, or the virtual tag of a page-table entry
+Address = tuple[int, ...]
+# a number, or what an entry holds: a physical tag, an accessed and a dirty mark
+Value = int | tuple[int, int, int]
 # the values of all reads in test order, and the last value of each address
-Outcome = tuple[tuple[int, ...], tuple[tuple[Address, int], ...]]
+Outcome = tuple[tuple[Value, ...], tuple[tuple[Address, Value], ...]]
 
 
 @dataclass(frozen=True)
@@ -33,13 +37,19 @@ class Op:
     kind: str
     types: frozenset[str]
     address: Address = (0, 0)
-    value: int = 0
+    value: Value = 0
     instruction: int = 0
+    virtual: Address = (0, 0)
 
     @property
     def is_full_fence(self) -> bool:
         """Whether it orders all of its core before it and behind it."""
         return self.kind == "Fence" and "Full" in self.types
+
+    @property
+    def is_at_entry(self) -> bool:
+        """Whether it reads or writes a page-table entry."""
+        return self.kind != "Fence" and len(self.address) == 1
 
 
 @dataclass(frozen=True)
@@ -48,8 +58,10 @@ class Test:
 
     cores: tuple[tuple[Op, ...], ...]
     dependencies: frozenset[tuple[str, int, int]]
-    initial: dict[Address, int]
-    final: dict[Address, int]
+    initial: dict[Address, Value]
+    final: dict[Address, Value]
+    # whether it may name page-table entries
+    has_entries: bool = False
 
     @property
     def ops(self) -> list[Op]:
@@ -62,10 +74,10 @@ class Test:
         return len({op.instruction for op in self.ops}) < len(self.ops)
 
     @property
-    def memory(self) -> tuple[tuple[Address, int], ...]:
+    def memory(self) -> tuple[tuple[Address, Value], ...]:
         """The memory at the start: each address in use with its value."""
         addresses = sorted({op.address for op in self.ops if op.kind != "Fence"})
-        return tuple((address, self.initial.get(address, 0)) for address in addresses)
+        return tuple((address, self.initial.get(address, default_at(address))) for address in addresses)
 
     def shown_by(self, outcomes: Iterable[Outcome]) -> bool:
         """Whether one of the outcomes is the stated one: the values of all reads, and the final values."""
@@ -81,22 +93,41 @@ def read_test(path: str) -> Test:
     threads = sorted({(int(core), int(thread)) for _, core, thread, *_ in found})
     lines: list[list[tuple[int, int, Op]]] = [[] for _ in threads]
     names: dict[tuple[int, int], int] = {}
-    for place, (g, core, thread, n, kind, types, tag, index, data) in enumerate(found):
+    for place, (g, core, thread, n, kind, types, tag, index, address, value) in enumerate(found):
         here = threads.index((int(core), int(thread)))
         names[int(g), int(n)] = place
-        at = (int(tag), int(index)) if tag else (0, 0)
-        op = Op(place, here, kind, frozenset(types.split()), at, int(data or 0), int(g))
+        op = Op(place, here, kind, frozenset(types.split()), instruction=int(g))
+        if address:
+            virtual = int(tag), int(index)
+            op = replace(op, address=numbers(address), value=value_of(value), virtual=virtual)
         lines[here].append((int(g), int(n), op))
     dependencies = {
         (kind, names[int(g), int(n)], names[int(h), int(m)]) for kind, g, n, h, m in DEPENDENCY.findall(text)
     }
-    values = {(word, (int(tag), int(index))): int(d) for word, tag, index, d in VALUE.findall(text)}
+    values = {(word, numbers(address)): value_of(value) for word, address, value in VALUE.findall(text)}
     return Test(
         tuple(tuple(op for _, _, op in sorted(line, key=lambda entry: entry[:2])) for line in lines),
         frozenset(dependencies),
         {address: d for (word, address), d in values.items() if word == "Init"},
         {address: d for (word, address), d in values.items() if word == "Final"},
+        FORMAT_2.match(text) is not None,
     )
+
+
+def numbers(words: str) -> tuple[int, ...]:
+    """The numbers among words."""
+    return tuple(map(int, re.findall(r"\b\d+\b", words)))
+
+
+def value_of(words: str) -> Value:
+    """A number, or the three parts of an entry."""
+    found = numbers(words)
+    return (found[0], found[1], found[2]) if len(found) == 3 else found[0]
+
+
+def default_at(address: Address) -> Value:
+    """What an address holds where no line states it."""
+    return 0 if len(address) == 2 else (address[0], 0, 0)
 
 
 def replaced(pairs: tuple, key: Hashable, value: Hashable) -> tuple:
@@ -121,6 +152,6 @@ def ends(start: Hashable, steps: Callable[[Hashable], Iterable[Hashable]]) -> It
                 waiting.append(state)
 
 
-def in_test_order(reads: tuple[tuple[int, int], ...]) -> tuple[int, ...]:
+def in_test_order(reads: tuple[tuple[int, Value], ...]) -> tuple[Value, ...]:
     """The values of the reads, given as pairs of a place and a value."""
     return tuple(value for _, value in sorted(reads))

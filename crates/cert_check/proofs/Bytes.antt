@@ -1,11 +1,13 @@
 -- No line of a certificate has an LF in it, and no node's text a space.
-use Rattle.std.proofs.Common.{inl, inr, ℕ, List, [], ◌∷◌, ◌++◌, refl, subst}
+use Rattle.std.proofs.Common.{inl, inr, ℕ, Bool, true, false, List, [], ◌∷◌, ◌++◌, refl, subst}
 use Rattle.std.specs.Prelude.{All, codes}
 use Rattle.std.proofs.lemmas.List.Elements.{All-contains}
 use Rattle.std.specs.Fmt.{decimal}
 use Rattle.pc_common.specs.Case.{Expectation, permitted, forbidden, unstated}
 use Rattle.pc_common.specs.World.{Node}
-use Rattle.pc_common.specs.Lines.{Names, Line, Verdict, observable, unobservable, verdict, second, node, edge, split, cycle, path, absent, false_step, end, node_text, nodes_text, line_words}
+use Rattle.pc_common.specs.Steps.{Leaf, cycle, path, absent, false_step, split, close}
+use Rattle.pc_common.specs.Lines.{Names, Line, Verdict, observable, unobservable, verdict, second, version_two, node, edge, step, end, node_text, nodes_text, sign_text, line_words}
+use Rattle.refutation.specs.Steps.{IsLeafIn}
 use Rattle.pc_common.proofs.Elements.{In, contains_from_in}
 use Rattle.pc_ground.specs.NodeForm.{IsNodeIn, AreReadable}
 use Rattle.pc_ground.specs.NodeWords.{Lacks}
@@ -47,14 +49,24 @@ verdict_lacks : (names : Names) (v : Verdict) → Lacks 10 (line_words names (ve
 verdict_lacks names observable = refl
 verdict_lacks names unobservable = refl
 
+leaf_lacks : (names : Names) → AreReadable names → (l : Leaf Node) → IsLeafIn names l → Lacks 10 (line_words names (step (close l)))
+leaf_lacks names readable (cycle nodes) h = lacks_append 10 (codes "cycle") (nodes_text names nodes) refl (nodes_lack names readable nodes (each_in names nodes h))
+leaf_lacks names readable (path nodes) h = lacks_append 10 (codes "path") (nodes_text names nodes) refl (nodes_lack names readable nodes (each_in names nodes h))
+leaf_lacks names readable (absent a) h = lacks_append 10 (codes "absent") (nodes_text names (a ∷ [])) refl (nodes_lack names readable (a ∷ []) (one_in names a h))
+leaf_lacks names readable false_step h = refl
+
+sign_lacks : (negated : Bool) → Lacks 10 (sign_text negated)
+sign_lacks true = refl
+sign_lacks false = refl
+
 pub words_lack : (names : Names) → AreReadable names → (l : Line) → IsProper names l → Lacks 10 (line_words names l)
 words_lack names readable (verdict v) h = verdict_lacks names v
 words_lack names readable (second v e) h = second_lacks names v e
+words_lack names readable version_two h = refl
 words_lack names readable (node a) h = lacks_append 10 (codes "node") (nodes_text names (a ∷ [])) refl (nodes_lack names readable (a ∷ []) (one_in names a h))
 words_lack names readable (edge a b) h = lacks_append 10 (codes "edge") (nodes_text names (a ∷ b ∷ [])) refl (nodes_lack names readable (a ∷ b ∷ []) (two_in names a b h.0 h.1))
-words_lack names readable (split p) h = lacks_append 10 (codes "split ") (decimal p) refl (decimal_lacks 10 (decimal p) refl (p, (h, refl)))
-words_lack names readable (cycle nodes) h = lacks_append 10 (codes "cycle") (nodes_text names nodes) refl (nodes_lack names readable nodes (each_in names nodes h))
-words_lack names readable (path nodes) h = lacks_append 10 (codes "path") (nodes_text names nodes) refl (nodes_lack names readable nodes (each_in names nodes h))
-words_lack names readable (absent a) h = lacks_append 10 (codes "absent") (nodes_text names (a ∷ [])) refl (nodes_lack names readable (a ∷ []) (one_in names a h))
-words_lack names readable false_step h = refl
+words_lack names readable (step (split n p)) h =
+    lacks_append 10 (codes "split ") (sign_text n ++ decimal p) refl
+    (lacks_append 10 (sign_text n) (decimal p) (sign_lacks n) (decimal_lacks 10 (decimal p) refl (p, (h, refl))))
+words_lack names readable (step (close l)) h = leaf_lacks names readable l h
 words_lack names readable end h = refl

@@ -1,23 +1,25 @@
 -- A first part of what begins well begins well.
-use Rattle.std.proofs.Common.{◌≡◌, List, [], ◌∷◌, ◌++◌, map, refl, sym, ◌∙◌, ap, subst, append_assoc, get_or}
+use Rattle.std.proofs.Common.{◌≡◌, false, List, [], ◌∷◌, ◌++◌, refl, sym, ◌∙◌, ap, subst, append_assoc, get_or}
 use Rattle.std.proofs.lemmas.List.{append-nil}
 use Rattle.std.specs.Prelude.{All}
 use Rattle.std.proofs.lemmas.List.Elements.{All-contains, Contains-append_left, Contains-get_or}
 use Rattle.pc_common.specs.World.{Node, Edge}
 use Rattle.pc_common.specs.Generated.{HasEnds}
 use Rattle.pc_common.proofs.Elements.{in_from_contains}
+use Rattle.pc_common.specs.Steps.{Step}
 use Rattle.pc_common.specs.Lines.{Line, Verdict, observable, unobservable, verdict, second, end}
 use Rattle.pc_syntax.specs.Observable.{IsNodeOf}
 use Rattle.pc_ground.specs.NodeForm.{IsNodeIn}
 use Rattle.pc_ground.specs.Stages.{numbers_of}
-use Rattle.pc_ground.specs.Refutes.{Step, IsPartial, asserted}
+use Rattle.pc_ground.specs.declared.version.Version.TheVariants.{One}
+use Rattle.pc_ground.specs.Refutes.{all_signed, Branch, IsPartial, asserted}
 use Rattle.graph_text.specs.Graphs.{graph_lines}
-use Rattle.refutation.specs.Steps.{step_line}
-use Rattle.cert_check.specs.Certificates.{Question, header, BeginsWell, in_header, in_graph, in_tree}
-use Rattle.cert_check.proofs.Lasts.{snoc_same, snoc_some, last_map}
+use Rattle.cert_check.specs.Certificates.{Question, header, tree_lines, BeginsWell, in_header, in_graph, in_tree}
+use Rattle.cert_check.proofs.Lasts.{snoc_same, snoc_some}
 use Rattle.cert_check.proofs.GraphLines.{LastOfGraph, a_node, an_edge, last_line}
-use Rattle.tree_check.proofs.Running.{runs_cut}
-use Rattle.cert_check.proofs.Beginnings.{BodyBegins, no_body, graph_body, tree_body, whole_graph, whole_tree, body_begins, first_line, second_line}
+use Rattle.tree_check.proofs.Runs.{runs_cut}
+use Rattle.cert_check.proofs.TreeLines.{LastOfTree, a_version, a_step, last_tree}
+use Rattle.cert_check.proofs.BodyBegins.{BodyBegins, no_body, graph_body, tree_body, whole_graph, whole_tree, body_begins, first_line, second_line}
 
 -- what holds of all holds of each of a first part
 pub all_front : {X : Type 0} (P : X → Type 0) (xs ys : List X) → All P (xs ++ ys) → All P xs
@@ -44,11 +46,18 @@ before_body q v body l (graph_body seen nodes edges of_names ends is) = go (last
         let P : List Edge → Type 0 = λ fs. HasEnds nodes fs in
         in_graph nodes es of_names (ends_front nodes es (e ∷ []) (subst P more ends))
         (ap (λ (u : Verdict). header q u ++ body) seen ∙ ap (λ (ls : List Line). header q observable ++ ls) front)
-before_body q v body l (tree_body unseen steps opens run is) =
-    let m = last_map step_line steps body l (sym is) in
-    let P : List (Step Node) → Type 0 = λ ss. IsPartial q.tree ss opens in
-    let parts = runs_cut q.tree m.0 (m.1 ∷ []) (asserted q.tree 0 ∷ []) opens (subst P m.2 run) in
-    in_tree m.0 parts.0 parts.1 (ap (λ (u : Verdict). header q u ++ body) unseen ∙ ap (λ (ls : List Line). header q unobservable ++ ls) (sym m.3))
+before_body q v body l (tree_body unseen w steps opens run is) = go (last_tree w steps body l (sym is))
+  where
+    root : List Branch
+    root = all_signed false (asserted q.tree 0) ∷ []
+
+    go : LastOfTree w steps body l → BeginsWell q (header q v ++ body)
+    go (a_version two none front at) =
+        in_tree One [] root refl (ap (λ (u : Verdict). header q u ++ body) unseen ∙ ap (λ (ls : List Line). header q unobservable ++ ls) front)
+    go (a_step ss s all front at) =
+        let P : List (Step Node) → Type 0 = λ us. IsPartial w q.tree us opens in
+        let parts = runs_cut w q.tree ss (s ∷ []) root opens (subst P all run) in
+        in_tree w ss parts.0 parts.1 (ap (λ (u : Verdict). header q u ++ body) unseen ∙ ap (λ (ls : List Line). header q unobservable ++ ls) front)
 before_body q v body l (whole_graph seen graph) =
     let is = graph.lines_are in
     let bodies : body ++ l ∷ [] ≡ graph_lines graph.nodes graph.edges ++ end ∷ [] = cc in
@@ -56,11 +65,11 @@ before_body q v body l (whole_graph seen graph) =
     let P : List Node → Type 0 = λ ns. All (IsNodeOf (numbers_of q.names.stages) q.names.ops) ns in
     in_graph graph.nodes graph.edges (subst P graph.generated.nodes_are graph.of_both.1) graph.ends
     (ap (λ (u : Verdict). header q u ++ body) seen ∙ ap (λ (ls : List Line). header q observable ++ ls) parts.0)
-before_body q v body l (whole_tree unseen tree) =
+before_body q v body l (whole_tree unseen w tree) =
     let is = tree.lines_are in
-    let bodies : body ++ l ∷ [] ≡ map step_line tree.steps ++ end ∷ [] = cc in
-    let parts = snoc_same body (map step_line tree.steps) l end bodies in
-    in_tree tree.steps [] tree.refutes (ap (λ (u : Verdict). header q u ++ body) unseen ∙ ap (λ (ls : List Line). header q unobservable ++ ls) parts.0)
+    let bodies : body ++ l ∷ [] ≡ tree_lines w tree.steps ++ end ∷ [] = cc in
+    let parts = snoc_same body (tree_lines w tree.steps) l end bodies in
+    in_tree w tree.steps [] tree.refutes (ap (λ (u : Verdict). header q u ++ body) unseen ∙ ap (λ (ls : List Line). header q unobservable ++ ls) parts.0)
 
 pub begins_before : (q : Question) (ls : List Line) (l : Line) → BeginsWell q (ls ++ l ∷ []) → BeginsWell q ls
 begins_before q [] l begins = in_header observable (header q observable) refl

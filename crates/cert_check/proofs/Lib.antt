@@ -1,18 +1,19 @@
 mod Lasts
 mod GraphLines
-mod StepLines
-mod Beginnings
-mod Nexts
+mod TreeLines
+mod BodyBegins
 mod Firsts
+mod Nexts
+mod Apart
 mod Bytes
 pub mod StepNodes
 mod Propers
-mod Raws
-pub mod Alike
-mod Apart
 mod Words
-mod Advancing
+mod TakenLines
+mod Advances
+mod Raws
+mod RawStages
 mod Shown
-mod Stepping
-mod Standing
-mod Finishing
+mod Verified
+mod Outcomes
+pub mod Alike

@@ -1,23 +1,25 @@
 -- What may stand next in a certificate, by what stands so far.
-use Rattle.std.proofs.Common.{◌≡◌, inl, List, [], ◌∷◌, ◌++◌, map, refl, sym, subst}
+use Rattle.std.proofs.Common.{◌≡◌, inl, false, List, [], ◌∷◌, ◌++◌, refl, sym, subst}
 use Rattle.std.specs.Prelude.{All, Contains, IsTrue}
 use Rattle.std.proofs.lemmas.List.Elements.{All-contains, Contains-append_right}
 use Rattle.pc_common.specs.World.{Node, Edge, World}
 use Rattle.pc_common.specs.Generated.{HasEnds, IsGenerated}
 use Rattle.pc_common.proofs.Elements.{contains_from_in}
-use Rattle.pc_common.specs.Lines.{Line, Verdict, observable, unobservable, node, edge, end}
+use Rattle.pc_common.specs.Steps.{Step}
+use Rattle.pc_common.specs.Lines.{Line, Verdict, observable, unobservable, node, edge, version_two, step, end}
 use Rattle.pc_syntax.specs.Observable.{IsWorldOf}
 use Rattle.pc_ground.specs.NodeForm.{IsNodeIn}
 use Rattle.pc_ground.specs.Stages.{numbers_of}
-use Rattle.pc_ground.specs.Refutes.{Step, Branch, Runs, IsPartial, asserted}
+use Rattle.pc_ground.specs.declared.version.Version.{Version}
+use Rattle.pc_ground.specs.declared.version.Version.TheVariants.{One}
+use Rattle.pc_ground.specs.Refutes.{all_signed, Branch, Runs, IsPartial, asserted}
 use Rattle.graph_text.specs.Graphs.{graph_lines}
-use Rattle.refutation.specs.Steps.{step_line}
-use Rattle.cert_check.specs.Certificates.{Question, header, IsGraphCertificate, IsTreeCertificate, IsCertificate, BeginsWell}
-use Rattle.cert_check.proofs.Lasts.{snoc_same, snoc_some, last_map}
+use Rattle.cert_check.specs.Certificates.{Question, header, tree_lines, IsGraphCertificate, IsTreeCertificate, IsCertificate, BeginsWell}
+use Rattle.cert_check.proofs.Lasts.{snoc_same, snoc_some}
 use Rattle.cert_check.proofs.GraphLines.{LastOfGraph, a_node, an_edge, last_line, graph_same, NextOfGraph, next_node, next_edge, next_of_graph}
-use Rattle.cert_check.proofs.StepLines.{next_of_steps, steps_same}
-use Rattle.tree_check.proofs.Running.{runs_cut, runs_one}
-use Rattle.cert_check.proofs.Beginnings.{unequal, BodyBegins, no_body, graph_body, tree_body, whole_graph, whole_tree, body_begins, graph_ends, steps_end}
+use Rattle.cert_check.proofs.TreeLines.{trees_same, LastOfTree, a_version, a_step, last_tree, tree_end, NextOfTree, next_version, next_step, next_tree}
+use Rattle.tree_check.proofs.Runs.{runs_cut, runs_one}
+use Rattle.cert_check.proofs.BodyBegins.{unequal, BodyBegins, no_body, graph_body, tree_body, whole_graph, whole_tree, body_begins, graph_ends}
 
 -- some world that the graph generates is of both files and satisfies
 abbrev pub HasWorld : Question → List Node → List Edge → Type 0
@@ -36,16 +38,18 @@ graph_shown q nodes edges l graph =
     let Q : List Edge → Type 0 = λ es. IsGenerated nodes es graph.world in
     (parts.1, (graph.world, subst Q (sym same.1) (subst P (sym same.0) graph.generated), graph.of_both, graph.satisfied))
 
-pub tree_shown : (q : Question) (steps : List (Step Node)) (l : Line)
-    → IsTreeCertificate q (header q unobservable ++ (map step_line steps ++ l ∷ [])) → (l ≡ end) × IsPartial q.tree steps []
-tree_shown q steps l tree =
+pub tree_shown : (q : Question) (v : Version) (steps : List (Step Node)) (w : Version) (l : Line)
+    → IsTreeCertificate q w (header q unobservable ++ (tree_lines v steps ++ l ∷ [])) → (l ≡ end) × IsPartial v q.tree steps []
+tree_shown q v steps w l tree =
     let is = tree.lines_are in
-    let bodies : map step_line steps ++ l ∷ [] ≡ map step_line tree.steps ++ end ∷ [] = cc in
-    let parts = snoc_same (map step_line steps) (map step_line tree.steps) l end bodies in
-    let P : List (Step Node) → Type 0 = λ ss. IsPartial q.tree ss [] in
-    (parts.1, subst P (sym (steps_same steps tree.steps parts.0)) tree.refutes)
+    let bodies : tree_lines v steps ++ l ∷ [] ≡ tree_lines w tree.steps ++ end ∷ [] = cc in
+    let parts = snoc_same (tree_lines v steps) (tree_lines w tree.steps) l end bodies in
+    let same = trees_same v w steps tree.steps parts.0 in
+    let P : List (Step Node) → Type 0 = λ ss. IsPartial w q.tree ss [] in
+    let Q : Version → Type 0 = λ u. IsPartial u q.tree steps [] in
+    (parts.1, subst Q (sym same.0) (subst P (sym same.1) tree.refutes))
 
--- the line behind a graph's lines
+-- the line after a graph's lines
 pub data GraphNext (q : Question) (nodes : List Node) (edges : List Edge) (l : Line) : Type 0 where
   node_next : (a : Node) → l ≡ node a → edges ≡ [] → IsNodeIn q.names a → GraphNext q nodes edges l
   edge_next : (a b : Node) → l ≡ edge a b → Contains nodes a → Contains nodes b → GraphNext q nodes edges l
@@ -68,35 +72,43 @@ next_in_graph q nodes edges l begins = go (body_begins q observable q.expectatio
     go : BodyBegins q observable (graph_lines nodes edges ++ l ∷ []) → GraphNext q nodes edges l
     go (no_body none) = absurd (snoc_some (graph_lines nodes edges) l none)
     go (graph_body seen ns es of_names ends is) = next ns es of_names ends (next_of_graph nodes edges ns es l (sym is))
-    go (tree_body other steps opens run is) = absurd (unequal other)
+    go (tree_body other w steps opens run is) = absurd (unequal other)
     go (whole_graph seen graph) = (let r = graph_shown q nodes edges l graph in graph_end r.0 r.1)
-    go (whole_tree other tree) = absurd (unequal other)
+    go (whole_tree other w tree) = absurd (unequal other)
 
--- the line behind the lines of steps
-pub data TreeNext (q : Question) (opens : List Branch) (l : Line) : Type 0 where
-  step_next : (s : Step Node) (next : List Branch) → l ≡ step_line s → Runs q.tree (s ∷ []) opens next → TreeNext q opens l
-  tree_end : l ≡ end → opens ≡ [] → TreeNext q opens l
+-- the line after the lines of a refutation
+pub data TreeNext (q : Question) (v : Version) (steps : List (Step Node)) (opens : List Branch) (l : Line) : Type 0 where
+  version_next : l ≡ version_two → v ≡ One → steps ≡ [] → TreeNext q v steps opens l
+  step_next : (s : Step Node) (next : List Branch) → l ≡ step s → Runs v q.tree (s ∷ []) opens next → TreeNext q v steps opens l
+  last_next : l ≡ end → opens ≡ [] → TreeNext q v steps opens l
 
-pub next_in_tree : (q : Question) (steps : List (Step Node)) (opens : List Branch) (l : Line) → IsPartial q.tree steps opens
-    → BeginsWell q (header q unobservable ++ (map step_line steps ++ l ∷ [])) → TreeNext q opens l
-next_in_tree q steps opens l run begins = go (body_begins q unobservable q.expectation (map step_line steps ++ l ∷ []) refl begins)
+pub next_in_tree : (q : Question) (v : Version) (steps : List (Step Node)) (opens : List Branch) (l : Line) → IsPartial v q.tree steps opens
+    → BeginsWell q (header q unobservable ++ (tree_lines v steps ++ l ∷ [])) → TreeNext q v steps opens l
+next_in_tree q v steps opens l run begins = go (body_begins q unobservable q.expectation (tree_lines v steps ++ l ∷ []) refl begins)
   where
-    go : BodyBegins q unobservable (map step_line steps ++ l ∷ []) → TreeNext q opens l
-    go (no_body none) = absurd (snoc_some (map step_line steps) l none)
-    go (graph_body other ns es of_names ends is) = absurd (unequal (sym other))
-    go (tree_body unseen rs rest further is) =
-        let m = next_of_steps steps rs l (sym is) in
-        let P : List (Step Node) → Type 0 = λ us. IsPartial q.tree us rest in
-        let parts = runs_cut q.tree steps (m.0 ∷ []) (asserted q.tree 0 ∷ []) rest (subst P m.1 further) in
-        let same = runs_one q.tree steps (asserted q.tree 0 ∷ []) parts.0 opens parts.1 run in
-        let Q : List Branch → Type 0 = λ bs. Runs q.tree (m.0 ∷ []) bs rest in
-        step_next m.0 rest m.2 (subst Q same parts.2)
-    go (whole_graph other graph) = absurd (unequal (sym other))
-    go (whole_tree unseen tree) =
-        let r = tree_shown q steps l tree in
-        tree_end r.0 (runs_one q.tree steps (asserted q.tree 0 ∷ []) opens [] run r.1)
+    root : List Branch
+    root = all_signed false (asserted q.tree 0) ∷ []
 
--- no line stands behind a whole certificate
+    next : (w : Version) (rs : List (Step Node)) (rest : List Branch) → IsPartial w q.tree rs rest → NextOfTree v steps w rs l → TreeNext q v steps opens l
+    next w rs rest further (next_version two none one empty at) = version_next at one empty
+    next w rs rest further (next_step s same is at) =
+        let P : List (Step Node) → Type 0 = λ us. IsPartial w q.tree us rest in
+        let V : Version → Type 0 = λ u. IsPartial u q.tree (steps ++ s ∷ []) rest in
+        let parts = runs_cut v q.tree steps (s ∷ []) root rest (subst V (sym same) (subst P is further)) in
+        let one = runs_one v q.tree steps root parts.0 opens parts.1 run in
+        let Q : List Branch → Type 0 = λ bs. Runs v q.tree (s ∷ []) bs rest in
+        step_next s rest at (subst Q one parts.2)
+
+    go : BodyBegins q unobservable (tree_lines v steps ++ l ∷ []) → TreeNext q v steps opens l
+    go (no_body none) = absurd (snoc_some (tree_lines v steps) l none)
+    go (graph_body other ns es of_names ends is) = absurd (unequal (sym other))
+    go (tree_body unseen w rs rest further is) = next w rs rest further (next_tree v steps w rs l (sym is))
+    go (whole_graph other graph) = absurd (unequal (sym other))
+    go (whole_tree unseen w tree) =
+        let r = tree_shown q v steps w l tree in
+        last_next r.0 (runs_one v q.tree steps root opens [] run r.1)
+
+-- no line stands after a whole certificate
 no_graph_more : (q : Question) (nodes : List Node) (edges : List Edge) (l : Line)
     → BeginsWell q (header q observable ++ ((graph_lines nodes edges ++ end ∷ []) ++ l ∷ [])) → ⊥
 no_graph_more q nodes edges l begins = go (body_begins q observable q.expectation ((graph_lines nodes edges ++ end ∷ []) ++ l ∷ []) refl begins)
@@ -108,39 +120,37 @@ no_graph_more q nodes edges l begins = go (body_begins q observable q.expectatio
     go : BodyBegins q observable ((graph_lines nodes edges ++ end ∷ []) ++ l ∷ []) → ⊥
     go (no_body none) = snoc_some (graph_lines nodes edges ++ end ∷ []) l none
     go (graph_body seen ns es of_names ends is) = before ns es (last_line ns es (graph_lines nodes edges ++ end ∷ []) l (sym is))
-    go (tree_body other steps opens run is) = unequal other
+    go (tree_body other w steps opens run is) = unequal other
     go (whole_graph seen graph) =
         let is = graph.lines_are in
         let bodies : (graph_lines nodes edges ++ end ∷ []) ++ l ∷ [] ≡ graph_lines graph.nodes graph.edges ++ end ∷ [] = cc in
         let parts = snoc_same (graph_lines nodes edges ++ end ∷ []) (graph_lines graph.nodes graph.edges) l end bodies in
         graph_ends graph.nodes graph.edges (graph_lines nodes edges) (sym parts.0)
-    go (whole_tree other tree) = unequal other
+    go (whole_tree other w tree) = unequal other
 
-no_tree_more : (q : Question) (steps : List (Step Node)) (l : Line)
-    → BeginsWell q (header q unobservable ++ ((map step_line steps ++ end ∷ []) ++ l ∷ [])) → ⊥
-no_tree_more q steps l begins = go (body_begins q unobservable q.expectation ((map step_line steps ++ end ∷ []) ++ l ∷ []) refl begins)
+no_tree_more : (q : Question) (v : Version) (steps : List (Step Node)) (l : Line)
+    → BeginsWell q (header q unobservable ++ ((tree_lines v steps ++ end ∷ []) ++ l ∷ [])) → ⊥
+no_tree_more q v steps l begins = go (body_begins q unobservable q.expectation ((tree_lines v steps ++ end ∷ []) ++ l ∷ []) refl begins)
   where
-    go : BodyBegins q unobservable ((map step_line steps ++ end ∷ []) ++ l ∷ []) → ⊥
-    go (no_body none) = snoc_some (map step_line steps ++ end ∷ []) l none
+    before : (w : Version) (rs : List (Step Node)) → LastOfTree w rs (tree_lines v steps ++ end ∷ []) l → ⊥
+    before w rs (a_version two none front at) = snoc_some (tree_lines v steps) end front
+    before w rs (a_step ss s is front at) = tree_end w ss (tree_lines v steps) (sym front)
+
+    go : BodyBegins q unobservable ((tree_lines v steps ++ end ∷ []) ++ l ∷ []) → ⊥
+    go (no_body none) = snoc_some (tree_lines v steps ++ end ∷ []) l none
     go (graph_body other ns es of_names ends is) = unequal (sym other)
-    go (tree_body unseen rs opens run is) =
-        let m = next_of_steps_any rs (map step_line steps ++ end ∷ []) l (sym is) in
-        steps_end m.0 (map step_line steps) m.1
-      where
-        next_of_steps_any : (rs : List (Step Node)) (before : List Line) (last : Line) → map step_line rs ≡ before ++ last ∷ []
-            → (ss : List (Step Node)) × (map step_line ss ≡ before)
-        next_of_steps_any rs before last e = (let m = last_map step_line rs before last e in (m.0, m.3))
+    go (tree_body unseen w rs opens run is) = before w rs (last_tree w rs (tree_lines v steps ++ end ∷ []) l (sym is))
     go (whole_graph other graph) = unequal (sym other)
-    go (whole_tree unseen tree) =
+    go (whole_tree unseen w tree) =
         let is = tree.lines_are in
-        let bodies : (map step_line steps ++ end ∷ []) ++ l ∷ [] ≡ map step_line tree.steps ++ end ∷ [] = cc in
-        let parts = snoc_same (map step_line steps ++ end ∷ []) (map step_line tree.steps) l end bodies in
-        steps_end tree.steps (map step_line steps) (sym parts.0)
+        let bodies : (tree_lines v steps ++ end ∷ []) ++ l ∷ [] ≡ tree_lines w tree.steps ++ end ∷ [] = cc in
+        let parts = snoc_same (tree_lines v steps ++ end ∷ []) (tree_lines w tree.steps) l end bodies in
+        tree_end w tree.steps (tree_lines v steps) (sym parts.0)
 
 pub no_more : (q : Question) (v : Verdict) (ls : List Line) (l : Line) → IsCertificate q v ls → BeginsWell q (ls ++ l ∷ []) → ⊥
 no_more q observable ls l graph begins =
     let P : List Line → Type 0 = λ xs. BeginsWell q (xs ++ l ∷ []) in
     no_graph_more q graph.nodes graph.edges l (subst P graph.lines_are begins)
-no_more q unobservable ls l tree begins =
+no_more q unobservable ls l (v, tree) begins =
     let P : List Line → Type 0 = λ xs. BeginsWell q (xs ++ l ∷ []) in
-    no_tree_more q tree.steps l (subst P tree.lines_are begins)
+    no_tree_more q v tree.steps l (subst P tree.lines_are begins)

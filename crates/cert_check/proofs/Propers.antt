@@ -1,74 +1,64 @@
 -- Lines that begin well can be written and read again.
-use Rattle.std.proofs.Common.{inl, inr, suc, ◌<◌, ◌≤◌, List, [], ◌∷◌, map, refl, sym, subst, arith}
+use Rattle.std.proofs.Common.{inl, inr, suc, ◌<◌, false, List, [], ◌∷◌, map, refl, sym, subst, arith}
 use Rattle.std.specs.Prelude.{All}
 use Rattle.std.proofs.lemmas.List.Elements.{All-contains, All-nil, All-cons, All-append}
 use Rattle.pc_common.specs.World.{Node, Edge}
 use Rattle.pc_common.specs.Generated.{HasEnds}
 use Rattle.pc_common.proofs.Elements.{In, contains_from_in}
-use Rattle.pc_common.specs.Lines.{Names, Line, Verdict, observable, unobservable, verdict, second, node, edge, end}
+use Rattle.pc_common.specs.Steps.{Step, split, close}
+use Rattle.pc_common.specs.Lines.{Names, Line, Verdict, observable, unobservable, verdict, second, version_two, node, edge, step, end}
 use Rattle.pc_syntax.specs.Observable.{IsNodeOf}
 use Rattle.pc_ground.specs.NodeForm.{IsNodeIn}
 use Rattle.pc_ground.specs.Stages.{numbers_of}
-use Rattle.pc_ground.specs.Tree.{Tree, always, never, leaf, both, either, size_of}
+use Rattle.pc_ground.specs.Tree.{Tree, either, turned, size_of}
+use Rattle.pc_ground.specs.declared.version.Version.{Version}
+use Rattle.pc_ground.specs.declared.version.Version.TheVariants.{One, Two}
 use Rattle.pc_ground.specs.Numbers.{nodes_of_tree}
-use Rattle.pc_ground.specs.Refutes.{Step, split, cycle, path, absent, false_step, Branch, Runs, IsPartial, asserted}
-use Rattle.pc_ground.proofs.FlatRows.{subtree_size}
+use Rattle.pc_ground.specs.Refutes.{all_signed, Branch, Runs, IsPartial, asserted}
+use Rattle.pc_ground.proofs.FlatRows.{subtree_size, size_pos}
+use Rattle.pc_ground.proofs.Turned.{size_turned}
 use Rattle.graph_text.specs.Graphs.{graph_lines}
-use Rattle.refutation.specs.Steps.{step_line}
-use Rattle.cert_check.specs.Certificates.{Question, header, IsCertificate, BeginsWell, in_header, in_graph, in_tree, whole}
+use Rattle.cert_check.specs.Certificates.{Question, header, tree_lines, IsCertificate, BeginsWell, in_header, in_graph, in_tree, whole}
 use Rattle.cert_check.specs.Proper.{IsProper, IsAsked}
 use Rattle.cert_check.proofs.Firsts.{all_front}
-use Rattle.cert_check.proofs.StepNodes.{StepHas, runs_have}
+use Rattle.cert_check.proofs.StepNodes.{StepHas, runs_have, step_in}
 
 -- where it is a split, it is one of the tree
 abbrev pub IsWithin : {N : Type 0} → Tree N → Step N → Type 0
-IsWithin t (split p) = p < size_of t
-IsWithin t (cycle nodes) = Unit {0}
-IsWithin t (path nodes) = Unit {0}
-IsWithin t (absent a) = Unit {0}
-IsWithin t false_step = Unit {0}
+IsWithin t (split negated p) = p < size_of t
+IsWithin t (close l) = Unit {0}
 
-one_at_least : {N : Type 0} (t : Tree N) → 1 ≤ size_of t
-one_at_least t = go t
-  where
-    go : {N : Type 0} (t : Tree N) → 1 ≤ size_of t
-    go always = omega arith
-    go never = omega arith
-    go (leaf l) = omega arith
-    go (both a b) = omega arith
-    go (either a b) = omega arith
-
-pub runs_within : {N : Type 0} (t : Tree N) (steps : List (Step N)) (opens rest : List Branch) → Runs t steps opens rest → All (IsWithin t) steps
-runs_within t [] opens rest r = All-nil (IsWithin t)
-runs_within t (s ∷ ss) [] rest r = absurd r
-runs_within t (split p ∷ ss) (ps ∷ opens) rest r =
-    let size = subtree_size t p (either r.0 r.1) r.2.1 in
-    All-cons (IsWithin t) (split p) ss (omega (arith, size)) (runs_within t ss _ rest r.3)
-runs_within t (cycle nodes ∷ ss) (ps ∷ opens) rest r = All-cons (IsWithin t) (cycle nodes) ss tt (runs_within t ss opens rest r.1)
-runs_within t (path nodes ∷ ss) (ps ∷ opens) rest r = All-cons (IsWithin t) (path nodes) ss tt (runs_within t ss opens rest r.1)
-runs_within t (absent a ∷ ss) (ps ∷ opens) rest r = All-cons (IsWithin t) (absent a) ss tt (runs_within t ss opens rest r.1)
-runs_within t (false_step ∷ ss) (ps ∷ opens) rest r = All-cons (IsWithin t) false_step ss tt (runs_within t ss opens rest r.1)
+pub runs_within : {N : Type 0} (v : Version) (t : Tree N) (steps : List (Step N)) (opens rest : List Branch) → Runs v t steps opens rest → All (IsWithin t) steps
+runs_within v t [] opens rest r = All-nil (IsWithin t)
+runs_within v t (s ∷ ss) [] rest r = absurd r
+runs_within v t (split n p ∷ ss) (ps ∷ opens) rest r =
+    let size = subtree_size (turned n t) p (either r.0 r.1) r.2.1 in
+    All-cons (IsWithin t) (split n p) ss (omega (arith, size, size_pos (either r.0 r.1), size_turned n t)) (runs_within v t ss _ rest r.3)
+runs_within v t (close l ∷ ss) (ps ∷ opens) rest r = All-cons (IsWithin t) (close l) ss tt (runs_within v t ss opens rest r.1)
 
 -- a step of a question's tree has a proper line
-pub proper_step : (q : Question) → IsAsked q → (s : Step Node) → StepHas (IsNodeIn q.names) s → IsWithin q.tree s → IsProper q.names (step_line s)
-proper_step q asked (split p) h within = (let small = asked.small in omega arith)
-proper_step q asked (cycle nodes) h within = h
-proper_step q asked (path nodes) h within = h
-proper_step q asked (absent a) h within = h
-proper_step q asked false_step h within = tt
+pub proper_step : (q : Question) → IsAsked q → (s : Step Node) → StepHas (IsNodeIn q.names) s → IsWithin q.tree s → IsProper q.names (step s)
+proper_step q asked (split n p) h within = (let small = asked.small in omega arith)
+proper_step q asked (close l) h within = step_in q.names (close l) h
 
-proper_steps : (q : Question) → IsAsked q → (steps : List (Step Node)) (opens : List Branch) → IsPartial q.tree steps opens → All (IsProper q.names) (map step_line steps)
-proper_steps q asked steps opens run =
-    each steps
-    (runs_have (IsNodeIn q.names) q.tree (λ a i. asked.named a (contains_from_in a (nodes_of_tree q.tree) i)) steps (asserted q.tree 0 ∷ []) opens run)
-    (runs_within q.tree steps (asserted q.tree 0 ∷ []) opens run)
+proper_steps : (q : Question) → IsAsked q → (v : Version) (steps : List (Step Node)) (opens : List Branch) → IsPartial v q.tree steps opens
+    → All (IsProper q.names) (tree_lines v steps)
+proper_steps q asked v steps opens run =
+    of_version v
+    (each steps
+    (runs_have (IsNodeIn q.names) v q.tree (λ a i. asked.named a (contains_from_in a (nodes_of_tree q.tree) i)) steps (all_signed false (asserted q.tree 0) ∷ []) opens run)
+    (runs_within v q.tree steps (all_signed false (asserted q.tree 0) ∷ []) opens run))
   where
-    each : (ss : List (Step Node)) → All (StepHas (IsNodeIn q.names)) ss → All (IsWithin q.tree) ss → All (IsProper q.names) (map step_line ss)
+    each : (ss : List (Step Node)) → All (StepHas (IsNodeIn q.names)) ss → All (IsWithin q.tree) ss → All (IsProper q.names) (map step ss)
     each [] h within = All-nil (IsProper q.names)
     each (s ∷ ss) h within =
-        All-cons (IsProper q.names) (step_line s) (map step_line ss)
+        All-cons (IsProper q.names) (step s) (map step ss)
         (proper_step q asked s (All-contains (StepHas (IsNodeIn q.names)) (s ∷ ss) s h (contains_from_in s (s ∷ ss) (inl refl))) (All-contains (IsWithin q.tree) (s ∷ ss) s within (contains_from_in s (s ∷ ss) (inl refl))))
         (each ss (λ k d inside. h (suc k) d (omega (arith, inside))) (λ k d inside. within (suc k) d (omega (arith, inside))))
+
+    of_version : (w : Version) → All (IsProper q.names) (map step steps) → All (IsProper q.names) (tree_lines w steps)
+    of_version One all = all
+    of_version Two all = All-cons (IsProper q.names) version_two (map step steps) tt all
 
 proper_graph : (names : Names) (nodes : List Node) (edges : List Edge) → All (IsNodeIn names) nodes → HasEnds nodes edges → All (IsProper names) (graph_lines nodes edges)
 proper_graph names nodes edges all ends =
@@ -100,11 +90,11 @@ proper_certificate q asked observable ls graph =
     subst P (sym graph.lines_are)
     (All-append (IsProper q.names) (header q observable) _ (proper_header q.names q observable)
     (All-append (IsProper q.names) (graph_lines graph.nodes graph.edges) (end ∷ []) body (proper_end q.names)))
-proper_certificate q asked unobservable ls tree =
+proper_certificate q asked unobservable ls (v, tree) =
     let P : List Line → Type 0 = λ xs. All (IsProper q.names) xs in
     subst P (sym tree.lines_are)
     (All-append (IsProper q.names) (header q unobservable) _ (proper_header q.names q unobservable)
-    (All-append (IsProper q.names) (map step_line tree.steps) (end ∷ []) (proper_steps q asked tree.steps [] tree.refutes) (proper_end q.names)))
+    (All-append (IsProper q.names) (tree_lines v tree.steps) (end ∷ []) (proper_steps q asked v tree.steps [] tree.refutes) (proper_end q.names)))
 
 pub begins_proper : (q : Question) → IsAsked q → (ls : List Line) → BeginsWell q ls → All (IsProper q.names) ls
 begins_proper q asked ls (in_header v more is) =
@@ -112,7 +102,7 @@ begins_proper q asked ls (in_header v more is) =
 begins_proper q asked ls (in_graph nodes edges of_names ends is) =
     let P : List Line → Type 0 = λ xs. All (IsProper q.names) xs in
     subst P (sym is) (All-append (IsProper q.names) (header q observable) (graph_lines nodes edges) (proper_header q.names q observable) (proper_graph q.names nodes edges of_names ends))
-begins_proper q asked ls (in_tree steps opens run is) =
+begins_proper q asked ls (in_tree v steps opens run is) =
     let P : List Line → Type 0 = λ xs. All (IsProper q.names) xs in
-    subst P (sym is) (All-append (IsProper q.names) (header q unobservable) (map step_line steps) (proper_header q.names q unobservable) (proper_steps q asked steps opens run))
+    subst P (sym is) (All-append (IsProper q.names) (header q unobservable) (tree_lines v steps) (proper_header q.names q unobservable) (proper_steps q asked v steps opens run))
 begins_proper q asked ls (whole v certificate) = proper_certificate q asked v ls certificate

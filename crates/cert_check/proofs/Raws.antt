@@ -8,11 +8,11 @@ use Rattle.pc_common.proofs.Elements.{contains_from_in}
 use Rattle.pc_common.specs.Lines.{Names, Line, Verdict, line_words, lines_text}
 use Rattle.pc_ground.specs.NodeWords.{Lacks}
 use Rattle.pc_ground.specs.NodeForm.{AreReadable}
-use Rattle.line_judge.specs.Texts.{IsLine, joined, IsMadeOf, BeginsWell as FirstLines, IsRefusedAt as IsRefusedLine}
+use Rattle.line_judge.specs.Texts.{IsLine, text_of_lines, IsMadeOf, FirstLinesBegin, IsRefusedAt, HoldsRefused}
 use Rattle.cert_check.specs.Certificates.{Question, BeginsWell, whole}
 use Rattle.cert_check.specs.Proper.{IsProper, IsAsked}
-use Rattle.cert_check.specs.RawLines.{RawBegins, RawWhole}
-use Rattle.cert_check.specs.Verified.{IsCertificateText, FirstLinesBegin, IsRefusedAt}
+use Rattle.cert_check.specs.RawLines.{RawBegins, RawWhole, RawFirst}
+use Rattle.cert_check.specs.Verified.{IsCertificateText}
 use Rattle.cert_check.proofs.Firsts.{begins_first}
 use Rattle.cert_check.proofs.Bytes.{words_lack}
 use Rattle.cert_check.proofs.Propers.{begins_proper}
@@ -32,9 +32,9 @@ line_from_lacks (b ∷ bs) h =
     rest false y e = e
 
 -- the lines one after another are the lines' text
-pub joined_text : (names : Names) (ls : List Line) → joined (map (line_words names) ls) ≡ lines_text names ls
-joined_text names [] = refl
-joined_text names (l ∷ ls) = ap (λ (t : List ℕ). (line_words names l ++ codes "\n") ++ t) (joined_text names ls)
+pub text_of_words : (names : Names) (ls : List Line) → text_of_lines (map (line_words names) ls) ≡ lines_text names ls
+text_of_words names [] = refl
+text_of_words names (l ∷ ls) = ap (λ (t : List ℕ). (line_words names l ++ codes "\n") ++ t) (text_of_words names ls)
 
 raw_lines : (names : Names) → AreReadable names → (ls : List Line) → All (IsProper names) ls → All IsLine (map (line_words names) ls)
 raw_lines names readable [] all = All-nil IsLine
@@ -59,59 +59,46 @@ map_front {X} {Y} f (x ∷ xs) (y ∷ ys) zs e =
     (x ∷ r.0, r.1, ap (λ (t : List X). x ∷ t) r.2, ap (λ (h : Y). h ∷ ys) heads ∙ ap (λ (t : List Y). f x ∷ t) r.3)
 
 -- lines that begin well with some more begin well by themselves
-pub record RawExact (q : Question) (raws : List (List ℕ)) : Type 0 where
-  pub lines : List Line
-  pub are : raws ≡ map (line_words q.names) lines
-  pub begins : BeginsWell q lines
-
-pub raw_exact : (q : Question) (raws : List (List ℕ)) → RawBegins q raws → RawExact q raws
-raw_exact q raws b =
-    let r = map_front (line_words q.names) b.lines raws b.more b.are in
+pub raw_begins : (q : Question) (raws : List (List ℕ)) → RawFirst q raws → RawBegins q raws
+raw_begins q raws b =
+    let r = map_front (line_words q.names) b.both.lines raws b.more b.both.are in
     let P : List Line → Type 0 = λ ls. BeginsWell q ls in
-    record { lines = r.0; are = r.3; begins = begins_first q r.0 r.1 (subst P r.2 b.begins) }
+    record { lines = r.0; are = r.3; begins = begins_first q r.0 r.1 (subst P r.2 b.both.begins) }
 
-module _ (q : Question) (asked : IsAsked q) where
-  pub to_certificate : (text : List ℕ) (made : IsMadeOf (RawWhole q) text) → IsCertificateText q made.accepted.verdict text
-  to_certificate text made =
-      let w = made.accepted in
-      record {
-        lines = w.lines;
-        text_is = made.text_is ∙ ap joined w.are ∙ joined_text q.names w.lines;
-        certificate = w.certificate;
-      }
+pub raw_first : (q : Question) (raws : List (List ℕ)) → RawBegins q raws → RawFirst q raws
+raw_first q raws b = record { more = []; both = record { lines = b.lines; are = append-nil raws ∙ b.are; begins = b.begins } }
 
-  pub from_certificate : (text : List ℕ) (v : Verdict) → IsCertificateText q v text → IsMadeOf (RawWhole q) text
-  from_certificate text v c = record {
-    lines = map (line_words q.names) c.lines;
-    are_lines = raw_lines q.names asked.readable c.lines (begins_proper q asked c.lines (whole v c.certificate));
-    text_is = c.text_is ∙ sym (joined_text q.names c.lines);
-    accepted = record { verdict = v; lines = c.lines; are = refl; certificate = c.certificate };
-  }
+pub to_certificate : (q : Question) (text : List ℕ) (made : IsMadeOf (RawWhole q) text) → IsCertificateText q made.accepted.verdict text
+to_certificate q text made =
+    let w = made.accepted in
+    record {
+      lines = w.lines;
+      text_is = made.text_is ∙ ap text_of_lines w.are ∙ text_of_words q.names w.lines;
+      certificate = w.certificate;
+    }
 
-  to_first : (text : List ℕ) (n : ℕ) → FirstLines (RawBegins q) text n → FirstLinesBegin q text n
-  to_first text n f =
-      let b = raw_exact q f.lines f.begin in record {
-        lines = b.lines;
-        rest = f.rest;
-        count = sym (length_map (line_words q.names) b.lines) ∙ ap length (sym b.are) ∙ f.count;
-        text_is = f.text_is ∙ ap (λ (t : List ℕ). t ++ f.rest) (ap joined b.are ∙ joined_text q.names b.lines);
-        begins = b.begins;
-      }
+-- a certificate's text is made of its lines
+pub from_certificate : (q : Question) → IsAsked q → (text : List ℕ) (v : Verdict) → IsCertificateText q v text → IsMadeOf (RawWhole q) text
+from_certificate q asked text v c = record {
+  lines = map (line_words q.names) c.lines;
+  are_lines = raw_lines q.names asked.readable c.lines (begins_proper q asked c.lines (whole v c.certificate));
+  text_is = c.text_is ∙ sym (text_of_words q.names c.lines);
+  accepted = record { verdict = v; lines = c.lines; are = refl; certificate = c.certificate };
+}
 
-  from_first : (text : List ℕ) (n : ℕ) → FirstLinesBegin q text n → FirstLines (RawBegins q) text n
-  from_first text n f = record {
-    lines = map (line_words q.names) f.lines;
-    rest = f.rest;
-    count = length_map (line_words q.names) f.lines ∙ f.count;
-    are_lines = raw_lines q.names asked.readable f.lines (begins_proper q asked f.lines f.begins);
-    text_is = f.text_is ∙ ap (λ (t : List ℕ). t ++ f.rest) (sym (joined_text q.names f.lines));
-    begin = record { more = []; lines = f.lines; are = append-nil (map (line_words q.names) f.lines); begins = f.begins };
-  }
+first_lines : (q : Question) (text : List ℕ) (n : ℕ) → FirstLinesBegin (RawFirst q) text n → FirstLinesBegin (RawBegins q) text n
+first_lines q text n f =
+    record { lines = f.lines; rest = f.rest; count = f.count; are_lines = f.are_lines; text_is = f.text_is; begin = raw_begins q f.lines f.begin }
 
-  -- the refused line of the text as bytes is that of the text
-  pub to_refused : (text : List ℕ) (n : ℕ) → IsRefusedLine (RawBegins q) (RawWhole q) text n → IsRefusedAt q text n
-  to_refused text n r = record {
-    none = λ v c. r.no_whole (from_certificate text v c);
-    before = λ k less. to_first text k (r.before k less);
-    here = λ f. r.here (from_first text n f);
-  }
+lines_first : (q : Question) (text : List ℕ) (n : ℕ) → FirstLinesBegin (RawBegins q) text n → FirstLinesBegin (RawFirst q) text n
+lines_first q text n f =
+    record { lines = f.lines; rest = f.rest; count = f.count; are_lines = f.are_lines; text_is = f.text_is; begin = raw_first q f.lines f.begin }
+
+-- the line that the judge refuses is the first that doesn't begin well
+pub to_refused : (q : Question) (text : List ℕ) (n : ℕ) → IsRefusedAt (RawFirst q) (RawWhole q) text n → IsRefusedAt (RawBegins q) (RawWhole q) text n
+to_refused q text n r =
+    record { no_whole = r.no_whole; before = λ k less. first_lines q text k (r.before k less); here = λ f. r.here (lines_first q text n f) }
+
+pub holds_refused : (q : Question) (text : List ℕ) → HoldsRefused (RawBegins q) text → HoldsRefused (RawFirst q) text
+holds_refused q text h =
+    record { lines = h.lines; rest = h.rest; are_lines = h.are_lines; text_is = h.text_is; bad = λ b. h.bad (raw_begins q h.lines b) }

@@ -2,7 +2,7 @@
 use Rattle.std.proofs.Common.{◌≡◌, ◌<◌, Bool, true, false, List, map, length, sym, ◌∙◌, ap, subst, arith}
 use Rattle.std.specs.Prelude.{All, ◌↔◌}
 use Rattle.pc_common.specs.World.{Node, Edge}
-use Rattle.pc_case.specs.Kept.{IsKept}
+use Rattle.pc_case.specs.MicroOps.{AreMicroOps}
 use Rattle.pc_syntax.specs.Observable.{IsNodeOf}
 use Rattle.pc_ground.specs.declared.front.Front.{Front}
 use Rattle.pc_ground.specs.NodeForm.{names_of, IsNodeIn, AreReadable}
@@ -45,10 +45,10 @@ some_world front g p nodes edges b is true_now all =
     let R : List Node → Type 0 = λ ns. All (IsNodeIn (names_of front)) ns in
     subst P nodes (subst Q edges (shown_world front g (subst R (sym nodes) all) (is.0 true_now)))
 
-pub asked_of : (front : Front) → AreReadable (names_of front) → IsKept front.case.ops → length front.tree < 9223372036854775808 → IsAsked (question_of front)
-asked_of front readable kept small = record {
+pub asked_of : (front : Front) → AreReadable (names_of front) → AreMicroOps front.case.ops → length front.tree < 9223372036854775808 → IsAsked (question_of front)
+asked_of front readable are_ops small = record {
   readable = readable;
-  named = λ a has. nodes_are_of front.case (numbers_of (map plain_stage front.stages)) front.axioms kept front.within a has;
+  named = λ a has. nodes_are_of front.case (numbers_of (map plain_stage front.stages)) front.axioms are_ops front.within a has;
   small =
       let rows : length front.tree ≡ size_of (closed_ground_tree front.case (plain_axioms front.axioms)) = ap length front.grounded ∙ length_rows (closed_ground_tree front.case (plain_axioms front.axioms)) in
       omega arith;

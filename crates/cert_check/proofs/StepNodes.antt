@@ -1,29 +1,53 @@
 -- The nodes that a refutation's steps name are nodes of its tree; and the text of steps and lines, part by part.
-use Rattle.std.proofs.Common.{◌≡◌, ℕ, zero, suc, ◌-◌, ◌⊎◌, inl, inr, Bool, true, false, List, [], ◌∷◌, ◌++◌, Option, map, refl, sym, ap, subst}
+use Rattle.std.proofs.Common.{◌≡◌, ℕ, zero, suc, ◌-◌, ◌⊎◌, inl, inr, Bool, true, false, List, [], ◌∷◌, ◌++◌, Option, map, refl, sym, ◌∙◌, ap, subst}
 use Rattle.std.specs.Prelude.{All, Contains, nat_lt, if◌then◌else◌}
 use Rattle.std.specs.List.{flat_map}
 use Rattle.std.proofs.lemmas.List.Elements.{All-nil, All-cons}
 use Rattle.std.proofs.lemmas.List.Concat.{flat_map-append}
 use Rattle.pc_common.specs.World.{Node}
 use Rattle.pc_common.specs.Chain.{Leads}
-use Rattle.pc_common.specs.Lines.{Names, Line, line_text, lines_text}
+use Rattle.pc_common.specs.Steps.{Leaf, cycle, path, absent, false_step, Step, split, close}
+use Rattle.pc_common.specs.Lines.{Names, Line, step as step_line, line_text, lines_text}
 use Rattle.pc_common.proofs.Elements.{In, in_from_contains, contains_from_in, in_front, in_back, in_either, from_flat}
 use Rattle.pc_ground.specs.declared.literal.Literal.{Literal}
-use Rattle.pc_ground.specs.declared.literal.Literal.TheVariants.{Edge, NoNode, NoEdge}
-use Rattle.pc_ground.specs.Tree.{Tree, always, never, leaf, both, either, size_of}
+use Rattle.pc_ground.specs.declared.literal.Literal.TheVariants.{Node as a_node, Edge, NoNode, NoEdge}
+use Rattle.pc_ground.specs.Tree.{Tree, always, never, leaf, both, either, contrary, negation, turned, size_of}
+use Rattle.pc_ground.specs.declared.version.Version.{Version}
 use Rattle.pc_ground.specs.Literals.{Joins}
 use Rattle.pc_ground.specs.Numbers.{nodes_of_literal, nodes_of_tree}
 use Rattle.pc_ground.specs.NodeForm.{IsNodeIn}
-use Rattle.pc_ground.specs.Refutes.{Step, split, cycle, path, absent, false_step, subtree_at, Branch, literal_of, literals_of, Closes, a_cycle, a_path, an_absence, a_falsity, Runs, asserted, IsRefutation}
-use Rattle.refutation.specs.Steps.{step_line, step_text, IsStepIn}
+use Rattle.pc_ground.specs.Refutes.{subtree_at, all_signed, part_at, Branch, literal_of, literals_of, IsContradiction, a_cycle, a_path, an_absence, Closes, a_contradiction, a_falsity, Runs, asserted, IsRefutation}
+use Rattle.refutation.specs.Steps.{step_text, IsLeafIn, IsStepIn}
+
+-- each node that the leaf names has P
+abbrev pub LeafHas : {N : Type 0} → (N → Type 0) → Leaf N → Type 0
+LeafHas P (cycle nodes) = All P nodes
+LeafHas P (path nodes) = All P nodes
+LeafHas P (absent a) = P a
+LeafHas P false_step = Unit {0}
 
 -- each node that the step names has P
 abbrev pub StepHas : {N : Type 0} → (N → Type 0) → Step N → Type 0
-StepHas P (split p) = Unit {0}
-StepHas P (cycle nodes) = All P nodes
-StepHas P (path nodes) = All P nodes
-StepHas P (absent a) = P a
-StepHas P false_step = Unit {0}
+StepHas P (split negated p) = Unit {0}
+StepHas P (close l) = LeafHas P l
+
+contrary_nodes : {N : Type 0} (l : Literal N) → nodes_of_literal (contrary l) ≡ nodes_of_literal l
+contrary_nodes (a_node a) = refl
+contrary_nodes (Edge a b) = refl
+contrary_nodes (NoNode a) = refl
+contrary_nodes (NoEdge a b) = refl
+
+-- a tree and its negation have one list of nodes
+negation_nodes : {N : Type 0} (t : Tree N) → nodes_of_tree (negation t) ≡ nodes_of_tree t
+negation_nodes always = refl
+negation_nodes never = refl
+negation_nodes (leaf l) = contrary_nodes l
+negation_nodes (both a b) = ap (λ xs. xs ++ nodes_of_tree (negation b)) (negation_nodes a) ∙ ap (λ ys. nodes_of_tree a ++ ys) (negation_nodes b)
+negation_nodes (either a b) = ap (λ xs. xs ++ nodes_of_tree (negation b)) (negation_nodes a) ∙ ap (λ ys. nodes_of_tree a ++ ys) (negation_nodes b)
+
+turned_nodes : {N : Type 0} (n : Bool) (t : Tree N) → nodes_of_tree (turned n t) ≡ nodes_of_tree t
+turned_nodes false t = refl
+turned_nodes true t = negation_nodes t
 
 -- the literal at one of two positions
 literal_either : {N : Type 0} (b : Bool) (o q : Option (Tree N)) (l : Literal N) → In l (literal_of (if b then o else q)) → In l (literal_of o) ⊎ In l (literal_of q)
@@ -54,9 +78,10 @@ node_at (either x y) (suc p) l i a j =
 
 -- so is a node of a literal that is asserted on a branch
 node_on : {N : Type 0} (t : Tree N) (ps : Branch) (l : Literal N) → Contains (literals_of t ps) l → (a : N) → In a (nodes_of_literal l) → In a (nodes_of_tree t)
-node_on t ps l has a j =
-    let r = from_flat (λ p. literal_of (subtree_at t p)) l ps (in_from_contains l (literals_of t ps) has) in
-    node_at t r.0 l r.2 a j
+node_on {N} t ps l has a j =
+    let r = from_flat (λ q. literal_of (part_at t q)) l ps (in_from_contains l (literals_of t ps) has) in
+    let P : List N → Type 0 = λ ns. In a ns in
+    subst P (turned_nodes r.0.negated t) (node_at (turned r.0.negated t) r.0.position l r.2 a j)
 
 all_in : {X : Type 0} (P : X → Type 0) (xs : List X) → ((x : X) → In x xs → P x) → All P xs
 all_in P [] each = All-nil P
@@ -83,41 +108,43 @@ path_has P ls h a via b leads has x (inr i) =
       | inr j ↦ elim j [ inl e ↦ subst P e (h (NoEdge a b) has b (inr (inl refl))) | inr none ↦ absurd none ]
     ]
 
--- a step that closes a leaf
-closes_has : {N : Type 0} (P : N → Type 0) (t : Tree N) (ls : List (Literal N)) → AllHave P ls → (s : Step N) → Closes t ls s → StepHas P s
-closes_has P t ls h s (a_cycle a via leads) = all_in P (a ∷ via) (chain_has P ls h a via a leads)
-closes_has P t ls h s (a_path a via b leads has) = all_in P (a ∷ (via ++ b ∷ [])) (path_has P ls h a via b leads has)
-closes_has P t ls h s (an_absence a has present) = h (NoNode a) has a (inl refl)
+-- a leaf that closes a branch
+contradicts_has : {N : Type 0} (P : N → Type 0) (ls : List (Literal N)) → AllHave P ls → (s : Leaf N) → IsContradiction ls s → LeafHas P s
+contradicts_has P ls h s (a_cycle a via leads) = all_in P (a ∷ via) (chain_has P ls h a via a leads)
+contradicts_has P ls h s (a_path a via b leads has) = all_in P (a ∷ (via ++ b ∷ [])) (path_has P ls h a via b leads has)
+contradicts_has P ls h s (an_absence a has present) = h (NoNode a) has a (inl refl)
+
+closes_has : {N : Type 0} (P : N → Type 0) (t : Tree N) (ls : List (Literal N)) → AllHave P ls → (s : Leaf N) → Closes t ls s → LeafHas P s
+closes_has P t ls h s (a_contradiction c) = contradicts_has P ls h s c
 closes_has P t ls h s (a_falsity same) = tt
 
-pub runs_have : {N : Type 0} (P : N → Type 0) (t : Tree N) → ((a : N) → In a (nodes_of_tree t) → P a) → (steps : List (Step N)) (opens rest : List Branch) → Runs t steps opens rest
-    → All (StepHas P) steps
-runs_have P t each [] opens rest r = All-nil (StepHas P)
-runs_have P t each (s ∷ ss) [] rest r = absurd r
-runs_have P t each (split p ∷ ss) (ps ∷ opens) rest r = All-cons (StepHas P) (split p) ss tt (runs_have P t each ss _ rest r.3)
-runs_have P t each (cycle nodes ∷ ss) (ps ∷ opens) rest r =
-    All-cons (StepHas P) (cycle nodes) ss (closes_has P t (literals_of t ps) (λ l has a i. each a (node_on t ps l has a i)) (cycle nodes) r.0) (runs_have P t each ss opens rest r.1)
-runs_have P t each (path nodes ∷ ss) (ps ∷ opens) rest r =
-    All-cons (StepHas P) (path nodes) ss (closes_has P t (literals_of t ps) (λ l has a i. each a (node_on t ps l has a i)) (path nodes) r.0) (runs_have P t each ss opens rest r.1)
-runs_have P t each (absent a ∷ ss) (ps ∷ opens) rest r =
-    All-cons (StepHas P) (absent a) ss (closes_has P t (literals_of t ps) (λ l has b i. each b (node_on t ps l has b i)) (absent a) r.0) (runs_have P t each ss opens rest r.1)
-runs_have P t each (false_step ∷ ss) (ps ∷ opens) rest r = All-cons (StepHas P) false_step ss tt (runs_have P t each ss opens rest r.1)
+pub runs_have : {N : Type 0} (P : N → Type 0) (v : Version) (t : Tree N) → ((a : N) → In a (nodes_of_tree t) → P a) → (steps : List (Step N)) (opens rest : List Branch)
+    → Runs v t steps opens rest → All (StepHas P) steps
+runs_have P v t each [] opens rest r = All-nil (StepHas P)
+runs_have P v t each (s ∷ ss) [] rest r = absurd r
+runs_have P v t each (split n p ∷ ss) (ps ∷ opens) rest r = All-cons (StepHas P) (split n p) ss tt (runs_have P v t each ss _ rest r.3)
+runs_have P v t each (close l ∷ ss) (ps ∷ opens) rest r =
+    All-cons (StepHas P) (close l) ss (closes_has P t (literals_of t ps) (λ m has a i. each a (node_on t ps m has a i)) l r.0) (runs_have P v t each ss opens rest r.1)
 
 -- what each node of the tree has, each node has that a refutation's steps name
-pub refutation_nodes : {N : Type 0} (t : Tree N) (steps : List (Step N)) → IsRefutation t steps → (P : N → Type 0) → ((a : N) → Contains (nodes_of_tree t) a → P a)
-    → All (StepHas P) steps
-refutation_nodes t steps r P each = runs_have P t (λ a i. each a (contains_from_in a (nodes_of_tree t) i)) steps (asserted t 0 ∷ []) [] r
+pub refutation_nodes : {N : Type 0} (v : Version) (t : Tree N) (steps : List (Step N)) → IsRefutation v t steps → (P : N → Type 0)
+    → ((a : N) → Contains (nodes_of_tree t) a → P a) → All (StepHas P) steps
+refutation_nodes v t steps r P each =
+    runs_have P v t (λ a i. each a (contains_from_in a (nodes_of_tree t) i)) steps (all_signed false (asserted t 0) ∷ []) [] r
+
+leaf_in : (names : Names) (l : Leaf Node) → LeafHas (IsNodeIn names) l → IsLeafIn names l
+leaf_in names (cycle nodes) h = h
+leaf_in names (path nodes) h = h
+leaf_in names (absent a) h = h
+leaf_in names false_step h = tt
 
 pub step_in : (names : Names) (s : Step Node) → StepHas (IsNodeIn names) s → IsStepIn names s
-step_in names (split p) h = tt
-step_in names (cycle nodes) h = h
-step_in names (path nodes) h = h
-step_in names (absent a) h = h
-step_in names false_step h = tt
+step_in names (split n p) h = tt
+step_in names (close l) h = leaf_in names l h
 
-pub refutation_in : (names : Names) (t : Tree Node) (steps : List (Step Node)) → IsRefutation t steps → ((a : Node) → Contains (nodes_of_tree t) a → IsNodeIn names a)
-    → All (IsStepIn names) steps
-refutation_in names t steps r each k d inside = step_in names _ (refutation_nodes t steps r (IsNodeIn names) each k d inside)
+pub refutation_in : (names : Names) (v : Version) (t : Tree Node) (steps : List (Step Node)) → IsRefutation v t steps
+    → ((a : Node) → Contains (nodes_of_tree t) a → IsNodeIn names a) → All (IsStepIn names) steps
+refutation_in names v t steps r each k d inside = step_in names _ (refutation_nodes v t steps r (IsNodeIn names) each k d inside)
 
 -- the text of steps is the text of their lines
 pub steps_text : (names : Names) (steps : List (Step Node)) → flat_map (step_text names) steps ≡ lines_text names (map step_line steps)

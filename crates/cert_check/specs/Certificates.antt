@@ -1,18 +1,20 @@
--- What a certificate is: a graph whose world satisfies, or a refutation of the ground tree; and what one may begin with.
+-- What a certificate is: a graph whose world satisfies, or a refutation of the ground tree. And what one may begin with.
 use Rattle.std.specs.Prelude.{◌≡◌, Bool, List, [], ◌∷◌, ◌++◌, map, All, IsTrue}
 use Rattle.pc_common.specs.Case.{Expectation}
 use Rattle.pc_common.specs.World.{Node, Edge, World}
 use Rattle.pc_common.specs.Generated.{HasEnds, IsGenerated}
-use Rattle.pc_common.specs.Lines.{Names, Line, Verdict, observable, unobservable, verdict, second, end}
+use Rattle.pc_common.specs.Steps.{Step}
+use Rattle.pc_common.specs.Lines.{Names, Line, Verdict, observable, unobservable, verdict, second, version_two, step, end}
 use Rattle.pc_syntax.specs.Observable.{IsWorldOf}
 use Rattle.pc_ground.specs.NodeForm.{IsNodeIn}
 use Rattle.pc_ground.specs.Stages.{numbers_of}
 use Rattle.pc_ground.specs.Tree.{Tree}
-use Rattle.pc_ground.specs.Refutes.{Step, Branch, IsPartial, IsRefutation}
+use Rattle.pc_ground.specs.declared.version.Version.{Version}
+use Rattle.pc_ground.specs.declared.version.Version.TheVariants.{One, Two}
+use Rattle.pc_ground.specs.Refutes.{Branch, IsPartial, IsRefutation}
 use Rattle.graph_text.specs.Graphs.{graph_lines}
-use Rattle.refutation.specs.Steps.{step_line}
 
--- what a certificate is of: what its nodes are written by, what the test states, the ground tree, and which worlds satisfy
+-- what a certificate is of: what its nodes are written by, what the test states, the ground tree, which worlds satisfy
 pub record Question : Type 0 where
   pub names : Names
   pub expectation : Expectation
@@ -26,6 +28,11 @@ header q v = verdict v ∷ second v q.expectation ∷ []
 abbrev pub certificate_lines : Question → Verdict → List Line → List Line
 certificate_lines q v body = header q v ++ (body ++ end ∷ [])
 
+-- the lines of a refutation of either version; those of version 2 begin with the line that says so
+abbrev pub tree_lines : Version → List (Step Node) → List Line
+tree_lines One steps = map step steps
+tree_lines Two steps = version_two ∷ map step steps
+
 -- the lines are those of a graph whose world satisfies
 pub record IsGraphCertificate (q : Question) (lines : List Line) : Type 0 where
   pub nodes : List Node
@@ -37,23 +44,23 @@ pub record IsGraphCertificate (q : Question) (lines : List Line) : Type 0 where
   pub of_both : IsWorldOf (numbers_of q.names.stages) q.names.ops world
   pub satisfied : IsTrue (q.satisfied world)
 
--- the lines are those of a refutation of the ground tree
-pub record IsTreeCertificate (q : Question) (lines : List Line) : Type 0 where
+-- the lines are those of a refutation of the ground tree, of this version
+pub record IsTreeCertificate (q : Question) (version : Version) (lines : List Line) : Type 0 where
   pub steps : List (Step Node)
-  pub lines_are : lines ≡ certificate_lines q unobservable (map step_line steps)
-  pub refutes : IsRefutation q.tree steps
+  pub lines_are : lines ≡ certificate_lines q unobservable (tree_lines version steps)
+  pub refutes : IsRefutation version q.tree steps
 
 -- the lines are a certificate of this verdict
 abbrev pub IsCertificate : Question → Verdict → List Line → Type 0
 IsCertificate q observable lines = IsGraphCertificate q lines
-IsCertificate q unobservable lines = IsTreeCertificate q lines
+IsCertificate q unobservable lines = (version : Version) × IsTreeCertificate q version lines
 
--- what a certificate may begin with: a part of a header; a header and node lines, then edge lines between the listed nodes; a header
--- and the steps of a refutation so far; a whole certificate
+-- what a certificate may begin with: a part of a header; a header and node lines, then edge lines between the listed
+-- nodes; a header and the steps of a refutation so far, of one version; a whole certificate
 pub data BeginsWell (q : Question) (lines : List Line) : Type 0 where
   in_header : (v : Verdict) (more : List Line) → lines ++ more ≡ header q v → BeginsWell q lines
   in_graph : (nodes : List Node) (edges : List Edge) → All (IsNodeIn q.names) nodes → HasEnds nodes edges
       → lines ≡ header q observable ++ graph_lines nodes edges → BeginsWell q lines
-  in_tree : (steps : List (Step Node)) (opens : List Branch) → IsPartial q.tree steps opens
-      → lines ≡ header q unobservable ++ map step_line steps → BeginsWell q lines
+  in_tree : (version : Version) (steps : List (Step Node)) (opens : List Branch) → IsPartial version q.tree steps opens
+      → lines ≡ header q unobservable ++ tree_lines version steps → BeginsWell q lines
   whole : (v : Verdict) → IsCertificate q v lines → BeginsWell q lines

@@ -1,6 +1,7 @@
 pub mod Certificates
 pub mod Verdicts
 pub mod Verified
+pub mod Outcomes
 pub mod Proper
 pub mod Questions
 pub mod Stages

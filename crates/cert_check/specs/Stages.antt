@@ -1,18 +1,21 @@
 -- What each stage of reading a certificate says of the lines so far, and what the next line makes of it.
-use Rattle.std.specs.Prelude.{◌≡◌, ℕ, List, [], ◌∷◌, ◌++◌, map, All, Bool, true, false, Option, Some, None}
+use Rattle.std.specs.Prelude.{◌≡◌, ℕ, List, [], ◌∷◌, ◌++◌, All, Bool, true, false, Option, Some, None}
 use Rattle.pc_common.specs.World.{Node}
 use Rattle.pc_common.specs.Generated.{HasEnds}
+use Rattle.pc_common.specs.Steps.{Step}
 use Rattle.pc_common.specs.Lines.{Names, Line, observable, unobservable, verdict, line_words}
 use Rattle.pc_ground.specs.NodeForm.{IsNodeIn}
 use Rattle.pc_ground.specs.Tree.{Tree as GroundTree}
-use Rattle.pc_ground.specs.Refutes.{Step, Branch, IsPartial, Runs}
+use Rattle.pc_ground.specs.declared.version.Version.{Version}
+use Rattle.pc_ground.specs.declared.version.Version.TheVariants.{One}
+use Rattle.pc_ground.specs.Refutes.{Branch, IsPartial, Runs}
 use Rattle.graph_text.specs.Graphs.{graph_lines}
 use Rattle.graph_text.specs.OpenGraphs.{PlainGraph}
-use Rattle.refutation.specs.Steps.{step_line}
 use Rattle.refutation.specs.Reading.{IsLineOf}
-use Rattle.tree_check.specs.Opened.{Opened, Stands}
-use Rattle.cert_check.specs.Certificates.{Question, header, IsCertificate, BeginsWell}
+use Rattle.tree_check.specs.OpenBranches.{OpenBranches, Stands}
+use Rattle.cert_check.specs.Certificates.{Question, header, tree_lines, IsCertificate, BeginsWell}
 use Rattle.cert_check.specs.Verdicts.{plain_verdict}
+use Rattle.cert_check.specs.declared.open_tree.OpenTree.{OpenTree}
 use Rattle.cert_check.specs.declared.stage.Stage.{Stage}
 use Rattle.cert_check.specs.declared.stage.Stage.TheVariants.{Start, Said, Graph, Tree, Ended}
 
@@ -22,13 +25,16 @@ pub record IsGraphSoFar (q : Question) (g : PlainGraph) (lines : List Line) : Ty
   pub ends : HasEnds g.nodes g.edges
   pub lines_are : lines ≡ header q observable ++ graph_lines g.nodes g.edges
 
--- a header and steps that leave these branches open
-pub record IsTreeSoFar (q : Question) (o : Opened) (lines : List Line) : Type 0 where
+-- a header and steps of one version, which leave these branches open; a new one has no line after the header
+pub record IsTreeSoFar (q : Question) (o : OpenTree) (lines : List Line) : Type 0 where
+  pub version : Version
   pub steps : List (Step Node)
   pub opens : List Branch
-  pub partial : IsPartial q.tree steps opens
-  pub stands : Stands o q.tree opens
-  pub lines_are : lines ≡ header q unobservable ++ map step_line steps
+  pub partial : IsPartial version q.tree steps opens
+  pub stands : Stands o.branches version q.tree opens
+  pub lines_are : lines ≡ header q unobservable ++ tree_lines version steps
+  pub fresh : o.is_new ≡ true → (version ≡ One) × (steps ≡ [])
+  pub begun : o.is_new ≡ false → version ≡ One → steps ≡ [] → ⊥
 
 -- the lines so far are those that the stage says
 abbrev pub StandsAt : Question → Stage → List Line → Type 0
@@ -54,20 +60,23 @@ abbrev pub Advances : Question → List Line → List ℕ → Option Stage → T
 Advances q lines text None = IsStuck q lines text
 Advances q lines text (Some next) = GoesOn q lines text next
 
--- what came of the next line: where it is good, the stage behind it stands; else it is stuck
+-- what came of the next line: where it is good, the stage after it stands; else it is stuck
 abbrev pub HasAdvanced : Question → List Line → List ℕ → Stage → Bool → Type 0
 HasAdvanced q lines text new true = GoesOn q lines text new
 HasAdvanced q lines text new false = IsStuck q lines text
 
 -- what a step line makes of the open branches: it is that of one step, which leads on; or no step with this line does
-abbrev pub StepsOn : Names → GroundTree Node → List Branch → List ℕ → Opened → Bool → Type 0
-StepsOn names t opens text new true =
-    (s : Step Node) × IsLineOf names text s × ((r : Step Node) → IsLineOf names text r → r ≡ s) × ((next : List Branch) × Runs t (s ∷ []) opens next × Stands new t next)
-StepsOn names t opens text new false = (s : Step Node) (next : List Branch) → IsLineOf names text s → Runs t (s ∷ []) opens next → ⊥
+abbrev pub StepsOn : Names → Version → GroundTree Node → List Branch → List ℕ → OpenBranches → Bool → Type 0
+StepsOn names v t opens text new true =
+    (s : Step Node) × IsLineOf names text s × ((r : Step Node) → IsLineOf names text r → r ≡ s)
+    × ((next : List Branch) × Runs v t (s ∷ []) opens next × Stands new v t next)
+StepsOn names v t opens text new false =
+    (s : Step Node) (next : List Branch) → IsLineOf names text s → Runs v t (s ∷ []) opens next → ⊥
 
-abbrev pub is_ended : Stage → Bool
-is_ended Start = false
-is_ended (Said v) = false
-is_ended (Graph g) = false
-is_ended (Tree o) = false
-is_ended (Ended v) = true
+-- a whole certificate was read
+abbrev pub is_end : Stage → Bool
+is_end Start = false
+is_end (Said v) = false
+is_end (Graph g) = false
+is_end (Tree o) = false
+is_end (Ended v) = true

@@ -1,19 +1,21 @@
-ghost use Rattle.std.specs.Prelude.{◌++◌, [], ℕ, List, IfOk, IsOk};
+ghost use Rattle.std.specs.Prelude.{◌<◌, ◌⊎◌, ◌++◌, [], ℕ, List, length, IfOk, IsOk};
+ghost use Rattle.pc_common.specs.declared.limits.TheConstants.{MAX_CERTIFICATE};
+ghost use Rattle.pc_ground.specs.declared.front.Front.{Front as AnyFront};
+ghost use Rattle.line_judge.specs.Texts.{HoldsRefused};
 ghost use Rattle.cert_check.specs.Certificates.{Question};
 ghost use Rattle.cert_check.specs.Questions.{question_of};
 ghost use Rattle.cert_check.specs.Verified.{Verified};
-ghost use Rattle.cert_check.specs.Fed.{IsFed, IsSettled};
+ghost use Rattle.cert_check.specs.Outcomes.{SaysOutcome};
+ghost use Rattle.cert_check.specs.RawLines.{RawBegins};
+ghost use Rattle.cert_check.specs.Fed.{IsFed};
 
 use super::checked::Checked;
 use super::judge::CertificateJudge;
 use super::next::show_asked;
 use line_judge::{Feed, Finished};
-use pc_common::Memory;
+use pc_common::{MAX_CERTIFICATE, Memory};
 use pc_ground::{Front, NodeText};
 use std::alloc::Global;
-
-/// How many bytes a certificate may have.
-const LIMIT: u64 = 67_108_864;
 
 /// A check of one text against the model and the test of a front. The text comes in pieces, however it is cut,
 /// and each line is judged when it is whole.
@@ -31,15 +33,18 @@ impl<'a> Checker<'a> {
         let judge = CertificateJudge::new(alloc, front);
         Ok(Checker {
             front,
-            feed: Feed::new(alloc, judge, LIMIT),
+            feed: Feed::new(alloc, judge, MAX_CERTIFICATE as u64),
         })
     }
 
     /// Takes the next piece of the text. It is not copied, but for a line that ends in a later piece. Where the text
-    /// is longer than 67,108,864 bytes, or a line of it is refused, a piece is only counted, which takes no memory.
+    /// with this piece is longer than 67,108,864 bytes, or a line before it was refused, the piece is only counted,
+    /// which takes no memory.
     pub fn feed(self, piece: &[u8]) -> Result<Checker<'a>, Memory>
-        ensures took { (q : Question) (text : List ℕ) → IsFed self.entry q text → IfOk result (λ c. IsFed c q (text ++ piece.now)) }
-        ensures settled { (q : Question) (text : List ℕ) → IsFed self.entry q text → IsSettled q text → IsOk result }
+        ensures took { (q : Question) (text : List ℕ) → IsFed self.entry q text
+            → IfOk result (λ c. IsFed c q (text ++ piece.now)) }
+        ensures settled { (q : Question) (text : List ℕ) → IsFed self.entry q text
+            → (MAX_CERTIFICATE < length (text ++ piece.now)) ⊎ HoldsRefused (RawBegins q) text → IsOk result }
     {
         Ok(Checker {
             front: self.front,
@@ -49,7 +54,9 @@ impl<'a> Checker<'a> {
 
     /// What the text is: a certificate of a verdict, or a text that is refused at a line.
     pub fn finish(self) -> Result<Checked, Memory>
-        ensures { (q : Question) (text : List ℕ) → IsFed self.entry q text → IfOk result (Verified q text) }
+        ensures verified { (q : Question) (text : List ℕ) → IsFed self.entry q text → IfOk result (Verified q text) }
+        ensures outcome { (f : AnyFront) (text : List ℕ) → IsFed self.entry (question_of f) text
+            → IfOk result (SaysOutcome f) }
     {
         show_asked(self.front, &NodeText::of(self.front));
         match self.feed.finish() {
@@ -62,7 +69,8 @@ impl<'a> Checker<'a> {
 /// What a whole text is to the model and the test of a front: a certificate of a verdict, or a text that is refused
 /// at a line. Neither the search nor its graph has a part in it.
 pub fn check_text(alloc: Global, front: &Front, bytes: &[u8]) -> Result<Checked, Memory>
-    ensures { IfOk result (Verified (question_of front.now) bytes.now) }
+    ensures verified { IfOk result (Verified (question_of front.now) bytes.now) }
+    ensures outcome { IfOk result (SaysOutcome front.now) }
 {
     Checker::new(alloc, front)?.feed(bytes)?.finish()
 }

@@ -58,7 +58,8 @@ pub fn second_line(verdict: Verdict, expect: Expect) -> &'static [u8]
 
 /// The verdict that a line says, without its LF; None where it says none.
 pub(crate) fn verdict_of(line: &[u8]) -> Option<Verdict>
-    ensures { MatchOption result ((v : PlainVerdict) → line.now ≡ verdict_text v → ⊥) (λ v. line.now ≡ verdict_text (plain_verdict v)) }
+    ensures { MatchOption result ((v : PlainVerdict) → line.now ≡ verdict_text v → ⊥)
+        (λ v. line.now ≡ verdict_text (plain_verdict v)) }
 {
     if line == b"observable".as_slice() {
         return Some(Verdict::Observable);

@@ -3,7 +3,7 @@ ghost use Rattle.pc_ground.specs.NodeForm.{names_of};
 ghost use Rattle.cert_check.specs.Questions.{question_of};
 ghost use Rattle.cert_check.specs.Proper.{IsAsked};
 ghost use Rattle.cert_check.specs.Ends.{checked_of};
-ghost use Rattle.cert_check.specs.RawLines.{RawBegins, RawWhole, RawStands, first_begins, taken_begins, whole_begins};
+ghost use Rattle.cert_check.specs.RawLines.{RawFirst, RawWhole, RawStands, first_begins, taken_begins, whole_begins};
 
 use super::checked::Checked;
 use super::next::{advance, show_asked};
@@ -54,11 +54,12 @@ impl<'a> CertificateJudge<'a> {
 }
 
 impl<'a> Judge for CertificateJudge<'a> {
-    ghost begins = { λ j. RawBegins (question_of j.front.now) };
+    ghost begins = { λ j. RawFirst (question_of j.front.now) };
 
     ghost whole = { λ j. RawWhole (question_of j.front.now) };
 
-    ghost stands = { λ j raws. IsAsked (question_of j.front.now) × (j.names ≡ names_of j.front.now) × RawStands (question_of j.front.now) j.stage raws };
+    ghost stands = { λ j raws. IsAsked (question_of j.front.now) × (j.names ≡ names_of j.front.now)
+        × RawStands (question_of j.front.now) j.stage raws };
 
     ghost stands_begins = { λ j lines stands. taken_begins (question_of j.front.now) j.stage lines stands.2 };
 
@@ -78,6 +79,6 @@ impl<'a> Judge for CertificateJudge<'a> {
     }
 
     fn is_done(&self) -> bool {
-        self.stage.is_ended()
+        self.stage.is_end()
     }
 }

@@ -1,52 +1,45 @@
-ghost use Rattle.std.specs.Prelude.{◌≡◌, ◌≤◌, ◌↔◌, ℕ, true, List, IfOk, codes, map};
-ghost use Rattle.pc_common.specs.World.{Node};
-ghost use Rattle.pc_ground.specs.Refutes.{Step};
+ghost use Rattle.std.specs.Prelude.{◌≡◌, ◌↔◌, ℕ, true, List, IfOk, codes};
 ghost use Rattle.cert_check.specs.declared.stage.Stage.TheVariants.{Start, Said};
 ghost use Rattle.pc_common.specs.Lines.{Line};
-ghost use Rattle.pc_ground.specs.Refutes.{Branch};
-ghost use Rattle.tree_check.specs.Opened.{Stands, HasStepped};
-ghost use Rattle.pc_ground.specs.Tree.{Tree};
-ghost use Rattle.pc_ground.specs.Keys.{key_node};
 ghost use Rattle.pc_ground.specs.NodeForm.{names_of};
-ghost use Rattle.refutation.specs.Reading.{head_of, nodes_of};
-ghost use Rattle.refutation.specs.Words.{spaces as spaces_in};
 ghost use Rattle.cert_check.specs.Certificates.{Question};
 ghost use Rattle.cert_check.specs.Questions.{question_of};
 ghost use Rattle.cert_check.specs.Proper.{IsAsked};
-ghost use Rattle.cert_check.specs.Stages.{StandsAt, Advances, HasAdvanced, StepsOn, IsGraphSoFar, IsTreeSoFar};
+ghost use Rattle.cert_check.specs.Stages.{StandsAt, Advances, HasAdvanced, IsGraphSoFar, IsTreeSoFar};
 
 use super::header::{Verdict, is_second, verdict_of};
+use super::open_tree::OpenTree;
 use super::stage::Stage;
 use graph_check::check_graph;
 use graph_text::OpenGraph;
 use pc_common::Memory;
-use pc_ground::{Front, NodeKey, NodeText};
-use refutation::{NodeRow, StepHead, read_line};
+use pc_ground::{Front, NodeText};
+use refutation::NodeRow;
 use std::alloc::Global;
-use tree_check::{Branches, Leaf};
 
-/// The stage behind the first line: a verdict.
+/// The stage after the first line: a verdict.
 fn after_start<'a>(line: &[u8]) -> Option<Stage<'a>>
     ensures { (q : Question) (lines : List Line) → StandsAt q Start lines → Advances q lines line.now result }
 {
     Some(Stage::Said(verdict_of(line)?))
 }
 
-/// The stage behind the second line: how the verdict compares with what the test states.
+/// The stage after the second line: how the verdict compares with what the test states.
 fn after_verdict<'a>(
     alloc: Global,
     front: &'a Front,
     verdict: Verdict,
     line: &[u8],
 ) -> Result<Option<Stage<'a>>, Memory>
-    ensures { IfOk result (λ next. (lines : List Line) → StandsAt (question_of front.now) (Said verdict) lines → Advances (question_of front.now) lines line.now next) }
+    ensures { IfOk result (λ next. (lines : List Line) → StandsAt (question_of front.now) (Said verdict) lines
+        → Advances (question_of front.now) lines line.now next) }
 {
     if !is_second(line, verdict, front.case.expect()) {
         return Ok(None);
     }
     match verdict {
         Verdict::Observable => Ok(Some(Stage::Graph(OpenGraph::new(alloc)))),
-        Verdict::Unobservable => Ok(Some(Stage::Tree(Branches::new(alloc, &front.tree)?))),
+        Verdict::Unobservable => Ok(Some(Stage::Tree(OpenTree::new(alloc, front)?))),
     }
 }
 
@@ -57,13 +50,14 @@ fn is_end(line: &[u8]) -> bool
     line == b"end".as_slice()
 }
 
-/// The stage behind the last line of a graph, whose world has to satisfy.
+/// The stage after the last line of a graph, whose world has to satisfy.
 fn end_graph<'a>(
     alloc: Global,
     front: &'a Front,
     graph: &OpenGraph,
 ) -> Result<Option<Stage<'a>>, Memory>
-    ensures { IfOk result (λ next. (lines : List Line) → IsGraphSoFar (question_of front.now) graph.now lines → Advances (question_of front.now) lines (codes "end") next) }
+    ensures { IfOk result (λ next. (lines : List Line) → IsGraphSoFar (question_of front.now) graph.now lines
+        → Advances (question_of front.now) lines (codes "end") next) }
 {
     if !check_graph(alloc, front, graph.graph())? {
         return Ok(None);
@@ -71,63 +65,12 @@ fn end_graph<'a>(
     Ok(Some(Stage::Ended(Verdict::Observable)))
 }
 
-/// Takes a step whose nodes are these.
-fn take_step(branches: &mut Branches<'_>, head: StepHead, nodes: &[NodeKey]) -> Result<bool, Memory>
-    requires { (s : Step Node) × (head ≡ head_of s) × (map key_node nodes.now ≡ nodes_of s) }
-    ensures { IfOk result (λ good. (s : Step Node) → head ≡ head_of s → map key_node nodes.now ≡ nodes_of s
-        → (t : Tree Node) (opens : List Branch) → Stands branches.old t opens → HasStepped t s opens branches.new good) }
+/// The stage after the last line of a refutation, where no branch may be open.
+fn end_tree<'a>(tree: &OpenTree<'_>) -> Option<Stage<'a>>
+    ensures { (q : Question) (lines : List Line) → IsTreeSoFar q tree.now lines
+        → Advances q lines (codes "end") result }
 {
-    match head {
-        StepHead::Split(position) => branches.split(position),
-        StepHead::Cycle => branches.close(Leaf::Cycle(nodes)),
-        StepHead::Path => branches.close(Leaf::Path(nodes)),
-        StepHead::Absent => branches.close(Leaf::Absent(nodes[0])),
-        StepHead::False => branches.close(Leaf::False),
-    }
-}
-
-/// How many spaces there are in the line.
-fn spaces(line: &[u8]) -> usize
-    ensures { result ≡ spaces_in line.now }
-{
-    line.iter().filter(|byte| **byte == b' ').count()
-}
-
-/// How many nodes there is room for from the first line on: no line of so many bytes has more.
-const SHORT: usize = 256;
-
-/// Room for the nodes of a line. The spaces of a short one need not be counted.
-fn room_for(line: &[u8]) -> usize
-    ensures { spaces_in line.now ≤ result }
-{
-    if line.len() <= SHORT {
-        SHORT
-    } else {
-        spaces(line)
-    }
-}
-
-/// Takes a step line.
-fn take_line(
-    names: &NodeText<'_>,
-    row: &mut NodeRow,
-    branches: &mut Branches<'_>,
-    line: &[u8],
-) -> Result<bool, Memory>
-    ensures { IfOk result (λ good. (t : Tree Node) (opens : List Branch) → Stands branches.old t opens → StepsOn names.now t opens line.now branches.new good) }
-{
-    row.reserve(room_for(line))?;
-    match read_line(names, line, row) {
-        Ok(head) => take_step(branches, head, row.as_slice()),
-        Err(_) => Ok(false),
-    }
-}
-
-/// The stage behind the last line of a refutation, where no branch may be open.
-fn end_tree<'a>(branches: &Branches<'_>) -> Option<Stage<'a>>
-    ensures { (q : Question) (lines : List Line) → IsTreeSoFar q branches.now lines → Advances q lines (codes "end") result }
-{
-    if !branches.is_closed() {
+    if !tree.branches.is_closed() {
         return None;
     }
     Some(Stage::Ended(Verdict::Unobservable))
@@ -144,7 +87,8 @@ pub(crate) fn show_asked(front: &Front, names: &NodeText<'_>)
 
 /// Puts the next stage in a stage's place, if there is one. Answers whether there is.
 fn go_on<'a>(stage: &mut Stage<'a>, next: Option<Stage<'a>>) -> bool
-    ensures { (q : Question) (lines : List Line) (text : List ℕ) → Advances q lines text next.entry → HasAdvanced q lines text stage.new result }
+    ensures { (q : Question) (lines : List Line) (text : List ℕ) → Advances q lines text next.entry
+        → HasAdvanced q lines text stage.new result }
 {
     let Some(next) = next else {
         return false;
@@ -153,7 +97,7 @@ fn go_on<'a>(stage: &mut Stage<'a>, next: Option<Stage<'a>>) -> bool
     true
 }
 
-/// Takes the next line, so that the stage is the one behind it. Answers whether a certificate goes on so.
+/// Takes the next line, so that the stage is the one after it. Answers whether a certificate goes on so.
 /// After false, or where memory is refused, nothing is said of the stage.
 ///
 /// A line of a graph or of a refutation changes the stage where it is.
@@ -165,8 +109,9 @@ pub(crate) fn advance<'a>(
     stage: &mut Stage<'a>,
     line: &[u8],
 ) -> Result<bool, Memory>
-    ensures { IfOk result (λ good. IsAsked (question_of front.now) → names.now ≡ names_of front.now → (lines : List Line)
-        → StandsAt (question_of front.now) stage.old lines → HasAdvanced (question_of front.now) lines line.now stage.new good) }
+    ensures { IfOk result (λ good. IsAsked (question_of front.now) → names.now ≡ names_of front.now
+        → (lines : List Line) → StandsAt (question_of front.now) stage.old lines
+        → HasAdvanced (question_of front.now) lines line.now stage.new good) }
 {
     let next = match stage {
         Stage::Start => after_start(line),
@@ -177,11 +122,11 @@ pub(crate) fn advance<'a>(
             }
             end_graph(alloc, front, graph)?
         }
-        Stage::Tree(branches) => {
+        Stage::Tree(tree) => {
             if !is_end(line) {
-                return take_line(names, row, branches, line);
+                return tree.take(names, row, line);
             }
-            end_tree(branches)
+            end_tree(tree)
         }
         Stage::Ended(_) => None,
     };

@@ -1,11 +1,11 @@
 ghost use Rattle.std.specs.Prelude.{◌≡◌};
-ghost use Rattle.cert_check.specs.Stages.{is_ended as is_an_end};
+ghost use Rattle.cert_check.specs.Stages.{is_end as is_end_of};
 ghost use Rattle.cert_check.specs.Ends.{checked_of};
 
 use super::checked::Checked;
 use super::header::Verdict;
+use super::open_tree::OpenTree;
 use graph_text::OpenGraph;
-use tree_check::Branches;
 
 /// How far a certificate was read.
 #[derive(Drop)]
@@ -16,21 +16,21 @@ pub(crate) enum Stage<'a> {
     Said(Verdict),
     /// The two lines of the header, and these lines of a graph.
     Graph(OpenGraph),
-    /// The two lines of the header, and steps that leave these branches open.
-    Tree(Branches<'a>),
+    /// The two lines of the header, and this refutation so far.
+    Tree(OpenTree<'a>),
     /// A whole certificate of this verdict.
     Ended(Verdict),
 }
 
 impl<'a> Stage<'a> {
     /// Whether the certificate is whole.
-    pub(crate) fn is_ended(&self) -> bool
-        ensures { result ≡ is_an_end self.now }
+    pub(crate) fn is_end(&self) -> bool
+        ensures { result ≡ is_end_of self.now }
     {
         matches!(self, Stage::Ended(_))
     }
 
-    /// The verdict of a whole certificate. A stage before the last line is told as refused.
+    /// The verdict of a whole certificate. A stage before the last line counts as refused.
     pub(crate) fn checked(&self) -> Checked
         ensures { result ≡ checked_of self.now }
     {

@@ -1,6 +1,7 @@
 //! Certificates judged by the checker, whole and in pieces.
 ghost use Rattle.std.specs.Prelude.{◌<◌};
 
+use super::signs::SIGNED;
 use cert_check::{Checked, Checker, check_text};
 use example_texts::{EITHER_ORDER, ORDERED, STORE_BUFFER, STORE_BUFFERING, TWO, TWO_FORBIDDEN};
 use pc_common::Memory;
@@ -139,7 +140,7 @@ fn is_checked(alloc: Global, (model, test, text, checked): Row) -> bool {
 
 #[test]
 fn a_text_is_the_same_however_it_is_cut(rt: HostRuntime) {
-    for row in JUDGED {
+    for row in JUDGED.iter().chain(SIGNED) {
         assert!(rt; is_checked(rt.alloc(), *row), "{}", row.2);
     }
 }

@@ -1,8 +1,9 @@
 //! The command verify: a text judged against a model and a test, whoever made it.
 use super::certificates::JUDGED;
-use super::running::ends_over;
+use super::signs::SIGNED;
 use cert_check::Checked;
-use example_texts::{ORDERED, TWO};
+use example_texts::{ORDERED, TWO, TWO_IN_ORDER};
+use memory_runs::ends_over;
 use pc_common::{Memory, Status};
 use std::alloc::Global;
 use std::test::Fail;
@@ -65,7 +66,7 @@ fn is_answered(
 
 #[test]
 fn a_text_is_verified_or_refused_at_its_line(rt: HostRuntime) -> Result<(), Fail> {
-    for (model, test, certificate, checked) in JUDGED {
+    for (model, test, certificate, checked) in JUDGED.iter().chain(SIGNED) {
         assert!(rt;
             is_answered(rt.alloc(), (model, test, certificate), *checked)?,
             "{certificate}"
@@ -73,14 +74,6 @@ fn a_text_is_verified_or_refused_at_its_line(rt: HostRuntime) -> Result<(), Fail
     }
     Ok(())
 }
-
-const SEEN: &str = "observable
-test permitted: ok
-node 0.0@0:S
-node 1.0@0:S
-edge 0.0@0:S 1.0@0:S
-end
-";
 
 /// Words, which call of the files and of the sink fails, and how the run ends.
 const ENDS: &[(
@@ -135,7 +128,7 @@ fn a_run_that_ends_early_says_why(rt: HostRuntime) -> Result<(), Fail> {
         let contents = &[
             ("model", ORDERED),
             ("test", TWO),
-            ("certificate", SEEN),
+            ("certificate", TWO_IN_ORDER),
             ("bad", "t"),
         ];
         let end = (*status, *text);

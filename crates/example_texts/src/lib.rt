@@ -1,15 +1,18 @@
-//! Small models and litmus tests that the tables of the crates of tests judge.
+//! Small models, litmus tests and certificates that the tables of the crates of tests judge.
 //!
 //! They are constants alone, in a crate of their own, so that each text stands once.
 #![tactic(auto)]
 
+mod certificates;
 mod litmus;
 mod models;
 
+pub use certificates::TWO_IN_ORDER;
 pub use litmus::{
     EMPTY, FIRST_IS_LAST, MESSAGE_PASSING, ONE, STORE_BUFFERING, TWO, TWO_CORES, TWO_FORBIDDEN,
 };
 pub use models::{
-    BOTH_ORDERS, CAPTURED, EITHER_ORDER, FAR_CORE, IN_ORDER, ITSELF, JOINED, LAST_WRITE, NO_EDGES,
-    ORDERED, SOME_OP, STORE_BUFFER, TURNED_BACK, UNORDERED,
+    BOTH_OR_ONE, BOTH_ORDERS, CAPTURED, EITHER_AND, EITHER_OF_THREE, EITHER_ORDER, FAR_CORE,
+    IN_ORDER, ITSELF, JOINED, LAST_WRITE, NO_EDGES, ORDERED, SOME_OP, STORE_BUFFER, TURNED_BACK,
+    UNORDERED,
 };

@@ -116,3 +116,32 @@ Axiom \"read\": forall microops \"i\", IsAnyRead i =>
     IsAnyWrite v /\\ SamePhysicalAddress v i /\\ ~SameMicroop v w =>
     AddEdge ((v, Mem), (w, Mem), \"co\") \\/ AddEdge ((i, Exec), (v, Mem), \"fr\").
 ";
+
+/// S and T, or U; U and T are denied.
+pub const BOTH_OR_ONE: &str = "StageName 0 \"S\".
+StageName 1 \"T\".
+StageName 2 \"U\".
+Axiom \"s\": forall microops \"i\",
+  ((NodeExists (i, S) /\\ NodeExists (i, T)) \\/ NodeExists (i, U))
+  /\\ ~NodeExists (i, U) /\\ ~NodeExists (i, T).
+";
+
+/// Two Ands of which one holds, each with an edge from U to S; U or that edge is denied.
+pub const EITHER_AND: &str = "StageName 0 \"S\".
+StageName 1 \"T\".
+StageName 2 \"U\".
+Axiom \"n\": forall microops \"i\",
+  ((NodeExists (i, S) /\\ EdgeExists ((i, U), (i, S)))
+   \\/ (~NodeExists (i, T) /\\ EdgeExists ((i, U), (i, S))))
+  /\\ (~NodeExists (i, U) \\/ ~EdgeExists ((i, U), (i, S)))
+  /\\ (~NodeExists (i, U) \\/ EdgeExists ((i, T), (i, S))).
+";
+
+/// S or T, or else U; each is denied.
+pub const EITHER_OF_THREE: &str = "StageName 0 \"S\".
+StageName 1 \"T\".
+StageName 2 \"U\".
+Axiom \"t\": forall microops \"i\",
+  ((NodeExists (i, S) \\/ NodeExists (i, T)) \\/ NodeExists (i, U))
+  /\\ ~NodeExists (i, U) /\\ ~NodeExists (i, S) /\\ ~NodeExists (i, T).
+";

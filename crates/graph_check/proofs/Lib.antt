@@ -1,6 +1,7 @@
-mod BitWords
-mod Closing
+mod ArcChains
+mod ColumnFlags
+mod FirstMembers
+mod GraphWorlds
+mod Links
 mod Numbers
-mod Entering
-mod Walking
-mod Telling
+mod SearchSteps

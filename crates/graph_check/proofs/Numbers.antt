@@ -63,13 +63,3 @@ seen_first nodes after keys k key there is sofar a =
         | inr e ↦ inr e
       ])),
     )
-
--- what is among the first k is among all
-pub among_all : {X Y : Type 0} (f : X → Y) (xs : List X) (k : ℕ) (y : Y) → Contains (map f (take k xs)) y → Contains (map f xs) y
-among_all f xs k y h = contains_from_in y (map f xs) (go f xs k y (in_from_contains y (map f (take k xs)) h))
-  where
-    go : {X Y : Type 0} (f : X → Y) (xs : List X) (k : ℕ) (y : Y) → In y (map f (take k xs)) → In y (map f xs)
-    go f xs zero y i = absurd i
-    go f [] (suc k) y i = absurd i
-    go f (x ∷ xs) (suc k) y (inl e) = inl e
-    go f (x ∷ xs) (suc k) y (inr i) = inr (go f xs k y i)

@@ -1,4 +1,5 @@
-pub mod Shown
-pub mod Bits
-pub mod Rows
+pub mod Arcs
+pub mod Columns
 pub mod Orders
+pub mod Searches
+pub mod Shown

@@ -1,10 +1,14 @@
--- The order that a graph's edges generate, in rows over its numbered nodes.
-use Rattle.std.specs.Prelude.{◌≡◌, ◌↔◌, ℕ, true, List, Contains}
-use Rattle.pc_common.specs.World.{Node, Edge, World}
-use Rattle.pc_common.specs.Chain.{Chain, Acyclic}
+-- The order that a graph's edges generate, over its numbered nodes.
+use Rattle.std.specs.Prelude.{◌≡◌, ◌↔◌, ℕ, List, Contains, length}
+use Rattle.pc_common.specs.World.{Node, Edge}
+use Rattle.pc_common.specs.Chain.{Acyclic}
 use Rattle.pc_common.specs.Generated.{IsListed, HasEnds}
-use Rattle.pc_ground.specs.Numbers.{IsNumberOf}
-use Rattle.graph_check.specs.Rows.{Rows, leads}
+use Rattle.pc_ground.specs.Numbers.{IsNumberOf, AreDistinct}
+use Rattle.graph_text.specs.OpenGraphs.{PlainGraph}
+use Rattle.graph_check.specs.Arcs.{Arcs, Joins, AreLinked}
+use Rattle.graph_check.specs.Searches.{IsTopological}
+use Rattle.graph_check.specs.Columns.{AreColumns}
+use Rattle.graph_check.specs.declared.columns.Columns.{Columns}
 
 -- one of the two has no number
 abbrev pub AreNotNumbered : List Node → Node → Node → Type 0
@@ -15,13 +19,17 @@ pub record IsOrdered (nodes : List Node) (edges : List Edge) : Type 0 where
   pub ends : HasEnds nodes edges
   pub acyclic : Acyclic (IsListed edges)
 
--- one node leads to another where a chain of the edges does
-pub record Stands (nodes : List Node) (v : Rows) (edges : List Edge) : Type 0 where
-  pub ordered : IsOrdered nodes edges
-  pub chains : (i j : ℕ) (a b : Node) → IsNumberOf nodes i a → IsNumberOf nodes j b → (leads v i j ≡ true) ↔ Chain (IsListed edges) a b
+-- the edges join the numbered nodes, and these are they by number
+pub record AreArcsOf (nodes : List Node) (edges : List Edge) (v : Arcs) : Type 0 where
+  pub distinct : AreDistinct nodes
+  pub linked : AreLinked v
+  pub sized : length v.heads ≡ length nodes
+  pub ends : HasEnds nodes edges
+  pub joins : (i j : ℕ) (a b : Node) → IsNumberOf nodes i a → IsNumberOf nodes j b → Joins v i j ↔ IsListed edges a b
 
--- the world has the numbered nodes, and orders them as the rows do
-pub record Tells (nodes : List Node) (v : Rows) (w : World Node) : Type 0 where
-  pub same_nodes : (a : Node) → Contains w.nodes a ↔ Contains nodes a
-  pub same_order : (i j : ℕ) (a b : Node) → IsNumberOf nodes i a → IsNumberOf nodes j b → (leads v i j ≡ true) ↔ Contains w.order (a, b)
-  pub ends : HasEnds nodes w.order
+-- these are the nodes, the edges and a topological order of the graph
+pub record IsOrderOf (g : PlainGraph) (nodes : List Node) (v : Arcs) (order : List ℕ) (c : Columns) : Type 0 where
+  pub same_nodes : (a : Node) → Contains nodes a ↔ Contains g.nodes a
+  pub arcs : AreArcsOf nodes g.edges v
+  pub order_is : IsTopological v order
+  pub columns : AreColumns v c

@@ -1,13 +1,18 @@
 //! Judging a graph: whether the pair that it generates is a world in which each closed axiom is true.
 //!
-//! `check_graph` finds the order that the graph's edges generate and works out the closed axioms in it, one
-//! by one. It reads a front's case and axioms, and neither its ground tree nor its node numbers.
+//! `check_graph` and `check_graph_of` find the order that the graph's edges generate and work out the closed
+//! axioms in it, one by one. They read a test and axioms, and neither a ground tree nor its node numbers.
+//!
+//! That the edges have no cycle is found by one walk along them, depth first (Tarjan 1972), which puts each node
+//! behind those that its edges lead to. What leads to a node is then worked out in that order, for the nodes that
+//! the axioms ask for.
 #![tactic(auto)]
 
-mod bits;
+mod adjacency;
 mod check;
+mod columns;
 mod order;
-mod reach;
+mod search;
 mod truth;
 
-pub use check::check_graph;
+pub use check::{check_graph, check_graph_of};

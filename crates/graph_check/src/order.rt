@@ -1,24 +1,42 @@
 ghost use Rattle.std.specs.Prelude.{◌≡◌, ◌↔◌, ◌∷◌, [], ◌++◌, ℕ, List, length, map, Contains, IfOk, MatchOption, MatchBool};
-ghost use Rattle.std.proofs.Math.Nat.{ℕ_set};
-ghost use Rattle.pc_common.specs.World.{Node, Edge, World, has_node, has_edge};
-ghost use Rattle.pc_common.specs.Generated.{IsGenerated};
+ghost use Rattle.pc_common.specs.World.{Node, World, has_node, has_edge};
+ghost use Rattle.pc_common.specs.Generated.{HasEnds, IsGenerated};
 ghost use Rattle.pc_ground.specs.Keys.{key_node};
-ghost use Rattle.pc_ground.specs.Numbers.{IsNumberOf, AreDistinct};
+ghost use Rattle.pc_ground.specs.Numbers.{IsNumberOf};
 ghost use Rattle.graph_text.specs.Graphs.{key_edge, graph_nodes, graph_edges};
-ghost use Rattle.graph_check.specs.Orders.{AreNotNumbered, IsOrdered, Stands, Tells};
+ghost use Rattle.graph_text.specs.GraphReading.{plain_graph};
+ghost use Rattle.graph_check.specs.Orders.{AreNotNumbered, IsOrdered, AreArcsOf};
 
-use super::reach::Reach;
+use super::adjacency::Adjacency;
+use super::columns::Columns;
+use super::search::topological_order;
 use graph_text::Graph;
 use pc_common::Memory;
 use pc_ground::{NodeKey, Numbering};
 use std::alloc::Global;
+use std::marker::Model;
 
-/// The nodes of a graph, and the order that its edges generate.
+/// The order that a graph's edges generate.
 #[derive(Drop)]
-pub(crate) struct Order {
+pub(crate) struct Order<'a> {
+    alloc: Global,
+    graph: &'a Graph,
     nodes: Numbering,
-    reach: Reach,
-    ghost sized: { reach.nodes ≡ length nodes } by { ℕ_set reach.nodes (length nodes) },
+    adjacency: Adjacency,
+    order: Vec<usize>,
+    columns: Columns,
+}
+
+impl<'a> Model for Order<'a> {
+    ghost use Rattle.graph_text.specs.OpenGraphs.{PlainGraph};
+    ghost use Rattle.graph_text.specs.GraphReading.{plain_graph};
+    ghost use Rattle.graph_check.specs.Orders.{IsOrderOf};
+
+    ghost Value = { PlainGraph };
+
+    ghost view = { λ s. plain_graph s.graph.now };
+
+    ghost invariant = { λ s. IsOrderOf (plain_graph s.graph.now) s.nodes s.adjacency s.order.items s.columns };
 }
 
 /// Numbers the nodes, each once, in the order of first sight. The one error is that memory was refused.
@@ -40,70 +58,76 @@ fn numbers(nodes: &Numbering, from: NodeKey, to: NodeKey) -> Option<(u32, u32)>
     Some((nodes.number(from)?, nodes.number(to)?))
 }
 
-/// Enters an edge, or answers false where an end of it is no node or it closes a cycle.
-fn enter(nodes: &Numbering, reach: &mut Reach, edge: &(NodeKey, NodeKey)) -> bool
-    requires sized { reach.old.nodes ≡ length nodes.now }
-    requires distinct { AreDistinct nodes.now }
-    ensures sized { reach.new.nodes ≡ reach.old.nodes }
-    ensures stands { (es : List Edge) → Stands nodes.now reach.old es
-        → MatchBool result (Stands nodes.now reach.new (es ++ key_edge edge.now ∷ [])) (IsOrdered nodes.now (es ++ key_edge edge.now ∷ []) → ⊥) }
+/// The edges by the numbers of their ends; None where an end of one is no node.
+fn number_edges(
+    alloc: Global,
+    nodes: &Numbering,
+    edges: &[(NodeKey, NodeKey)],
+) -> Result<Option<Adjacency>, Memory>
+    ensures { IfOk result (λ found. MatchOption found (HasEnds nodes.now (map key_edge edges.now) → ⊥)
+        (λ adjacency. AreArcsOf nodes.now (map key_edge edges.now) adjacency)) }
 {
-    match numbers(nodes, edge.0, edge.1) {
-        Some((from, to)) => reach.enter(from as usize, to as usize),
-        None => false,
-    }
-}
-
-/// Enters the edges, or answers false where an end of one is no node or they have a cycle.
-fn enter_all(nodes: &Numbering, reach: &mut Reach, edges: &[(NodeKey, NodeKey)]) -> bool
-    requires sized { reach.old.nodes ≡ length nodes.now }
-    requires distinct { AreDistinct nodes.now }
-    requires clear { Stands nodes.now reach.old [] }
-    ensures sized { reach.new.nodes ≡ reach.old.nodes }
-    ensures stands { MatchBool result (Stands nodes.now reach.new (map key_edge edges.now)) (IsOrdered nodes.now (map key_edge edges.now) → ⊥) }
-{
+    let mut adjacency = Adjacency::new(alloc, nodes.len() as usize)?;
     for edge in edges {
-        if !enter(nodes, reach, edge) {
-            return false;
+        match numbers(nodes, edge.0, edge.1) {
+            Some((from, to)) => adjacency.push(from, to)?,
+            None => return Ok(None),
         }
     }
-    true
+    Ok(Some(adjacency))
 }
 
-impl Order {
+impl<'a> Order<'a> {
     /// The order of a graph: None where an end of an edge is on no node line, or where the edges have a cycle.
     ///
-    /// It takes memory for the numbers of the nodes and a bit for each pair of them. An edge whose ends are in
-    /// order by the edges before it costs one look-up, and another a walk over all rows. The one error is that
-    /// memory was refused.
-    pub(crate) fn of(alloc: Global, graph: &Graph) -> Result<Option<Order>, Memory>
-        ensures { IfOk result (λ found. MatchOption found (IsOrdered (graph_nodes graph.now) (graph_edges graph.now) → ⊥)
-            (λ order. IsOrdered (graph_nodes graph.now) (graph_edges graph.now)
-            × ((w : World Node) → IsGenerated (graph_nodes graph.now) (graph_edges graph.now) w → Tells order.nodes order.reach w))) }
+    /// It takes time and memory in proportion to nodes and edges. The one error is that memory was refused.
+    pub(crate) fn of(alloc: Global, graph: &'a Graph) -> Result<Option<Order<'a>>, Memory>
+        ensures { IfOk result (λ found. MatchOption found
+            (IsOrdered (graph_nodes graph.now) (graph_edges graph.now) → ⊥)
+            (λ order. (order ≡ plain_graph graph.now) × IsOrdered order.nodes order.edges)) }
     {
         let nodes = number_all(alloc, graph.nodes.as_slice())?;
-        let mut reach = Reach::new(alloc, nodes.len() as usize)?;
-        if enter_all(&nodes, &mut reach, graph.edges.as_slice()) {
-            Ok(Some(Order { nodes, reach }))
-        } else {
-            Ok(None)
-        }
+        let Some(adjacency) = number_edges(alloc, &nodes, graph.edges.as_slice())? else {
+            return Ok(None);
+        };
+        let Some(order) = topological_order(alloc, &adjacency)? else {
+            return Ok(None);
+        };
+        let columns = Columns::new(alloc, &adjacency)?;
+        Ok(Some(Order {
+            alloc,
+            graph,
+            nodes,
+            adjacency,
+            order,
+            columns,
+        }))
     }
 
     /// Whether the node is there. Takes no memory.
     pub(crate) fn has_node(&self, node: NodeKey) -> bool
-        ensures { (w : World Node) → Tells self.now.nodes self.now.reach w → result ≡ has_node w (key_node node) }
+        ensures { (w : World Node) → IsGenerated self.now.nodes self.now.edges w → result ≡ has_node w (key_node node) }
     {
         self.nodes.number(node).is_some()
     }
 
-    /// Whether the first node happens before the second. Takes no memory.
-    pub(crate) fn has_edge(&self, from: NodeKey, to: NodeKey) -> bool
-        ensures { (w : World Node) → Tells self.now.nodes self.now.reach w → result ≡ has_edge w (key_node from) (key_node to) }
+    /// Whether the first node happens before the second. A listed edge is found among those from its first node.
+    /// For any other pair, what leads to the second node is worked out, once for each such node, in memory for a
+    /// flag for each node. The one error is that memory was refused.
+    pub(crate) fn has_edge(&mut self, from: NodeKey, to: NodeKey) -> Result<bool, Memory>
+        ensures same { self.new ≡ self.old }
+        ensures ordered { IfOk result (λ yes. (w : World Node) → IsGenerated self.old.nodes self.old.edges w
+            → yes ≡ has_edge w (key_node from) (key_node to)) }
     {
         match numbers(&self.nodes, from, to) {
-            Some((from, to)) => self.reach.leads(from as usize, to as usize),
-            None => false,
+            Some((from, to)) => self.columns.leads(
+                self.alloc,
+                &self.adjacency,
+                &self.order,
+                from as usize,
+                to as usize,
+            ),
+            None => Ok(false),
         }
     }
 }

@@ -1,6 +1,6 @@
 pub mod Texts
-pub mod Listing
+pub mod OpenGraphs
 pub mod LinesOf
 pub mod Spaces
-pub mod WordReading
+pub mod GraphTexts
 pub mod WholeGraphs

@@ -6,7 +6,7 @@ use Rattle.std.proofs.lemmas.List.Elements.{All-push}
 use Rattle.pc_common.specs.World.{Node, Edge}
 use Rattle.pc_common.specs.Generated.{HasEnds}
 use Rattle.pc_common.proofs.Elements.{In, in_from_contains, contains_from_in, in_front, in_either}
-use Rattle.pc_common.specs.Lines.{Names, Line, verdict, second, node as node_line, edge as edge_line, split, cycle, path, absent, false_step, end}
+use Rattle.pc_common.specs.Lines.{Names, Line, verdict, second, node as node_line, edge as edge_line, version_two, step, end}
 use Rattle.pc_ground.specs.NodeForm.{IsNodeIn}
 use Rattle.graph_text.specs.Graphs.{graph_lines}
 use Rattle.graph_text.specs.GraphTexts.{IsGraphLineIn}
@@ -19,11 +19,8 @@ graph_line_cases names P of_node of_edge (node_line a) h = of_node a h
 graph_line_cases names P of_node of_edge (edge_line a b) h = of_edge a b h
 graph_line_cases names P of_node of_edge (verdict v) h = absurd h
 graph_line_cases names P of_node of_edge (second v e) h = absurd h
-graph_line_cases names P of_node of_edge (split p) h = absurd h
-graph_line_cases names P of_node of_edge (cycle ns) h = absurd h
-graph_line_cases names P of_node of_edge (path ns) h = absurd h
-graph_line_cases names P of_node of_edge (absent a) h = absurd h
-graph_line_cases names P of_node of_edge false_step h = absurd h
+graph_line_cases names P of_node of_edge version_two h = absurd h
+graph_line_cases names P of_node of_edge (step s) h = absurd h
 graph_line_cases names P of_node of_edge end h = absurd h
 
 abbrev pub nodes_in : List Line → List Node
@@ -32,11 +29,8 @@ nodes_in (node_line a ∷ ls) = a ∷ nodes_in ls
 nodes_in (edge_line a b ∷ ls) = nodes_in ls
 nodes_in (verdict v ∷ ls) = nodes_in ls
 nodes_in (second v e ∷ ls) = nodes_in ls
-nodes_in (split p ∷ ls) = nodes_in ls
-nodes_in (cycle ns ∷ ls) = nodes_in ls
-nodes_in (path ns ∷ ls) = nodes_in ls
-nodes_in (absent a ∷ ls) = nodes_in ls
-nodes_in (false_step ∷ ls) = nodes_in ls
+nodes_in (version_two ∷ ls) = nodes_in ls
+nodes_in (step s ∷ ls) = nodes_in ls
 nodes_in (end ∷ ls) = nodes_in ls
 
 abbrev pub edges_in : List Line → List Edge
@@ -45,11 +39,8 @@ edges_in (node_line a ∷ ls) = edges_in ls
 edges_in (edge_line a b ∷ ls) = (a, b) ∷ edges_in ls
 edges_in (verdict v ∷ ls) = edges_in ls
 edges_in (second v e ∷ ls) = edges_in ls
-edges_in (split p ∷ ls) = edges_in ls
-edges_in (cycle ns ∷ ls) = edges_in ls
-edges_in (path ns ∷ ls) = edges_in ls
-edges_in (absent a ∷ ls) = edges_in ls
-edges_in (false_step ∷ ls) = edges_in ls
+edges_in (version_two ∷ ls) = edges_in ls
+edges_in (step s ∷ ls) = edges_in ls
 edges_in (end ∷ ls) = edges_in ls
 
 nodes_of_edges : (es : List Edge) → nodes_in (map (λ (e : Edge). edge_line e.0 e.1) es) ≡ []
@@ -133,9 +124,6 @@ keeps_ends old new l put ends = with_line l put.follows (nodes_with old.nodes ne
         ]
     with_line (verdict v) follows nodes edges x y has = absurd follows
     with_line (second v e) follows nodes edges x y has = absurd follows
-    with_line (split p) follows nodes edges x y has = absurd follows
-    with_line (cycle ns) follows nodes edges x y has = absurd follows
-    with_line (path ns) follows nodes edges x y has = absurd follows
-    with_line (absent a) follows nodes edges x y has = absurd follows
-    with_line false_step follows nodes edges x y has = absurd follows
+    with_line version_two follows nodes edges x y has = absurd follows
+    with_line (step s) follows nodes edges x y has = absurd follows
     with_line end follows nodes edges x y has = absurd follows

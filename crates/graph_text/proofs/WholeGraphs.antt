@@ -3,8 +3,8 @@ use Rattle.std.proofs.Common.{◌≡◌, ◌⊎◌, ℕ, zero, suc, inl, inr, Bo
 use Rattle.std.specs.Prelude.{Contains, All, codes, IfOk, MatchBool}
 use Rattle.std.proofs.lemmas.List.{map_push, append-nil}
 use Rattle.std.proofs.lemmas.List.Elements.{All-head, All-tail, All-cons, All-append, All-contains, Contains-push, Contains-push_cases, Contains-append_left}
-use Rattle.line_judge.specs.Texts.{IsLine, joined, IsMadeOf, IsRefusedAt}
-use Rattle.line_judge.specs.Feeding.{IsRefusedBy}
+use Rattle.line_judge.specs.Texts.{IsLine, text_of_lines, IsMadeOf, IsRefusedAt}
+use Rattle.line_judge.specs.Feeds.{IsRefusedBy}
 use Rattle.line_judge.proofs.Cuts.{same_first}
 use Rattle.pc_common.specs.World.{Node, Edge}
 use Rattle.pc_common.specs.Lines.{Names, Line, node as node_line, edge as edge_line, node_text, line_words, line_text, lines_text}
@@ -201,25 +201,25 @@ goes_no_further names old text lines refuses h (g, more) =
     refuses last.line last.of_names (last_follows names old g last.line more.graph.ends last.of_names last.lines) last.text_is
 
 -- lines with their LFs are the text
-joined_lines : (names : Names) (ls : List Line) → joined (map (line_words names) ls) ≡ lines_text names ls
+joined_lines : (names : Names) (ls : List Line) → text_of_lines (map (line_words names) ls) ≡ lines_text names ls
 joined_lines names [] = refl
 joined_lines names (l ∷ ls) = ap (λ text. line_text names l ++ text) (joined_lines names ls)
 
-one_cutting : (ls ms : List (List ℕ)) → All IsLine ls → All IsLine ms → joined ls ≡ joined ms → ls ≡ ms
+one_cutting : (ls ms : List (List ℕ)) → All IsLine ls → All IsLine ms → text_of_lines ls ≡ text_of_lines ms → ls ≡ ms
 one_cutting [] [] f g e = refl
-one_cutting [] (m ∷ ms) f g e = absurd (no_line m (joined ms) (sym e))
+one_cutting [] (m ∷ ms) f g e = absurd (no_line m (text_of_lines ms) (sym e))
   where
     no_line : (m rest : List ℕ) → (m ++ 10 ∷ []) ++ rest ≡ [] → ⊥
     no_line [] rest e = no_lines 10 rest e
     no_line (c ∷ cs) rest e = no_lines c ((cs ++ 10 ∷ []) ++ rest) e
-one_cutting (l ∷ ls) [] f g e = absurd (no_line l (joined ls) e)
+one_cutting (l ∷ ls) [] f g e = absurd (no_line l (text_of_lines ls) e)
   where
     no_line : (m rest : List ℕ) → (m ++ 10 ∷ []) ++ rest ≡ [] → ⊥
     no_line [] rest e = no_lines 10 rest e
     no_line (c ∷ cs) rest e = no_lines c ((cs ++ 10 ∷ []) ++ rest) e
 one_cutting (l ∷ ls) (m ∷ ms) f g e =
-    let same = same_first l m (joined ls) (joined ms) (All-head IsLine l ls f) (All-head IsLine m ms g)
-    (sym (append_assoc l (10 ∷ []) (joined ls)) ∙ e ∙ append_assoc m (10 ∷ []) (joined ms)) in
+    let same = same_first l m (text_of_lines ls) (text_of_lines ms) (All-head IsLine l ls f) (All-head IsLine m ms g)
+    (sym (append_assoc l (10 ∷ []) (text_of_lines ls)) ∙ e ∙ append_assoc m (10 ∷ []) (text_of_lines ms)) in
     ap (λ x. x ∷ ls) same.0 ∙ ap (λ xs. m ∷ xs) (one_cutting ls ms (All-tail IsLine l ls f) (All-tail IsLine m ms g) same.1)
 
 module _ (names : Names) (readable : AreReadable names) where
@@ -255,7 +255,7 @@ module _ (names : Names) (readable : AreReadable names) where
   }
 
   -- and of no other's
-  pub one_graph : (text : List ℕ) (g : PlainGraph) (lines : List (List ℕ)) (h : PlainGraph) → All IsLine lines → text ≡ joined lines → AreLinesOf names h lines
+  pub one_graph : (text : List ℕ) (g : PlainGraph) (lines : List (List ℕ)) (h : PlainGraph) → All IsLine lines → text ≡ text_of_lines lines → AreLinesOf names h lines
       → IsTextOf names text g → h ≡ g
   unfolding made
   one_graph text g lines h are_lines is taken of_text =
@@ -277,17 +277,17 @@ same_graph r g nodes edges = ap (λ ns. graph_with ns (graph_edges r)) nodes ∙
 
 -- lines that were taken are the text of their graph
 pub whole_read : (names : Names) (text : List ℕ) (lines : List (List ℕ)) (g : PlainGraph) (r : Graph) → graph_nodes r ≡ g.nodes → graph_edges r ≡ g.edges
-    → text ≡ joined lines → AreLinesOf names g lines → IsTextOf names text (plain_graph r)
+    → text ≡ text_of_lines lines → AreLinesOf names g lines → IsTextOf names text (plain_graph r)
 whole_read names text lines g r nodes edges is taken =
     let P : PlainGraph → Type 0 = λ h. IsTextOf names text h in
     subst P (sym (same_graph r g nodes edges)) (record {
       graph = taken.graph;
-      text_is = is ∙ ap joined taken.lines_are ∙ joined_lines names (graph_lines g.nodes g.edges);
+      text_is = is ∙ ap text_of_lines taken.lines_are ∙ joined_lines names (graph_lines g.nodes g.edges);
     })
 
 -- and the text of no other
 pub whole_again : (names : Names) (text : List ℕ) (lines : List (List ℕ)) (g : PlainGraph) (r : Graph) → graph_nodes r ≡ g.nodes → graph_edges r ≡ g.edges
-    → All IsLine lines → text ≡ joined lines → IsTakenBy names g lines → (h : PlainGraph) → IsTextOf names text h → plain_graph r ≡ h
+    → All IsLine lines → text ≡ text_of_lines lines → IsTakenBy names g lines → (h : PlainGraph) → IsTextOf names text h → plain_graph r ≡ h
 whole_again names text lines g r nodes edges are_lines is taken h of_text =
     same_graph r g nodes edges ∙ one_graph names taken.readable text h lines g are_lines is taken.taken of_text
 

@@ -1,7 +1,7 @@
 -- The lines of a graph as they are read: which texts have their form, and what reading one answers.
 use Rattle.std.specs.Prelude.{ℕ, ◌≡◌, ◌++◌, List, ◌∷◌, Result, Ok, Err, codes}
 use Rattle.pc_common.specs.World.{Node}
-use Rattle.pc_common.specs.Lines.{Names, Line, verdict, second, node, edge, split, cycle, path, absent, false_step, end, node_text, line_words}
+use Rattle.pc_common.specs.Lines.{Names, Line, verdict, second, node, edge, version_two, step, end, node_text, line_words}
 use Rattle.pc_ground.specs.Keys.{key_node}
 use Rattle.pc_ground.specs.NodeForm.{IsNodeForm, IsNodeIn}
 use Rattle.pc_ground.specs.declared.node_key.NodeKey.{NodeKey}
@@ -25,11 +25,8 @@ IsGraphLineIn names (verdict v) = ⊥
 IsGraphLineIn names (second v e) = ⊥
 IsGraphLineIn names (node a) = IsNodeIn names a
 IsGraphLineIn names (edge a b) = IsNodeIn names a × IsNodeIn names b
-IsGraphLineIn names (split p) = ⊥
-IsGraphLineIn names (cycle nodes) = ⊥
-IsGraphLineIn names (path nodes) = ⊥
-IsGraphLineIn names (absent a) = ⊥
-IsGraphLineIn names false_step = ⊥
+IsGraphLineIn names version_two = ⊥
+IsGraphLineIn names (step s) = ⊥
 IsGraphLineIn names end = ⊥
 
 -- two words that have the form of a node's text, and a space between, whatever they name

@@ -1,7 +1,7 @@
 -- The lines of a graph one after another: which may stand next, and what a graph is with one line more.
 use Rattle.std.specs.Prelude.{ℕ, ◌≡◌, ◌↔◌, ◌++◌, List, [], ◌∷◌, map, Contains}
 use Rattle.pc_common.specs.World.{Node, Edge}
-use Rattle.pc_common.specs.Lines.{Names, Line, verdict, second, node, edge, split, cycle, path, absent, false_step, end, line_words}
+use Rattle.pc_common.specs.Lines.{Names, Line, verdict, second, node, edge, version_two, step, end, line_words}
 use Rattle.pc_common.specs.Generated.{HasEnds}
 use Rattle.pc_ground.specs.Keys.{key_node}
 use Rattle.pc_ground.specs.declared.node_key.NodeKey.{NodeKey}
@@ -23,11 +23,8 @@ Follows g (verdict v) = ⊥
 Follows g (second v e) = ⊥
 Follows g (node a) = g.edges ≡ []
 Follows g (edge a b) = Contains g.nodes a × Contains g.nodes b
-Follows g (split p) = ⊥
-Follows g (cycle nodes) = ⊥
-Follows g (path nodes) = ⊥
-Follows g (absent a) = ⊥
-Follows g false_step = ⊥
+Follows g version_two = ⊥
+Follows g (step s) = ⊥
 Follows g end = ⊥
 
 -- the line may stand next, and with it last the old graph's lines are the new one's

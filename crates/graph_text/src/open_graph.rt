@@ -54,7 +54,8 @@ impl OpenGraph {
     ///
     /// After false, and where memory is refused, nothing has changed.
     pub fn take(&mut self, names: &NodeText<'_>, line: &[u8]) -> Result<bool, Memory>
-        ensures taken { IfOk result (λ taken. MatchBool taken (Takes names.now line.now self.old self.new) (Refuses names.now line.now self.old × (self.new ≡ self.old))) }
+        ensures taken { IfOk result (λ taken. MatchBool taken (Takes names.now line.now self.old self.new)
+            (Refuses names.now line.now self.old × (self.new ≡ self.old))) }
         ensures kept { OnErr result (self.new ≡ self.old) }
         ensures of_names { All (IsNodeIn names.now) self.old.nodes → All (IsNodeIn names.now) self.new.nodes }
     {
@@ -67,7 +68,8 @@ impl OpenGraph {
 
     /// Puts a node line last where there is no edge yet. The room of the set is taken first.
     fn take_node(&mut self, key: NodeKey) -> Result<bool, Memory>
-        ensures taken { IfOk result (λ taken. MatchBool taken (IsWithLine self.old self.new (node (key_node key))) ((Follows self.old (node (key_node key)) → ⊥) × (self.new ≡ self.old))) }
+        ensures taken { IfOk result (λ taken. MatchBool taken (IsWithLine self.old self.new (node (key_node key)))
+            ((Follows self.old (node (key_node key)) → ⊥) × (self.new ≡ self.old))) }
         ensures kept { OnErr result (self.new ≡ self.old) }
     {
         if self.graph.edges.len() > 0 {
@@ -81,7 +83,9 @@ impl OpenGraph {
 
     /// Puts an edge line last where both of its ends are listed.
     fn take_edge(&mut self, from: NodeKey, to: NodeKey) -> Result<bool, Memory>
-        ensures taken { IfOk result (λ taken. MatchBool taken (IsWithLine self.old self.new (edge (key_node from) (key_node to))) ((Follows self.old (edge (key_node from) (key_node to)) → ⊥) × (self.new ≡ self.old))) }
+        ensures taken { IfOk result (λ taken. MatchBool taken
+            (IsWithLine self.old self.new (edge (key_node from) (key_node to)))
+            ((Follows self.old (edge (key_node from) (key_node to)) → ⊥) × (self.new ≡ self.old))) }
         ensures kept { OnErr result (self.new ≡ self.old) }
     {
         if !self.listed.contains(&from) || !self.listed.contains(&to) {

@@ -8,7 +8,7 @@ ghost use Rattle.graph_text.specs.Graphs.{graph_nodes, graph_edges, graph_lines,
 
 use super::graph::Graph;
 use pc_common::{Failed, Room, Sink};
-use pc_ground::{NodeKey, NodeText, Part, put_parts};
+use pc_ground::{LinePart, NodeKey, NodeText, put_line_parts};
 
 /// Puts the line of a node.
 fn put_node_line<K: Sink>(
@@ -17,12 +17,16 @@ fn put_node_line<K: Sink>(
     key: NodeKey,
 ) -> Result<(), Failed>
     requires { IsKeyIn names.now key }
-    ensures { Puts K.told K.faults K.taken room.old room.new result (node_line_text names.now key) }
+    ensures { Puts K.view room.old room.new result (node_line_text names.now key) }
 {
-    put_parts(
+    put_line_parts(
         room,
         names,
-        &[Part::Bytes(b"node "), Part::Node(key), Part::Bytes(b"\n")],
+        &[
+            LinePart::Bytes(b"node "),
+            LinePart::Node(key),
+            LinePart::Bytes(b"\n"),
+        ],
     )
 }
 
@@ -35,17 +39,17 @@ fn put_edge_line<K: Sink>(
 ) -> Result<(), Failed>
     requires from { IsKeyIn names.now from }
     requires to { IsKeyIn names.now to }
-    ensures { Puts K.told K.faults K.taken room.old room.new result (edge_line_text names.now (from, to)) }
+    ensures { Puts K.view room.old room.new result (edge_line_text names.now (from, to)) }
 {
-    put_parts(
+    put_line_parts(
         room,
         names,
         &[
-            Part::Bytes(b"edge "),
-            Part::Node(from),
-            Part::Bytes(b" "),
-            Part::Node(to),
-            Part::Bytes(b"\n"),
+            LinePart::Bytes(b"edge "),
+            LinePart::Node(from),
+            LinePart::Bytes(b" "),
+            LinePart::Node(to),
+            LinePart::Bytes(b"\n"),
         ],
     )
 }
@@ -57,7 +61,7 @@ fn put_nodes<K: Sink>(
     keys: &[NodeKey],
 ) -> Result<(), Failed>
     requires { All (IsKeyIn names.now) keys.now }
-    ensures { Puts K.told K.faults K.taken room.old room.new result (flat_map (node_line_text names.now) keys.now) }
+    ensures { Puts K.view room.old room.new result (flat_map (node_line_text names.now) keys.now) }
 {
     for key in keys {
         put_node_line(room, names, *key)?;
@@ -72,7 +76,7 @@ fn put_edges<K: Sink>(
     edges: &[(NodeKey, NodeKey)],
 ) -> Result<(), Failed>
     requires { All (IsEdgeIn names.now) edges.now }
-    ensures { Puts K.told K.faults K.taken room.old room.new result (flat_map (edge_line_text names.now) edges.now) }
+    ensures { Puts K.view room.old room.new result (flat_map (edge_line_text names.now) edges.now) }
 {
     for ends in edges {
         put_edge_line(room, names, ends.0, ends.1)?;
@@ -88,7 +92,7 @@ fn put_graph<K: Sink>(
 ) -> Result<(), Failed>
     requires nodes { All (IsKeyIn names.now) graph.now.nodes }
     requires edges { All (IsEdgeIn names.now) graph.now.edges }
-    ensures { Puts K.told K.faults K.taken room.old room.new result
+    ensures { Puts K.view room.old room.new result
         (flat_map (node_line_text names.now) graph.now.nodes ++ flat_map (edge_line_text names.now) graph.now.edges) }
 {
     put_nodes(room, names, graph.nodes.as_slice())?;
@@ -96,13 +100,15 @@ fn put_graph<K: Sink>(
 }
 
 /// Writes a line for each node, and then one for each edge: `node NODE` and `edge NODE NODE`.
+/// It writes no header.
 ///
 /// The lines go to the sink in pieces of at most 4,096 bytes, and full ones but for the last. Takes no memory.
 /// Where a call of the sink fails, the first bytes of the lines went out, but not all.
 pub fn write_graph<K: Sink>(sink: &mut K, names: &NodeText<'_>, graph: &Graph) -> Result<(), Failed>
     requires nodes { All (IsKeyIn names.now) graph.now.nodes }
     requires edges { All (IsEdgeIn names.now) graph.now.edges }
-    ensures { Writes K.told K.faults K.taken sink.old sink.new result (lines_text names.now (graph_lines (graph_nodes graph.now) (graph_edges graph.now))) }
+    ensures { Writes K.view sink.old sink.new result
+        (lines_text names.now (graph_lines (graph_nodes graph.now) (graph_edges graph.now))) }
 {
     let mut room = Room::new(sink);
     put_graph(&mut room, names, graph)?;

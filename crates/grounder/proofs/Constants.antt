@@ -1,8 +1,8 @@
 -- Folding leaves a constant only as the whole formula.
 use Rattle.pc_ground.specs.PlainGround.{PlainGround, ground_true, ground_false, ground_literal, ground_not, ground_and, ground_or, negated, ground_conjoined, ground_disjoined, simplified}
-use Rattle.grounder.specs.Folded.{IsFolded}
+use Rattle.grounder.specs.InnerConstants.{HasNoInnerConstant}
 
-folded-negated : (g : PlainGround) → IsFolded g → IsFolded (negated g)
+folded-negated : (g : PlainGround) → HasNoInnerConstant g → HasNoInnerConstant (negated g)
 folded-negated ground_true h = tt
 folded-negated ground_false h = tt
 folded-negated (ground_literal l) h = tt
@@ -10,21 +10,21 @@ folded-negated (ground_not g) h = h
 folded-negated (ground_and a b) h = h
 folded-negated (ground_or a b) h = h
 
-folded-conjoined : (g h : PlainGround) → IsFolded g → IsFolded h → IsFolded (ground_conjoined g h)
+folded-conjoined : (g h : PlainGround) → HasNoInnerConstant g → HasNoInnerConstant h → HasNoInnerConstant (ground_conjoined g h)
 folded-conjoined ground_true h p q = q
 folded-conjoined ground_false h p q = tt
 folded-conjoined g ground_true p q = p
 folded-conjoined g ground_false p q = tt
 folded-conjoined g h p q = (p, q)
 
-folded-disjoined : (g h : PlainGround) → IsFolded g → IsFolded h → IsFolded (ground_disjoined g h)
+folded-disjoined : (g h : PlainGround) → HasNoInnerConstant g → HasNoInnerConstant h → HasNoInnerConstant (ground_disjoined g h)
 folded-disjoined ground_false h p q = q
 folded-disjoined ground_true h p q = tt
 folded-disjoined g ground_false p q = p
 folded-disjoined g ground_true p q = tt
 folded-disjoined g h p q = (p, q)
 
-pub folded : (g : PlainGround) → IsFolded (simplified g)
+pub folded : (g : PlainGround) → HasNoInnerConstant (simplified g)
 folded ground_true = tt
 folded ground_false = tt
 folded (ground_literal l) = tt

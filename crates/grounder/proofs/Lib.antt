@@ -1,4 +1,4 @@
 pub mod LastOnes
-pub mod Joining
+pub mod WithMembers
 pub mod Normal
 pub mod Constants

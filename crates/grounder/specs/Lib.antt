@@ -1,3 +1,3 @@
 pub mod Members
-pub mod Said
-pub mod Folded
+pub mod GroundingOf
+pub mod InnerConstants

@@ -6,7 +6,7 @@ ghost use Rattle.pc_ground.specs.PlainGround.{plain_ground, ground_literal};
 ghost use Rattle.pc_ground.specs.Unfolded.{edge_said};
 ghost use Rattle.static_preds.specs.Slots.{AreInRange};
 ghost use Rattle.static_preds.specs.Values.{meanings, scope_of};
-ghost use Rattle.grounder.specs.Said.{said};
+ghost use Rattle.grounder.specs.GroundingOf.{grounding_of};
 
 use pc_case::Case;
 use pc_common::Memory;
@@ -24,7 +24,7 @@ pub(crate) fn ground_nodes(
 ) -> Result<Ground, Memory>
     requires fit { FitNodes (scope_of env.now.items) nodes.now }
     requires range { AreInRange case.now env.now.items }
-    ensures { IfOk result (λ g. plain_ground g ≡ said case.now env.now.items (closed_nodes nodes.now)) }
+    ensures { IfOk result (λ g. plain_ground g ≡ grounding_of case.now env.now.items (closed_nodes nodes.now)) }
 {
     let mut whole = Ground::True;
     for k in 0..nodes.len() {
@@ -43,7 +43,7 @@ pub(crate) fn ground_edges(
 ) -> Result<Ground, Memory>
     requires fit { FitEdges (scope_of env.now.items) edges.now }
     requires range { AreInRange case.now env.now.items }
-    ensures { IfOk result (λ g. plain_ground g ≡ said case.now env.now.items (closed_edges edges.now)) }
+    ensures { IfOk result (λ g. plain_ground g ≡ grounding_of case.now env.now.items (closed_edges edges.now)) }
 {
     let mut whole = Ground::True;
     for k in 0..edges.len() {
@@ -59,7 +59,8 @@ fn edge_literal(case: &Case, env: &Env, edge: &ClosedEdge) -> Literal<NodeKey>
     requires to { FitsNode (scope_of env.now.items) edge.now.to }
     requires range { AreInRange case.now env.now.items }
     ensures { ground_literal (literal_node result)
-        ≡ edge_said (closed_node case.now (meanings env.now.items) edge.now.from) (closed_node case.now (meanings env.now.items) edge.now.to) }
+        ≡ edge_said (closed_node case.now (meanings env.now.items) edge.now.from)
+        (closed_node case.now (meanings env.now.items) edge.now.to) }
 {
     Literal::Edge(
         node_key(case, env, &edge.from),

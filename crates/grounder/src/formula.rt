@@ -6,11 +6,11 @@ ghost use Rattle.pc_ground.specs.PlainGround.{plain_ground, simplified};
 ghost use Rattle.pc_ground.specs.Unfolded.{decided};
 ghost use Rattle.static_preds.specs.Values.{scope_of};
 ghost use Rattle.static_preds.specs.Slots.{AreInRange};
-ghost use Rattle.grounder.specs.Members.{joined};
-ghost use Rattle.grounder.specs.Said.{said, said_over};
+ghost use Rattle.grounder.specs.Members.{with_member};
+ghost use Rattle.grounder.specs.GroundingOf.{grounding_of, grounding_over};
 
 use super::atoms::{ground_edges, ground_nodes};
-use super::connective::Connective;
+use super::operator::Operator;
 use pc_case::Case;
 use pc_common::Memory;
 use pc_ground::Ground;
@@ -29,7 +29,7 @@ pub(crate) fn ground_formula(
 ) -> Result<Ground, Memory>
     requires closed { IsClosed (scope_of env.now.items) (plain_closed formula.now) }
     requires range { AreInRange case.now env.now.items }
-    ensures { IfOk result (λ g. plain_ground g ≡ said case.now env.now.items (plain_closed formula.now)) }
+    ensures { IfOk result (λ g. plain_ground g ≡ grounding_of case.now env.now.items (plain_closed formula.now)) }
 {
     match formula {
         ClosedFormula::Not(body) => {
@@ -37,23 +37,23 @@ pub(crate) fn ground_formula(
         }
         ClosedFormula::And(left, right) => {
             let left = ground_formula(alloc, case, env, left)?;
-            ground_rest(alloc, case, env, Connective::And, left, right)
+            ground_rest(alloc, case, env, Operator::And, left, right)
         }
         ClosedFormula::Or(left, right) => {
             let left = ground_formula(alloc, case, env, left)?;
-            ground_rest(alloc, case, env, Connective::Or, left, right)
+            ground_rest(alloc, case, env, Operator::Or, left, right)
         }
         ClosedFormula::Implies(left, right) => {
             let left = Ground::negation(alloc, ground_formula(alloc, case, env, left)?)?;
-            ground_rest(alloc, case, env, Connective::Or, left, right)
+            ground_rest(alloc, case, env, Operator::Or, left, right)
         }
         ClosedFormula::Forall { sort, body } => {
-            ground_range(alloc, case, env, Connective::And, *sort, body)
+            ground_range(alloc, case, env, Operator::And, *sort, body)
         }
         ClosedFormula::Exists { sort, body } => {
-            ground_range(alloc, case, env, Connective::Or, *sort, body)
+            ground_range(alloc, case, env, Operator::Or, *sort, body)
         }
-        ClosedFormula::Static { pred, args } => Ok(constant(holds(case, *pred, args, env))),
+        ClosedFormula::Static { pred, args } => Ok(constant_of(holds(case, *pred, args, env))),
         ClosedFormula::Nodes(nodes) => ground_nodes(alloc, case, env, nodes),
         ClosedFormula::Edges(edges) => ground_edges(alloc, case, env, edges),
         ClosedFormula::Bind { args, body } => ground_binding(alloc, case, env, args, body),
@@ -61,7 +61,7 @@ pub(crate) fn ground_formula(
 }
 
 /// True or False.
-fn constant(truth: bool) -> Ground
+fn constant_of(truth: bool) -> Ground
     ensures { plain_ground result ≡ simplified (decided truth) }
 {
     if truth { Ground::True } else { Ground::False }
@@ -74,19 +74,20 @@ fn ground_rest(
     alloc: Global,
     case: &Case,
     env: &Env,
-    connective: Connective,
+    operator: Operator,
     left: Ground,
     right: &ClosedFormula,
 ) -> Result<Ground, Memory>
     requires closed { IsClosed (scope_of env.now.items) (plain_closed right.now) }
     requires range { AreInRange case.now env.now.items }
-    ensures { IfOk result (λ g. plain_ground g ≡ joined connective (plain_ground left) (said case.now env.now.items (plain_closed right.now))) }
+    ensures { IfOk result (λ g. plain_ground g
+        ≡ with_member operator (plain_ground left) (grounding_of case.now env.now.items (plain_closed right.now))) }
 {
-    if connective.is_decided_by(&left) {
+    if operator.is_decided_by(&left) {
         return Ok(left);
     }
     let right = ground_formula(alloc, case, env, right)?;
-    connective.join(alloc, left, right)
+    operator.join(alloc, left, right)
 }
 
 /// The members of a quantifier, in the order of its range, joined from the last one. No member behind
@@ -96,25 +97,26 @@ fn ground_range(
     alloc: Global,
     case: &Case,
     env: &Env,
-    connective: Connective,
+    operator: Operator,
     sort: Sort,
     body: &ClosedFormula,
 ) -> Result<Ground, Memory>
     requires room { length env.now.items < MAX_VARIABLES }
     requires closed { IsClosed (with_sort (scope_of env.now.items) sort) (plain_closed body.now) }
     requires range { AreInRange case.now env.now.items }
-    ensures { IfOk result (λ g. plain_ground g ≡ said_over connective case.now env.now.items sort (plain_closed body.now)) }
+    ensures { IfOk result (λ g. plain_ground g
+        ≡ grounding_over operator case.now env.now.items sort (plain_closed body.now)) }
 {
     let mut inside = copy_of(env);
     let mut kept = Vec::new(alloc);
     for k in 0..range_len(case, sort) {
         bind_next(env, &mut inside, value_in_range(sort, k));
         let member = ground_formula(alloc, case, &inside, body)?;
-        if connective.keep(&mut kept, member)? {
-            return Ok(connective.decider());
+        if operator.keep(&mut kept, member)? {
+            return Ok(operator.decider());
         }
     }
-    connective.join_all(alloc, kept)
+    operator.join_all(alloc, kept)
 }
 
 /// The body of a binding.
@@ -128,7 +130,8 @@ fn ground_binding(
 ) -> Result<Ground, Memory>
     requires closed { IsClosed (scope_of env.now.items) (closed_bind args.now (plain_closed body.now)) }
     requires range { AreInRange case.now env.now.items }
-    ensures { IfOk result (λ g. plain_ground g ≡ said case.now env.now.items (closed_bind args.now (plain_closed body.now))) }
+    ensures { IfOk result (λ g. plain_ground g
+        ≡ grounding_of case.now env.now.items (closed_bind args.now (plain_closed body.now))) }
 {
     ground_formula(alloc, case, &with_values(env, args), body)
 }

@@ -3,8 +3,8 @@ ghost use Rattle.pc_syntax.specs.Closed.{plain_closed};
 ghost use Rattle.pc_ground.specs.PlainGround.{plain_ground, simplified, normal};
 ghost use Rattle.pc_ground.specs.GroundTree.{axioms_unfolded, closed_ground_tree};
 
-use super::connective::Connective;
 use super::formula::ground_formula;
+use super::operator::Operator;
 use pc_case::Case;
 use pc_common::Memory;
 use pc_ground::Ground;
@@ -19,16 +19,18 @@ use std::alloc::Global;
 /// The memory that it takes follows the largest part that is left after folding, and never the unfolded
 /// axioms. The one error is that memory was refused.
 pub fn ground(alloc: Global, case: &Case, axioms: &[Closed]) -> Result<Ground, Memory>
-    ensures unfolded { IfOk result (λ g. plain_ground g ≡ simplified (axioms_unfolded case.now (map (λ a. plain_closed a.body) axioms.now))) }
-    ensures tree { IfOk result (λ g. normal (plain_ground g) ≡ closed_ground_tree case.now (map (λ a. plain_closed a.body) axioms.now)) }
+    ensures unfolded { IfOk result (λ g. plain_ground g
+        ≡ simplified (axioms_unfolded case.now (map (λ a. plain_closed a.body) axioms.now))) }
+    ensures tree { IfOk result (λ g. normal (plain_ground g)
+        ≡ closed_ground_tree case.now (map (λ a. plain_closed a.body) axioms.now)) }
 {
     let env = Env::new();
     let mut kept = Vec::new(alloc);
     for axiom in axioms {
         let member = ground_formula(alloc, case, &env, &axiom.body)?;
-        if Connective::And.keep(&mut kept, member)? {
+        if Operator::And.keep(&mut kept, member)? {
             return Ok(Ground::False);
         }
     }
-    Connective::And.join_all(alloc, kept)
+    Operator::And.join_all(alloc, kept)
 }

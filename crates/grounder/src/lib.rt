@@ -6,10 +6,10 @@
 #![tactic(auto)]
 
 mod atoms;
-mod connective;
 mod formula;
 mod grounding;
 mod laws;
+mod operator;
 
 pub use grounding::ground;
 pub use laws::a_constant_is_the_whole;

@@ -4,16 +4,16 @@ use Rattle.std.specs.List.{All}
 use Rattle.std.proofs.lemmas.List.{get_or_at}
 use Rattle.std.proofs.lemmas.List.Elements.{All-head, All-tail}
 use Rattle.std.proofs.lemmas.Grind.{flat_map-append}
-use Rattle.line_judge.specs.Texts.{IsLine, joined}
+use Rattle.line_judge.specs.Texts.{IsLine, text_of_lines}
 
 -- the line, its LF and all that follows
-pub joined_cons : (line : List ℕ) (lines : List (List ℕ)) (rest : List ℕ) → joined (line ∷ lines) ++ rest ≡ line ++ 10 ∷ (joined lines ++ rest)
-joined_cons line lines rest =
-    append_assoc (line ++ 10 ∷ []) (joined lines) rest ∙ append_assoc line (10 ∷ []) (joined lines ++ rest)
+pub text_cons : (line : List ℕ) (lines : List (List ℕ)) (rest : List ℕ) → text_of_lines (line ∷ lines) ++ rest ≡ line ++ 10 ∷ (text_of_lines lines ++ rest)
+text_cons line lines rest =
+    append_assoc (line ++ 10 ∷ []) (text_of_lines lines) rest ∙ append_assoc line (10 ∷ []) (text_of_lines lines ++ rest)
 
-pub joined_append : (lines more : List (List ℕ)) (rest : List ℕ) → joined (lines ++ more) ++ rest ≡ joined lines ++ (joined more ++ rest)
-joined_append lines more rest =
-    ap (λ text. text ++ rest) (flat_map-append (λ line. line ++ 10 ∷ []) lines more) ∙ append_assoc (joined lines) (joined more) rest
+pub text_append : (lines more : List (List ℕ)) (rest : List ℕ) → text_of_lines (lines ++ more) ++ rest ≡ text_of_lines lines ++ (text_of_lines more ++ rest)
+text_append lines more rest =
+    ap (λ text. text ++ rest) (flat_map-append (λ line. line ++ 10 ∷ []) lines more) ∙ append_assoc (text_of_lines lines) (text_of_lines more) rest
 
 -- equal texts have equal first lines
 pub same_first : (l m xs ys : List ℕ) → IsLine l → IsLine m → l ++ 10 ∷ xs ≡ m ++ 10 ∷ ys → (l ≡ m) × (xs ≡ ys)
@@ -28,35 +28,35 @@ same_first (c ∷ l) (d ∷ m) xs ys a b e =
 
 -- of two cuts of one text the longer begins with the shorter
 pub first_lines : (ls ms : List (List ℕ)) (r s : List ℕ) → All IsLine ls → All IsLine ms → length ms ≤ length ls
-    → joined ls ++ r ≡ joined ms ++ s → (more : List (List ℕ)) × (ls ≡ ms ++ more)
+    → text_of_lines ls ++ r ≡ text_of_lines ms ++ s → (more : List (List ℕ)) × (ls ≡ ms ++ more)
 first_lines ls [] r s a b fewer e = (ls, refl)
 first_lines [] (m ∷ ms) r s a b fewer e = absurd (omega arith)
 first_lines (l ∷ ls) (m ∷ ms) r s a b fewer e =
-    let same = same_first l m (joined ls ++ r) (joined ms ++ s) (All-head IsLine l ls a) (All-head IsLine m ms b)
-    (sym (joined_cons l ls r) ∙ e ∙ joined_cons m ms s) in
+    let same = same_first l m (text_of_lines ls ++ r) (text_of_lines ms ++ s) (All-head IsLine l ls a) (All-head IsLine m ms b)
+    (sym (text_cons l ls r) ∙ e ∙ text_cons m ms s) in
     let rest = first_lines ls ms r s (All-tail IsLine l ls a) (All-tail IsLine m ms b) (omega arith) same.1 in
     (rest.0, ap (λ x. x ∷ ls) same.0 ∙ ap (λ zs. m ∷ zs) rest.1)
 
 -- a cut up to the last LF has all lines
 pub fewer_lines : (ls ms : List (List ℕ)) (r s : List ℕ) → All IsLine ls → All IsLine ms → IsLine r
-    → joined ls ++ r ≡ joined ms ++ s → length ms ≤ length ls
+    → text_of_lines ls ++ r ≡ text_of_lines ms ++ s → length ms ≤ length ls
 fewer_lines ls [] r s a b open_line e = omega arith
 fewer_lines [] (m ∷ ms) r s a b open_line e =
-    let is : r ≡ m ++ 10 ∷ (joined ms ++ s) = e ∙ joined_cons m ms s in
-    let long : length r ≡ length m + suc (length (joined ms ++ s)) = ap length is ∙ length-append m (10 ∷ (joined ms ++ s)) in
+    let is : r ≡ m ++ 10 ∷ (text_of_lines ms ++ s) = e ∙ text_cons m ms s in
+    let long : length r ≡ length m + suc (length (text_of_lines ms ++ s)) = ap length is ∙ length-append m (10 ∷ (text_of_lines ms ++ s)) in
     absurd (open_line (length m) 0 (omega arith)
-    (ap (λ xs. get_or xs (length m) 0) is ∙ get_or_at m 10 (joined ms ++ s) 0 (length m) refl))
+    (ap (λ xs. get_or xs (length m) 0) is ∙ get_or_at m 10 (text_of_lines ms ++ s) 0 (length m) refl))
 fewer_lines (l ∷ ls) (m ∷ ms) r s a b open_line e =
-    let same = same_first l m (joined ls ++ r) (joined ms ++ s) (All-head IsLine l ls a) (All-head IsLine m ms b)
-    (sym (joined_cons l ls r) ∙ e ∙ joined_cons m ms s) in
+    let same = same_first l m (text_of_lines ls ++ r) (text_of_lines ms ++ s) (All-head IsLine l ls a) (All-head IsLine m ms b)
+    (sym (text_cons l ls r) ∙ e ∙ text_cons m ms s) in
     let rest = fewer_lines ls ms r s (All-tail IsLine l ls a) (All-tail IsLine m ms b) open_line same.1 in
     omega arith
 
 -- there are no more lines than bytes
-pub lines_within : (lines : List (List ℕ)) (rest : List ℕ) → length lines ≤ length (joined lines ++ rest)
+pub lines_within : (lines : List (List ℕ)) (rest : List ℕ) → length lines ≤ length (text_of_lines lines ++ rest)
 lines_within [] rest = omega arith
 lines_within (l ∷ ls) rest =
     let below = lines_within ls rest in
-    let long = ap length (joined_cons l ls rest) in
-    let split = length-append l (10 ∷ (joined ls ++ rest)) in
+    let long = ap length (text_cons l ls rest) in
+    let split = length-append l (10 ∷ (text_of_lines ls ++ rest)) in
     omega arith

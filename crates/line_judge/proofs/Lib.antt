@@ -1,4 +1,4 @@
 pub mod Cuts
 pub mod Refusals
-pub mod Judgings
-pub mod Feedings
+pub mod JudgedLines
+pub mod Feeds

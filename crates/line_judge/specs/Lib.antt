@@ -1,3 +1,3 @@
 pub mod Texts
-pub mod Judging
-pub mod Feeding
+pub mod JudgedLines
+pub mod Feeds

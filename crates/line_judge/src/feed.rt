@@ -1,6 +1,6 @@
 ghost use Rattle.std.specs.Prelude.{◌≡◌, ◌<◌, ◌^◌, ◌++◌, ◌⊎◌, ◌↔◌, [], List, ℕ, IsTrue, IsOk, IfOk, length};
 ghost use Rattle.line_judge.specs.Texts.{HoldsRefused};
-ghost use Rattle.line_judge.specs.Feeding.{After, IsSettled, Ended};
+ghost use Rattle.line_judge.specs.Feeds.{HasTaken, IsSettled, IsAnswer};
 
 use super::judge::Judge;
 use super::judged::Judged;
@@ -31,7 +31,7 @@ impl<J: Judge> Feed<J> {
     pub fn new(alloc: Global, judge: J, limit: u64) -> Feed<J>
         requires stands { J.stands judge [] }
         requires short { limit < 2 ^ 63 }
-        ensures { After J.begins J.whole J.stands judge limit [] result }
+        ensures { HasTaken J.begins J.whole J.stands judge limit [] result }
     {
         Feed {
             judged: Judged::new(alloc, judge),
@@ -45,7 +45,8 @@ impl<J: Judge> Feed<J> {
     /// memory.
     pub fn is_settled(&self) -> bool
         ensures is { IsTrue result ↔ IsSettled self.now }
-        ensures told { (start : J) → (limit : ℕ) → (text : List ℕ) → After J.begins J.whole J.stands start limit text self.now
+        ensures by_text { (start : J) → (limit : ℕ) → (text : List ℕ)
+            → HasTaken J.begins J.whole J.stands start limit text self.now
             → IsTrue result ↔ ((limit < length text) ⊎ HoldsRefused (J.begins start) text) }
     {
         self.refused || self.limit < self.bytes
@@ -54,10 +55,12 @@ impl<J: Judge> Feed<J> {
     /// Takes the next piece of the text. `Memory` comes where the open line or the judge gets none, and never
     /// where the feed is settled, before the piece or by its length: then the piece is only counted.
     pub fn feed(mut self, piece: &[u8]) -> Result<Feed<J>, Memory>
-        ensures took { (start : J) → (limit : ℕ) → (text : List ℕ) → After J.begins J.whole J.stands start limit text self
-            → IfOk result (After J.begins J.whole J.stands start limit (text ++ piece.now)) }
+        ensures took { (start : J) → (limit : ℕ) → (text : List ℕ)
+            → HasTaken J.begins J.whole J.stands start limit text self
+            → IfOk result (HasTaken J.begins J.whole J.stands start limit (text ++ piece.now)) }
         ensures settled { IsSettled self → IsOk result }
-        ensures sure { (start : J) → (limit : ℕ) → (text : List ℕ) → After J.begins J.whole J.stands start limit text self
+        ensures sure { (start : J) → (limit : ℕ) → (text : List ℕ)
+            → HasTaken J.begins J.whole J.stands start limit text self
             → (limit < length (text ++ piece.now)) ⊎ HoldsRefused (J.begins start) text → IsOk result }
     {
         self.bytes = self.bytes.saturating_add(piece.len() as u64);
@@ -69,8 +72,9 @@ impl<J: Judge> Feed<J> {
 
     /// What the text is. Takes no memory.
     pub fn finish(self) -> Finished<J>
-        ensures { (start : J) → (limit : ℕ) → (text : List ℕ) → After J.begins J.whole J.stands start limit text self
-            → Ended J.begins J.whole J.stands start limit text result }
+        ensures { (start : J) → (limit : ℕ) → (text : List ℕ)
+            → HasTaken J.begins J.whole J.stands start limit text self
+            → IsAnswer J.begins J.whole J.stands start limit text result }
     {
         if self.limit < self.bytes {
             return Finished::Refused(0);

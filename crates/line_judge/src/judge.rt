@@ -18,8 +18,10 @@ pub trait Judge: Drop {
     fn step(&mut self, line: &[u8]) -> Result<bool, Memory>
         ensures same_begins { (lines : List (List ℕ)) → begins self.old lines ↔ begins self.new lines }
         ensures same_whole { (lines : List (List ℕ)) → whole self.old lines ↔ whole self.new lines }
-        ensures goes { IfOk result (λ good. good ≡ true → (lines : List (List ℕ)) → stands self.old lines → stands self.new (lines ++ line.now ∷ [])) }
-        ensures refused { IfOk result (λ good. good ≡ false → (lines : List (List ℕ)) → stands self.old lines → begins self.old (lines ++ line.now ∷ []) → ⊥) };
+        ensures goes { IfOk result (λ good. good ≡ true → (lines : List (List ℕ)) → stands self.old lines
+            → stands self.new (lines ++ line.now ∷ [])) }
+        ensures refused { IfOk result (λ good. good ≡ false → (lines : List (List ℕ)) → stands self.old lines
+            → begins self.old (lines ++ line.now ∷ []) → ⊥) };
 
     /// Whether the lines so far are a whole text.
     fn is_done(&self) -> bool
@@ -29,7 +31,8 @@ pub trait Judge: Drop {
     ghost stands_begins: { (judge : Self) → (lines : List (List ℕ)) → stands judge lines → begins judge lines };
 
     /// So does a first part of lines that begin one.
-    ghost begins_first: { (judge : Self) → (lines more : List (List ℕ)) → begins judge (lines ++ more) → begins judge lines };
+    ghost begins_first: { (judge : Self) → (lines more : List (List ℕ)) → begins judge (lines ++ more)
+        → begins judge lines };
 
     /// A whole text begins itself.
     ghost whole_begins: { (judge : Self) → (lines : List (List ℕ)) → whole judge lines → begins judge lines };

@@ -1,6 +1,6 @@
 ghost use Rattle.std.specs.Prelude.{◌≡◌, ◌++◌, [], List, ℕ, codes, IfOk, MatchBool};
 ghost use Rattle.line_judge.specs.Texts.{IsLine};
-ghost use Rattle.line_judge.specs.Judging.{IsGood, IsBad, Ends};
+ghost use Rattle.line_judge.specs.JudgedLines.{IsGood, IsBad, IsEnd};
 
 use super::judge::Judge;
 use super::line::split_line;
@@ -34,7 +34,8 @@ impl<J: Judge> Judged<J> {
     /// there is none. Each byte is looked at once, and only a line that goes over a cut is copied.
     pub(crate) fn read(&mut self, piece: &[u8]) -> Result<bool, Memory>
         ensures { (start : J) → (text : List ℕ) → IsGood J.begins J.whole J.stands start text self.old
-            → IfOk result (λ good. MatchBool good (IsGood J.begins J.whole J.stands start (text ++ piece.now) self.new) (IsBad J.begins start (text ++ piece.now) self.new.lines)) }
+            → IfOk result (λ good. MatchBool good (IsGood J.begins J.whole J.stands start (text ++ piece.now) self.new)
+            (IsBad J.begins start (text ++ piece.now) self.new.lines)) }
     {
         let mut left = piece;
         while let Some((line, rest)) = split_line(left) {
@@ -52,7 +53,9 @@ impl<J: Judge> Judged<J> {
     fn end_line(&mut self, end: &[u8]) -> Result<bool, Memory>
         requires { IsLine end.now }
         ensures { (start : J) → (text : List ℕ) → IsGood J.begins J.whole J.stands start text self.old
-            → IfOk result (λ good. MatchBool good (IsGood J.begins J.whole J.stands start (text ++ (end.now ++ codes "\n")) self.new) (IsBad J.begins start (text ++ (end.now ++ codes "\n")) self.new.lines)) }
+            → IfOk result (λ good. MatchBool good
+            (IsGood J.begins J.whole J.stands start (text ++ (end.now ++ codes "\n")) self.new)
+            (IsBad J.begins start (text ++ (end.now ++ codes "\n")) self.new.lines)) }
     {
         self.lines = self.lines.saturating_add(1);
         if self.part.is_empty() {
@@ -75,7 +78,7 @@ impl<J: Judge> Judged<J> {
     /// of the line that is refused at the text's end, from 1. Takes no memory.
     pub(crate) fn end(self) -> Result<J, u64>
         ensures { (start : J) → (text : List ℕ) → IsGood J.begins J.whole J.stands start text self
-            → Ends J.begins J.whole J.stands start text result }
+            → IsEnd J.begins J.whole J.stands start text result }
     {
         if self.part.is_empty() && self.judge.is_done() {
             return Ok(self.judge);

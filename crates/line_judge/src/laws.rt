@@ -1,14 +1,15 @@
 // Laws of the definitions that a feed is stated by. The functions do nothing: their contracts are the laws.
 ghost use Rattle.std.specs.Prelude.{◌≡◌, ℕ};
 ghost use Rattle.line_judge.specs.Texts.{IsMadeOf, IsRefusedAt};
-ghost use Rattle.line_judge.specs.Feeding.{Ended, AreAlike};
+ghost use Rattle.line_judge.specs.Feeds.{IsAnswer, AreAlike};
 ghost use Rattle.line_judge.specs.declared.feed.Finished.{Finished};
 
 use super::judge::Judge;
 
 /// A text that has a refused line is not whole.
 pub fn no_text_is_whole_and_refused<J: Judge>(judge: &J, text: &[u8])
-    ensures { (n : ℕ) → IsMadeOf (J.whole judge.now) text.now → IsRefusedAt (J.begins judge.now) (J.whole judge.now) text.now n → ⊥ }
+    ensures { (n : ℕ) → IsMadeOf (J.whole judge.now) text.now
+        → IsRefusedAt (J.begins judge.now) (J.whole judge.now) text.now n → ⊥ }
 {}
 
 /// A text has one refused line at most.
@@ -19,6 +20,6 @@ pub fn one_line_is_refused<J: Judge>(judge: &J, text: &[u8])
 
 /// A text has one answer: it is whole, is past the limit, or has this refused line, whatever was read.
 pub fn a_text_has_one_answer<J: Judge>(judge: &J, limit: u64, text: &[u8])
-    ensures { (one other : Finished J) → Ended J.begins J.whole J.stands judge.now limit text.now one
-        → Ended J.begins J.whole J.stands judge.now limit text.now other → AreAlike one other }
+    ensures { (one other : Finished J) → IsAnswer J.begins J.whole J.stands judge.now limit text.now one
+        → IsAnswer J.begins J.whole J.stands judge.now limit text.now other → AreAlike one other }
 {}

@@ -3,7 +3,7 @@ ghost use Rattle.line_judge.specs.Texts.{IsLine, IsFirstLine};
 
 use memchr::memchr;
 
-/// The first line without its LF, and what stands behind the LF. None where there is no LF. Takes no memory.
+/// The first line without its LF, and what stands after the LF. None where there is no LF. Takes no memory.
 pub(crate) fn split_line(text: &[u8]) -> Option<(&[u8], &[u8])>
     ensures { MatchOption result (IsLine text.now) (λ parts. IsFirstLine text.now parts.0.now parts.1.now) }
 {

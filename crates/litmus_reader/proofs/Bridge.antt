@@ -2,21 +2,27 @@
 use Rattle.std.proofs.Common.{◌≡◌, ℕ, Bool, true, false, List, [], ◌∷◌, ◌++◌, Some, None, IsTrue, MatchOption, map, codes, refl, sym, ap, subst, ◌∙◌, append_assoc, if◌then◌else◌}
 use Rattle.std.proofs.lemmas.Bool.{eqb-true}
 use Rattle.std.proofs.lemmas.List.{append-nil, map-append}
-use Rattle.pc_case.specs.declared.op.Page.{Page}
-use Rattle.pc_case.specs.declared.op.Memop.{Memop}
+use Rattle.pc_case.specs.declared.address.Page.{Page}
+use Rattle.pc_case.specs.declared.address.Address.{Address}
+use Rattle.pc_case.specs.declared.address.Address.TheVariants.{Page as PageAddress, Entry as EntryAddress}
 use Rattle.pc_common.specs.declared.place.Place.{Place}
 use Rattle.ll_grammar.specs.Rules.{Derives}
 use Rattle.ll_grammar.specs.Texts.{IsText}
 use Rattle.ll_grammar.specs.declared.grammar.Symbol.{Symbol}
 use Rattle.ll_grammar.specs.declared.grammar.Symbol.TheVariants.{Class, Part}
-use Rattle.ll_grammar.proofs.Meanings.{Each, meaning, derives-begin, derives-end}
-use Rattle.ll_grammar.proofs.Meanings.Each.{none, class, part}
+use Rattle.ll_grammar.proofs.DerivesLaws.{Each, meaning, derives-begin, derives-end}
+use Rattle.ll_grammar.proofs.DerivesLaws.Each.{none, class, part}
 use Rattle.uspec_lexer.specs.Token.{Token, Kind}
 use Rattle.litmus_reader.specs.Expected.{Expected, a_word, word_at, a_number, number_at, a_text, a_symbol, Is, Spell}
-use Rattle.litmus_reader.specs.Syntax.{spelled_page, spelled_data, spelled_memop, spelled_access, spelled_head, spelled_item, spelled_items, spelled_test, open_, close_, dot, arrow, IsTest}
-use Rattle.litmus_reader.specs.Terminals.{word_terminal, symbol_terminal, kind_terminal, terminal_of, is_name}
+use Rattle.litmus_reader.specs.Syntax.{spelled_page, spelled_address, spelled_entry, spelled_value, spelled_stated, spelled_touch, spelled_access, spelled_head, spelled_statement, spelled_item, spelled_items, spelled_test, open_, close_, dot, arrow, format_word, IsAddressOf, IsValueOf, IsActionOf, IsItemOf, AreItemsOf, IsTest}
+use Rattle.litmus_reader.specs.Terminals.{spelling, word_terminal, symbol_terminal, kind_terminal, terminal_of, is_name}
 use Rattle.litmus_reader.specs.Phrases.{behind, may_end, deep, rules}
 use Rattle.litmus_reader.specs.declared.item.Numeral.{Numeral}
+use Rattle.litmus_reader.specs.declared.format.Format.{Format}
+use Rattle.litmus_reader.specs.declared.format.Format.TheVariants.{One, Two}
+use Rattle.litmus_reader.specs.declared.item.ValueText.{ValueText}
+use Rattle.litmus_reader.specs.declared.item.ValueText.TheVariants.{Number as number_text, Entry as entry_text}
+use Rattle.litmus_reader.specs.declared.item.Touch.{Touch}
 use Rattle.litmus_reader.specs.declared.item.Head.{Head}
 use Rattle.litmus_reader.specs.declared.item.End.{End}
 use Rattle.litmus_reader.specs.declared.item.Action.{Action}
@@ -25,10 +31,10 @@ use Rattle.litmus_reader.specs.declared.item.ValueLine.{ValueLine}
 use Rattle.litmus_reader.specs.declared.item.Item.{Item}
 use Rattle.litmus_reader.specs.declared.item.Item.TheVariants.{Microop as microop, Relationship as relationship, Initial as initial, Final as final, Permitted as permitted, Forbidden as forbidden}
 use Rattle.litmus_reader.specs.declared.terminal.Terminal.{Terminal}
-use Rattle.litmus_reader.specs.declared.terminal.Terminal.TheVariants.{Litmus, Microop, Relationship, Init, Final, Permitted, Forbidden, Read, Write, Fence, Va, Pa, Data, Name, Number, Text, Open, Close, Dot, Arrow, Other}
+use Rattle.litmus_reader.specs.declared.terminal.Terminal.TheVariants.{Litmus, Litmus2, Microop, Relationship, Init, Final, Permitted, Forbidden, Read, Write, Fence, Va, Pa, Entry, Data, Maps, Name, Number, Text, Open, Close, Dot, Arrow, Other}
 use Rattle.litmus_reader.specs.declared.phrase.Phrase.{Phrase}
-use Rattle.litmus_reader.specs.declared.phrase.Phrase.TheVariants.{Test, Items, Access, Types, AnyName, VirtualPage, PhysicalPage, Value}
-use Rattle.litmus_reader.proofs.Words.{spelling, sort_of, name-of_kind, number-of_kind, text-of_kind, word-of_kind, symbol-of_kind, is_name-sort, word_is_name}
+use Rattle.litmus_reader.specs.declared.phrase.Phrase.TheVariants.{Test, Items, Access, Types, AnyName, VirtualPage, Address as AddressPart, AddressInside, ReadValue, WriteValue, ValueInside, StatedValue}
+use Rattle.litmus_reader.proofs.Words.{sort_of, name-of_kind, number-of_kind, text-of_kind, word-of_kind, symbol-of_kind, is_name-sort, word_is_name}
 use Rattle.litmus_reader.proofs.Spelling.{spell-append, map-head, map-part}
 
 -- From the table to the grammar: tokens of these terminals spell a text.
@@ -39,30 +45,38 @@ place_of t = record { offset = t.at }
 -- what a phrase's tokens spell
 abbrev Spelled : Phrase → List Token → Type 0
 Spelled Test ts = IsTest ts
-Spelled Items ts = (is : List Item) × Spell (spelled_items is) ts
-Spelled Access ts = (types : List (List ℕ)) × (action : Action) × Spell (spelled_access types action) ts
+Spelled (Items f) ts = (is : List Item) × AreItemsOf f is × Spell (spelled_items is) ts
+Spelled (Access f) ts = (types : List (List ℕ)) × (action : Action) × IsActionOf f action × Spell (spelled_access types action) ts
 Spelled Types ts = (types : List (List ℕ)) × Spell (map a_word types) ts
 Spelled AnyName ts = (w : List ℕ) × Spell (a_word w ∷ []) ts
 Spelled VirtualPage ts = (p : Page) × Spell (spelled_page (codes "VA") p) ts
-Spelled PhysicalPage ts = (p : Page) × Spell (spelled_page (codes "PA") p) ts
-Spelled Value ts = (d : ℕ) × Spell (spelled_data d) ts
+Spelled (AddressPart f) ts = (a : Address) × IsAddressOf f a × Spell (spelled_address a) ts
+Spelled (AddressInside f) ts = (a : Address) × IsAddressOf f a × ((o : Token) → Is open_ o → Spell (spelled_address a) (o ∷ ts))
+Spelled (ReadValue f) ts = (v : ValueText) × IsValueOf f v × Spell (spelled_value v) ts
+Spelled (WriteValue f) ts = (v : ValueText) × IsValueOf f v × Spell (spelled_value v) ts
+Spelled (ValueInside f) ts = (v : ValueText) × IsValueOf f v × ((o : Token) → Is open_ o → Spell (spelled_value v) (o ∷ ts))
+Spelled (StatedValue f) ts = (v : ValueText) × IsValueOf f v × Spell (spelled_stated v) ts
 
 abbrev Means : Phrase → List Terminal → List Bool → Type 0
 Means n cs marks = (ts : List Token) → map terminal_of ts ≡ cs → Spelled n ts
 
 means-end : (n : Phrase) → IsTrue (may_end n) → Means n [] []
-means-end Items h [] e = ([], tt)
+means-end (Items f) h [] e = ([], tt, tt)
 means-end Types h [] e = ([], tt)
 means-end Test h [] e = absurd (cc)
-means-end Access h [] e = absurd (cc)
+means-end (Access f) h [] e = absurd (cc)
 means-end AnyName h [] e = absurd (cc)
 means-end VirtualPage h [] e = absurd (cc)
-means-end PhysicalPage h [] e = absurd (cc)
-means-end Value h [] e = absurd (cc)
+means-end (AddressPart f) h [] e = absurd (cc)
+means-end (AddressInside f) h [] e = absurd (cc)
+means-end (ReadValue f) h [] e = absurd (cc)
+means-end (WriteValue f) h [] e = absurd (cc)
+means-end (ValueInside f) h [] e = absurd (cc)
+means-end (StatedValue f) h [] e = absurd (cc)
 means-end n h (t ∷ ts) e = absurd (cc)
 
-abbrev Keeps : Phrase → Terminal → List (Symbol Terminal Phrase) → Type 0
-Keeps n c body = (cs : List Terminal) (marks : List Bool) → Each Means body cs marks → Means n (c ∷ cs) (false ∷ marks)
+abbrev IsRule : Phrase → Terminal → List (Symbol Terminal Phrase) → Type 0
+IsRule n c body = (cs : List Terminal) (marks : List Bool) → Each Means body cs marks → Means n (c ∷ cs) (false ∷ marks)
 
 -- what a token of a terminal is
 is_word : (t : Token) (c : Terminal) → sort_of c ≡ 0 → (c ≡ Name → ⊥) → terminal_of t ≡ c → Is (a_word (spelling c)) t
@@ -106,25 +120,83 @@ page_of (o ∷ w ∷ t ∷ x ∷ z ∷ []) c s own e =
     (record { tag = tag; index = index }, (is_open o cc, (is_word w c s own cc, (is_tag, (is_index, (is_close z cc, tt))))))
 page_of ts c s own e = absurd (cc)
 
-virtual_page : Keeps VirtualPage Open (Class Va ∷ Class Number ∷ Class Number ∷ Class Close ∷ [])
+virtual_page : IsRule VirtualPage Open (Class Va ∷ Class Number ∷ Class Number ∷ Class Close ∷ [])
 virtual_page _ _ (class (class (class (class none)))) ts e = page_of ts Va refl (λ h. cc) e
 
-physical_page : Keeps PhysicalPage Open (Class Pa ∷ Class Number ∷ Class Number ∷ Class Close ∷ [])
-physical_page _ _ (class (class (class (class none)))) ts e = page_of ts Pa refl (λ h. cc) e
+-- behind the bracket of an address
+page_inside : (f : Format) → IsRule (AddressInside f) Pa (Class Number ∷ Class Number ∷ Class Close ∷ [])
+page_inside f _ _ (class (class (class none))) (w ∷ t ∷ x ∷ z ∷ []) e =
+    let (tag, is_tag) = is_number t cc in
+    let (index, is_index) = is_number x cc in
+    let is_pa = is_word w Pa refl (λ h. cc) cc in
+    let closes : Is close_ z = is_close z cc in
+    (PageAddress tag index, tt, λ o opens. (opens, (is_pa, (is_tag, (is_index, (closes, tt))))))
+page_inside f _ _ (class (class (class none))) ts e = absurd (cc)
 
-value : Keeps Value Open (Class Data ∷ Class Number ∷ Class Close ∷ [])
-value _ _ (class (class (class none))) (o ∷ w ∷ d ∷ z ∷ []) e =
+entry_inside : IsRule (AddressInside Two) Entry (Class Number ∷ Class Close ∷ [])
+entry_inside _ _ (class (class none)) (w ∷ t ∷ z ∷ []) e =
+    let (tag, is_tag) = is_number t cc in
+    let is_entry = is_word w Entry refl (λ h. cc) cc in
+    let closes : Is close_ z = is_close z cc in
+    (EntryAddress tag, tt, λ o opens. (opens, (is_entry, (is_tag, (closes, tt)))))
+entry_inside _ _ (class (class none)) ts e = absurd (cc)
+
+address : (f : Format) → IsRule (AddressPart f) Open (Part (AddressInside f) ∷ [])
+address f _ _ (part {cs = cs} inside none) (o ∷ ts) e =
+    let (a, of, spells) = inside ts (let rest : map terminal_of ts ≡ cs ++ [] = cc in rest ∙ append-nil cs) in
+    (a, of, spells o (is_open o cc))
+address f _ _ (part inside none) [] e = absurd (cc)
+
+-- behind the bracket of a value
+number_inside : (f : Format) → IsRule (ValueInside f) Data (Class Number ∷ Class Close ∷ [])
+number_inside f _ _ (class (class none)) (w ∷ d ∷ z ∷ []) e =
     let (n, is_n) = is_number d cc in
-    (n, (is_open o cc, (is_word w Data refl (λ h. cc) cc, (is_n, (is_close z cc, tt)))))
-value _ _ (class (class (class none))) ts e = absurd (cc)
+    let is_data = is_word w Data refl (λ h. cc) cc in
+    let closes : Is close_ z = is_close z cc in
+    (number_text n, tt, λ o opens. (opens, (is_data, (is_n, (closes, tt)))))
+number_inside f _ _ (class (class none)) ts e = absurd (cc)
 
-any_name : (c : Terminal) → is_name c ≡ true → Keeps AnyName c []
+-- Maps t a d ")"
+entry_of : (ts : List Token) → map terminal_of ts ≡ Maps ∷ Number ∷ Number ∷ Number ∷ Close ∷ []
+    → (tag : ℕ) × (accessed : Numeral) × (dirty : Numeral) × ((o : Token) → Is open_ o → Spell (spelled_entry tag accessed dirty) (o ∷ ts))
+entry_of (w ∷ t ∷ a ∷ d ∷ z ∷ []) e =
+    let (tag, is_tag) = is_number t cc in
+    let (accessed, is_accessed) = is_number_at a cc in
+    let (dirty, is_dirty) = is_number_at d cc in
+    let is_maps = is_word w Maps refl (λ h. cc) cc in
+    let closes : Is close_ z = is_close z cc in
+    (tag, accessed, dirty, λ o opens. (opens, (is_maps, (is_tag, (is_accessed, (is_dirty, (closes, tt)))))))
+entry_of ts e = absurd (cc)
+
+maps_inside : IsRule (ValueInside Two) Maps (Class Number ∷ Class Number ∷ Class Number ∷ Class Close ∷ [])
+maps_inside _ _ (class (class (class (class none)))) ts e =
+    let (tag, accessed, dirty, spells) = entry_of ts e in (entry_text tag accessed dirty, tt, spells)
+
+-- the value that a read reads, and the one that a write writes
+some_value : (f : Format) (cs : List Terminal) (marks : List Bool) → Each Means (Part (ValueInside f) ∷ []) cs marks
+    → (ts : List Token) → map terminal_of ts ≡ Open ∷ cs → (v : ValueText) × IsValueOf f v × Spell (spelled_value v) ts
+some_value f _ _ (part {cs = cs} inside none) (o ∷ ts) e =
+    let (v, of, spells) = inside ts (let rest : map terminal_of ts ≡ cs ++ [] = cc in rest ∙ append-nil cs) in
+    (v, of, spells o (is_open o cc))
+some_value f _ _ (part inside none) [] e = absurd (cc)
+
+-- what a line states
+stated_number : (f : Format) → IsRule (StatedValue f) Number []
+stated_number f _ _ none (d ∷ []) e = let (n, is_n) = is_number d cc in (number_text n, tt, (is_n, tt))
+stated_number f _ _ none ts e = absurd (cc)
+
+stated_entry : IsRule (StatedValue Two) Open (Class Maps ∷ Class Number ∷ Class Number ∷ Class Number ∷ Class Close ∷ [])
+stated_entry _ _ (class (class (class (class (class none))))) (o ∷ ts) e =
+    let (tag, accessed, dirty, spells) = entry_of ts cc in (entry_text tag accessed dirty, tt, spells o (is_open o cc))
+stated_entry _ _ (class (class (class (class (class none))))) [] e = absurd (cc)
+
+any_name : (c : Terminal) → is_name c ≡ true → IsRule AnyName c []
 any_name c h _ _ none (t ∷ []) e =
     let same : c ≡ terminal_of t = cc in
     (t.piece, (is_any_name t (ap is_name (sym same) ∙ h), tt))
 any_name c h _ _ none ts e = absurd (cc)
 
-types : (c : Terminal) → is_name c ≡ true → Keeps Types c (Part Types ∷ [])
+types : (c : Terminal) → is_name c ≡ true → IsRule Types c (Part Types ∷ [])
 types c h _ _ (part {cs = cs} names none) (t ∷ ts) e =
     let same : c ≡ terminal_of t = cc in
     let (ws, s) = names ts (let rest : map terminal_of ts ≡ cs ++ [] = cc in rest ∙ append-nil cs) in
@@ -132,76 +204,94 @@ types c h _ _ (part {cs = cs} names none) (t ∷ ts) e =
 types c h _ _ (part names none) [] e = absurd (cc)
 
 -- names, and behind them what is touched
-touching : (cs : List Terminal) (marks : List Bool)
-    → Each Means (Part Types ∷ Part VirtualPage ∷ Part PhysicalPage ∷ Part Value ∷ []) cs marks
+touched : (f : Format) (value : Phrase)
+    → ((ts : List Token) → Spelled value ts → (v : ValueText) × IsValueOf f v × Spell (spelled_value v) ts)
+    → (cs : List Terminal) (marks : List Bool)
+    → Each Means (Part Types ∷ Part VirtualPage ∷ Part (AddressPart f) ∷ Part value ∷ []) cs marks
     → (ts : List Token) → map terminal_of ts ≡ cs
-    → (types : List (List ℕ)) × (m : Memop) × Spell (map a_word types ++ spelled_memop m) ts
-touching _ _ (part {cs = xs} {ds = ys} names (part {cs = cs} {ds = ds} virtual (part {cs = es} {ds = fs} physical (part {cs = gs} data_ none)))) ts e =
+    → (types : List (List ℕ)) × (t : Touch) × IsAddressOf f t.pa × IsValueOf f t.value × Spell (map a_word types ++ spelled_touch t) ts
+touched f value read_value _ _ (part {cs = xs} {ds = ys} names (part {cs = cs} {ds = ds} virtual (part {cs = es} {ds = fs} physical (part {cs = gs} data_ none)))) ts e =
     let (us, vs, same, here, behind) = map-part terminal_of ts xs ys e in
     let (vs1, vs2, same1, here1, behind1) = map-part terminal_of vs cs ds behind in
     let (vs3, vs4, same2, here2, behind2) = map-part terminal_of vs2 es fs behind1 in
     let (ws, s) = names us here in
     let (va, s1) = virtual vs1 here1 in
-    let (pa, s2) = physical vs3 here2 in
-    let (d, s3) = data_ vs4 (behind2 ∙ append-nil gs) in
+    let (pa, of, s2) = physical vs3 here2 in
+    let (d, has, s3) = read_value vs4 (data_ vs4 (behind2 ∙ append-nil gs)) in
     let all : us ++ (vs1 ++ (vs3 ++ vs4)) ≡ ts = cc in (
       ws,
       record { va = va; pa = pa; value = d },
-      subst (Spell (map a_word ws ++ (spelled_page (codes "VA") va ++ (spelled_page (codes "PA") pa ++ spelled_data d)))) all
-          (spell-append (map a_word ws) (spelled_page (codes "VA") va ++ (spelled_page (codes "PA") pa ++ spelled_data d)) us (vs1 ++ (vs3 ++ vs4)) s
-          (spell-append (spelled_page (codes "VA") va) (spelled_page (codes "PA") pa ++ spelled_data d) vs1 (vs3 ++ vs4) s1
-          (spell-append (spelled_page (codes "PA") pa) (spelled_data d) vs3 vs4 s2 s3))),
+      of,
+      has,
+      subst (Spell (map a_word ws ++ (spelled_page (codes "VA") va ++ (spelled_address pa ++ spelled_value d)))) all
+          (spell-append (map a_word ws) (spelled_page (codes "VA") va ++ (spelled_address pa ++ spelled_value d)) us (vs1 ++ (vs3 ++ vs4)) s
+          (spell-append (spelled_page (codes "VA") va) (spelled_address pa ++ spelled_value d) vs1 (vs3 ++ vs4) s1
+          (spell-append (spelled_address pa) (spelled_value d) vs3 vs4 s2 s3))),
     )
 
-access_read : Keeps Access Read (Part Types ∷ Part VirtualPage ∷ Part PhysicalPage ∷ Part Value ∷ [])
-access_read cs marks each (t ∷ ts) e =
-    let (ws, m, s) = touching cs marks each ts cc in
-    (ws, read m, (is_word t Read refl (λ h. cc) cc, s))
-access_read cs marks each [] e = absurd (cc)
+access_read : (f : Format) → IsRule (Access f) Read (Part Types ∷ Part VirtualPage ∷ Part (AddressPart f) ∷ Part (ReadValue f) ∷ [])
+access_read f cs marks each (t ∷ ts) e =
+    let (ws, m, of, has, s) = touched f (ReadValue f) (λ us v. v) cs marks each ts cc in
+    (ws, read m, (of, has), (is_word t Read refl (λ h. cc) cc, s))
+access_read f cs marks each [] e = absurd (cc)
 
-access_write : Keeps Access Write (Part Types ∷ Part VirtualPage ∷ Part PhysicalPage ∷ Part Value ∷ [])
-access_write cs marks each (t ∷ ts) e =
-    let (ws, m, s) = touching cs marks each ts cc in
-    (ws, write m, (is_word t Write refl (λ h. cc) cc, s))
-access_write cs marks each [] e = absurd (cc)
+access_write : (f : Format) → IsRule (Access f) Write (Part Types ∷ Part VirtualPage ∷ Part (AddressPart f) ∷ Part (WriteValue f) ∷ [])
+access_write f cs marks each (t ∷ ts) e =
+    let (ws, m, of, has, s) = touched f (WriteValue f) (λ us v. v) cs marks each ts cc in
+    (ws, write m, (of, has), (is_word t Write refl (λ h. cc) cc, s))
+access_write f cs marks each [] e = absurd (cc)
 
-access_fence : Keeps Access Fence (Part Types ∷ [])
-access_fence _ _ (part {cs = cs} names none) (t ∷ ts) e =
-    let (ws, s) = names ts (let rest : map terminal_of ts ≡ cs ++ [] = cc in rest ∙ append-nil cs) in
-    (ws, fence, (is_word t Fence refl (λ h. cc) cc, s))
-access_fence _ _ (part names none) [] e = absurd (cc)
+access_fence : (f : Format) → IsRule (Access f) Fence (Part Types ∷ [])
+access_fence f _ _ (part {cs = cs} names none) (t ∷ ts) e =
+    let (ws, s) = names ts (let rest : map terminal_of ts ≡ cs ++ [] = cc in rest ∙ append-nil cs) in (
+      ws,
+      fence,
+      tt,
+      (is_word t Fence refl (λ h. cc) cc, subst (λ (es : List Expected). Spell es ts) (sym (append-nil (map a_word ws))) s),
+    )
+access_fence f _ _ (part names none) [] e = absurd (cc)
 
-items_expectation : (c : Terminal) (item : Place → Item) → sort_of c ≡ 0 → (c ≡ Name → ⊥)
-    → ((at : Place) → spelled_item (item at) ≡ word_at (spelling c) at ∷ dot ∷ []) → Keeps Items c (Class Dot ∷ Part Items ∷ [])
-items_expectation c item s own spells _ _ (class (part {cs = cs} others none)) (t ∷ d ∷ ts) e =
-    let (is, r) = others ts (let rest : map terminal_of ts ≡ cs ++ [] = cc in rest ∙ append-nil cs) in (
+items_expectation : (f : Format) (c : Terminal) (item : Place → Item) → sort_of c ≡ 0 → (c ≡ Name → ⊥)
+    → ((at : Place) → IsItemOf f (item at))
+    → ((at : Place) → spelled_item (item at) ≡ word_at (spelling c) at ∷ dot ∷ []) → IsRule (Items f) c (Class Dot ∷ Part (Items f) ∷ [])
+items_expectation f c item s own of spells _ _ (class (part {cs = cs} others none)) (t ∷ d ∷ ts) e =
+    let (is, are, r) = others ts (let rest : map terminal_of ts ≡ cs ++ [] = cc in rest ∙ append-nil cs) in (
       item (place_of t) ∷ is,
+      (of (place_of t), are),
       subst (λ (es : List Expected). Spell (es ++ spelled_items is) (t ∷ d ∷ ts)) (sym (spells (place_of t)))
           (is_word_at t c s own cc, (is_dot d cc, r)),
     )
-items_expectation c item s own spells _ _ (class (part others none)) ts e = absurd (cc)
+items_expectation f c item s own of spells _ _ (class (part others none)) ts e = absurd (cc)
 
--- "(" PA t x ")" d "."
-items_value : (c : Terminal) (item : ValueLine → Item) → sort_of c ≡ 0 → (c ≡ Name → ⊥)
-    → ((v : ValueLine) → spelled_item (item v) ≡ word_at (spelling c) v.at ∷ (spelled_page (codes "PA") v.pa ++ (a_number v.value ∷ dot ∷ [])))
-    → Keeps Items c (Part PhysicalPage ∷ Class Number ∷ Class Dot ∷ Part Items ∷ [])
-items_value c item s own spells _ _ (part {cs = xs} {ds = ys} page (class (class (part {cs = cs} others none)))) (t ∷ ts) e =
+-- pa (d | entry) "."
+items_value : (f : Format) (c : Terminal) (item : ValueLine → Item) → sort_of c ≡ 0 → (c ≡ Name → ⊥)
+    → ((v : ValueLine) → IsAddressOf f v.pa → IsValueOf f v.value → IsItemOf f (item v))
+    → ((v : ValueLine) → spelled_item (item v) ≡ word_at (spelling c) v.at ∷ spelled_statement v)
+    → IsRule (Items f) c (Part (AddressPart f) ∷ Part (StatedValue f) ∷ Class Dot ∷ Part (Items f) ∷ [])
+items_value f c item s own of spells _ _ (part {cs = xs} {ds = ys} page (part {cs = zs} {ds = ws} value (class (part {cs = cs} others none)))) (t ∷ ts) e =
     let (us, vs, same, here, behind) = map-part terminal_of ts xs ys cc in
-    let (n, vs1, same1, here1, behind1) = map-head terminal_of vs Number (Dot ∷ (cs ++ [])) behind in
+    let (ns, vs1, same1, here1, behind1) = map-part terminal_of vs zs ws behind in
     let (d, vs2, same2, here2, behind2) = map-head terminal_of vs1 Dot (cs ++ []) behind1 in
-    let (pa, r) = page us here in
-    let (v, is_v) = is_number n here1 in
-    let (is, q) = others vs2 (behind2 ∙ append-nil cs) in
+    let (pa, of_pa, r) = page us here in
+    let (v, of_value, is_v) = value ns here1 in
+    let (is, are, q) = others vs2 (behind2 ∙ append-nil cs) in
     let line : ValueLine = record { at = place_of t; pa = pa; value = v } in
-    let all : us ++ (n ∷ d ∷ vs2) ≡ ts = cc in (
+    let more : List Expected = spelled_items is in
+    let all : us ++ (ns ++ (d ∷ vs2)) ≡ ts = cc in
+    let ends : Spell (dot ∷ more) (d ∷ vs2) = (is_dot d here2, q) in
+    let said : Spell (spelled_address pa ++ (spelled_stated v ++ (dot ∷ more))) ts =
+    subst (Spell (spelled_address pa ++ (spelled_stated v ++ (dot ∷ more)))) all
+    (spell-append (spelled_address pa) (spelled_stated v ++ (dot ∷ more)) us (ns ++ (d ∷ vs2)) r
+    (spell-append (spelled_stated v) (dot ∷ more) ns (d ∷ vs2) is_v ends)) in
+    let together : spelled_statement line ++ more ≡ spelled_address pa ++ (spelled_stated v ++ (dot ∷ more)) =
+    append_assoc (spelled_address pa) (spelled_stated v ++ dot ∷ []) more
+    ∙ ap (λ (es : List Expected). spelled_address pa ++ es) (append_assoc (spelled_stated v) (dot ∷ []) more) in (
       item line ∷ is,
-      subst (λ (es : List Expected). Spell (es ++ spelled_items is) (t ∷ ts)) (sym (spells line)) (
-        is_word_at t c s own cc,
-        subst (Spell (spelled_page (codes "PA") pa ++ (a_number v ∷ dot ∷ spelled_items is))) all
-            (spell-append (spelled_page (codes "PA") pa) (a_number v ∷ dot ∷ spelled_items is) us (n ∷ d ∷ vs2) r (is_v, (is_dot d here2, q))),
-      ),
+      (of line of_pa of_value, are),
+      subst (λ (es : List Expected). Spell (es ++ more) (t ∷ ts)) (sym (spells line))
+          (is_word_at t c s own cc, subst (λ (es : List Expected). Spell es ts) (sym together) said),
     )
-items_value c item s own spells _ _ (part page (class (class (part others none)))) [] e = absurd (cc)
+items_value f c item s own of spells _ _ (part page (part value (class (part others none)))) [] e = absurd (cc)
 
 -- g n "->" g n ".", and whatever stands behind
 ends_of : (ts : List Token) (cs : List Terminal) → map terminal_of ts ≡ Number ∷ Number ∷ Arrow ∷ Number ∷ Number ∷ Dot ∷ cs
@@ -218,21 +308,22 @@ ends_of (g1 ∷ n1 ∷ a ∷ g2 ∷ n2 ∷ d ∷ rest) cs e =
     (record { g = sg; n = sn }, record { g = tg; n = tn }, rest, cc, λ es s. (is_sg, (is_sn, (is_arrow, (is_tg, (is_tn, (ends, s)))))))
 ends_of ts cs e = absurd (cc)
 
-items_relationship : Keeps Items Relationship
-    (Part AnyName ∷ Class Number ∷ Class Number ∷ Class Arrow ∷ Class Number ∷ Class Number ∷ Class Dot ∷ Part Items ∷ [])
-items_relationship _ _ (part {cs = xs} {ds = ys} kind (class (class (class (class (class (class (part {cs = cs} others none)))))))) (t ∷ ts) e =
+items_relationship : (f : Format) → IsRule (Items f) Relationship
+    (Part AnyName ∷ Class Number ∷ Class Number ∷ Class Arrow ∷ Class Number ∷ Class Number ∷ Class Dot ∷ Part (Items f) ∷ [])
+items_relationship f _ _ (part {cs = xs} {ds = ys} kind (class (class (class (class (class (class (part {cs = cs} others none)))))))) (t ∷ ts) e =
     let (us, vs, same, here, behind) = map-part terminal_of ts xs ys cc in
     let (w, s) = kind us here in
     let (source, target, rest, left, spells) = ends_of vs (cs ++ []) behind in
-    let (is, q) = others rest (left ∙ append-nil cs) in
+    let (is, are, q) = others rest (left ∙ append-nil cs) in
     let ends : List Expected = number_at source.g ∷ a_number source.n ∷ arrow ∷ number_at target.g ∷ a_number target.n ∷ dot ∷ spelled_items is in (
       relationship (record { kind = w; source = source; target = target }) ∷ is,
+      (tt, are),
       (
         is_word t Relationship refl (λ h. cc) cc,
         subst (Spell (a_word w ∷ ends)) (sym same) (spell-append (a_word w ∷ []) ends us vs s (spells (spelled_items is) q)),
       ),
     )
-items_relationship _ _ (part kind (class (class (class (class (class (class (part others none)))))))) [] e = absurd (cc)
+items_relationship f _ _ (part kind (class (class (class (class (class (class (part others none)))))))) [] e = absurd (cc)
 
 -- Microop g core thread n "(", and whatever stands behind
 head_of : (ts : List Token) (cs : List Terminal) → map terminal_of ts ≡ Microop ∷ Number ∷ Number ∷ Number ∷ Number ∷ Open ∷ cs
@@ -261,44 +352,48 @@ closed_of (z ∷ d ∷ rest) cs e =
     (rest, cc, λ es s. (closes, (ends, s)))
 closed_of ts cs e = absurd (cc)
 
-items_microop : Keeps Items Microop
-    (Class Number ∷ Class Number ∷ Class Number ∷ Class Number ∷ Class Open ∷ Part Access ∷ Class Close ∷ Class Dot ∷ Part Items ∷ [])
-items_microop _ _ (class (class (class (class (class (part {cs = xs} {ds = ys} access (class (class (part {cs = cs} others none))))))))) ts e =
+items_microop : (f : Format) → IsRule (Items f) Microop
+    (Class Number ∷ Class Number ∷ Class Number ∷ Class Number ∷ Class Open ∷ Part (Access f) ∷ Class Close ∷ Class Dot ∷ Part (Items f) ∷ [])
+items_microop f _ _ (class (class (class (class (class (part {cs = xs} {ds = ys} access (class (class (part {cs = cs} others none))))))))) ts e =
     let (head, inner, left, begins) = head_of ts (xs ++ ys) e in
     let (us, vs, same, here, behind) = map-part terminal_of inner xs ys left in
-    let (types, action, s) = access us here in
+    let (types, action, of, s) = access us here in
     let (rest, after, closes) = closed_of vs (cs ++ []) behind in
-    let (is, q) = others rest (after ∙ append-nil cs) in
+    let (is, are, q) = others rest (after ∙ append-nil cs) in
     let line : List Expected = spelled_access types action in
     let more : List Expected = spelled_items is in
     let spells : Spell (line ++ (close_ ∷ dot ∷ more)) inner =
     subst (Spell (line ++ (close_ ∷ dot ∷ more))) (sym same) (spell-append line (close_ ∷ dot ∷ more) us vs s (closes more q)) in (
       microop (record { head = head; types = types; action = action }) ∷ is,
+      (of, are),
       begins ((line ++ (close_ ∷ dot ∷ [])) ++ more)
           (subst (λ (es : List Expected). Spell es inner) (sym (append_assoc line (close_ ∷ dot ∷ []) more)) spells),
     )
 
-test_litmus : Keeps Test Litmus (Class Text ∷ Class Dot ∷ Part Items ∷ [])
-test_litmus _ _ (class (class (part {cs = cs} others none))) (t ∷ x ∷ d ∷ ts) e =
-    let (is, q) = others ts (let rest : map terminal_of ts ≡ cs ++ [] = cc in rest ∙ append-nil cs) in
-    (is, (is_word t Litmus refl (λ h. cc) cc, (text-of_kind x.kind x.piece cc, (is_dot d cc, q))))
-test_litmus _ _ (class (class (part others none))) ts e = absurd (cc)
+test_of_word : (f : Format) (c : Terminal) → sort_of c ≡ 0 → (c ≡ Name → ⊥) → format_word f ≡ spelling c
+    → IsRule Test c (Class Text ∷ Class Dot ∷ Part (Items f) ∷ [])
+test_of_word f c s own word _ _ (class (class (part {cs = cs} others none))) (t ∷ x ∷ d ∷ ts) e =
+    let (is, are, q) = others ts (let rest : map terminal_of ts ≡ cs ++ [] = cc in rest ∙ append-nil cs) in
+    let begins : Is (a_word (format_word f)) t = subst (λ (w : List ℕ). Is (a_word w) t) (sym word) (is_word t c s own cc) in
+    (is, (f, are, (begins, (text-of_kind x.kind x.piece cc, (is_dot d cc, q)))))
+test_of_word f c s own word _ _ (class (class (part others none))) ts e = absurd (cc)
 
 rule : (n : Phrase) (c : Terminal) → MatchOption (behind n c) (Unit {0})
     (λ body. (cs : List Terminal) (marks : List Bool) → Each Means body cs marks → Means n (c ∷ cs) (rules.deep n c ∷ marks))
-rule Test Litmus = test_litmus
+rule Test Litmus = test_of_word One Litmus refl (λ h. cc) refl
+rule Test Litmus2 = test_of_word Two Litmus2 refl (λ h. cc) refl
 rule Test _ = tt
-rule Items Microop = items_microop
-rule Items Relationship = items_relationship
-rule Items Init = items_value Init initial refl (λ h. cc) (λ v. refl)
-rule Items Final = items_value Final final refl (λ h. cc) (λ v. refl)
-rule Items Permitted = items_expectation Permitted permitted refl (λ h. cc) (λ at. refl)
-rule Items Forbidden = items_expectation Forbidden forbidden refl (λ h. cc) (λ at. refl)
-rule Items _ = tt
-rule Access Read = access_read
-rule Access Write = access_write
-rule Access Fence = access_fence
-rule Access _ = tt
+rule (Items f) Microop = items_microop f
+rule (Items f) Relationship = items_relationship f
+rule (Items f) Init = items_value f Init initial refl (λ h. cc) (λ v of has. (of, has)) (λ v. refl)
+rule (Items f) Final = items_value f Final final refl (λ h. cc) (λ v of has. (of, has)) (λ v. refl)
+rule (Items f) Permitted = items_expectation f Permitted permitted refl (λ h. cc) (λ at. tt) (λ at. refl)
+rule (Items f) Forbidden = items_expectation f Forbidden forbidden refl (λ h. cc) (λ at. tt) (λ at. refl)
+rule (Items f) _ = tt
+rule (Access f) Read = access_read f
+rule (Access f) Write = access_write f
+rule (Access f) Fence = access_fence f
+rule (Access f) _ = tt
 rule Types c = by (is_name c) refl
   where
     by : (b : Bool) → is_name c ≡ b → MatchOption (if b then Some (Part Types ∷ []) else None) (Unit {0})
@@ -313,10 +408,21 @@ rule AnyName c = by (is_name c) refl
     by false h = tt
 rule VirtualPage Open = virtual_page
 rule VirtualPage _ = tt
-rule PhysicalPage Open = physical_page
-rule PhysicalPage _ = tt
-rule Value Open = value
-rule Value _ = tt
+rule (AddressPart f) Open = address f
+rule (AddressPart f) _ = tt
+rule (AddressInside f) Pa = page_inside f
+rule (AddressInside Two) Entry = entry_inside
+rule (AddressInside f) _ = tt
+rule (ReadValue f) Open = λ cs marks each ts e. some_value f cs marks each ts e
+rule (ReadValue f) _ = tt
+rule (WriteValue f) Open = λ cs marks each ts e. some_value f cs marks each ts e
+rule (WriteValue f) _ = tt
+rule (ValueInside f) Data = number_inside f
+rule (ValueInside Two) Maps = maps_inside
+rule (ValueInside f) _ = tt
+rule (StatedValue f) Number = stated_number f
+rule (StatedValue Two) Open = stated_entry
+rule (StatedValue f) _ = tt
 
 -- tokens whose terminals the table reads are a test
 pub test_of_derives : (ts : List Token) (marks : List Bool) → Derives rules Test (map terminal_of ts) marks → IsTest ts
@@ -380,79 +486,109 @@ read_virtual p =
     begin VirtualPage Open (Class Va ∷ Class Number ∷ Class Number ∷ Class Close ∷ []) refl (class (class (class (class none))))
     (map terminal (spelled_page (codes "VA") p)) refl
 
-read_physical : (p : Page) → Reads PhysicalPage (map terminal (spelled_page (codes "PA") p))
+read_address : (f : Format) (a : Address) → IsAddressOf f a → Reads (AddressPart f) (map terminal (spelled_address a))
 unfolding word_terminal symbol_terminal
-read_physical p =
-    begin PhysicalPage Open (Class Pa ∷ Class Number ∷ Class Number ∷ Class Close ∷ []) refl (class (class (class (class none))))
-    (map terminal (spelled_page (codes "PA") p)) refl
+read_address f (PageAddress tag index) of =
+    let (_, d) = begin (AddressInside f) Pa (Class Number ∷ Class Number ∷ Class Close ∷ []) refl (class (class (class none)))
+    (Pa ∷ Number ∷ Number ∷ Close ∷ []) refl in
+    begin (AddressPart f) Open (Part (AddressInside f) ∷ []) refl (part d none) (map terminal (spelled_address (PageAddress tag index))) refl
+read_address Two (EntryAddress tag) of =
+    let (_, d) = begin (AddressInside Two) Entry (Class Number ∷ Class Close ∷ []) refl (class (class none)) (Entry ∷ Number ∷ Close ∷ []) refl in
+    begin (AddressPart Two) Open (Part (AddressInside Two) ∷ []) refl (part d none) (map terminal (spelled_address (EntryAddress tag))) refl
+read_address One (EntryAddress tag) of = absurd of
 
-read_value : (d : ℕ) → Reads Value (map terminal (spelled_data d))
+read_inside : (f : Format) (n : Phrase) → behind n Open ≡ Some (Part (ValueInside f) ∷ []) → (v : ValueText) → IsValueOf f v
+    → Reads n (map terminal (spelled_value v))
 unfolding word_terminal symbol_terminal
-read_value d =
-    begin Value Open (Class Data ∷ Class Number ∷ Class Close ∷ []) refl (class (class (class none))) (map terminal (spelled_data d)) refl
+read_inside f n e (number_text k) of =
+    let (_, d) = begin (ValueInside f) Data (Class Number ∷ Class Close ∷ []) refl (class (class none)) (Data ∷ Number ∷ Close ∷ []) refl in
+    begin n Open (Part (ValueInside f) ∷ []) e (part d none) (map terminal (spelled_value (number_text k))) refl
+read_inside Two n e (entry_text tag accessed dirty) of =
+    let (_, d) = begin (ValueInside Two) Maps (Class Number ∷ Class Number ∷ Class Number ∷ Class Close ∷ []) refl (class (class (class (class none))))
+    (Maps ∷ Number ∷ Number ∷ Number ∷ Close ∷ []) refl in
+    begin n Open (Part (ValueInside Two) ∷ []) e (part d none) (map terminal (spelled_value (entry_text tag accessed dirty))) refl
+read_inside One n e (entry_text tag accessed dirty) of = absurd of
 
-read_touching : (c : Terminal) → behind Access c ≡ Some (Part Types ∷ Part VirtualPage ∷ Part PhysicalPage ∷ Part Value ∷ [])
-    → (ws : List (List ℕ)) (m : Memop) → Reads Access (c ∷ map terminal (map a_word ws ++ spelled_memop m))
-read_touching c e ws m =
+read_stated : (f : Format) (v : ValueText) → IsValueOf f v → Reads (StatedValue f) (map terminal (spelled_stated v))
+unfolding word_terminal symbol_terminal
+read_stated f (number_text k) of = begin (StatedValue f) Number [] refl none (Number ∷ []) refl
+read_stated Two (entry_text tag accessed dirty) of =
+    begin (StatedValue Two) Open (Class Maps ∷ Class Number ∷ Class Number ∷ Class Number ∷ Class Close ∷ []) refl (class (class (class (class (class none)))))
+    (map terminal (spelled_stated (entry_text tag accessed dirty))) refl
+read_stated One (entry_text tag accessed dirty) of = absurd of
+
+read_touch : (f : Format) (c : Terminal) (value : Phrase) → behind (Access f) c ≡ Some (Part Types ∷ Part VirtualPage ∷ Part (AddressPart f) ∷ Part value ∷ [])
+    → behind value Open ≡ Some (Part (ValueInside f) ∷ [])
+    → (ws : List (List ℕ)) (t : Touch) → IsAddressOf f t.pa → IsValueOf f t.value → Reads (Access f) (c ∷ map terminal (map a_word ws ++ spelled_touch t))
+read_touch f c value e opens ws t of has =
     let (_, d) = read_types ws in
-    let (_, v) = read_virtual m.va in
-    let (_, p) = read_physical m.pa in
-    let (_, x) = read_value m.value in
-    begin Access c (Part Types ∷ Part VirtualPage ∷ Part PhysicalPage ∷ Part Value ∷ []) e (part d (part v (part p (part x none))))
-    (c ∷ map terminal (map a_word ws ++ spelled_memop m))
-    (ap (λ (cs : List Terminal). c ∷ cs) (map-append terminal (map a_word ws) (spelled_memop m)))
+    let (_, v) = read_virtual t.va in
+    let (_, p) = read_address f t.pa of in
+    let (_, x) = read_inside f value opens t.value has in
+    begin (Access f) c (Part Types ∷ Part VirtualPage ∷ Part (AddressPart f) ∷ Part value ∷ []) e (part d (part v (part p (part x none))))
+    (c ∷ map terminal (map a_word ws ++ spelled_touch t))
+    (ap (λ (cs : List Terminal). c ∷ cs) (simp (map-append, append-nil)))
 
-read_access : (ws : List (List ℕ)) (action : Action) → Reads Access (map terminal (spelled_access ws action))
+read_access : (f : Format) (ws : List (List ℕ)) (action : Action) → IsActionOf f action → Reads (Access f) (map terminal (spelled_access ws action))
 unfolding word_terminal
-read_access ws (read m) = read_touching Read refl ws m
-read_access ws (write m) = read_touching Write refl ws m
-read_access ws fence =
+read_access f ws (read t) (of, has) = read_touch f Read (ReadValue f) refl refl ws t of has
+read_access f ws (write t) (of, has) = read_touch f Write (WriteValue f) refl refl ws t of has
+read_access f ws fence of =
     let (_, d) = read_types ws in
-    begin Access Fence (Part Types ∷ []) refl (part d none) (Fence ∷ map terminal (map a_word ws))
-    (ap (λ (cs : List Terminal). Fence ∷ cs) (sym (append-nil (map terminal (map a_word ws)))))
+    begin (Access f) Fence (Part Types ∷ []) refl (part d none) (Fence ∷ map terminal (map a_word ws ++ []))
+    (ap (λ (cs : List Terminal). Fence ∷ cs) (ap (map terminal) (append-nil (map a_word ws)) ∙ sym (append-nil (map terminal (map a_word ws)))))
 
-read_item : (i : Item) (is : List Item) → Reads Items (map terminal (spelled_items is)) → Reads Items (map terminal (spelled_item i ++ spelled_items is))
+read_item : (f : Format) (i : Item) (is : List Item) → IsItemOf f i → Reads (Items f) (map terminal (spelled_items is))
+    → Reads (Items f) (map terminal (spelled_item i ++ spelled_items is))
 unfolding word_terminal symbol_terminal
-read_item (microop m) is (_, q) =
-    let (_, a) = read_access m.types m.action in
-    begin Items Microop
-    (Class Number ∷ Class Number ∷ Class Number ∷ Class Number ∷ Class Open ∷ Part Access ∷ Class Close ∷ Class Dot ∷ Part Items ∷ []) refl
+read_item f (microop m) is of (_, q) =
+    let (_, a) = read_access f m.types m.action of in
+    begin (Items f) Microop
+    (Class Number ∷ Class Number ∷ Class Number ∷ Class Number ∷ Class Open ∷ Part (Access f) ∷ Class Close ∷ Class Dot ∷ Part (Items f) ∷ []) refl
     (class (class (class (class (class (part a (class (class (part q none)))))))))
     (map terminal (spelled_item (microop m) ++ spelled_items is))
     (ap (λ (cs : List Terminal). Microop ∷ Number ∷ Number ∷ Number ∷ Number ∷ Open ∷ cs)
     (simp (append_assoc, map-append, append-nil)))
-read_item (relationship r) is (_, q) =
+read_item f (relationship r) is of (_, q) =
     let (_, k) = read_any_name r.kind in
-    begin Items Relationship (Part AnyName ∷ Class Number ∷ Class Number ∷ Class Arrow ∷ Class Number ∷ Class Number ∷ Class Dot ∷ Part Items ∷ []) refl
+    begin (Items f) Relationship (Part AnyName ∷ Class Number ∷ Class Number ∷ Class Arrow ∷ Class Number ∷ Class Number ∷ Class Dot ∷ Part (Items f) ∷ []) refl
     (part k (class (class (class (class (class (class (part q none))))))))
     (map terminal (spelled_item (relationship r) ++ spelled_items is)) (simp append-nil)
-read_item (initial v) is (_, q) =
-    let (_, p) = read_physical v.pa in
-    begin Items Init (Part PhysicalPage ∷ Class Number ∷ Class Dot ∷ Part Items ∷ []) refl (part p (class (class (part q none))))
-    (map terminal (spelled_item (initial v) ++ spelled_items is)) (simp append-nil)
-read_item (final v) is (_, q) =
-    let (_, p) = read_physical v.pa in
-    begin Items Final (Part PhysicalPage ∷ Class Number ∷ Class Dot ∷ Part Items ∷ []) refl (part p (class (class (part q none))))
-    (map terminal (spelled_item (final v) ++ spelled_items is)) (simp append-nil)
-read_item (permitted at) is (_, q) =
-    begin Items Permitted (Class Dot ∷ Part Items ∷ []) refl (class (part q none))
+read_item f (initial v) is (of, has) (_, q) =
+    let (_, p) = read_address f v.pa of in
+    let (_, x) = read_stated f v.value has in
+    begin (Items f) Init (Part (AddressPart f) ∷ Part (StatedValue f) ∷ Class Dot ∷ Part (Items f) ∷ []) refl (part p (part x (class (part q none))))
+    (map terminal (spelled_item (initial v) ++ spelled_items is))
+    (ap (λ (cs : List Terminal). Init ∷ cs) (simp (append_assoc, map-append, append-nil)))
+read_item f (final v) is (of, has) (_, q) =
+    let (_, p) = read_address f v.pa of in
+    let (_, x) = read_stated f v.value has in
+    begin (Items f) Final (Part (AddressPart f) ∷ Part (StatedValue f) ∷ Class Dot ∷ Part (Items f) ∷ []) refl (part p (part x (class (part q none))))
+    (map terminal (spelled_item (final v) ++ spelled_items is))
+    (ap (λ (cs : List Terminal). Final ∷ cs) (simp (append_assoc, map-append, append-nil)))
+read_item f (permitted at) is of (_, q) =
+    begin (Items f) Permitted (Class Dot ∷ Part (Items f) ∷ []) refl (class (part q none))
     (map terminal (spelled_item (permitted at) ++ spelled_items is)) (simp append-nil)
-read_item (forbidden at) is (_, q) =
-    begin Items Forbidden (Class Dot ∷ Part Items ∷ []) refl (class (part q none))
+read_item f (forbidden at) is of (_, q) =
+    begin (Items f) Forbidden (Class Dot ∷ Part (Items f) ∷ []) refl (class (part q none))
     (map terminal (spelled_item (forbidden at) ++ spelled_items is)) (simp append-nil)
 
-read_items : (is : List Item) → Reads Items (map terminal (spelled_items is))
-read_items [] = ([], derives-end Items refl)
-read_items (i ∷ is) = read_item i is (read_items is)
+read_items : (f : Format) (is : List Item) → AreItemsOf f is → Reads (Items f) (map terminal (spelled_items is))
+read_items f [] are = ([], derives-end (Items f) refl)
+read_items f (i ∷ is) (of, are) = read_item f i is of (read_items f is are)
 
-read_test : (is : List Item) → Reads Test (map terminal (spelled_test is))
+read_test : (f : Format) (is : List Item) → AreItemsOf f is → Reads Test (map terminal (spelled_test f is))
 unfolding word_terminal symbol_terminal
-read_test is =
-    let (_, q) = read_items is in
-    begin Test Litmus (Class Text ∷ Class Dot ∷ Part Items ∷ []) refl (class (class (part q none)))
-    (map terminal (spelled_test is)) (simp append-nil)
+read_test One is are =
+    let (_, q) = read_items One is are in
+    begin Test Litmus (Class Text ∷ Class Dot ∷ Part (Items One) ∷ []) refl (class (class (part q none)))
+    (map terminal (spelled_test One is)) (simp append-nil)
+read_test Two is are =
+    let (_, q) = read_items Two is are in
+    begin Test Litmus2 (Class Text ∷ Class Dot ∷ Part (Items Two) ∷ []) refl (class (class (part q none)))
+    (map terminal (spelled_test Two is)) (simp append-nil)
 
 -- the terminals of a test are read
 pub derives_of_test : (ts : List Token) → IsTest ts → IsText (Derives rules Test) (map terminal_of ts)
-derives_of_test ts (is, s) =
-    subst (Reads Test) (sym (terminals-of_tokens (spelled_test is) ts s)) (read_test is)
+derives_of_test ts (is, (f, are, s)) =
+    subst (Reads Test) (sym (terminals-of_tokens (spelled_test f is) ts s)) (read_test f is are)

@@ -9,12 +9,15 @@ use Rattle.std.proofs.lemmas.Option.{slice_get-map, slice_get_within, get_or_fro
 use Rattle.pc_common.specs.declared.place.Place.{Place}
 use Rattle.pc_common.specs.declared.fault.FaultKind.{FaultKind}
 use Rattle.pc_common.specs.declared.fault.FaultKind.TheVariants.{CoreNumber, TooManyOps, DuplicateOp, AgainInitial, AgainFinal}
-use Rattle.pc_common.specs.Case.{Address, Value, MicroOp, Dependency, fence}
-use Rattle.pc_case.specs.Kept.{IsKept}
+use Rattle.pc_common.specs.declared.value.Value.{Value}
+use Rattle.pc_common.specs.Case.{Address as PlainAddress, page, entry_of, Value as PlainValue, MicroOp, Dependency, fence}
+use Rattle.pc_case.specs.declared.address.Address.{Address}
+use Rattle.pc_case.specs.declared.address.Address.TheVariants.{Page, Entry}
+use Rattle.pc_case.specs.MicroOps.{AreMicroOps}
 use Rattle.pc_case.specs.Stated.{IsStatedOnce, AreWithin}
-use Rattle.pc_case.specs.Plain.{page_at, address_at}
-use Rattle.litmus_reader.specs.Items.{microop_of, relationship_of, initial_of, final_of, microops_in, heads_in, relationships_in, initial_in, final_in, kind_said, touch_said, op_said, place_in, dependency_said, value_said}
-use Rattle.litmus_reader.specs.Content.{Never, First, OverCore, OverMany, SplitFrom, DuplicateOf, SomeEarlier, Unknown, AgainStated, MicroopFault, IsFaultOf, IsClean}
+use Rattle.pc_case.specs.Plain.{address_at}
+use Rattle.litmus_reader.specs.Items.{value_of, microop_of, relationship_of, initial_of, final_of, microops_in, heads_in, relationships_in, initial_in, final_in, kind_of_action, touch_of_action, op_of, place_in, dependency_of, stated_by}
+use Rattle.litmus_reader.specs.Content.{Never, First, OverCore, OverMany, SplitFrom, DuplicateOf, SomeEarlier, Unknown, AgainStated, MarkFault, HeadFault, ActionFault, IsFaultOf, IsClean}
 use Rattle.pc_common.specs.declared.limits.TheConstants.{MAX_CORE, MAX_OPS}
 use Rattle.litmus_reader.specs.declared.item.Head.{Head}
 use Rattle.litmus_reader.specs.declared.item.Action.{Action}
@@ -24,7 +27,7 @@ use Rattle.litmus_reader.specs.declared.item.Relationship.{Relationship}
 use Rattle.litmus_reader.specs.declared.item.ValueLine.{ValueLine}
 use Rattle.litmus_reader.specs.declared.item.Item.{Item}
 use Rattle.litmus_reader.specs.declared.item.Item.TheVariants.{Microop as microop, Relationship as relationship, Initial as initial, Final as final, Permitted as permitted, Forbidden as forbidden}
-use Rattle.litmus_reader.proofs.KeptFacts.{never-first, never-others, added, same, same_heads, added_head, place_in-append, known}
+use Rattle.litmus_reader.proofs.BuilderFacts.{never-first, never-others, added, same, same_heads, added_head, place_in-append, known}
 
 pub clean-none : IsClean []
 clean-none [] item after e = absurd (cc)
@@ -69,7 +72,7 @@ module _ (P : List Item → Type 0) (first : P []) (step : (b : List Item) (i : 
   each_clean items clean = go [] items clean first
 
 -- what is no fault of a micro-op
-module _ (heads : List Head) (h : Head) (never : Never (MicroopFault heads h)) where
+module _ (heads : List Head) (h : Head) (never : Never (HeadFault heads h)) where
   abbrev later : FaultKind → Place → Type 0
   later = First (SomeEarlier heads (SplitFrom h)) (SomeEarlier heads (DuplicateOf h))
 
@@ -89,10 +92,14 @@ module _ (heads : List Head) (h : Head) (never : Never (MicroopFault heads h)) w
       let others = never-others (OverMany heads h) later (never-others (OverCore h) (First (OverMany heads h) later) never) in
       never-others (SomeEarlier heads (SplitFrom h)) (SomeEarlier heads (DuplicateOf h)) others (DuplicateOp e.g.at h.g.at) h.g.at (e, c, (g, n, refl, refl))
 
+-- a micro-op without a fault has none of its head
+pub head_never : (b : List Item) (m : Microop) → Never (IsFaultOf b (microop m)) → Never (HeadFault (heads_in b) m.head)
+head_never b m never = never-first (HeadFault (heads_in b) m.head) (ActionFault m.action) never
+
 -- at most as many micro-ops as a test may have
 few_step : (b : List Item) (i : Item) → IsClean b → Never (IsFaultOf b i) → length (heads_in b) ≤ MAX_OPS → length (heads_in (b ++ i ∷ [])) ≤ MAX_OPS
 few_step b (microop m) clean never few =
-    omega (arith, room (heads_in b) m.head never, ap length (added_head b m), length-append (heads_in b) (m.head ∷ []))
+    omega (arith, room (heads_in b) m.head (head_never b m never), ap length (added_head b m), length-append (heads_in b) (m.head ∷ []))
 few_step b (relationship r) clean never few = omega (arith, ap length (same_heads b (relationship r) refl))
 few_step b (initial v) clean never few = omega (arith, ap length (same_heads b (initial v) refl))
 few_step b (final v) clean never few = omega (arith, ap length (same_heads b (final v) refl))
@@ -110,7 +117,7 @@ cores_step : (b : List Item) (i : Item) → IsClean b → Never (IsFaultOf b i) 
 cores_step b (microop m) clean never all = λ h c.
     elim (Contains-push_cases (heads_in b) m.head h (subst (λ (hs : List Head). Contains hs h) (added_head b m) c)) [
       | inl d ↦ all h d
-      | inr e ↦ subst (λ (x : Head). x.core.value ≤ MAX_CORE) e (core_fits (heads_in b) m.head never)
+      | inr e ↦ subst (λ (x : Head). x.core.value ≤ MAX_CORE) e (core_fits (heads_in b) m.head (head_never b m never))
     ]
 cores_step b (relationship r) clean never all = subst AreCores (sym (same_heads b (relationship r) refl)) all
 cores_step b (initial v) clean never all = subst AreCores (sym (same_heads b (initial v) refl)) all
@@ -154,7 +161,7 @@ SameName a b = (a.g.value ≡ b.g.value) × (a.n ≡ b.n)
 names_step : (b : List Item) (i : Item) → IsClean b → Never (IsFaultOf b i) → Apart SameName (heads_in b) → Apart SameName (heads_in (b ++ i ∷ []))
 names_step b (microop m) clean never apart =
     subst (Apart SameName) (sym (added_head b m))
-    (apart-push SameName (heads_in b) m.head (λ x y r. (sym r.0, sym r.1)) apart (λ e c r. no_duplicate (heads_in b) m.head never e c r.0 r.1))
+    (apart-push SameName (heads_in b) m.head (λ x y r. (sym r.0, sym r.1)) apart (λ e c r. no_duplicate (heads_in b) m.head (head_never b m never) e c r.0 r.1))
 names_step b (relationship r) clean never apart = subst (Apart SameName) (sym (same_heads b (relationship r) refl)) apart
 names_step b (initial v) clean never apart = subst (Apart SameName) (sym (same_heads b (initial v) refl)) apart
 names_step b (final v) clean never apart = subst (Apart SameName) (sym (same_heads b (final v) refl)) apart
@@ -164,27 +171,30 @@ names_step b (forbidden at) clean never apart = subst (Apart SameName) (sym (sam
 pub names : (items : List Item) → IsClean items → Apart SameName (heads_in items)
 names = each_clean (λ items. Apart SameName (heads_in items)) (λ j k a b e f r. absurd (cc)) names_step
 
-abbrev pub SamePage : ValueLine → ValueLine → Type 0
-SamePage a b = a.pa ≡ b.pa
+abbrev pub SameAddress : ValueLine → ValueLine → Type 0
+SameAddress a b = a.pa ≡ b.pa
 
 -- lines of one kind state each address once
-module _ (f : Item → Option ValueLine) (word : ℕ → ℕ → FaultKind)
+module _ (f : Item → Option ValueLine) (word : Value → Value → FaultKind)
     (judged : (b : List Item) (i : Item) (v : ValueLine) → f i ≡ Some v → Never (IsFaultOf b i) → Never (AgainStated word (filter_map f b) v)) where
-  pages_step : (b : List Item) (i : Item) → IsClean b → Never (IsFaultOf b i) → Apart SamePage (filter_map f b) → Apart SamePage (filter_map f (b ++ i ∷ []))
+  pages_step : (b : List Item) (i : Item) → IsClean b → Never (IsFaultOf b i) → Apart SameAddress (filter_map f b) → Apart SameAddress (filter_map f (b ++ i ∷ []))
   pages_step b i clean never apart = by (f i) refl
     where
-      by : (o : Option ValueLine) → f i ≡ o → Apart SamePage (filter_map f (b ++ i ∷ []))
-      by None e = subst (Apart SamePage) (sym (same f b i e)) apart
+      by : (o : Option ValueLine) → f i ≡ o → Apart SameAddress (filter_map f (b ++ i ∷ []))
+      by None e = subst (Apart SameAddress) (sym (same f b i e)) apart
       by (Some v) e =
-          subst (Apart SamePage) (sym (added f b i v e))
-          (apart-push SamePage (filter_map f b) v (λ x y r. sym r) apart
-          (λ u c r. judged b i v e never (word u.value v.value) v.at (u, c, r, refl, refl)))
+          subst (Apart SameAddress) (sym (added f b i v e))
+          (apart-push SameAddress (filter_map f b) v (λ x y r. sym r) apart
+          (λ u c r. judged b i v e never (word (value_of u.value) (value_of v.value)) v.at (u, c, r, refl, refl)))
 
-  pub pages : (items : List Item) → IsClean items → Apart SamePage (filter_map f items)
-  pages = each_clean (λ items. Apart SamePage (filter_map f items)) (λ j k a b e g r. absurd (cc)) pages_step
+  pub pages : (items : List Item) → IsClean items → Apart SameAddress (filter_map f items)
+  pages = each_clean (λ items. Apart SameAddress (filter_map f items)) (λ j k a b e g r. absurd (cc)) pages_step
 
 pub judged_initial : (b : List Item) (i : Item) (v : ValueLine) → initial_of i ≡ Some v → Never (IsFaultOf b i) → Never (AgainStated AgainInitial (initial_in b) v)
-judged_initial b (initial u) v e never = let is : u ≡ v = cc in subst (λ (x : ValueLine). Never (AgainStated AgainInitial (initial_in b) x)) is never
+judged_initial b (initial u) v e never =
+    let is : u ≡ v = cc in
+    subst (λ (x : ValueLine). Never (AgainStated AgainInitial (initial_in b) x)) is
+    (never-first (AgainStated AgainInitial (initial_in b) u) (MarkFault u.value) never)
 judged_initial b (microop _) v e never = absurd (cc)
 judged_initial b (relationship _) v e never = absurd (cc)
 judged_initial b (final _) v e never = absurd (cc)
@@ -192,7 +202,10 @@ judged_initial b (permitted _) v e never = absurd (cc)
 judged_initial b (forbidden _) v e never = absurd (cc)
 
 pub judged_final : (b : List Item) (i : Item) (v : ValueLine) → final_of i ≡ Some v → Never (IsFaultOf b i) → Never (AgainStated AgainFinal (final_in b) v)
-judged_final b (final u) v e never = let is : u ≡ v = cc in subst (λ (x : ValueLine). Never (AgainStated AgainFinal (final_in b) x)) is never
+judged_final b (final u) v e never =
+    let is : u ≡ v = cc in
+    subst (λ (x : ValueLine). Never (AgainStated AgainFinal (final_in b) x)) is
+    (never-first (AgainStated AgainFinal (final_in b) u) (MarkFault u.value) never)
 judged_final b (microop _) v e never = absurd (cc)
 judged_final b (relationship _) v e never = absurd (cc)
 judged_final b (initial _) v e never = absurd (cc)
@@ -208,45 +221,58 @@ mapped_get f (x ∷ xs) (suc k) y e = mapped_get f xs k y e
 get_mapped : {X Y : Type 0} (f : X → Y) (xs : List X) (k : ℕ) (x : X) → slice_get xs k ≡ Some x → slice_get (map f xs) k ≡ Some (f x)
 get_mapped f xs k x e = slice_get-map f xs k ∙ ap (option_map f) e
 
-stated_once : (lines : List ValueLine) → Apart SamePage lines → IsStatedOnce (map value_said lines)
-stated_once lines apart j k a b at_j at_k r =
-    let (u, here, is_a) = mapped_get value_said lines j a at_j in
-    let (v, there, is_b) = mapped_get value_said lines k b at_k in
-    let address : address_at u.pa ≡ address_at v.pa = ap (λ (p : Address × Value). p.0) is_a ∙ r ∙ sym (ap (λ (p : Address × Value). p.0) is_b) in
-    let pages_are : page_at u.pa ≡ page_at v.pa = cc in
-    let tag = ap (λ p. p.tag) pages_are in
-    let index = ap (λ p. p.index) pages_are in
-    apart j k u v here there (λ i. record { tag = tag i; index = index i })
+tag_of : PlainAddress → ℕ
+tag_of (page p) = p.tag
+tag_of (entry_of t) = t
 
-pub initial_once : (items : List Item) → IsClean items → IsStatedOnce (map value_said (initial_in items))
+index_of : PlainAddress → ℕ
+index_of (page p) = p.index
+index_of (entry_of t) = 0
+
+one_address_at : (a b : Address) → address_at a ≡ address_at b → a ≡ b
+unfolding tag_of index_of
+one_address_at (Page t x) (Page u y) e = let tag = ap tag_of e in let index = ap index_of e in λ i. Page (tag i) (index i)
+one_address_at (Entry t) (Entry u) e = ap Entry (ap tag_of e)
+one_address_at (Page t x) (Entry u) e = absurd (cc)
+one_address_at (Entry t) (Page u y) e = absurd (cc)
+
+stated_once : (lines : List ValueLine) → Apart SameAddress lines → IsStatedOnce (map stated_by lines)
+stated_once lines apart j k a b at_j at_k r =
+    let (u, here, is_a) = mapped_get stated_by lines j a at_j in
+    let (v, there, is_b) = mapped_get stated_by lines k b at_k in
+    let address : address_at u.pa ≡ address_at v.pa =
+    ap (λ (p : PlainAddress × PlainValue). p.0) is_a ∙ r ∙ sym (ap (λ (p : PlainAddress × PlainValue). p.0) is_b) in
+    apart j k u v here there (one_address_at u.pa v.pa address)
+
+pub initial_once : (items : List Item) → IsClean items → IsStatedOnce (map stated_by (initial_in items))
 initial_once items clean = stated_once (initial_in items) (pages initial_of AgainInitial judged_initial items clean)
 
-pub final_once : (items : List Item) → IsClean items → IsStatedOnce (map value_said (final_in items))
+pub final_once : (items : List Item) → IsClean items → IsStatedOnce (map stated_by (final_in items))
 final_once items clean = stated_once (final_in items) (pages final_of AgainFinal judged_final items clean)
 
-fence_touches : (a : Action) → (kind_said a ≡ fence) ↔ IsNone (touch_said a)
+fence_touches : (a : Action) → (kind_of_action a ≡ fence) ↔ IsNone (touch_of_action a)
 fence_touches (reads m) = ((λ e. absurd (cc)), (λ e. absurd (cc)))
 fence_touches (writes m) = ((λ e. absurd (cc)), (λ e. absurd (cc)))
 fence_touches fences = ((λ e. refl), (λ e. refl))
 
-pub ops_kept : (items : List Item) → IsClean items → IsKept (map op_said (microops_in items))
-ops_kept items clean =
+pub are_micro_ops : (items : List Item) → IsClean items → AreMicroOps (map op_of (microops_in items))
+are_micro_ops items clean =
     let ms = microops_in items in
     let head = λ (m : Microop). m.head in
     record {
-      few = omega (arith, few items clean, length-map ms op_said, length-map ms head);
+      few = omega (arith, few items clean, length-map ms op_of, length-map ms head);
       cores = λ k o at.
-          let (m, here, is) = mapped_get op_said ms k o at in
+          let (m, here, is) = mapped_get op_of ms k o at in
           let fits = cores items clean m.head (contains-get (map head ms) k m.head (get_mapped head ms k m here)) in
           let same_core : m.head.core.value ≡ o.core = ap (λ (x : MicroOp). x.core) is in
           omega arith;
       once = λ j k a b at_j at_k g n.
-          let (m, here, is_a) = mapped_get op_said ms j a at_j in
-          let (l, there, is_b) = mapped_get op_said ms k b at_k in
+          let (m, here, is_a) = mapped_get op_of ms j a at_j in
+          let (l, there, is_b) = mapped_get op_of ms k b at_k in
           names items clean j k m.head l.head (get_mapped head ms j m here) (get_mapped head ms k l there)
           (ap (λ (x : MicroOp). x.g) is_a ∙ g ∙ sym (ap (λ (x : MicroOp). x.g) is_b), ap (λ (x : MicroOp). x.n) is_a ∙ n ∙ sym (ap (λ (x : MicroOp). x.n) is_b));
       fences = λ k o at.
-          let (m, here, is) = mapped_get op_said ms k o at in
+          let (m, here, is) = mapped_get op_of ms k o at in
           subst (λ (x : MicroOp). (x.kind ≡ fence) ↔ IsNone x.touch) is (fence_touches m.action);
     }
 
@@ -286,8 +312,8 @@ all_known : (items : List Item) → IsClean items → AreKnown (heads_in items) 
 all_known = each_clean (λ items. AreKnown (heads_in items) (relationships_in items)) (λ r c. let k = c.1 in absurd (omega arith)) known_step
 
 pub dependencies_within : (items : List Item) → IsClean items
-    → AreWithin (length (heads_in items)) (map (dependency_said (heads_in items)) (relationships_in items))
+    → AreWithin (length (heads_in items)) (map (dependency_of (heads_in items)) (relationships_in items))
 dependencies_within items clean k d at =
-    let (r, here, is) = mapped_get (dependency_said (heads_in items)) (relationships_in items) k d at in
+    let (r, here, is) = mapped_get (dependency_of (heads_in items)) (relationships_in items) k d at in
     let ends = all_known items clean r (contains-get (relationships_in items) k r here) in
     subst (λ (x : Dependency). (x.source < length (heads_in items)) × (x.target < length (heads_in items))) is ends

@@ -1,20 +1,26 @@
 -- Each list of items is clean or has a content fault.
-use Rattle.std.proofs.Common.{◌≡◌, ◌≢◌, ℕ, zero, ◌<◌, ◌≤◌, ◌⊎◌, ⊎_elim, inl, inr, List, [], ◌∷◌, ◌++◌, length, refl, sym, ap, subst, ◌∙◌, arith, append_assoc}
+use Rattle.std.proofs.Common.{◌≡◌, ◌≢◌, zero, ◌<◌, ◌≤◌, ◌⊎◌, ⊎_elim, inl, inr, List, [], ◌∷◌, ◌++◌, length, refl, sym, ap, subst, ◌∙◌, arith, append_assoc}
 use Rattle.std.specs.Prelude.{Contains}
 use Rattle.std.proofs.lemmas.List.{append-nil}
 use Rattle.pc_common.specs.declared.place.Place.{Place}
 use Rattle.pc_common.specs.declared.fault.FaultKind.{FaultKind}
-use Rattle.pc_common.specs.declared.fault.FaultKind.TheVariants.{CoreNumber, TooManyOps, SplitInstruction, DuplicateOp, OpUnknown, AgainInitial, AgainFinal, AgainExpectation}
+use Rattle.pc_common.specs.declared.fault.FaultKind.TheVariants.{CoreNumber, TooManyOps, SplitInstruction, DuplicateOp, OpUnknown, AgainInitial, AgainFinal, AgainExpectation, MarkValue}
+use Rattle.pc_common.specs.declared.value.Value.{Value}
 use Rattle.pc_common.specs.Case.{Expectation}
-use Rattle.litmus_reader.specs.Items.{heads_in, initial_in, final_in, expectations_in}
-use Rattle.litmus_reader.specs.Content.{Never, First, OverCore, OverMany, SplitFrom, DuplicateOf, SomeEarlier, Unknown, AgainStated, AgainExpected, MicroopFault, IsFaultOf, IsClean, IsContentFault}
+use Rattle.litmus_reader.specs.Items.{value_of, heads_in, initial_in, final_in, expectations_in}
+use Rattle.litmus_reader.specs.Content.{Never, First, OverCore, OverMany, SplitFrom, DuplicateOf, SomeEarlier, Unknown, AgainStated, AgainExpected, OverMark, MarkFault, ActionFault, HeadFault, IsFaultOf, IsClean, IsContentFault}
 use Rattle.pc_common.specs.declared.limits.TheConstants.{MAX_CORE, MAX_OPS}
+use Rattle.litmus_reader.specs.declared.item.Numeral.{Numeral}
+use Rattle.litmus_reader.specs.declared.item.ValueText.{ValueText}
+use Rattle.litmus_reader.specs.declared.item.ValueText.TheVariants.{Number, Entry}
+use Rattle.litmus_reader.specs.declared.item.Action.{Action}
+use Rattle.litmus_reader.specs.declared.item.Action.TheVariants.{Read as reads, Write as writes, Fence as fences}
 use Rattle.litmus_reader.specs.declared.item.Head.{Head}
 use Rattle.litmus_reader.specs.declared.item.End.{End}
 use Rattle.litmus_reader.specs.declared.item.ValueLine.{ValueLine}
 use Rattle.litmus_reader.specs.declared.item.Item.{Item}
 use Rattle.litmus_reader.specs.declared.item.Item.TheVariants.{Microop as microop, Relationship as relationship, Initial as initial, Final as final, Permitted as permitted, Forbidden as forbidden}
-use Rattle.litmus_reader.proofs.Decisions.{Decided, both, less, at_most, same_number, same_page}
+use Rattle.litmus_reader.proofs.Decisions.{Decided, both, less, at_most, same_number, same_address}
 use Rattle.litmus_reader.proofs.ValueFacts.{contains-cons, contains-cases, contains-none}
 use Rattle.litmus_reader.proofs.CleanFacts.{clean-none, clean-push}
 
@@ -71,7 +77,7 @@ duplicate h e = by (same_number e.g.value h.g.value) (same_number e.n h.n)
     by (inl g) (inr other) = inl (λ kind at r. other r.1)
     by (inl g) (inl n) = inr (DuplicateOp e.g.at h.g.at, h.g.at, (g, n, refl, refl))
 
-op : (before : List Head) (h : Head) → IsJudged (MicroopFault before h)
+op : (before : List Head) (h : Head) → IsJudged (HeadFault before h)
 op before h =
     let splits = SomeEarlier before (SplitFrom h) in
     let duplicates = SomeEarlier before (DuplicateOf h) in
@@ -100,12 +106,12 @@ unknown : (before : List Head) (x : End) → IsJudged (Unknown before x)
 unknown before x =
     single ((e : Head) → Contains before e → e.g.value ≡ x.g.value → e.n ≢ x.n) (OpUnknown x.g.value x.n) x.g.at (named before x)
 
-stated : (word : ℕ → ℕ → FaultKind) (before : List ValueLine) (v : ValueLine) → IsJudged (AgainStated word before v)
+stated : (word : Value → Value → FaultKind) (before : List ValueLine) (v : ValueLine) → IsJudged (AgainStated word before v)
 stated word before v =
-    let Row : ValueLine → FaultKind → Place → Type 0 = λ e kind at. (e.pa ≡ v.pa) × (kind ≡ word e.value v.value) × (at ≡ v.at) in
+    let Row : ValueLine → FaultKind → Place → Type 0 = λ e kind at. (e.pa ≡ v.pa) × (kind ≡ word (value_of e.value) (value_of v.value)) × (at ≡ v.at) in
     alike (λ kind at. (e : ValueLine) × Contains before e × Row e kind at) (AgainStated word before v)
-    (λ kind at (e, c, (page, is, here)). (e, c, page, is, here)) (λ kind at (e, c, page, is, here). (e, c, (page, is, here)))
-    (some_in Row (λ e. single (e.pa ≡ v.pa) (word e.value v.value) v.at (same_page e.pa v.pa)) before)
+    (λ kind at (e, c, (same, is, here)). (e, c, same, is, here)) (λ kind at (e, c, same, is, here). (e, c, (same, is, here)))
+    (some_in Row (λ e. single (e.pa ≡ v.pa) (word (value_of e.value) (value_of v.value)) v.at (same_address e.pa v.pa)) before)
 
 expected : (before : List (Expectation × Place)) (here : Place) → IsJudged (AgainExpected before here)
 expected before here =
@@ -114,12 +120,27 @@ expected before here =
     (λ kind at (e, c, (is, there)). (e, c, is, there)) (λ kind at (e, c, is, there). (e, c, (is, there)))
     (some_in Row (λ e. inr (AgainExpectation e.1 here, here, (refl, refl))) before)
 
+mark : (m : Numeral) → IsJudged (OverMark m)
+mark m = single (1 < m.value) (MarkValue m.value) m.at (less 1 m.value)
+
+marks : (v : ValueText) → IsJudged (MarkFault v)
+marks (Number n) = inl (λ kind at h. h)
+marks (Entry tag accessed dirty) = first (OverMark accessed) (OverMark dirty) (mark accessed) (mark dirty)
+
+action_marks : (a : Action) → IsJudged (ActionFault a)
+action_marks (reads t) = marks t.value
+action_marks (writes t) = marks t.value
+action_marks fences = inl (λ kind at h. h)
+
 fault_or_none : (before : List Item) (i : Item) → IsJudged (IsFaultOf before i)
-fault_or_none before (microop m) = op (heads_in before) m.head
+fault_or_none before (microop m) =
+    first (HeadFault (heads_in before) m.head) (ActionFault m.action) (op (heads_in before) m.head) (action_marks m.action)
 fault_or_none before (relationship r) =
     first (Unknown (heads_in before) r.source) (Unknown (heads_in before) r.target) (unknown (heads_in before) r.source) (unknown (heads_in before) r.target)
-fault_or_none before (initial v) = stated AgainInitial (initial_in before) v
-fault_or_none before (final v) = stated AgainFinal (final_in before) v
+fault_or_none before (initial v) =
+    first (AgainStated AgainInitial (initial_in before) v) (MarkFault v.value) (stated AgainInitial (initial_in before) v) (marks v.value)
+fault_or_none before (final v) =
+    first (AgainStated AgainFinal (final_in before) v) (MarkFault v.value) (stated AgainFinal (final_in before) v) (marks v.value)
 fault_or_none before (permitted at) = expected (expectations_in before) at
 fault_or_none before (forbidden at) = expected (expectations_in before) at
 

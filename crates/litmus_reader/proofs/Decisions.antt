@@ -1,7 +1,8 @@
--- What is decided of numbers and pages.
+-- What is decided of numbers and addresses.
 use Rattle.std.proofs.Common.{◌≡◌, ℕ, ◌<◌, ◌≤◌, ◌⊎◌, ⊎_elim, inl, inr, ap, arith}
 use Rattle.std.proofs.str.Laws.{order}
-use Rattle.pc_case.specs.declared.op.Page.{Page}
+use Rattle.pc_case.specs.declared.address.Address.{Address}
+use Rattle.pc_case.specs.declared.address.Address.TheVariants.{Page, Entry}
 
 -- a statement holds, or it never does
 abbrev pub Decided : Type 0 → Type 0
@@ -23,9 +24,12 @@ same_number m n =
     ⊎_elim (λ lt. inr (λ e. omega arith))
     (λ le. ⊎_elim (λ lt. inr (λ e. omega arith)) (λ le'. inl (omega arith)) (order n m)) (order m n)
 
-pub same_page : (p q : Page) → Decided (p ≡ q)
-same_page p q =
+pub same_address : (a b : Address) → Decided (a ≡ b)
+same_address (Page t x) (Page u y) =
     ⊎_elim
-    (λ h. let tag = h.0 in let index = h.1 in inl (λ i. record { tag = tag i; index = index i }))
-    (λ other. inr (λ e. other (ap (λ (x : Page). x.tag) e, ap (λ (x : Page). x.index) e)))
-    (both (same_number p.tag q.tag) (same_number p.index q.index))
+    (λ h. let tag = h.0 in let index = h.1 in inl (λ i. Page (tag i) (index i)))
+    (λ other. inr (λ e. other (cc, cc)))
+    (both (same_number t u) (same_number x y))
+same_address (Entry t) (Entry u) = ⊎_elim (λ e. inl (ap Entry e)) (λ other. inr (λ e. other (cc))) (same_number t u)
+same_address (Page t x) (Entry u) = inr (λ e. cc)
+same_address (Entry t) (Page u y) = inr (λ e. cc)

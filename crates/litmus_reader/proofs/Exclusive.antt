@@ -4,23 +4,23 @@ use Rattle.std.proofs.lemmas.List.{take-append-drop}
 use Rattle.pc_common.specs.Case.{Case}
 use Rattle.ll_grammar.specs.FirstFault.{IsFaultAt}
 use Rattle.uspec_lexer.specs.Token.{Token}
-use Rattle.uspec_lexer.proofs.Spelling.{spells-unique, spells-no_fault}
+use Rattle.uspec_lexer.proofs.SpellsLaws.{spells-unique, spells-no_fault}
 use Rattle.litmus_reader.specs.Syntax.{IsTestOf, IsTest}
 use Rattle.litmus_reader.specs.Items.{case_of}
-use Rattle.litmus_reader.specs.Answer.{Says, CaseOf, IsRefusal}
+use Rattle.litmus_reader.specs.Answer.{IsTextOf, CaseOf, IsCaseFault}
 use Rattle.litmus_reader.specs.declared.item.Item.{Item}
 use Rattle.litmus_reader.specs.declared.fault.CaseFault.{CaseFault}
 use Rattle.litmus_reader.specs.declared.fault.CaseFault.TheVariants.{Lexical, Syntax, Content, Memory}
 use Rattle.litmus_reader.proofs.OneReading.{one_test}
 
 -- a text is a test of one list of items at most
-pub one_reading : (bytes : List ℕ) (xs ys : List Item) → Says bytes xs → Says bytes ys → xs ≡ ys
+pub one_reading : (bytes : List ℕ) (xs ys : List Item) → IsTextOf bytes xs → IsTextOf bytes ys → xs ≡ ys
 one_reading bytes xs ys s t =
     one_test s.tokens xs ys s.test (subst (IsTestOf ys) (spells-unique t.spelled s.spelled) t.test)
 
 -- no text has two cases
 pub one_case : (bytes : List ℕ) (c d : Case) → CaseOf bytes c → CaseOf bytes d → c ≡ d
-one_case bytes c d s t = s.is ∙ ap case_of (one_reading bytes s.items t.items s.said t.said) ∙ sym t.is
+one_case bytes c d s t = s.is ∙ ap case_of (one_reading bytes s.items t.items s.text t.text) ∙ sym t.is
 
 pub no_syntax_fault : (ts : List Token) (k : ℕ) → IsTest ts → IsFaultAt IsTest ts k → ⊥
 no_syntax_fault ts k test f =
@@ -29,10 +29,10 @@ no_syntax_fault ts k test f =
     f.through (omega arith) (drop (k + 1) ts, subst IsTest (sym (take-append-drop (k + 1) ts)) test)
 
 -- a text with a case has no fault
-pub no_fault : (bytes : List ℕ) (c : Case) (fault : CaseFault) → CaseOf bytes c → fault ≢ Memory → IsRefusal bytes fault → ⊥
-no_fault bytes c (Lexical place) s not f = spells-no_fault s.said.spelled f
+pub no_fault : (bytes : List ℕ) (c : Case) (fault : CaseFault) → CaseOf bytes c → fault ≢ Memory → IsCaseFault bytes fault → ⊥
+no_fault bytes c (Lexical place) s not f = spells-no_fault s.text.spelled f
 no_fault bytes c (Syntax place) s not f =
-    no_syntax_fault f.tokens f.k (s.items, subst (IsTestOf s.items) (spells-unique s.said.spelled f.spelled) s.said.test) f.fault
+    no_syntax_fault f.tokens f.k (s.items, subst (IsTestOf s.items) (spells-unique s.text.spelled f.spelled) s.text.test) f.fault
 no_fault bytes c (Content kind place) s not (items, said, f) =
-    s.clean f.before f.item f.after (one_reading bytes s.items items s.said said ∙ f.are) kind place f.here
+    s.clean f.before f.item f.after (one_reading bytes s.items items s.text said ∙ f.are) kind place f.here
 no_fault bytes c Memory s not f = not refl

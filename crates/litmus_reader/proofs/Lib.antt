@@ -6,7 +6,7 @@ pub mod Places
 pub mod Lines
 pub mod RowFacts
 pub mod ValueFacts
-pub mod KeptFacts
+pub mod BuilderFacts
 pub mod CleanFacts
 pub mod Walk
 pub mod OneReading

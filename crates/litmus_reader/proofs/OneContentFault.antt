@@ -6,16 +6,21 @@ use Rattle.std.proofs.lemmas.List.Elements.{Contains-push_cases}
 use Rattle.pc_common.specs.declared.place.Place.{Place}
 use Rattle.pc_common.specs.declared.fault.FaultKind.{FaultKind}
 use Rattle.pc_common.specs.declared.fault.FaultKind.TheVariants.{SplitInstruction, DuplicateOp, AgainInitial, AgainFinal, AgainExpectation}
+use Rattle.pc_common.specs.declared.value.Value.{Value}
 use Rattle.pc_common.specs.Case.{Expectation}
-use Rattle.litmus_reader.specs.Items.{initial_of, final_of, expectation_of, heads_in, initial_in, final_in, expectations_in}
-use Rattle.litmus_reader.specs.Content.{Never, First, OverCore, OverMany, SplitFrom, DuplicateOf, SomeEarlier, Unknown, AgainStated, AgainExpected, MicroopFault, IsFaultOf, IsClean, IsContentFault}
+use Rattle.litmus_reader.specs.Items.{value_of, initial_of, final_of, expectation_of, heads_in, initial_in, final_in, expectations_in}
+use Rattle.litmus_reader.specs.Content.{Never, First, OverCore, OverMany, SplitFrom, DuplicateOf, SomeEarlier, Unknown, AgainStated, AgainExpected, OverMark, MarkFault, ActionFault, HeadFault, IsFaultOf, IsClean, IsContentFault}
+use Rattle.litmus_reader.specs.declared.item.ValueText.{ValueText}
+use Rattle.litmus_reader.specs.declared.item.ValueText.TheVariants.{Number, Entry}
+use Rattle.litmus_reader.specs.declared.item.Action.{Action}
+use Rattle.litmus_reader.specs.declared.item.Action.TheVariants.{Read as reads, Write as writes, Fence as fences}
 use Rattle.litmus_reader.specs.declared.item.Head.{Head}
 use Rattle.litmus_reader.specs.declared.item.End.{End}
 use Rattle.litmus_reader.specs.declared.item.ValueLine.{ValueLine}
 use Rattle.litmus_reader.specs.declared.item.Item.{Item}
 use Rattle.litmus_reader.specs.declared.item.Item.TheVariants.{Microop as microop, Relationship as relationship, Initial as initial, Final as final, Permitted as permitted, Forbidden as forbidden}
-use Rattle.litmus_reader.proofs.KeptFacts.{never-first, never-others, added, same, same_heads, added_head, none_expected}
-use Rattle.litmus_reader.proofs.CleanFacts.{each_clean, Apart, SameName, SamePage, names, pages, judged_initial, judged_final}
+use Rattle.litmus_reader.proofs.BuilderFacts.{never-first, never-others, added, same, same_heads, added_head, none_expected}
+use Rattle.litmus_reader.proofs.CleanFacts.{each_clean, Apart, SameName, SameAddress, names, pages, judged_initial, judged_final, head_never}
 
 -- earlier micro-ops of one instruction have one core and one thread
 abbrev Agree : List Head → Type 0
@@ -27,7 +32,7 @@ equal {a} {b} not_apart =
     let above : b < a → ⊥ = λ lt. not_apart (λ e. omega (arith, e)) in
     omega arith
 
-agrees : (heads : List Head) (h : Head) → Never (MicroopFault heads h) → (e : Head) → Contains heads e → e.g.value ≡ h.g.value
+agrees : (heads : List Head) (h : Head) → Never (HeadFault heads h) → (e : Head) → Contains heads e → e.g.value ≡ h.g.value
     → (e.core.value ≡ h.core.value) × (e.thread.value ≡ h.thread.value)
 agrees heads h never e c g =
     let later = First (SomeEarlier heads (SplitFrom h)) (SomeEarlier heads (DuplicateOf h)) in
@@ -37,7 +42,7 @@ agrees heads h never e c g =
     let thread = equal (λ other. split (SplitInstruction e.thread.value h.thread.value) h.thread.at (e, c, (g, inr (core, other, refl, refl)))) in
     (core, thread)
 
-agree-push : (heads : List Head) (h : Head) → Never (MicroopFault heads h) → Agree heads → Agree (heads ++ h ∷ [])
+agree-push : (heads : List Head) (h : Head) → Never (HeadFault heads h) → Agree heads → Agree (heads ++ h ∷ [])
 agree-push heads h never all e f c d g =
     by (Contains-push_cases heads h e c) (Contains-push_cases heads h f d)
   where
@@ -52,7 +57,7 @@ agree-push heads h never all e f c d g =
     by (inr x) (inr y) = (ap (λ (z : Head). z.core.value) (sym x ∙ y), ap (λ (z : Head). z.thread.value) (sym x ∙ y))
 
 agree_step : (b : List Item) (i : Item) → IsClean b → Never (IsFaultOf b i) → Agree (heads_in b) → Agree (heads_in (b ++ i ∷ []))
-agree_step b (microop m) clean never all = subst Agree (sym (added_head b m)) (agree-push (heads_in b) m.head never all)
+agree_step b (microop m) clean never all = subst Agree (sym (added_head b m)) (agree-push (heads_in b) m.head (head_never b m never) all)
 agree_step b (relationship r) clean never all = subst Agree (sym (same_heads b (relationship r) refl)) all
 agree_step b (initial v) clean never all = subst Agree (sym (same_heads b (initial v) refl)) all
 agree_step b (final v) clean never all = subst Agree (sym (same_heads b (final v) refl)) all
@@ -116,34 +121,50 @@ one_duplicate heads h apart j k p q (e, c, a) (f, d, b) =
 one_unknown : (heads : List Head) (x : End) → IsOne (Unknown heads x)
 one_unknown heads x j k p q a b = (a.1 ∙ sym b.1, a.2 ∙ sym b.2)
 
-one_stated : (word : ℕ → ℕ → FaultKind) (lines : List ValueLine) (v : ValueLine) → Apart SamePage lines → IsOne (AgainStated word lines v)
+one_stated : (word : Value → Value → FaultKind) (lines : List ValueLine) (v : ValueLine) → Apart SameAddress lines → IsOne (AgainStated word lines v)
 one_stated word lines v apart j k p q (e, c, same_a, is_a, at_a) (f, d, same_b, is_b, at_b) =
-    let twin = alone SamePage lines apart e f c d (same_a ∙ sym same_b) in
-    (is_a ∙ ap (λ (z : ValueLine). word z.value v.value) twin ∙ sym is_b, at_a ∙ sym at_b)
+    let twin = alone SameAddress lines apart e f c d (same_a ∙ sym same_b) in
+    (is_a ∙ ap (λ (z : ValueLine). word (value_of z.value) (value_of v.value)) twin ∙ sym is_b, at_a ∙ sym at_b)
 
-one_stance : (es : List (Expectation × Place)) (at : Place) → length es ≤ 1 → IsOne (AgainExpected es at)
-one_stance es at few j k p q (e, c, is_a, at_a) (f, d, is_b, at_b) =
+one_expectation : (es : List (Expectation × Place)) (at : Place) → length es ≤ 1 → IsOne (AgainExpected es at)
+one_expectation es at few j k p q (e, c, is_a, at_a) (f, d, is_b, at_b) =
     let first : c.0 ≡ d.0 = let a = c.1 in let b = d.1 in omega arith in
     let twin : e ≡ f = let a = got es e c in let b = got es f d in cc in
     (is_a ∙ ap (λ (z : Expectation × Place). AgainExpectation z.1 at) twin ∙ sym is_b, at_a ∙ sym at_b)
 
-one_microop : (heads : List Head) (h : Head) → Agree heads → Apart SameName heads → IsOne (MicroopFault heads h)
-one_microop heads h all apart =
+one_head : (heads : List Head) (h : Head) → Agree heads → Apart SameName heads → IsOne (HeadFault heads h)
+one_head heads h all apart =
     let splits = SomeEarlier heads (SplitFrom h) in
     let duplicates = SomeEarlier heads (DuplicateOf h) in
     one-first (OverCore h) (First (OverMany heads h) (First splits duplicates)) (λ j k p q a b. (a.1 ∙ sym b.1, a.2 ∙ sym b.2))
     (one-first (OverMany heads h) (First splits duplicates) (λ j k p q a b. (a.1 ∙ sym b.1, a.2 ∙ sym b.2))
     (one-first splits duplicates (one_split heads h all) (one_duplicate heads h apart)))
 
+one_mark : (v : ValueText) → IsOne (MarkFault v)
+one_mark (Number n) = λ j k p q a b. absurd a
+one_mark (Entry tag accessed dirty) =
+    one-first (OverMark accessed) (OverMark dirty) (λ j k p q a b. (a.1 ∙ sym b.1, a.2 ∙ sym b.2)) (λ j k p q a b. (a.1 ∙ sym b.1, a.2 ∙ sym b.2))
+
+one_action : (a : Action) → IsOne (ActionFault a)
+one_action (reads t) = one_mark t.value
+one_action (writes t) = one_mark t.value
+one_action fences = λ j k p q a b. absurd a
+
 -- an item behind items without a fault has one fault at most
 pub one_fault_of : (before : List Item) (i : Item) → IsClean before → IsOne (IsFaultOf before i)
-one_fault_of before (microop m) clean = one_microop (heads_in before) m.head (agree before clean) (names before clean)
+one_fault_of before (microop m) clean =
+    one-first (HeadFault (heads_in before) m.head) (ActionFault m.action)
+    (one_head (heads_in before) m.head (agree before clean) (names before clean)) (one_action m.action)
 one_fault_of before (relationship r) clean =
     one-first (Unknown (heads_in before) r.source) (Unknown (heads_in before) r.target) (one_unknown (heads_in before) r.source) (one_unknown (heads_in before) r.target)
-one_fault_of before (initial v) clean = one_stated AgainInitial (initial_in before) v (pages initial_of AgainInitial judged_initial before clean)
-one_fault_of before (final v) clean = one_stated AgainFinal (final_in before) v (pages final_of AgainFinal judged_final before clean)
-one_fault_of before (permitted at) clean = one_stance (expectations_in before) at (one_expected before clean)
-one_fault_of before (forbidden at) clean = one_stance (expectations_in before) at (one_expected before clean)
+one_fault_of before (initial v) clean =
+    one-first (AgainStated AgainInitial (initial_in before) v) (MarkFault v.value)
+    (one_stated AgainInitial (initial_in before) v (pages initial_of AgainInitial judged_initial before clean)) (one_mark v.value)
+one_fault_of before (final v) clean =
+    one-first (AgainStated AgainFinal (final_in before) v) (MarkFault v.value)
+    (one_stated AgainFinal (final_in before) v (pages final_of AgainFinal judged_final before clean)) (one_mark v.value)
+one_fault_of before (permitted at) clean = one_expectation (expectations_in before) at (one_expected before clean)
+one_fault_of before (forbidden at) clean = one_expectation (expectations_in before) at (one_expected before clean)
 
 -- two places of one list
 parted : {X : Type 0} (xs ys : List X) (x y : X) (us vs : List X) → xs ++ x ∷ us ≡ ys ++ y ∷ vs

@@ -4,10 +4,10 @@ use Rattle.pc_common.specs.declared.place.Place.{Place}
 use Rattle.ll_grammar.specs.FirstFault.{IsFaultAt}
 use Rattle.ll_grammar.proofs.Faults.{viable-take}
 use Rattle.uspec_lexer.specs.Token.{Token, token_place}
-use Rattle.uspec_lexer.proofs.Spelling.{spells-unique, spells-no_fault, lexical_fault-unique}
+use Rattle.uspec_lexer.proofs.SpellsLaws.{spells-unique, spells-no_fault, lexical_fault-unique}
 use Rattle.litmus_reader.specs.Syntax.{IsTestOf, IsTest}
 use Rattle.litmus_reader.specs.Content.{IsContentFault}
-use Rattle.litmus_reader.specs.Answer.{Says, IsSyntaxFault, IsRefusal}
+use Rattle.litmus_reader.specs.Answer.{IsTextOf, IsSyntaxFault, IsCaseFault}
 use Rattle.litmus_reader.specs.declared.item.Item.{Item}
 use Rattle.litmus_reader.specs.declared.fault.CaseFault.{CaseFault}
 use Rattle.litmus_reader.specs.declared.fault.CaseFault.TheVariants.{Lexical, Syntax, Content, Memory}
@@ -31,12 +31,12 @@ one_syntax_fault bytes p q f g =
     ∙ ap (λ (ts : List Token). token_place bytes ts g.k) (sym tokens) ∙ sym g.at in
     λ i. record { offset = offset i }
 
-test_or_syntax : (bytes : List ℕ) (place : Place) (items : List Item) → IsSyntaxFault bytes place → Says bytes items → ⊥
+test_or_syntax : (bytes : List ℕ) (place : Place) (items : List Item) → IsSyntaxFault bytes place → IsTextOf bytes items → ⊥
 test_or_syntax bytes place items f said =
     no_syntax_fault f.tokens f.k (items, subst (IsTestOf items) (spells-unique said.spelled f.spelled) said.test) f.fault
 
 -- a text has one first fault at most
-pub one_fault : (bytes : List ℕ) (e f : CaseFault) → e ≢ Memory → f ≢ Memory → IsRefusal bytes e → IsRefusal bytes f → e ≡ f
+pub one_fault : (bytes : List ℕ) (e f : CaseFault) → e ≢ Memory → f ≢ Memory → IsCaseFault bytes e → IsCaseFault bytes f → e ≡ f
 one_fault bytes (Lexical p) (Lexical q) _ _ r s = let offset = lexical_fault-unique r s in λ i. Lexical (record { offset = offset i })
 one_fault bytes (Lexical p) (Syntax q) _ _ r s = absurd (spells-no_fault s.spelled r)
 one_fault bytes (Lexical p) (Content kind q) _ _ r (items, said, s) = absurd (spells-no_fault said.spelled r)

@@ -12,14 +12,14 @@ use Rattle.litmus_reader.specs.Content.{Never, First, SomeEarlier}
 use Rattle.litmus_reader.specs.Rows.{Answers}
 use Rattle.litmus_reader.specs.declared.item.Head.{Head}
 use Rattle.litmus_reader.specs.declared.item.End.{End}
-use Rattle.litmus_reader.specs.declared.refusal.Refusal.{Refusal}
+use Rattle.litmus_reader.specs.declared.content_fault.ContentFault.{ContentFault}
 
 -- the second row's answer, where the first gives none
-pub first-none : (Row Others : FaultKind → Place → Type 0) → Never Row → (found : Option Refusal) → Answers Others found → Answers (First Row Others) found
+pub first-none : (Row Others : FaultKind → Place → Type 0) → Never Row → (found : Option ContentFault) → Answers Others found → Answers (First Row Others) found
 first-none Row Others never None others = λ kind at h. elim h [ inl row ↦ never kind at row | inr pair ↦ others kind at pair.1 ]
 first-none Row Others never (Some r) others = inr (never, others)
 
-pub never-of : (Row : FaultKind → Place → Type 0) → (found : Option Refusal) → found ≡ None → Answers Row found → Never Row
+pub never-of : (Row : FaultKind → Place → Type 0) → (found : Option ContentFault) → found ≡ None → Answers Row found → Never Row
 never-of Row found e row = subst (Answers Row) e row
 
 same_item : {X : Type 0} (xs : List X) (i : ℕ) (x y : X) → i < length xs → get_or xs i x ≡ x → get_or xs i y ≡ y → x ≡ y

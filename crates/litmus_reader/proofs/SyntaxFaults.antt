@@ -10,12 +10,11 @@ use Rattle.ll_grammar.proofs.Shallow.{syntax-along}
 use Rattle.uspec_lexer.specs.Token.{Token, name, number, text, symbol}
 use Rattle.litmus_reader.specs.Syntax.{IsTest}
 use Rattle.litmus_reader.specs.Answers.{IsSyntaxAnswer, place_in}
-use Rattle.litmus_reader.specs.Terminals.{terminal_of, word_terminal, symbol_terminal}
+use Rattle.litmus_reader.specs.Terminals.{spelling, terminal_of, word_terminal, symbol_terminal}
 use Rattle.litmus_reader.specs.Phrases.{rules}
 use Rattle.litmus_reader.specs.declared.terminal.Terminal.{Terminal}
-use Rattle.litmus_reader.specs.declared.terminal.Terminal.TheVariants.{Litmus, Microop, Relationship, Init, Final, Permitted, Forbidden, Read, Write, Fence, Va, Pa, Data, Name, Number, Text, Open, Close, Dot, Arrow, Other}
+use Rattle.litmus_reader.specs.declared.terminal.Terminal.TheVariants.{Litmus, Litmus2, Microop, Relationship, Init, Final, Permitted, Forbidden, Read, Write, Fence, Va, Pa, Entry, Data, Maps, Name, Number, Text, Open, Close, Dot, Arrow, Other}
 use Rattle.litmus_reader.specs.declared.phrase.Phrase.TheVariants.{Test}
-use Rattle.litmus_reader.proofs.Words.{spelling}
 use Rattle.litmus_reader.proofs.Bridge.{test_of_derives, derives_of_test}
 
 word : List ℕ → Token
@@ -51,6 +50,9 @@ some_is Fence = refl
 some_is Va = refl
 some_is Pa = refl
 some_is Data = refl
+some_is Litmus2 = refl
+some_is Entry = refl
+some_is Maps = refl
 some_is Name = refl
 some_is Number = refl
 some_is Text = refl

@@ -5,7 +5,7 @@ use Rattle.uspec_lexer.specs.Token.{Token, token_place}
 use Rattle.uspec_lexer.specs.Spells.{Spells}
 use Rattle.uspec_lexer.proofs.Totality.{spells-or_fault}
 use Rattle.litmus_reader.specs.Items.{case_of}
-use Rattle.litmus_reader.specs.Answer.{Says, CaseOf, IsRefusal}
+use Rattle.litmus_reader.specs.Answer.{IsTextOf, CaseOf, IsCaseFault}
 use Rattle.litmus_reader.specs.declared.item.Item.{Item}
 use Rattle.litmus_reader.specs.declared.fault.CaseFault.{CaseFault}
 use Rattle.litmus_reader.specs.declared.fault.CaseFault.TheVariants.{Lexical, Syntax, Content, Memory}
@@ -13,13 +13,13 @@ use Rattle.litmus_reader.proofs.SyntaxTotality.{test_or_fault}
 use Rattle.litmus_reader.proofs.ContentTotality.{clean_or_fault}
 
 abbrev IsSettled : List ℕ → Type 0
-IsSettled bytes = ((c : Case) × CaseOf bytes c) ⊎ ((f : CaseFault) × (f ≢ Memory) × IsRefusal bytes f)
+IsSettled bytes = ((c : Case) × CaseOf bytes c) ⊎ ((f : CaseFault) × (f ≢ Memory) × IsCaseFault bytes f)
 
 -- items that the bytes say
-items_settled : (bytes : List ℕ) (items : List Item) → Says bytes items → IsSettled bytes
+items_settled : (bytes : List ℕ) (items : List Item) → IsTextOf bytes items → IsSettled bytes
 items_settled bytes items said =
     ⊎_elim
-    (λ clean. inl (case_of items, record { items = items; said = said; clean = clean; is = refl }))
+    (λ clean. inl (case_of items, record { items = items; text = said; clean = clean; is = refl }))
     (λ (kind, at, fault). inr (Content kind at, (λ e. cc), (items, said, fault)))
     (clean_or_fault items)
 
@@ -35,7 +35,7 @@ tokens_settled bytes ts spelled =
     ))
     (test_or_fault ts)
 
-pub case_or_fault : (bytes : List ℕ) → ((c : Case) × CaseOf bytes c) ⊎ ((f : CaseFault) × (f ≢ Memory) × IsRefusal bytes f)
+pub case_or_fault : (bytes : List ℕ) → ((c : Case) × CaseOf bytes c) ⊎ ((f : CaseFault) × (f ≢ Memory) × IsCaseFault bytes f)
 case_or_fault bytes =
     ⊎_elim
     (λ (ts, spelled). tokens_settled bytes ts spelled)

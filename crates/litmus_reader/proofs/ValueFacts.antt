@@ -1,5 +1,5 @@
 -- Values by address.
-use Rattle.std.proofs.Common.{◌≡◌, ◌≢◌, ℕ, zero, suc, Bool, true, false, ◌==◌, ◌&&◌, List, [], ◌∷◌, ◌++◌, Option, Some, None, map, cond, refl, sym, ap, ◌∙◌, ◌⊎◌, inl, inr, arith, eq-eqb}
+use Rattle.std.proofs.Common.{◌≡◌, ◌≢◌, zero, suc, Bool, true, false, ◌==◌, ◌&&◌, List, [], ◌∷◌, ◌++◌, Option, Some, None, map, cond, refl, sym, ap, ◌∙◌, ◌⊎◌, inl, inr, arith, eq-eqb}
 use Rattle.std.specs.Prelude.{Contains}
 use Rattle.std.specs.Map.{lookup}
 use Rattle.std.proofs.lemmas.Bool.{eqb-true}
@@ -7,11 +7,14 @@ use Rattle.std.proofs.lemmas.List.{map-append}
 use Rattle.indexmap.specs.IndexMap.{IndexMap, get, insert_entry}
 use Rattle.indexmap.proofs.CallerLemmas.{insert_entry-new}
 use Rattle.pc_common.specs.declared.fault.FaultKind.{FaultKind}
-use Rattle.pc_case.specs.declared.op.Page.{Page}
+use Rattle.pc_case.specs.declared.address.Address.{Address}
+use Rattle.pc_case.specs.declared.address.Address.TheVariants.{Page, Entry}
+use Rattle.pc_common.specs.declared.value.Value.{Value}
 use Rattle.pc_case.specs.declared.stated.Stated.{Stated}
-use Rattle.pc_case.specs.contracts.op.PagePartialEq.TheImpl.{eq-value as page_eq}
+use Rattle.pc_case.specs.contracts.address.AddressPartialEq.TheImpl.{eq-value as address_eq}
 use Rattle.litmus_reader.specs.Values.{stated_entry, IsUnstated, IsValueAt}
-use Rattle.litmus_reader.specs.Kept.{stated_of}
+use Rattle.litmus_reader.specs.Builder.{stated_of}
+use Rattle.litmus_reader.specs.Items.{value_of}
 use Rattle.litmus_reader.specs.Content.{Never, AgainStated}
 use Rattle.litmus_reader.specs.declared.item.ValueLine.{ValueLine}
 
@@ -41,60 +44,64 @@ contains-mapped {X} {Y} f (z ∷ xs) y c = by (λ d. contains-mapped f xs y d) (
     by later (inl e) = (z, (zero, omega arith, refl), e)
     by later (inr d) = let (x, c2, e) = later d in (x, contains-cons z xs x c2, e)
 
-page_is : (p q : Page) → page_eq.it p q ≡ true → p ≡ q
-page_is p q h = by (p.tag == q.tag) (p.index == q.index) refl refl h
+address_is : (p q : Address) → address_eq.it p q ≡ true → p ≡ q
+address_is (Page a b) (Page t x) h = by (a == t) (b == x) refl refl h
   where
-    by : (s t : Bool) → (p.tag == q.tag) ≡ s → (p.index == q.index) ≡ t → (s && t) ≡ true → p ≡ q
-    by true true e f h = let a = eqb-true p.tag q.tag e in let b = eqb-true p.index q.index f in λ j. record { tag = a j; index = b j }
-    by true false e f h = absurd (cc)
-    by false t e f h = absurd (cc)
+    by : (m n : Bool) → (a == t) ≡ m → (b == x) ≡ n → (m && n) ≡ true → Page a b ≡ Page t x
+    by true true e f g = let tag = eqb-true a t e in let index = eqb-true b x f in λ i. Page (tag i) (index i)
+    by true false e f g = absurd (cc)
+    by false n e f g = absurd (cc)
+address_is (Entry a) (Entry t) h = ap Entry (eqb-true a t h)
+address_is (Page a b) (Entry t) h = absurd (cc)
+address_is (Entry a) (Page t x) h = absurd (cc)
 
-page_itself : (p : Page) → page_eq.it p p ≡ true
-page_itself p = let a = eq-eqb p.tag p.tag refl in let b = eq-eqb p.index p.index refl in λ i. a i && b i
+address_itself : (p : Address) → address_eq.it p p ≡ true
+address_itself (Page a b) = let tag = eq-eqb a a refl in let index = eq-eqb b b refl in λ i. tag i && index i
+address_itself (Entry a) = eq-eqb a a refl
 
 -- what a look-up finds
-pub value_at : (pa : Page) (es : List (Page × ℕ)) → IsValueAt (map stated_entry es) pa (lookup (page_eq.it pa) es)
+pub value_at : (pa : Address) (es : List (Address × Value)) → IsValueAt (map stated_entry es) pa (lookup (address_eq.it pa) es)
 value_at pa [] = λ s c e. contains-none s c
-value_at pa (e ∷ es) = by (value_at pa es) (page_eq.it pa e.0) refl
+value_at pa (e ∷ es) = by (value_at pa es) (address_eq.it pa e.0) refl
   where
-    later : (o : Option ℕ) → (pa ≢ e.0) → IsValueAt (map stated_entry es) pa o → IsValueAt (map stated_entry (e ∷ es)) pa o
+    later : (o : Option Value) → (pa ≢ e.0) → IsValueAt (map stated_entry es) pa o → IsValueAt (map stated_entry (e ∷ es)) pa o
     later None apart none = λ s c same. elim (contains-cases (stated_entry e) (map stated_entry es) s c) [
       | inl h ↦ apart (sym (ap (λ (x : Stated). x.pa) h ∙ same))
       | inr d ↦ none s d same
     ]
     later (Some v) apart (s, c, same, is) = (s, contains-cons (stated_entry e) (map stated_entry es) s c, same, is)
 
-    by : IsValueAt (map stated_entry es) pa (lookup (page_eq.it pa) es) → (b : Bool) → page_eq.it pa e.0 ≡ b
-        → IsValueAt (map stated_entry (e ∷ es)) pa (cond b (Some e.1) (lookup (page_eq.it pa) es))
-    by rest true h = (stated_entry e, (zero, omega arith, refl), sym (page_is pa e.0 h), refl)
-    by rest false h = later (lookup (page_eq.it pa) es)
-        (λ same. let yes = page_itself pa in let no : page_eq.it pa pa ≡ false = ap (page_eq.it pa) same ∙ h in cc) rest
+    by : IsValueAt (map stated_entry es) pa (lookup (address_eq.it pa) es) → (b : Bool) → address_eq.it pa e.0 ≡ b
+        → IsValueAt (map stated_entry (e ∷ es)) pa (cond b (Some e.1) (lookup (address_eq.it pa) es))
+    by rest true h = (stated_entry e, (zero, omega arith, refl), sym (address_is pa e.0 h), refl)
+    by rest false h = later (lookup (address_eq.it pa) es)
+        (λ same. let yes = address_itself pa in let no : address_eq.it pa pa ≡ false = ap (address_eq.it pa) same ∙ h in cc) rest
 
-none_of : (lines : List Stated) (pa : Page) (o : Option ℕ) → IsUnstated lines pa → IsValueAt lines pa o → o ≡ None
+none_of : (lines : List Stated) (pa : Address) (o : Option Value) → IsUnstated lines pa → IsValueAt lines pa o → o ≡ None
 none_of lines pa None none at = refl
 none_of lines pa (Some v) none (s, c, same, is) = absurd (none s c same)
 
 -- one more line
-pub value_added : {S : Type 0} (m : IndexMap Page ℕ S) (new : List (Page × ℕ)) (pa : Page) (value : ℕ)
-    → IsUnstated (map stated_entry m.entries) pa → new ≡ insert_entry page_eq.it m.entries pa value
+pub value_added : {S : Type 0} (m : IndexMap Address Value S) (new : List (Address × Value)) (pa : Address) (value : Value)
+    → IsUnstated (map stated_entry m.entries) pa → new ≡ insert_entry address_eq.it m.entries pa value
     → map stated_entry new ≡ map stated_entry m.entries ++ record { pa = pa; value = value } ∷ []
 value_added m new pa value none is =
-    let fresh : get page_eq.it m pa ≡ None = none_of (map stated_entry m.entries) pa _ none (value_at pa m.entries) in
-    ap (map stated_entry) (is ∙ insert_entry-new page_eq.it m pa value fresh) ∙ map-append stated_entry m.entries ((pa, value) ∷ [])
+    let fresh : get address_eq.it m pa ≡ None = none_of (map stated_entry m.entries) pa _ none (value_at pa m.entries) in
+    ap (map stated_entry) (is ∙ insert_entry-new address_eq.it m pa value fresh) ∙ map-append stated_entry m.entries ((pa, value) ∷ [])
 
 -- an earlier line of the address gives the fault of a row
-pub again-stated : (word : ℕ → ℕ → FaultKind) (before : List ValueLine) (v : ValueLine) → IsUnstated (map stated_of before) v.pa
+pub again-stated : (word : Value → Value → FaultKind) (before : List ValueLine) (v : ValueLine) → IsUnstated (map stated_of before) v.pa
     → Never (AgainStated word before v)
 again-stated word before v none kind at (e, c, same, is, here) = none (stated_of e) (contains-map stated_of before e c) same
 
-pub again-none : (word : ℕ → ℕ → FaultKind) (before : List ValueLine) (v : ValueLine) → Never (AgainStated word before v)
+pub again-none : (word : Value → Value → FaultKind) (before : List ValueLine) (v : ValueLine) → Never (AgainStated word before v)
     → IsUnstated (map stated_of before) v.pa
 again-none word before v never s c same =
     let (e, d, is) = contains-mapped stated_of before s c in
-    never (word e.value v.value) v.at (e, d, ap (λ (x : Stated). x.pa) is ∙ same, refl, refl)
+    never (word (value_of e.value) (value_of v.value)) v.at (e, d, ap (λ (x : Stated). x.pa) is ∙ same, refl, refl)
 
-pub again-some : (word : ℕ → ℕ → FaultKind) (before : List ValueLine) (v : ValueLine) (first : ℕ)
-    → IsValueAt (map stated_of before) v.pa (Some first) → AgainStated word before v (word first v.value) v.at
+pub again-some : (word : Value → Value → FaultKind) (before : List ValueLine) (v : ValueLine) (first : Value)
+    → IsValueAt (map stated_of before) v.pa (Some first) → AgainStated word before v (word first (value_of v.value)) v.at
 again-some word before v first (s, c, same, is) =
     let (e, d, that) = contains-mapped stated_of before s c in
-    (e, d, ap (λ (x : Stated). x.pa) that ∙ same, ap (λ (n : ℕ). word n v.value) (sym is ∙ sym (ap (λ (x : Stated). x.value) that)), refl)
+    (e, d, ap (λ (x : Stated). x.pa) that ∙ same, ap (λ (n : Value). word n (value_of v.value)) (sym is ∙ sym (ap (λ (x : Stated). x.value) that)), refl)

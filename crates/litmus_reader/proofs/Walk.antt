@@ -7,38 +7,38 @@ use Rattle.uspec_lexer.specs.Token.{Token}
 use Rattle.litmus_reader.specs.Expected.{Expected, Spell}
 use Rattle.litmus_reader.specs.Syntax.{spelled_item, spelled_items, IsTestOf, IsTest}
 use Rattle.litmus_reader.specs.Content.{Never, IsFaultOf, IsClean, IsContentFault}
-use Rattle.litmus_reader.specs.Answer.{IsContentRefusal}
-use Rattle.litmus_reader.specs.Kept.{Keeps, IsLineRefusal}
-use Rattle.litmus_reader.specs.Reading.{BeginsAt, SomeItemAt, IsItemAt}
+use Rattle.litmus_reader.specs.Answer.{IsContentFaultIn}
+use Rattle.litmus_reader.specs.Builder.{HasLines, IsLineFault}
+use Rattle.litmus_reader.specs.Reading.{BeginsAt, SomeAt, IsReadAt}
 use Rattle.litmus_reader.specs.declared.fault.CaseFault.{CaseFault}
 use Rattle.litmus_reader.specs.declared.fault.CaseFault.TheVariants.{Lexical, Syntax, Content, Memory}
 use Rattle.litmus_reader.specs.declared.item.Item.{Item}
 use Rattle.litmus_reader.specs.declared.item.Item.TheVariants.{Microop as microop, Relationship as relationship, Initial as initial, Final as final, Permitted as permitted, Forbidden as forbidden}
-use Rattle.litmus_reader.specs.declared.kept.Kept.{Kept}
+use Rattle.litmus_reader.specs.declared.builder.CaseBuilder.{CaseBuilder}
 use Rattle.litmus_reader.proofs.Spelling.{spell-length}
 use Rattle.litmus_reader.proofs.Places.{spell-behind, begins-front}
 use Rattle.litmus_reader.proofs.Lines.{item-within}
 use Rattle.litmus_reader.proofs.CleanFacts.{clean-none, clean-push}
 
--- the lines up to `at` are read, have no fault and are kept
-pub record Reached (ts : List Token) (at : ℕ) (k : Kept) : Type 0 where
+-- the lines up to `at` are read and have no fault, and the builder holds them
+pub record Reached (ts : List Token) (at : ℕ) (k : CaseBuilder) : Type 0 where
   pub within : at ≤ length ts
   pub before : List Item
   pub rest : List Item
   pub test : IsTestOf (before ++ rest) ts
   pub behind : Spell (spelled_items rest) (drop at ts)
   pub clean : IsClean before
-  pub keeps : Keeps k before
+  pub keeps : HasLines k before
 
-pub reached-first : (ts : List Token) (k : Kept) → IsTest ts → Keeps k [] → Reached ts 3 k
-reached-first [] k (items, s) keeps = absurd s
-reached-first (t ∷ []) k (items, s) keeps = absurd s.1
-reached-first (t ∷ x ∷ []) k (items, s) keeps = absurd s.1.1
-reached-first (t ∷ x ∷ d ∷ ts) k (items, s) keeps = record {
+pub reached-first : (ts : List Token) (k : CaseBuilder) → IsTest ts → HasLines k [] → Reached ts 3 k
+reached-first [] k (items, (f, are, s)) keeps = absurd s
+reached-first (t ∷ []) k (items, (f, are, s)) keeps = absurd s.1
+reached-first (t ∷ x ∷ []) k (items, (f, are, s)) keeps = absurd s.1.1
+reached-first (t ∷ x ∷ d ∷ ts) k (items, (f, are, s)) keeps = record {
   within = omega arith;
   before = [];
   rest = items;
-  test = s;
+  test = (f, are, s);
   behind = s.1.1.1;
   clean = clean-none;
   keeps = keeps;
@@ -73,20 +73,20 @@ next ts at (i ∷ rest) below s =
       behind = spell-behind ts at (spelled_item i) (spelled_items rest) s;
     }
 
-pub reached-item : {ts : List Token} {at : ℕ} {k : Kept} → Reached ts at k → at < length ts → SomeItemAt ts at
+pub reached-item : {ts : List Token} {at : ℕ} {k : CaseBuilder} → Reached ts at k → at < length ts → SomeAt spelled_item ts at
 reached-item {ts} {at} r below = let n = next ts at r.rest below r.behind in (n.item, n.begins)
 
 -- the line that was read
-pub record Said (ts : List Token) (at : ℕ) (rest : List Item) (item : Item) (to : ℕ) : Type 0 where
+pub record ReadLine (ts : List Token) (at : ℕ) (rest : List Item) (item : Item) (to : ℕ) : Type 0 where
   pub after : List Item
   pub are : rest ≡ item ∷ after
   pub behind : Spell (spelled_items after) (drop to ts)
   pub rises : at < to
   pub within : to ≤ length ts
 
-pub said : {ts : List Token} {at : ℕ} {k : Kept} (r : Reached ts at k) → at < length ts → (item : Item) (to : ℕ) → IsItemAt ts at item to
-    → Said ts at r.rest item to
-said {ts} {at} r below item to is =
+pub read_line : {ts : List Token} {at : ℕ} {k : CaseBuilder} (r : Reached ts at k) → at < length ts → (item : Item) (to : ℕ) → IsReadAt spelled_item ts at item to
+    → ReadLine ts at r.rest item to
+read_line {ts} {at} r below item to is =
     let n = next ts at r.rest below r.behind in
     let (same, reaches) = is n.item n.begins in
     record {
@@ -97,8 +97,8 @@ said {ts} {at} r below item to is =
       within = omega (arith, reaches, item-within n.item n.begins);
     }
 
-pub reached-next : {ts : List Token} {at : ℕ} {k : Kept} (r : Reached ts at k) (item : Item) (to : ℕ) (s : Said ts at r.rest item to)
-    → (new : Kept) → Never (IsFaultOf r.before item) → Keeps new (r.before ++ item ∷ []) → Reached ts to new
+pub reached-next : {ts : List Token} {at : ℕ} {k : CaseBuilder} (r : Reached ts at k) (item : Item) (to : ℕ) (s : ReadLine ts at r.rest item to)
+    → (new : CaseBuilder) → Never (IsFaultOf r.before item) → HasLines new (r.before ++ item ∷ []) → Reached ts to new
 reached-next {ts} r item to s new never keeps = record {
   within = s.within;
   before = r.before ++ item ∷ [];
@@ -110,7 +110,7 @@ reached-next {ts} r item to s new never keeps = record {
   keeps = keeps;
 }
 
-fault-of : {ts : List Token} {at : ℕ} {k : Kept} (r : Reached ts at k) (item : Item) (to : ℕ) (s : Said ts at r.rest item to)
+fault-of : {ts : List Token} {at : ℕ} {k : CaseBuilder} (r : Reached ts at k) (item : Item) (to : ℕ) (s : ReadLine ts at r.rest item to)
     → (kind : FaultKind) (place : Place) → IsFaultOf r.before item kind place
     → (items : List Item) × IsTestOf items ts × IsContentFault items kind place
 fault-of r item to s kind place here = (
@@ -126,12 +126,12 @@ fault-of r item to s kind place here = (
   },
 )
 
-pub refusal-of : {ts : List Token} {at : ℕ} {k : Kept} (r : Reached ts at k) (item : Item) (to : ℕ) (s : Said ts at r.rest item to)
-    → (fault : CaseFault) → IsLineRefusal r.before item fault → IsContentRefusal ts fault
-refusal-of r item to s (Content kind place) here = fault-of r item to s kind place here
-refusal-of r item to s Memory here = tt
-refusal-of r item to s (Lexical place) here = absurd here
-refusal-of r item to s (Syntax place) here = absurd here
+pub content_fault-of : {ts : List Token} {at : ℕ} {k : CaseBuilder} (r : Reached ts at k) (item : Item) (to : ℕ) (s : ReadLine ts at r.rest item to)
+    → (fault : CaseFault) → IsLineFault r.before item fault → IsContentFaultIn ts fault
+content_fault-of r item to s (Content kind place) here = fault-of r item to s kind place here
+content_fault-of r item to s Memory here = tt
+content_fault-of r item to s (Lexical place) here = absurd here
+content_fault-of r item to s (Syntax place) here = absurd here
 
 none_left : (rest : List Item) → Spell (spelled_items rest) [] → rest ≡ []
 none_left [] s = refl
@@ -139,7 +139,7 @@ none_left (i ∷ rest) s = absurd (
     let n = spell-length (spelled_item i ++ spelled_items rest) [] s in
     omega (arith, n, length-append (spelled_item i) (spelled_items rest), item-some i))
 
-pub reached-end : {ts : List Token} {at : ℕ} {k : Kept} (r : Reached ts at k) → length ts ≤ at → IsTestOf r.before ts
+pub reached-end : {ts : List Token} {at : ℕ} {k : CaseBuilder} (r : Reached ts at k) → length ts ≤ at → IsTestOf r.before ts
 reached-end {ts} {at} r past =
     let none = none_left r.rest (subst (Spell (spelled_items r.rest)) (drop_all at ts past) r.behind) in
     subst (λ (items : List Item). IsTestOf items ts) (ap (λ (is : List Item). r.before ++ is) none ∙ append-nil r.before) r.test

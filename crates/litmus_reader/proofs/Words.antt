@@ -1,33 +1,13 @@
 -- What a token is, by its terminal.
-use Rattle.std.proofs.Common.{◌≡◌, ℕ, Bool, true, false, ◌&&◌, ◌==◌, List, [], ◌∷◌, codes, if◌then◌else◌, refl, sym, ap, subst, ◌∙◌, ◌⊎◌, inl, inr, arith}
+use Rattle.std.proofs.Common.{◌≡◌, ℕ, Bool, true, false, ◌&&◌, ◌==◌, List, [], ◌∷◌, if◌then◌else◌, refl, sym, ap, subst, ◌∙◌, ◌⊎◌, inl, inr, arith}
 use Rattle.std.specs.List.{list_all}
 use Rattle.std.specs.Str.{bytes_eq}
 use Rattle.std.proofs.lemmas.Bool.{eqb-true}
 use Rattle.std.proofs.lemmas.Slice.Eq.{bytes_eq-Decides}
 use Rattle.uspec_lexer.specs.Token.{Kind, name, number, text, symbol}
-use Rattle.litmus_reader.specs.Terminals.{word_terminal, symbol_terminal, kind_terminal, is_name}
+use Rattle.litmus_reader.specs.Terminals.{spelling, words, symbols, find_terminal, word_terminal, symbol_terminal, kind_terminal, is_name}
 use Rattle.litmus_reader.specs.declared.terminal.Terminal.{Terminal}
-use Rattle.litmus_reader.specs.declared.terminal.Terminal.TheVariants.{Litmus, Microop, Relationship, Init, Final, Permitted, Forbidden, Read, Write, Fence, Va, Pa, Data, Name, Number, Text, Open, Close, Dot, Arrow, Other}
-
-abbrev pub spelling : Terminal → List ℕ
-spelling Litmus = codes "Litmus"
-spelling Microop = codes "Microop"
-spelling Relationship = codes "Relationship"
-spelling Init = codes "Init"
-spelling Final = codes "Final"
-spelling Permitted = codes "Permitted"
-spelling Forbidden = codes "Forbidden"
-spelling Read = codes "Read"
-spelling Write = codes "Write"
-spelling Fence = codes "Fence"
-spelling Va = codes "VA"
-spelling Pa = codes "PA"
-spelling Data = codes "Data"
-spelling Open = codes "("
-spelling Close = codes ")"
-spelling Dot = codes "."
-spelling Arrow = codes "->"
-spelling _ = []
+use Rattle.litmus_reader.specs.declared.terminal.Terminal.TheVariants.{Litmus, Litmus2, Microop, Relationship, Init, Final, Permitted, Forbidden, Read, Write, Fence, Va, Pa, Entry, Data, Maps, Name, Number, Text, Open, Close, Dot, Arrow, Other}
 
 -- names, numbers, texts and symbols by a number
 abbrev pub sort_of : Terminal → ℕ
@@ -40,31 +20,20 @@ sort_of Arrow = 3
 sort_of Other = 3
 sort_of _ = 0
 
--- the first terminal of a list that is spelled so
-abbrev find : List ℕ → Terminal → List Terminal → Terminal
-find w rest [] = rest
-find w rest (c ∷ cs) = if bytes_eq w (spelling c) then c else find w rest cs
-
-abbrev words : List Terminal
-words = Litmus ∷ Microop ∷ Relationship ∷ Init ∷ Final ∷ Permitted ∷ Forbidden ∷ Read ∷ Write ∷ Fence ∷ Va ∷ Pa ∷ Data ∷ []
-
-abbrev symbols : List Terminal
-symbols = Open ∷ Close ∷ Dot ∷ Arrow ∷ []
-
-word_terminal-find : (w : List ℕ) → word_terminal w ≡ find w Name words
+word_terminal-find : (w : List ℕ) → word_terminal w ≡ find_terminal w Name words
 unfolding word_terminal
 word_terminal-find w = refl
 
-symbol_terminal-find : (w : List ℕ) → symbol_terminal w ≡ find w Other symbols
+symbol_terminal-find : (w : List ℕ) → symbol_terminal w ≡ find_terminal w Other symbols
 unfolding symbol_terminal
 symbol_terminal-find w = refl
 
-found : (w : List ℕ) (rest : Terminal) (cs : List Terminal) (d : Terminal) → find w rest cs ≡ d → (d ≡ rest) ⊎ (w ≡ spelling d)
+found : (w : List ℕ) (rest : Terminal) (cs : List Terminal) (d : Terminal) → find_terminal w rest cs ≡ d → (d ≡ rest) ⊎ (w ≡ spelling d)
 found w rest [] d e = inl (sym e)
 found w rest (c ∷ cs) d e = by (λ same. found w rest cs d same) (bytes_eq w (spelling c)) refl e
   where
-    by : (find w rest cs ≡ d → (d ≡ rest) ⊎ (w ≡ spelling d)) → (b : Bool) → bytes_eq w (spelling c) ≡ b
-        → (if b then c else find w rest cs) ≡ d → (d ≡ rest) ⊎ (w ≡ spelling d)
+    by : (find_terminal w rest cs ≡ d → (d ≡ rest) ⊎ (w ≡ spelling d)) → (b : Bool) → bytes_eq w (spelling c) ≡ b
+        → (if b then c else find_terminal w rest cs) ≡ d → (d ≡ rest) ⊎ (w ≡ spelling d)
     by later true h same = inr (subst (λ (x : Terminal). w ≡ spelling x) same ((bytes_eq-Decides w (spelling c)).0 h))
     by later false h same = later same
 
@@ -73,13 +42,13 @@ both true b e = (refl, e)
 both false b e = absurd (cc)
 
 sorted : (s : ℕ) (w : List ℕ) (rest : Terminal) (cs : List Terminal) → sort_of rest ≡ s → list_all (λ c. sort_of c == s) cs ≡ true
-    → sort_of (find w rest cs) ≡ s
+    → sort_of (find_terminal w rest cs) ≡ s
 sorted s w rest [] e all = e
 sorted s w rest (c ∷ cs) e all =
     let parts = both (sort_of c == s) (list_all (λ d. sort_of d == s) cs) all in
     by (eqb-true (sort_of c) s parts.0) (sorted s w rest cs e parts.1) (bytes_eq w (spelling c))
   where
-    by : sort_of c ≡ s → sort_of (find w rest cs) ≡ s → (b : Bool) → sort_of (if b then c else find w rest cs) ≡ s
+    by : sort_of c ≡ s → sort_of (find_terminal w rest cs) ≡ s → (b : Bool) → sort_of (if b then c else find_terminal w rest cs) ≡ s
     by here later true = here
     by here later false = later
 
@@ -141,6 +110,9 @@ is_name-sort Fence = refl
 is_name-sort Va = refl
 is_name-sort Pa = refl
 is_name-sort Data = refl
+is_name-sort Litmus2 = refl
+is_name-sort Entry = refl
+is_name-sort Maps = refl
 is_name-sort Name = refl
 is_name-sort Number = refl
 is_name-sort Text = refl

@@ -13,8 +13,8 @@ use Rattle.litmus_reader.specs.declared.item.Item.{Item}
 use Rattle.litmus_reader.specs.declared.fault.CaseFault.{CaseFault}
 use Rattle.litmus_reader.specs.declared.fault.CaseFault.TheVariants.{Lexical, Syntax, Content, Memory}
 
--- the bytes spell a test of these items
-pub record Says (bytes : List ℕ) (items : List Item) : Type 0 where
+-- the bytes are a text of these items
+pub record IsTextOf (bytes : List ℕ) (items : List Item) : Type 0 where
   pub tokens : List Token
   pub spelled : Spells bytes tokens
   pub test : IsTestOf items tokens
@@ -22,7 +22,7 @@ pub record Says (bytes : List ℕ) (items : List Item) : Type 0 where
 -- the bytes say this case
 pub record CaseOf (bytes : List ℕ) (case : Case) : Type 0 where
   pub items : List Item
-  pub said : Says bytes items
+  pub text : IsTextOf bytes items
   pub clean : IsClean items
   pub is : case ≡ case_of items
 
@@ -35,19 +35,19 @@ pub record IsSyntaxFault (bytes : List ℕ) (place : Place) : Type 0 where
   pub at : place.offset ≡ token_place bytes tokens k
 
 -- the first fault of a test; want of memory is tied to nothing
-abbrev pub IsRefusal : List ℕ → CaseFault → Type 0
-IsRefusal bytes (Lexical place) = IsLexicalFault bytes place.offset
-IsRefusal bytes (Syntax place) = IsSyntaxFault bytes place
-IsRefusal bytes (Content kind place) = (items : List Item) × Says bytes items × IsContentFault items kind place
-IsRefusal bytes Memory = ⊤
+abbrev pub IsCaseFault : List ℕ → CaseFault → Type 0
+IsCaseFault bytes (Lexical place) = IsLexicalFault bytes place.offset
+IsCaseFault bytes (Syntax place) = IsSyntaxFault bytes place
+IsCaseFault bytes (Content kind place) = (items : List Item) × IsTextOf bytes items × IsContentFault items kind place
+IsCaseFault bytes Memory = ⊤
 
 -- the tokens, which are a test, say this case
 abbrev pub CaseIn : List Token → Case → Type 0
 CaseIn ts case = (items : List Item) × IsTestOf items ts × IsClean items × (case ≡ case_of items)
 
 -- their first fault
-abbrev pub IsContentRefusal : List Token → CaseFault → Type 0
-IsContentRefusal ts (Content kind place) = (items : List Item) × IsTestOf items ts × IsContentFault items kind place
-IsContentRefusal ts Memory = ⊤
-IsContentRefusal ts (Lexical place) = ⊥
-IsContentRefusal ts (Syntax place) = ⊥
+abbrev pub IsContentFaultIn : List Token → CaseFault → Type 0
+IsContentFaultIn ts (Content kind place) = (items : List Item) × IsTestOf items ts × IsContentFault items kind place
+IsContentFaultIn ts Memory = ⊤
+IsContentFaultIn ts (Lexical place) = ⊥
+IsContentFaultIn ts (Syntax place) = ⊥

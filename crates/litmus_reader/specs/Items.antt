@@ -2,9 +2,14 @@
 use Rattle.std.specs.Prelude.{ℕ, Bool, ◌==◌, ◌&&◌, List, [], ◌∷◌, Option, Some, None, map}
 use Rattle.std.specs.List.{filter_map, position_or_len}
 use Rattle.pc_common.specs.declared.place.Place.{Place}
-use Rattle.pc_common.specs.Case.{Address, Value, number, Touch, Kind, read, write, fence, MicroOp, Dependency, Expectation, permitted, forbidden, unstated, Case}
+use Rattle.pc_common.specs.declared.value.Value.{Value}
+use Rattle.pc_common.specs.declared.value.Value.TheVariants.{Number, Entry}
+use Rattle.pc_common.specs.Case.{Address, Value as PlainValue, Touch as PlainTouch, Kind, read, write, fence, MicroOp, Dependency, Expectation, permitted, forbidden, unstated, Case}
 use Rattle.pc_case.specs.declared.op.Memop.{Memop}
-use Rattle.pc_case.specs.Plain.{page_at, address_at}
+use Rattle.pc_case.specs.Plain.{address_at, plain_value, touch_at}
+use Rattle.litmus_reader.specs.declared.item.ValueText.{ValueText}
+use Rattle.litmus_reader.specs.declared.item.ValueText.TheVariants.{Number as number_text, Entry as entry_text}
+use Rattle.litmus_reader.specs.declared.item.Touch.{Touch}
 use Rattle.litmus_reader.specs.declared.item.Head.{Head}
 use Rattle.litmus_reader.specs.declared.item.Action.{Action}
 use Rattle.litmus_reader.specs.declared.item.Action.TheVariants.{Read as reads, Write as writes, Fence as fences}
@@ -55,28 +60,33 @@ final_in items = filter_map final_of items
 abbrev pub expectations_in : List Item → List (Expectation × Place)
 expectations_in items = filter_map expectation_of items
 
-abbrev pub kind_said : Action → Kind
-kind_said (reads m) = read
-kind_said (writes m) = write
-kind_said fences = fence
+-- the value without the places of its marks
+abbrev pub value_of : ValueText → Value
+value_of (number_text n) = Number n
+value_of (entry_text tag accessed dirty) = Entry tag accessed.value dirty.value
 
-abbrev pub touched : Memop → Touch
-touched m = record { va = page_at m.va; pa = address_at m.pa; value = number m.value }
+abbrev pub memop_of : Touch → Memop
+memop_of t = record { va = t.va; pa = t.pa; value = value_of t.value }
 
-abbrev pub touch_said : Action → Option Touch
-touch_said (reads m) = Some (touched m)
-touch_said (writes m) = Some (touched m)
-touch_said fences = None
+abbrev pub kind_of_action : Action → Kind
+kind_of_action (reads t) = read
+kind_of_action (writes t) = write
+kind_of_action fences = fence
 
-abbrev pub op_said : Microop → MicroOp
-op_said m = record {
+abbrev pub touch_of_action : Action → Option PlainTouch
+touch_of_action (reads t) = Some (touch_at (memop_of t))
+touch_of_action (writes t) = Some (touch_at (memop_of t))
+touch_of_action fences = None
+
+abbrev pub op_of : Microop → MicroOp
+op_of m = record {
   g = m.head.g.value;
   n = m.head.n;
   core = m.head.core.value;
   thread = m.head.thread.value;
   types = m.types;
-  kind = kind_said m.action;
-  touch = touch_said m.action;
+  kind = kind_of_action m.action;
+  touch = touch_of_action m.action;
 }
 
 -- whether the micro-op is the one that a relationship names
@@ -87,22 +97,22 @@ is_named e h = (h.g.value == e.g.value) && (h.n == e.n)
 abbrev pub place_in : List Head → End → ℕ
 place_in heads e = position_or_len (is_named e) heads
 
-abbrev pub dependency_said : List Head → Relationship → Dependency
-dependency_said heads r = record { kind = r.kind; source = place_in heads r.source; target = place_in heads r.target }
+abbrev pub dependency_of : List Head → Relationship → Dependency
+dependency_of heads r = record { kind = r.kind; source = place_in heads r.source; target = place_in heads r.target }
 
-abbrev pub value_said : ValueLine → Address × Value
-value_said v = (address_at v.pa, number v.value)
+abbrev pub stated_by : ValueLine → Address × PlainValue
+stated_by v = (address_at v.pa, plain_value (value_of v.value))
 
-abbrev pub first_said : List (Expectation × Place) → Expectation
-first_said [] = unstated
-first_said (e ∷ es) = e.0
+abbrev pub expectation_among : List (Expectation × Place) → Expectation
+expectation_among [] = unstated
+expectation_among (e ∷ es) = e.0
 
 -- the case that the items say
 abbrev pub case_of : List Item → Case
 case_of items = record {
-  ops = map op_said (microops_in items);
-  dependencies = map (dependency_said (heads_in items)) (relationships_in items);
-  initial = map value_said (initial_in items);
-  final = map value_said (final_in items);
-  expectation = first_said (expectations_in items);
+  ops = map op_of (microops_in items);
+  dependencies = map (dependency_of (heads_in items)) (relationships_in items);
+  initial = map stated_by (initial_in items);
+  final = map stated_by (final_in items);
+  expectation = expectation_among (expectations_in items);
 }

@@ -1,13 +1,13 @@
 -- What holds of the bytes of every test. Want of memory counts as no fault.
 use Rattle.std.specs.Prelude.{◌≡◌, ◌≢◌, ◌⊎◌, ◌≤◌, ⊤, ℕ, List, length}
 use Rattle.pc_common.specs.Case.{Case}
-use Rattle.litmus_reader.specs.Answer.{CaseOf, IsRefusal}
+use Rattle.litmus_reader.specs.Answer.{CaseOf, IsCaseFault}
 use Rattle.litmus_reader.specs.declared.fault.CaseFault.{CaseFault}
 use Rattle.litmus_reader.specs.declared.fault.CaseFault.TheVariants.{Lexical, Syntax, Content, Memory}
 
 -- a fault of the bytes
 abbrev pub IsFault : List ℕ → CaseFault → Type 0
-IsFault bytes fault = (fault ≢ Memory) × IsRefusal bytes fault
+IsFault bytes fault = (fault ≢ Memory) × IsCaseFault bytes fault
 
 abbrev pub HasCaseOrFault : List ℕ → Type 0
 HasCaseOrFault bytes = ((c : Case) × CaseOf bytes c) ⊎ ((f : CaseFault) × IsFault bytes f)

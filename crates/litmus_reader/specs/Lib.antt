@@ -9,5 +9,5 @@ pub mod Answers
 pub mod Reading
 pub mod Rows
 pub mod Values
-pub mod Kept
+pub mod Builder
 pub mod Laws

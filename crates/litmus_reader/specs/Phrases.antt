@@ -9,32 +9,47 @@ use Rattle.ll_grammar.specs.declared.grammar.Step.{Step}
 use Rattle.ll_grammar.specs.declared.grammar.Symbol.TheVariants.{Class, Part}
 use Rattle.litmus_reader.specs.Terminals.{is_name}
 use Rattle.litmus_reader.specs.declared.terminal.Terminal.{Terminal}
-use Rattle.litmus_reader.specs.declared.terminal.Terminal.TheVariants.{Litmus, Microop, Relationship, Init, Final, Permitted, Forbidden, Read, Write, Fence, Va, Pa, Data, Name, Number, Text, Open, Close, Dot, Arrow, Other}
+use Rattle.litmus_reader.specs.declared.terminal.Terminal.TheVariants.{Litmus, Microop, Relationship, Init, Final, Permitted, Forbidden, Read, Write, Fence, Va, Pa, Data, Name, Number, Text, Open, Close, Dot, Arrow, Other, Litmus2, Entry, Maps}
 use Rattle.litmus_reader.specs.declared.phrase.Phrase.{Phrase}
-use Rattle.litmus_reader.specs.declared.phrase.Phrase.TheVariants.{Test, Items, Access, Types, AnyName, VirtualPage, PhysicalPage, Value}
+use Rattle.litmus_reader.specs.declared.phrase.Phrase.TheVariants.{Test, Items, Access, Types, AnyName, VirtualPage, Address, AddressInside, ReadValue, WriteValue, ValueInside, StatedValue}
+use Rattle.litmus_reader.specs.declared.format.Format.TheVariants.{One, Two}
 
 abbrev pub behind : Phrase → Terminal → Option (List (Symbol Terminal Phrase))
-behind Test Litmus = Some (Class Text ∷ Class Dot ∷ Part Items ∷ [])
-behind Items Microop =
-    Some (Class Number ∷ Class Number ∷ Class Number ∷ Class Number ∷ Class Open ∷ Part Access ∷ Class Close ∷ Class Dot ∷ Part Items ∷ [])
-behind Items Relationship =
-    Some (Part AnyName ∷ Class Number ∷ Class Number ∷ Class Arrow ∷ Class Number ∷ Class Number ∷ Class Dot ∷ Part Items ∷ [])
-behind Items Init = Some (Part PhysicalPage ∷ Class Number ∷ Class Dot ∷ Part Items ∷ [])
-behind Items Final = Some (Part PhysicalPage ∷ Class Number ∷ Class Dot ∷ Part Items ∷ [])
-behind Items Permitted = Some (Class Dot ∷ Part Items ∷ [])
-behind Items Forbidden = Some (Class Dot ∷ Part Items ∷ [])
-behind Access Read = Some (Part Types ∷ Part VirtualPage ∷ Part PhysicalPage ∷ Part Value ∷ [])
-behind Access Write = Some (Part Types ∷ Part VirtualPage ∷ Part PhysicalPage ∷ Part Value ∷ [])
-behind Access Fence = Some (Part Types ∷ [])
+behind Test Litmus = Some (Class Text ∷ Class Dot ∷ Part (Items One) ∷ [])
+behind Test Litmus2 = Some (Class Text ∷ Class Dot ∷ Part (Items Two) ∷ [])
+behind (Items f) Microop =
+    Some (
+    Class Number ∷ Class Number ∷ Class Number ∷ Class Number ∷ Class Open ∷ Part (Access f) ∷ Class Close ∷ Class Dot
+    ∷ Part (Items f) ∷ []
+    )
+behind (Items f) Relationship =
+    Some (
+    Part AnyName ∷ Class Number ∷ Class Number ∷ Class Arrow ∷ Class Number ∷ Class Number ∷ Class Dot
+    ∷ Part (Items f) ∷ []
+    )
+behind (Items f) Init = Some (Part (Address f) ∷ Part (StatedValue f) ∷ Class Dot ∷ Part (Items f) ∷ [])
+behind (Items f) Final = Some (Part (Address f) ∷ Part (StatedValue f) ∷ Class Dot ∷ Part (Items f) ∷ [])
+behind (Items f) Permitted = Some (Class Dot ∷ Part (Items f) ∷ [])
+behind (Items f) Forbidden = Some (Class Dot ∷ Part (Items f) ∷ [])
+behind (Access f) Read = Some (Part Types ∷ Part VirtualPage ∷ Part (Address f) ∷ Part (ReadValue f) ∷ [])
+behind (Access f) Write = Some (Part Types ∷ Part VirtualPage ∷ Part (Address f) ∷ Part (WriteValue f) ∷ [])
+behind (Access f) Fence = Some (Part Types ∷ [])
 behind Types c = if is_name c then Some (Part Types ∷ []) else None
 behind AnyName c = if is_name c then Some [] else None
 behind VirtualPage Open = Some (Class Va ∷ Class Number ∷ Class Number ∷ Class Close ∷ [])
-behind PhysicalPage Open = Some (Class Pa ∷ Class Number ∷ Class Number ∷ Class Close ∷ [])
-behind Value Open = Some (Class Data ∷ Class Number ∷ Class Close ∷ [])
+behind (Address f) Open = Some (Part (AddressInside f) ∷ [])
+behind (AddressInside f) Pa = Some (Class Number ∷ Class Number ∷ Class Close ∷ [])
+behind (AddressInside Two) Entry = Some (Class Number ∷ Class Close ∷ [])
+behind (ReadValue f) Open = Some (Part (ValueInside f) ∷ [])
+behind (WriteValue f) Open = Some (Part (ValueInside f) ∷ [])
+behind (ValueInside f) Data = Some (Class Number ∷ Class Close ∷ [])
+behind (ValueInside Two) Maps = Some (Class Number ∷ Class Number ∷ Class Number ∷ Class Close ∷ [])
+behind (StatedValue f) Number = Some []
+behind (StatedValue Two) Open = Some (Class Maps ∷ Class Number ∷ Class Number ∷ Class Number ∷ Class Close ∷ [])
 behind _ _ = None
 
 abbrev pub may_end : Phrase → Bool
-may_end Items = true
+may_end (Items f) = true
 may_end Types = true
 may_end _ = false
 
@@ -51,20 +66,25 @@ rules = record { behind = behind; may_end = may_end; deep = deep }
 
 -- which terminals may come next after a phrase
 abbrev pub follow : Phrase → Terminal → Bool
-follow Access Close = true
+follow (Access f) Close = true
 follow Types Open = true
 follow Types Close = true
 follow AnyName Number = true
 follow VirtualPage Open = true
-follow PhysicalPage Open = true
-follow PhysicalPage Number = true
-follow Value Close = true
+follow (Address f) Open = true
+follow (Address f) Number = true
+follow (AddressInside f) Open = true
+follow (AddressInside f) Number = true
+follow (ReadValue f) Close = true
+follow (WriteValue f) Close = true
+follow (ValueInside f) Close = true
+follow (StatedValue f) Dot = true
 follow _ _ = false
 
 abbrev pub terminals : List Terminal
 terminals =
-    Litmus ∷ Microop ∷ Relationship ∷ Init ∷ Final ∷ Permitted ∷ Forbidden ∷ Read ∷ Write ∷ Fence ∷ Va ∷ Pa ∷ Data ∷ Name ∷ Number ∷ Text
-    ∷ Open ∷ Close ∷ Dot ∷ Arrow ∷ Other ∷ []
+    Litmus ∷ Microop ∷ Relationship ∷ Init ∷ Final ∷ Permitted ∷ Forbidden ∷ Read ∷ Write ∷ Fence ∷ Va ∷ Pa ∷ Data
+    ∷ Name ∷ Number ∷ Text ∷ Open ∷ Close ∷ Dot ∷ Arrow ∷ Other ∷ Litmus2 ∷ Entry ∷ Maps ∷ []
 
 abbrev pub place : Terminal → ℕ
 place Litmus = 0
@@ -88,6 +108,9 @@ place Close = 17
 place Dot = 18
 place Arrow = 19
 place Other = 20
+place Litmus2 = 21
+place Entry = 22
+place Maps = 23
 
 pub listed : (c : Terminal) → slice_get terminals (place c) ≡ Some c
 listed Litmus = refl
@@ -111,16 +134,31 @@ listed Close = refl
 listed Dot = refl
 listed Arrow = refl
 listed Other = refl
+listed Litmus2 = refl
+listed Entry = refl
+listed Maps = refl
 
 predictable_part : (n : Phrase) → is_predictable_part rules follow terminals n ≡ true
 predictable_part Test = refl
-predictable_part Items = refl
-predictable_part Access = refl
+predictable_part (Items One) = refl
+predictable_part (Items Two) = refl
+predictable_part (Access One) = refl
+predictable_part (Access Two) = refl
 predictable_part Types = refl
 predictable_part AnyName = refl
 predictable_part VirtualPage = refl
-predictable_part PhysicalPage = refl
-predictable_part Value = refl
+predictable_part (Address One) = refl
+predictable_part (Address Two) = refl
+predictable_part (AddressInside One) = refl
+predictable_part (AddressInside Two) = refl
+predictable_part (ReadValue One) = refl
+predictable_part (ReadValue Two) = refl
+predictable_part (WriteValue One) = refl
+predictable_part (WriteValue Two) = refl
+predictable_part (ValueInside One) = refl
+predictable_part (ValueInside Two) = refl
+predictable_part (StatedValue One) = refl
+predictable_part (StatedValue Two) = refl
 
 pub rules_predictable : IsPredictable rules follow
 rules_predictable = predictable_by rules follow terminals place listed predictable_part
@@ -128,28 +166,47 @@ rules_predictable = predictable_by rules follow terminals place listed predictab
 -- a terminal that leads to shorter phrases
 abbrev first : Phrase → Terminal
 first Test = Litmus
-first Items = Permitted
-first Access = Fence
+first (Items f) = Permitted
+first (Access f) = Fence
 first Types = Name
 first AnyName = Name
 first VirtualPage = Open
-first PhysicalPage = Open
-first Value = Open
+first (Address f) = Open
+first (AddressInside f) = Pa
+first (ReadValue f) = Open
+first (WriteValue f) = Open
+first (ValueInside f) = Data
+first (StatedValue f) = Number
 
 abbrev rank : Phrase → ℕ
 rank Test = 2
-rank Access = 1
+rank (Access f) = 1
+rank (Address f) = 1
+rank (ReadValue f) = 1
+rank (WriteValue f) = 1
 rank _ = 0
 
 ranked_part : (n : Phrase) → is_ranked_part rules first rank n ≡ true
 ranked_part Test = refl
-ranked_part Items = refl
-ranked_part Access = refl
+ranked_part (Items One) = refl
+ranked_part (Items Two) = refl
+ranked_part (Access One) = refl
+ranked_part (Access Two) = refl
 ranked_part Types = refl
 ranked_part AnyName = refl
 ranked_part VirtualPage = refl
-ranked_part PhysicalPage = refl
-ranked_part Value = refl
+ranked_part (Address One) = refl
+ranked_part (Address Two) = refl
+ranked_part (AddressInside One) = refl
+ranked_part (AddressInside Two) = refl
+ranked_part (ReadValue One) = refl
+ranked_part (ReadValue Two) = refl
+ranked_part (WriteValue One) = refl
+ranked_part (WriteValue Two) = refl
+ranked_part (ValueInside One) = refl
+ranked_part (ValueInside Two) = refl
+ranked_part (StatedValue One) = refl
+ranked_part (StatedValue Two) = refl
 
 pub rules_texts : HasTexts rules
 rules_texts = texts_by rules first rank ranked_part

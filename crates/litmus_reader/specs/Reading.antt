@@ -1,19 +1,22 @@
 -- What is read at a place of the tokens.
-use Rattle.std.specs.Prelude.{◌≡◌, ◌⊎◌, ℕ, ◌+◌, List, [], ◌∷◌, ◌++◌, Some, length, map, drop, slice_get}
+use Rattle.std.specs.Prelude.{◌≡◌, ℕ, ◌+◌, List, [], ◌∷◌, ◌++◌, Some, length, map, drop, slice_get}
 use Rattle.uspec_lexer.specs.Token.{Token, name}
-use Rattle.pc_case.specs.declared.op.Page.{Page}
-use Rattle.pc_case.specs.declared.op.Memop.{Memop}
+use Rattle.pc_case.specs.declared.address.Page.{Page}
 use Rattle.litmus_reader.specs.Expected.{Expected, a_word, a_number, number_at, a_symbol, Is, Spell}
-use Rattle.litmus_reader.specs.Syntax.{spelled_item, spelled_access, spelled_memop, close_}
+use Rattle.litmus_reader.specs.Syntax.{spelled_item, spelled_access, spelled_action, spelled_entry, spelled_statement, close_}
 use Rattle.litmus_reader.specs.declared.terminal.Terminal.{Terminal}
 use Rattle.litmus_reader.specs.declared.terminal.Terminal.TheVariants.{Read as ReadWord, Write as WriteWord, Fence as FenceWord}
+use Rattle.pc_common.specs.declared.place.Place.{Place}
+use Rattle.litmus_reader.specs.declared.item.Numeral.{Numeral}
+use Rattle.litmus_reader.specs.declared.item.ValueText.{ValueText}
+use Rattle.litmus_reader.specs.declared.item.ValueText.TheVariants.{Entry}
 use Rattle.litmus_reader.specs.declared.item.End.{End}
 use Rattle.litmus_reader.specs.declared.item.ValueLine.{ValueLine}
 use Rattle.litmus_reader.specs.declared.item.Relationship.{Relationship}
-use Rattle.litmus_reader.specs.declared.item.Item.{Item}
-use Rattle.litmus_reader.specs.declared.item.Item.TheVariants.{Microop as microop, Relationship as relationship, Initial as initial, Final as final}
+use Rattle.litmus_reader.specs.declared.item.Item.TheVariants.{Microop as microop, Relationship as relationship}
 use Rattle.litmus_reader.specs.declared.item.Microop.{Microop}
 use Rattle.litmus_reader.specs.declared.item.Action.{Action}
+use Rattle.litmus_reader.specs.declared.item.Action.TheVariants.{Read, Write, Fence}
 
 -- the token at k is what is expected
 pub record StandsAt (ts : List Token) (k : ℕ) (e : Expected) : Type 0 where
@@ -49,40 +52,58 @@ pub record NamesAt (ts : List Token) (k : ℕ) (names : List (List ℕ)) : Type 
   pub behind : List ℕ
   pub they : BeginsAt ts k (map a_word names ++ a_symbol behind ∷ [])
 
--- an item begins at k
-abbrev pub SomeItemAt : List Token → ℕ → Type 0
-SomeItemAt ts k = (i : Item) × BeginsAt ts k (spelled_item i)
+-- something that is spelled so begins at k
+abbrev pub SomeAt : {X : Type 0} → (X → List Expected) → List Token → ℕ → Type 0
+SomeAt {X} spelled ts k = (x : X) × BeginsAt ts k (spelled x)
 
--- whatever item begins at k is this one, and the next begins at `next`
-abbrev pub IsItemAt : List Token → ℕ → Item → ℕ → Type 0
-IsItemAt ts k item next =
-    (i : Item) → BeginsAt ts k (spelled_item i) → (item ≡ i) × (next ≡ k + length (spelled_item i))
+-- whatever is spelled so and begins at k is x, and `next` is the place behind
+abbrev pub IsReadAt : {X : Type 0} → (X → List Expected) → List Token → ℕ → X → ℕ → Type 0
+IsReadAt {X} spelled ts k x next = (y : X) → BeginsAt ts k (spelled y) → (x ≡ y) × (next ≡ k + length (spelled y))
 
--- the same of what stands in a micro-op's brackets, up to the one that closes them
+-- an entry begins at k
+abbrev pub SomeEntryAt : List Token → ℕ → Type 0
+SomeEntryAt ts k =
+    (tag : ℕ) × (accessed : Numeral) × (dirty : Numeral) × BeginsAt ts k (spelled_entry tag accessed dirty)
+
+-- whatever entry begins at k is this one
+abbrev pub IsEntryAt : List Token → ℕ → ValueText → Type 0
+IsEntryAt ts k value =
+    (tag : ℕ) (accessed dirty : Numeral) → BeginsAt ts k (spelled_entry tag accessed dirty)
+    → value ≡ Entry tag accessed dirty
+
+abbrev pub terminal_of_action : Action → Terminal
+terminal_of_action (Read t) = ReadWord
+terminal_of_action (Write t) = WriteWord
+terminal_of_action Fence = FenceWord
+
+-- what an action of this word touches begins at k
+abbrev pub SomeActionAt : List Token → Terminal → ℕ → Type 0
+SomeActionAt ts word k = (a : Action) × (word ≡ terminal_of_action a) × BeginsAt ts k (spelled_action a)
+
+abbrev pub IsActionAt : List Token → Terminal → ℕ → Action → ℕ → Type 0
+IsActionAt ts word k action next =
+    (a : Action) → word ≡ terminal_of_action a → BeginsAt ts k (spelled_action a)
+    → (action ≡ a) × (next ≡ k + length (spelled_action a))
+
+-- what stands in a micro-op's brackets begins at k, up to the one that closes them
 abbrev pub SomeAccessAt : List Token → ℕ → Type 0
-SomeAccessAt ts k = (types : List (List ℕ)) × (action : Action) × BeginsAt ts k (spelled_access types action ++ close_ ∷ [])
+SomeAccessAt ts k =
+    (types : List (List ℕ)) × (action : Action) × BeginsAt ts k (spelled_access types action ++ close_ ∷ [])
 
 abbrev pub IsAccessAt : List Token → ℕ → List (List ℕ) → Action → ℕ → Type 0
 IsAccessAt ts k types action next =
     (names : List (List ℕ)) (a : Action) → BeginsAt ts k (spelled_access names a ++ close_ ∷ [])
     → (types ≡ names) × (action ≡ a) × (next ≡ k + length (spelled_access names a))
 
--- behind this word of a micro-op, what it touches begins at k
-abbrev pub SomeActionAt : List Token → Terminal → ℕ → Type 0
-SomeActionAt ts word k = (word ≡ FenceWord) ⊎ (((word ≡ ReadWord) ⊎ (word ≡ WriteWord)) × (m : Memop) × BeginsAt ts k (spelled_memop m))
+-- whatever line has its word at this place, and behind it k, is this one
+abbrev pub IsValueLineAt : List Token → Place → ℕ → ValueLine → ℕ → Type 0
+IsValueLineAt ts at k line next =
+    (v : ValueLine) → at ≡ v.at → BeginsAt ts k (spelled_statement v)
+    → (line ≡ v) × (next ≡ k + length (spelled_statement v))
 
--- a line that states a value begins at k
-abbrev pub SomeValueLineAt : List Token → ℕ → Type 0
-SomeValueLineAt ts k = (v : ValueLine) × (BeginsAt ts k (spelled_item (initial v)) ⊎ BeginsAt ts k (spelled_item (final v)))
+-- a micro-op's line, as an item is spelled, and a relationship's
+abbrev pub spelled_microop : Microop → List Expected
+spelled_microop m = spelled_item (microop m)
 
--- a relationship's line begins at k
-abbrev pub SomeRelationshipAt : List Token → ℕ → Type 0
-SomeRelationshipAt ts k = (r : Relationship) × BeginsAt ts k (spelled_item (relationship r))
-
--- the same of a micro-op's line
-abbrev pub SomeMicroopAt : List Token → ℕ → Type 0
-SomeMicroopAt ts k = (m : Microop) × BeginsAt ts k (spelled_item (microop m))
-
-abbrev pub IsMicroopAt : List Token → ℕ → Microop → ℕ → Type 0
-IsMicroopAt ts k said next =
-    (m : Microop) → BeginsAt ts k (spelled_item (microop m)) → (said ≡ m) × (next ≡ k + length (spelled_item (microop m)))
+abbrev pub spelled_relationship : Relationship → List Expected
+spelled_relationship r = spelled_item (relationship r)

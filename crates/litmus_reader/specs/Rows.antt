@@ -5,12 +5,12 @@ use Rattle.pc_common.specs.declared.fault.FaultKind.{FaultKind}
 use Rattle.uspec_lexer.specs.declared.fault.LexFault.{LexFault}
 use Rattle.uspec_lexer.specs.declared.fault.LexFault.TheVariants.{Lexical as lexical, Memory as lex_memory}
 use Rattle.litmus_reader.specs.Content.{Never}
-use Rattle.litmus_reader.specs.declared.refusal.Refusal.{Refusal}
+use Rattle.litmus_reader.specs.declared.content_fault.ContentFault.{ContentFault}
 use Rattle.litmus_reader.specs.declared.fault.CaseFault.{CaseFault}
 use Rattle.litmus_reader.specs.declared.fault.CaseFault.TheVariants.{Lexical, Memory}
 
 -- the fault by a row, or none where it gives none
-abbrev pub Answers : (FaultKind → Place → Type 0) → Option Refusal → Type 0
+abbrev pub Answers : (FaultKind → Place → Type 0) → Option ContentFault → Type 0
 Answers Row None = Never Row
 Answers Row (Some r) = Row r.kind r.place
 

@@ -1,34 +1,52 @@
 -- The terminals of a test's grammar.
-use Rattle.std.specs.Prelude.{ℕ, Bool, true, false, List, codes, if◌then◌else◌}
+use Rattle.std.specs.Prelude.{ℕ, Bool, true, false, List, [], ◌∷◌, codes, if◌then◌else◌}
 use Rattle.std.specs.Str.{bytes_eq}
 use Rattle.uspec_lexer.specs.Token.{Token, Kind, name, number, text, symbol}
 use Rattle.litmus_reader.specs.declared.terminal.Terminal.{Terminal}
-use Rattle.litmus_reader.specs.declared.terminal.Terminal.TheVariants.{Litmus, Microop, Relationship, Init, Final, Permitted, Forbidden, Read, Write, Fence, Va, Pa, Data, Name, Number, Text, Open, Close, Dot, Arrow, Other}
+use Rattle.litmus_reader.specs.declared.terminal.Terminal.TheVariants.{Litmus, Litmus2, Microop, Relationship, Init, Final, Permitted, Forbidden, Read, Write, Fence, Va, Pa, Entry, Data, Maps, Name, Number, Text, Open, Close, Dot, Arrow, Other}
+
+-- how a word or a symbol of the grammar is spelled
+abbrev pub spelling : Terminal → List ℕ
+spelling Litmus = codes "Litmus"
+spelling Litmus2 = codes "Litmus2"
+spelling Microop = codes "Microop"
+spelling Relationship = codes "Relationship"
+spelling Init = codes "Init"
+spelling Final = codes "Final"
+spelling Permitted = codes "Permitted"
+spelling Forbidden = codes "Forbidden"
+spelling Read = codes "Read"
+spelling Write = codes "Write"
+spelling Fence = codes "Fence"
+spelling Va = codes "VA"
+spelling Pa = codes "PA"
+spelling Entry = codes "Entry"
+spelling Data = codes "Data"
+spelling Maps = codes "Maps"
+spelling Open = codes "("
+spelling Close = codes ")"
+spelling Dot = codes "."
+spelling Arrow = codes "->"
+spelling _ = []
+
+abbrev pub words : List Terminal
+words =
+    Litmus ∷ Litmus2 ∷ Microop ∷ Relationship ∷ Init ∷ Final ∷ Permitted ∷ Forbidden ∷ Read ∷ Write ∷ Fence
+    ∷ Va ∷ Pa ∷ Entry ∷ Data ∷ Maps ∷ []
+
+abbrev pub symbols : List Terminal
+symbols = Open ∷ Close ∷ Dot ∷ Arrow ∷ []
+
+-- the terminal among these that is spelled so, or else another
+abbrev pub find_terminal : List ℕ → Terminal → List Terminal → Terminal
+find_terminal w other [] = other
+find_terminal w other (c ∷ cs) = if bytes_eq w (spelling c) then c else find_terminal w other cs
 
 unfoldable pub word_terminal : List ℕ → Terminal
-word_terminal word =
-    if bytes_eq word (codes "Litmus") then Litmus
-    else (if bytes_eq word (codes "Microop") then Microop
-    else (if bytes_eq word (codes "Relationship") then Relationship
-    else (if bytes_eq word (codes "Init") then Init
-    else (if bytes_eq word (codes "Final") then Final
-    else (if bytes_eq word (codes "Permitted") then Permitted
-    else (if bytes_eq word (codes "Forbidden") then Forbidden
-    else (if bytes_eq word (codes "Read") then Read
-    else (if bytes_eq word (codes "Write") then Write
-    else (if bytes_eq word (codes "Fence") then Fence
-    else (if bytes_eq word (codes "VA") then Va
-    else (if bytes_eq word (codes "PA") then Pa
-    else (if bytes_eq word (codes "Data") then Data
-    else Name))))))))))))
+word_terminal w = find_terminal w Name words
 
 unfoldable pub symbol_terminal : List ℕ → Terminal
-symbol_terminal piece =
-    if bytes_eq piece (codes "(") then Open
-    else (if bytes_eq piece (codes ")") then Close
-    else (if bytes_eq piece (codes ".") then Dot
-    else (if bytes_eq piece (codes "->") then Arrow
-    else Other)))
+symbol_terminal w = find_terminal w Other symbols
 
 abbrev pub kind_terminal : Kind → List ℕ → Terminal
 kind_terminal name piece = word_terminal piece

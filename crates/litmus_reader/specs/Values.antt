@@ -1,16 +1,17 @@
 -- The values that lines of one kind state, looked up by address.
-use Rattle.std.specs.Prelude.{◌≡◌, ◌≢◌, ℕ, List, Option, Some, None, Contains}
-use Rattle.pc_case.specs.declared.op.Page.{Page}
+use Rattle.std.specs.Prelude.{◌≡◌, ◌≢◌, List, Option, Some, None, Contains}
+use Rattle.pc_common.specs.declared.value.Value.{Value}
+use Rattle.pc_case.specs.declared.address.Address.{Address}
 use Rattle.pc_case.specs.declared.stated.Stated.{Stated}
 
-abbrev pub stated_entry : Page × ℕ → Stated
+abbrev pub stated_entry : Address × Value → Stated
 stated_entry e = record { pa = e.0; value = e.1 }
 
 -- no line states a value at the address
-abbrev pub IsUnstated : List Stated → Page → Type 0
+abbrev pub IsUnstated : List Stated → Address → Type 0
 IsUnstated lines pa = (s : Stated) → Contains lines s → s.pa ≢ pa
 
 -- the value of a line at the address, or none where none states one
-abbrev pub IsValueAt : List Stated → Page → Option ℕ → Type 0
+abbrev pub IsValueAt : List Stated → Address → Option Value → Type 0
 IsValueAt lines pa None = IsUnstated lines pa
 IsValueAt lines pa (Some v) = (s : Stated) × Contains lines s × (s.pa ≡ pa) × (s.value ≡ v)

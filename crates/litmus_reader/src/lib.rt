@@ -1,17 +1,22 @@
 //! Test files to cases: the reader of litmus tests.
 //!
 //! ```text
-//! test = Litmus TEXT "." item*
-//! item = Microop g core thread n "(" acc ")" "."
-//!      | Relationship ANY g n "->" g n "."
-//!      | Init "(" PA t x ")" d "."
-//!      | Final "(" PA t x ")" d "."
-//!      | Permitted "." | Forbidden "."
-//! acc  = (Read | Write) ANY* "(" VA t x ")" "(" PA t x ")" "(" Data d ")"
-//!      | Fence ANY*
+//! test  = (Litmus | Litmus2) TEXT "." item*
+//! item  = Microop g core thread n "(" acc ")" "."
+//!       | Relationship ANY g n "->" g n "."
+//!       | Init pa (d | entry) "."
+//!       | Final pa (d | entry) "."
+//!       | Permitted "." | Forbidden "."
+//! acc   = (Read | Write) ANY* "(" VA t x ")" pa ("(" Data d ")" | entry)
+//!       | Fence ANY*
+//! pa    = "(" PA t x ")" | "(" Entry t ")"
+//! entry = "(" Maps t a d ")"
 //! ```
 //!
-//! Words are names by their spelling and none is reserved; ANY is any name; g, core, thread, n, t, x
+//! The first word says the format. In a test that begins with `Litmus` no page-table entry stands: an
+//! address is a page, `(PA t x)`, and a value is a number, `d`.
+//!
+//! Words are names by their spelling and none is reserved; ANY is any name; g, core, thread, n, t, x, a
 //! and d are numbers. Items stand in any order, but a `Relationship` names micro-ops of earlier lines.
 //!
 //! A file is judged in three passes, each over what the one before has found to be well-formed: the
@@ -24,14 +29,16 @@
 //! within the text or at its end.
 #![tactic(auto)]
 
+mod builder;
+mod content_fault;
 mod fault;
+mod format;
 mod item;
-mod kept;
 mod laws;
+mod marks;
 mod phrase;
 mod read;
 mod reading;
-mod refusal;
 mod rows;
 mod syntax;
 mod terminal;

@@ -3,27 +3,36 @@ ghost use Rattle.litmus_reader.specs.Terminals.{is_name as is_name_spec};
 ghost use Rattle.litmus_reader.specs.Phrases.{rules, follow, rules_predictable, rules_texts, IsPush};
 
 use self::Phrase::*;
+use super::format::Format;
 use super::terminal::Terminal::{self, *};
 use ll_grammar::{Grammar, Step, Symbol, push};
 use std::alloc::AllocError;
 
-/// The parts of a test.
+/// The parts of a test. What one format has and the other has not is a part of each format.
 #[derive(Clone, Copy)]
 pub(crate) enum Phrase {
     Test,
     /// Any number of lines.
-    Items,
+    Items(Format),
     /// What stands in the brackets of a `Microop` line.
-    Access,
+    Access(Format),
     /// Any number of names.
     Types,
     AnyName,
     /// `(VA t x)`.
     VirtualPage,
-    /// `(PA t x)`.
-    PhysicalPage,
-    /// `(Data d)`.
-    Value,
+    /// `(PA t x)` or `(Entry t)`.
+    Address(Format),
+    /// An address behind its bracket.
+    AddressInside(Format),
+    /// `(Data d)` or `(Maps t a d)`, as a read reads it.
+    ReadValue(Format),
+    /// `(Data d)` or `(Maps t a d)`, as a write writes it.
+    WriteValue(Format),
+    /// A value behind its bracket.
+    ValueInside(Format),
+    /// `d` or `(Maps t a d)`, as a line states it.
+    StatedValue(Format),
 }
 
 /// What waits on the recogniser's stack.
@@ -46,7 +55,7 @@ impl Grammar<Terminal> for Phrase {
     ghost has_texts = { rules_texts };
 
     fn may_end(self) -> bool {
-        matches!(self, Items | Types)
+        matches!(self, Items(_) | Types)
     }
 
     fn push(
@@ -56,13 +65,17 @@ impl Grammar<Terminal> for Phrase {
     ) -> Result<Step, AllocError> {
         match self {
             Test => push_test(class, stack),
-            Items => push_items(class, stack),
-            Access => push_access(class, stack),
+            Items(format) => push_items(format, class, stack),
+            Access(format) => push_access(format, class, stack),
             Types => push_types(class, stack),
             AnyName => push_any_name(class, stack),
             VirtualPage => push_virtual_page(class, stack),
-            PhysicalPage => push_physical_page(class, stack),
-            Value => push_value(class, stack),
+            Address(format) => push_address(format, class, stack),
+            AddressInside(format) => push_address_inside(format, class, stack),
+            ReadValue(format) => push_read_value(format, class, stack),
+            WriteValue(format) => push_write_value(format, class, stack),
+            ValueInside(format) => push_value_inside(format, class, stack),
+            StatedValue(format) => push_stated_value(format, class, stack),
         }
     }
 }
@@ -71,28 +84,36 @@ fn push_test(class: Terminal, stack: &mut Vec<Waiting>) -> Result<Step, AllocErr
     ensures { IfOk result (IsPush Phrase.Test class stack.old.items stack.new.items) }
 {
     match class {
-        Litmus => push!(stack; Text Dot [Items]),
+        Litmus => push!(stack; Text Dot [Items(Format::One)]),
+        Litmus2 => push!(stack; Text Dot [Items(Format::Two)]),
         _ => Ok(Step::Absent),
     }
 }
 
-fn push_items(class: Terminal, stack: &mut Vec<Waiting>) -> Result<Step, AllocError>
-    ensures { IfOk result (IsPush Phrase.Items class stack.old.items stack.new.items) }
+fn push_items(format: Format, class: Terminal, stack: &mut Vec<Waiting>) -> Result<Step, AllocError>
+    ensures { IfOk result (IsPush (Phrase.Items format) class stack.old.items stack.new.items) }
 {
     match class {
-        Microop => push!(stack; Number Number Number Number Open [Access] Close Dot [Items]),
-        Relationship => push!(stack; [AnyName] Number Number Arrow Number Number Dot [Items]),
-        Init | Final => push!(stack; [PhysicalPage] Number Dot [Items]),
-        Permitted | Forbidden => push!(stack; Dot [Items]),
+        Microop =>
+            push!(stack; Number Number Number Number Open [Access(format)] Close Dot [Items(format)]),
+        Relationship =>
+            push!(stack; [AnyName] Number Number Arrow Number Number Dot [Items(format)]),
+        Init | Final => push!(stack; [Address(format)] [StatedValue(format)] Dot [Items(format)]),
+        Permitted | Forbidden => push!(stack; Dot [Items(format)]),
         _ => Ok(Step::Absent),
     }
 }
 
-fn push_access(class: Terminal, stack: &mut Vec<Waiting>) -> Result<Step, AllocError>
-    ensures { IfOk result (IsPush Phrase.Access class stack.old.items stack.new.items) }
+fn push_access(
+    format: Format,
+    class: Terminal,
+    stack: &mut Vec<Waiting>,
+) -> Result<Step, AllocError>
+    ensures { IfOk result (IsPush (Phrase.Access format) class stack.old.items stack.new.items) }
 {
     match class {
-        Read | Write => push!(stack; [Types] [VirtualPage] [PhysicalPage] [Value]),
+        Read => push!(stack; [Types] [VirtualPage] [Address(format)] [ReadValue(format)]),
+        Write => push!(stack; [Types] [VirtualPage] [Address(format)] [WriteValue(format)]),
         Fence => push!(stack; [Types]),
         _ => Ok(Step::Absent),
     }
@@ -125,20 +146,83 @@ fn push_virtual_page(class: Terminal, stack: &mut Vec<Waiting>) -> Result<Step, 
     }
 }
 
-fn push_physical_page(class: Terminal, stack: &mut Vec<Waiting>) -> Result<Step, AllocError>
-    ensures { IfOk result (IsPush Phrase.PhysicalPage class stack.old.items stack.new.items) }
+fn push_address(
+    format: Format,
+    class: Terminal,
+    stack: &mut Vec<Waiting>,
+) -> Result<Step, AllocError>
+    ensures { IfOk result (IsPush (Phrase.Address format) class stack.old.items stack.new.items) }
 {
     match class {
-        Open => push!(stack; Pa Number Number Close),
+        Open => push!(stack; [AddressInside(format)]),
         _ => Ok(Step::Absent),
     }
 }
 
-fn push_value(class: Terminal, stack: &mut Vec<Waiting>) -> Result<Step, AllocError>
-    ensures { IfOk result (IsPush Phrase.Value class stack.old.items stack.new.items) }
+fn push_address_inside(
+    format: Format,
+    class: Terminal,
+    stack: &mut Vec<Waiting>,
+) -> Result<Step, AllocError>
+    ensures { IfOk result (IsPush (Phrase.AddressInside format) class stack.old.items stack.new.items) }
+{
+    match (format, class) {
+        (_, Pa) => push!(stack; Number Number Close),
+        (Format::Two, Entry) => push!(stack; Number Close),
+        _ => Ok(Step::Absent),
+    }
+}
+
+fn push_read_value(
+    format: Format,
+    class: Terminal,
+    stack: &mut Vec<Waiting>,
+) -> Result<Step, AllocError>
+    ensures { IfOk result (IsPush (Phrase.ReadValue format) class stack.old.items stack.new.items) }
 {
     match class {
-        Open => push!(stack; Data Number Close),
+        Open => push!(stack; [ValueInside(format)]),
+        _ => Ok(Step::Absent),
+    }
+}
+
+fn push_write_value(
+    format: Format,
+    class: Terminal,
+    stack: &mut Vec<Waiting>,
+) -> Result<Step, AllocError>
+    ensures { IfOk result (IsPush (Phrase.WriteValue format) class stack.old.items stack.new.items) }
+{
+    match class {
+        Open => push!(stack; [ValueInside(format)]),
+        _ => Ok(Step::Absent),
+    }
+}
+
+fn push_value_inside(
+    format: Format,
+    class: Terminal,
+    stack: &mut Vec<Waiting>,
+) -> Result<Step, AllocError>
+    ensures { IfOk result (IsPush (Phrase.ValueInside format) class stack.old.items stack.new.items) }
+{
+    match (format, class) {
+        (_, Data) => push!(stack; Number Close),
+        (Format::Two, Maps) => push!(stack; Number Number Number Close),
+        _ => Ok(Step::Absent),
+    }
+}
+
+fn push_stated_value(
+    format: Format,
+    class: Terminal,
+    stack: &mut Vec<Waiting>,
+) -> Result<Step, AllocError>
+    ensures { IfOk result (IsPush (Phrase.StatedValue format) class stack.old.items stack.new.items) }
+{
+    match (format, class) {
+        (_, Number) => push!(stack;),
+        (Format::Two, Open) => push!(stack; Maps Number Number Number Close),
         _ => Ok(Step::Absent),
     }
 }

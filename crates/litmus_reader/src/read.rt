@@ -1,11 +1,11 @@
 ghost use Rattle.std.specs.Prelude.{◌<◌, ◌^◌, [], length, IfOk, IfErr, OnOk};
 ghost use Rattle.uspec_lexer.specs.Spells.{Spells};
 ghost use Rattle.litmus_reader.specs.Syntax.{IsTest};
-ghost use Rattle.litmus_reader.specs.Kept.{Keeps, KeepsTest};
-ghost use Rattle.litmus_reader.specs.Answer.{CaseOf, IsRefusal, CaseIn, IsContentRefusal};
+ghost use Rattle.litmus_reader.specs.Builder.{HasLines, HasTest};
+ghost use Rattle.litmus_reader.specs.Answer.{CaseOf, IsCaseFault, CaseIn, IsContentFaultIn};
 
+use super::builder::CaseBuilder;
 use super::fault::CaseFault;
-use super::kept::Kept;
 use super::reading::item_at;
 use super::syntax::syntax_fault;
 use pc_case::Case;
@@ -20,7 +20,7 @@ use uspec_lexer::{Tokens, tokens};
 pub fn read_case(alloc: Global, bytes: &[u8]) -> Result<Case, CaseFault>
     requires { length bytes.now < 2 ^ 32 }
     ensures ok { IfOk result (CaseOf bytes.now) }
-    ensures err { IfErr result (IsRefusal bytes.now) }
+    ensures err { IfErr result (IsCaseFault bytes.now) }
 {
     let tokens = tokens(alloc, bytes)?;
     case_of_tokens(alloc, bytes, &tokens)
@@ -31,7 +31,7 @@ fn case_of_tokens(alloc: Global, bytes: &[u8], tokens: &Tokens<'_>) -> Result<Ca
     requires spelled { Spells bytes.now tokens.now }
     requires few { length bytes.now < 2 ^ 32 }
     ensures ok { IfOk result (CaseOf bytes.now) }
-    ensures err { IfErr result (IsRefusal bytes.now) }
+    ensures err { IfErr result (IsCaseFault bytes.now) }
 {
     if let Some(k) = syntax_fault(alloc, tokens)? {
         return Err(CaseFault::Syntax(tokens.place(bytes, k)));
@@ -43,27 +43,31 @@ fn case_of_tokens(alloc: Global, bytes: &[u8], tokens: &Tokens<'_>) -> Result<Ca
 fn case_of_test(alloc: Global, tokens: &Tokens<'_>) -> Result<Case, CaseFault>
     requires { IsTest tokens.now }
     ensures ok { IfOk result (CaseIn tokens.now) }
-    ensures err { IfErr result (IsContentRefusal tokens.now) }
+    ensures err { IfErr result (IsContentFaultIn tokens.now) }
 {
-    let mut kept = Kept::new(alloc);
-    read_lines(alloc, tokens, &mut kept)?;
-    Ok(kept.into_case(alloc)?)
+    let mut builder = CaseBuilder::new(alloc);
+    read_lines(alloc, tokens, &mut builder)?;
+    Ok(builder.finish(alloc)?)
 }
 
-/// How many tokens stand before the first line: `Litmus`, its text and a dot.
+/// How many tokens stand before the first line: the word of the format, a text and a dot.
 const TITLE: usize = 3;
 
-/// Keeps the lines of tokens that are a test.
-fn read_lines(alloc: Global, tokens: &Tokens<'_>, kept: &mut Kept) -> Result<(), CaseFault>
+/// Takes the lines of tokens that are a test.
+fn read_lines(
+    alloc: Global,
+    tokens: &Tokens<'_>,
+    builder: &mut CaseBuilder,
+) -> Result<(), CaseFault>
     requires test { IsTest tokens.now }
-    requires first { Keeps kept.old [] }
-    ensures ok { OnOk result (KeepsTest tokens.now kept.new) }
-    ensures err { IfErr result (IsContentRefusal tokens.now) }
+    requires first { HasLines builder.old [] }
+    ensures ok { OnOk result (HasTest tokens.now builder.new) }
+    ensures err { IfErr result (IsContentFaultIn tokens.now) }
 {
     let mut at = TITLE;
     while at < tokens.len() {
         let (item, next) = item_at(alloc, tokens, at)?;
-        kept.keep(item)?;
+        builder.add(item)?;
         at = next;
     }
     Ok(())

@@ -1,22 +1,23 @@
-ghost use Rattle.std.specs.Prelude.{◌≡◌, ◌≢◌, ℕ, ◌+◌, ◌<◌, ◌≤◌, ◌^◌, ◌↔◌, IsTrue, List, length, IfOk};
-ghost use Rattle.pc_case.specs.declared.op.Page.{Page as PagePair};
-ghost use Rattle.pc_case.specs.declared.op.Memop.{Memop as Touched};
+ghost use Rattle.std.specs.Prelude.{◌≡◌, ℕ, ◌+◌, ◌<◌, ◌≤◌, ◌^◌, ◌↔◌, IsTrue, List, Some, length, slice_get, IfOk};
+ghost use Rattle.uspec_lexer.specs.Token.{Token as TokenText};
+ghost use Rattle.litmus_reader.specs.Terminals.{terminal_of};
+ghost use Rattle.pc_case.specs.declared.address.Page.{Page as PagePair};
 ghost use Rattle.litmus_reader.specs.Expected.{a_word, a_number, number_at as numeral_expected};
-ghost use Rattle.litmus_reader.specs.Syntax.{spelled_memop, spelled_head, spelled_item};
-ghost use Rattle.litmus_reader.specs.Reading.{StandsAt, IsNumberAt, IsPageAt, IsEndAt, IsNameAt, BeginsAt, NamesAt, SomeActionAt, SomeValueLineAt, SomeRelationshipAt, SomeItemAt, IsItemAt, SomeAccessAt, IsAccessAt, SomeMicroopAt, IsMicroopAt};
+ghost use Rattle.litmus_reader.specs.Syntax.{spelled_address, spelled_value, spelled_stated, spelled_touch, spelled_head, spelled_statement, spelled_item};
+ghost use Rattle.litmus_reader.specs.Reading.{StandsAt, IsNumberAt, IsPageAt, IsEndAt, IsNameAt, BeginsAt, NamesAt, SomeAt, IsReadAt, SomeEntryAt, IsEntryAt};
+ghost use Rattle.litmus_reader.specs.Reading.{SomeActionAt, IsActionAt, SomeAccessAt, IsAccessAt, IsValueLineAt, spelled_microop, spelled_relationship};
 ghost use Rattle.litmus_reader.specs.declared.item.Head.{Head as HeadNumbers};
 ghost use Rattle.litmus_reader.specs.declared.item.End.{End as EndNumbers};
-ghost use Rattle.litmus_reader.specs.declared.item.Relationship.{Relationship as RelationshipSaid};
-ghost use Rattle.litmus_reader.specs.declared.item.ValueLine.{ValueLine as ValueSaid};
-ghost use Rattle.litmus_reader.specs.declared.item.Item.TheVariants.{Relationship as relationship, Initial as initial, Final as final};
-ghost use Rattle.litmus_reader.specs.declared.item.Action.TheVariants.{Read as ReadAction, Write as WriteAction, Fence as FenceAction};
-ghost use Rattle.litmus_reader.specs.declared.terminal.Terminal.TheVariants.{Read as ReadWord, Write as WriteWord, Fence as FenceWord};
+ghost use Rattle.litmus_reader.specs.declared.item.Relationship.{Relationship as RelationshipText};
+ghost use Rattle.litmus_reader.specs.declared.item.ValueLine.{ValueLine as ValueLineText};
 ghost use Rattle.litmus_reader.specs.declared.item.Numeral.{Numeral as NumeralPair};
 
-use super::item::{Action, End, Head, Item, Microop, Numeral, Relationship, ValueLine};
+use super::item::{
+    Action, End, Head, Item, Microop, Numeral, Relationship, Touch, ValueLine, ValueText,
+};
 use super::terminal::Terminal;
-use pc_case::{Memop, Page, TypeNames};
-use pc_common::{Bytes, Listed, Memory};
+use pc_case::{Address, Page, TypeNames};
+use pc_common::{Bytes, Listed, Memory, Place};
 use std::alloc::Global;
 use uspec_lexer::{FromToken, TokenKind, Tokens};
 
@@ -85,18 +86,87 @@ pub(crate) fn names_at(
     Ok((names, next))
 }
 
-/// What a read or a write touches, where its first bracket opens at `k`.
-fn memop_at(tokens: &Tokens<'_>, k: usize) -> Memop
-    requires begins { (m : Touched) × BeginsAt tokens.now k (spelled_memop m) }
-    requires within { k + 14 ≤ length tokens.now }
-    requires few { length tokens.now < 2 ^ 63 }
-    ensures { (m : Touched) → BeginsAt tokens.now k (spelled_memop m) → result ≡ m }
+/// The class of the token at `k`.
+fn terminal_at(tokens: &Tokens<'_>, k: usize) -> Terminal
+    requires { k < length tokens.now }
+    ensures { (t : TokenText) → slice_get tokens.now k ≡ Some t → result ≡ terminal_of t }
 {
-    Memop {
-        va: page_at(tokens, k),
-        pa: page_at(tokens, k + 5),
-        value: numeral_at(tokens, k + 12).value,
+    Terminal::from_token(tokens.get(k))
+}
+
+/// The physical address whose bracket opens at `k`, and the place behind.
+fn address_at(tokens: &Tokens<'_>, k: usize) -> (Address, usize)
+    requires begins { SomeAt spelled_address tokens.now k }
+    requires few { length tokens.now < 2 ^ 63 }
+    ensures { IsReadAt spelled_address tokens.now k result.0 result.1 }
+{
+    match terminal_at(tokens, k + 1) {
+        Terminal::Pa => {
+            let page = page_at(tokens, k);
+            let address = Address::Page {
+                tag: page.tag,
+                index: page.index,
+            };
+            (address, k + 5)
+        }
+        Terminal::Entry => {
+            let tag = numeral_at(tokens, k + 2).value;
+            (Address::Entry { tag }, k + 4)
+        }
+        _ => unreachable!(),
     }
+}
+
+/// The page-table entry whose bracket opens at `k`.
+fn entry_at(tokens: &Tokens<'_>, k: usize) -> ValueText
+    requires begins { SomeEntryAt tokens.now k }
+    requires within { k + 6 ≤ length tokens.now }
+    requires few { length tokens.now < 2 ^ 63 }
+    ensures { IsEntryAt tokens.now k result }
+{
+    ValueText::Entry {
+        tag: numeral_at(tokens, k + 2).value,
+        accessed: numeral_at(tokens, k + 3),
+        dirty: numeral_at(tokens, k + 4),
+    }
+}
+
+/// The value whose bracket opens at `k`, and the place behind.
+fn value_at(tokens: &Tokens<'_>, k: usize) -> (ValueText, usize)
+    requires begins { SomeAt spelled_value tokens.now k }
+    requires few { length tokens.now < 2 ^ 63 }
+    ensures { IsReadAt spelled_value tokens.now k result.0 result.1 }
+{
+    match terminal_at(tokens, k + 1) {
+        Terminal::Data => (ValueText::Number(numeral_at(tokens, k + 2).value), k + 4),
+        Terminal::Maps => (entry_at(tokens, k), k + 6),
+        _ => unreachable!(),
+    }
+}
+
+/// The value that a line states from `k` on, and the place behind.
+fn stated_at(tokens: &Tokens<'_>, k: usize) -> (ValueText, usize)
+    requires begins { SomeAt spelled_stated tokens.now k }
+    requires few { length tokens.now < 2 ^ 63 }
+    ensures { IsReadAt spelled_stated tokens.now k result.0 result.1 }
+{
+    match terminal_at(tokens, k) {
+        Terminal::Number => (ValueText::Number(numeral_at(tokens, k).value), k + 1),
+        Terminal::Open => (entry_at(tokens, k), k + 6),
+        _ => unreachable!(),
+    }
+}
+
+/// What a read or a write touches, where its first bracket opens at `k`, and the place behind.
+fn touch_at(tokens: &Tokens<'_>, k: usize) -> (Touch, usize)
+    requires begins { SomeAt spelled_touch tokens.now k }
+    requires few { length tokens.now < 2 ^ 63 }
+    ensures { IsReadAt spelled_touch tokens.now k result.0 result.1 }
+{
+    let va = page_at(tokens, k);
+    let (pa, next) = address_at(tokens, k + 5);
+    let (value, next) = value_at(tokens, next);
+    (Touch { va, pa, value }, next)
 }
 
 /// What a `Microop` line that begins at `k` says before its brackets.
@@ -119,18 +189,19 @@ fn head_at(tokens: &Tokens<'_>, k: usize) -> Head
 /// place behind.
 fn action_at(tokens: &Tokens<'_>, word: Terminal, next: usize) -> (Action, usize)
     requires begins { SomeActionAt tokens.now word next }
-    requires within { word ≢ FenceWord → next + 14 ≤ length tokens.now }
     requires few { length tokens.now < 2 ^ 63 }
-    ensures read { (m : Touched) → word ≡ ReadWord → BeginsAt tokens.now next (spelled_memop m)
-        → result ≡ (ReadAction m, next + 14) }
-    ensures write { (m : Touched) → word ≡ WriteWord → BeginsAt tokens.now next (spelled_memop m)
-        → result ≡ (WriteAction m, next + 14) }
-    ensures fence { word ≡ FenceWord → result ≡ (FenceAction, next) }
+    ensures { IsActionAt tokens.now word next result.0 result.1 }
 {
     match word {
         Terminal::Fence => (Action::Fence, next),
-        Terminal::Read => (Action::Read(memop_at(tokens, next)), next + 14),
-        Terminal::Write => (Action::Write(memop_at(tokens, next)), next + 14),
+        Terminal::Read => {
+            let (touch, next) = touch_at(tokens, next);
+            (Action::Read(touch), next)
+        }
+        Terminal::Write => {
+            let (touch, next) = touch_at(tokens, next);
+            (Action::Write(touch), next)
+        }
         _ => unreachable!(),
     }
 }
@@ -145,7 +216,7 @@ fn access_at(
     requires few { length tokens.now < 2 ^ 63 }
     ensures { IfOk result (λ r. IsAccessAt tokens.now k r.0 r.1 r.2) }
 {
-    let word = Terminal::from_token(tokens.get(k));
+    let word = terminal_at(tokens, k);
     let (types, next) = names_at(alloc, tokens, k + 1)?;
     let (action, next) = action_at(tokens, word, next);
     Ok((types, action, next))
@@ -153,9 +224,9 @@ fn access_at(
 
 /// The micro-op whose line begins at `k`, and where the next line begins.
 fn microop_at(alloc: Global, tokens: &Tokens<'_>, k: usize) -> Result<(Microop, usize), Memory>
-    requires begins { SomeMicroopAt tokens.now k }
+    requires begins { SomeAt spelled_microop tokens.now k }
     requires few { length tokens.now < 2 ^ 63 }
-    ensures { IfOk result (λ r. IsMicroopAt tokens.now k r.0 r.1) }
+    ensures { IfOk result (λ r. IsReadAt spelled_microop tokens.now k r.0 r.1) }
 {
     let head = head_at(tokens, k);
     let (types, action, next) = access_at(alloc, tokens, k + 6)?;
@@ -184,10 +255,10 @@ fn end_at(tokens: &Tokens<'_>, k: usize) -> End
 
 /// The relationship whose line begins at `k`.
 fn relationship_at(alloc: Global, tokens: &Tokens<'_>, k: usize) -> Result<Relationship, Memory>
-    requires begins { SomeRelationshipAt tokens.now k }
+    requires begins { SomeAt spelled_relationship tokens.now k }
     requires within { k + 8 ≤ length tokens.now }
     requires few { length tokens.now < 2 ^ 63 }
-    ensures { IfOk result (λ r. (s : RelationshipSaid) → BeginsAt tokens.now k (spelled_item (relationship s)) → r ≡ s) }
+    ensures { IfOk result (λ r. (s : RelationshipText) → BeginsAt tokens.now k (spelled_relationship s) → r ≡ s) }
 {
     Ok(Relationship {
         kind: name_at(alloc, tokens, k + 1)?,
@@ -196,26 +267,23 @@ fn relationship_at(alloc: Global, tokens: &Tokens<'_>, k: usize) -> Result<Relat
     })
 }
 
-/// The address and the value that an `Init` or a `Final` line states, which begins at `k`.
-fn value_line_at(tokens: &Tokens<'_>, k: usize) -> ValueLine
-    requires begins { SomeValueLineAt tokens.now k }
-    requires within { k + 8 ≤ length tokens.now }
+/// The address and the value that an `Init` or a `Final` line states, whose word stands at this place
+/// and `k` behind it, and where the next line begins.
+fn value_line_at(tokens: &Tokens<'_>, at: Place, k: usize) -> (ValueLine, usize)
+    requires begins { (v : ValueLineText) × BeginsAt tokens.now k (spelled_statement v) }
     requires few { length tokens.now < 2 ^ 63 }
-    ensures initial { (v : ValueSaid) → BeginsAt tokens.now k (spelled_item (initial v)) → result ≡ v }
-    ensures final_ { (v : ValueSaid) → BeginsAt tokens.now k (spelled_item (final v)) → result ≡ v }
+    ensures { IsValueLineAt tokens.now at k result.0 result.1 }
 {
-    ValueLine {
-        at: tokens.get(k).at,
-        pa: page_at(tokens, k + 1),
-        value: numeral_at(tokens, k + 6).value,
-    }
+    let (pa, next) = address_at(tokens, k);
+    let (value, next) = stated_at(tokens, next);
+    (ValueLine { at, pa, value }, next + 1)
 }
 
 /// The line that begins at `k`, and where the next one begins.
 pub(crate) fn item_at(alloc: Global, tokens: &Tokens<'_>, k: usize) -> Result<(Item, usize), Memory>
-    requires begins { SomeItemAt tokens.now k }
+    requires begins { SomeAt spelled_item tokens.now k }
     requires few { length tokens.now < 2 ^ 63 }
-    ensures { IfOk result (λ r. IsItemAt tokens.now k r.0 r.1) }
+    ensures { IfOk result (λ r. IsReadAt spelled_item tokens.now k r.0 r.1) }
 {
     let word = tokens.get(k);
     Ok(match Terminal::from_token(word) {
@@ -227,8 +295,14 @@ pub(crate) fn item_at(alloc: Global, tokens: &Tokens<'_>, k: usize) -> Result<(I
             Item::Relationship(relationship_at(alloc, tokens, k)?),
             k + 8,
         ),
-        Terminal::Init => (Item::Initial(value_line_at(tokens, k)), k + 8),
-        Terminal::Final => (Item::Final(value_line_at(tokens, k)), k + 8),
+        Terminal::Init => {
+            let (line, next) = value_line_at(tokens, word.at, k + 1);
+            (Item::Initial(line), next)
+        }
+        Terminal::Final => {
+            let (line, next) = value_line_at(tokens, word.at, k + 1);
+            (Item::Final(line), next)
+        }
         Terminal::Permitted => (Item::Permitted(word.at), k + 2),
         Terminal::Forbidden => (Item::Forbidden(word.at), k + 2),
         _ => unreachable!(),

@@ -1,36 +1,47 @@
 ghost use Rattle.std.specs.Prelude.{◌≡◌, ◌<◌, ◌^◌, length};
 ghost use Rattle.litmus_reader.specs.Items.{place_in};
-ghost use Rattle.litmus_reader.specs.Content.{First, OverCore, OverMany, SplitFrom, DuplicateOf, SomeEarlier, Unknown, MicroopFault};
+ghost use Rattle.litmus_reader.specs.Content.{First, OverCore, OverMany, SplitFrom, DuplicateOf, SomeEarlier, Unknown, HeadFault, ActionFault};
 ghost use Rattle.litmus_reader.specs.Rows.{Answers};
 
-use super::item::{End, Head};
-use super::refusal::Refusal;
+use super::content_fault::ContentFault;
+use super::item::{Action, End, Head};
+use super::marks::action_fault;
 use pc_common::{FaultKind, MAX_CORE, MAX_OPS};
 
 /// The fault of a micro-op behind the micro-ops of these heads.
-pub(crate) fn microop_fault(before: &[Head], head: Head) -> Option<Refusal>
+pub(crate) fn microop_fault(before: &[Head], head: Head, action: Action) -> Option<ContentFault>
     requires { length before.now < 2 ^ 63 }
-    ensures { Answers (MicroopFault before.now head) result }
+    ensures { Answers (First (HeadFault before.now head) (ActionFault action)) result }
 {
-    if let Some(refusal) = core_number(head) {
-        return Some(refusal);
+    if let Some(fault) = head_fault(before, head) {
+        return Some(fault);
     }
-    if let Some(refusal) = too_many_ops(before, head) {
-        return Some(refusal);
+    action_fault(action)
+}
+
+fn head_fault(before: &[Head], head: Head) -> Option<ContentFault>
+    requires { length before.now < 2 ^ 63 }
+    ensures { Answers (HeadFault before.now head) result }
+{
+    if let Some(fault) = core_number(head) {
+        return Some(fault);
     }
-    if let Some(refusal) = split_instruction(before, head) {
-        return Some(refusal);
+    if let Some(fault) = too_many_ops(before, head) {
+        return Some(fault);
+    }
+    if let Some(fault) = split_instruction(before, head) {
+        return Some(fault);
     }
     duplicate_op(before, head)
 }
 
-fn core_number(head: Head) -> Option<Refusal>
+fn core_number(head: Head) -> Option<ContentFault>
     ensures { Answers (OverCore head) result }
 {
     if head.core.value <= MAX_CORE {
         return None;
     }
-    Some(Refusal {
+    Some(ContentFault {
         kind: FaultKind::CoreNumber {
             number: head.core.value,
         },
@@ -38,13 +49,13 @@ fn core_number(head: Head) -> Option<Refusal>
     })
 }
 
-fn too_many_ops(before: &[Head], head: Head) -> Option<Refusal>
+fn too_many_ops(before: &[Head], head: Head) -> Option<ContentFault>
     ensures { Answers (OverMany before.now head) result }
 {
     if before.len() < MAX_OPS {
         return None;
     }
-    Some(Refusal {
+    Some(ContentFault {
         kind: FaultKind::TooManyOps {
             limit: MAX_OPS as u64,
         },
@@ -52,26 +63,26 @@ fn too_many_ops(before: &[Head], head: Head) -> Option<Refusal>
     })
 }
 
-fn split_instruction(before: &[Head], head: Head) -> Option<Refusal>
+fn split_instruction(before: &[Head], head: Head) -> Option<ContentFault>
     ensures { Answers (SomeEarlier before.now (SplitFrom head)) result }
 {
     for earlier in before {
-        if let Some(refusal) = split_from(head, *earlier) {
-            return Some(refusal);
+        if let Some(fault) = split_from(head, *earlier) {
+            return Some(fault);
         }
     }
     None
 }
 
 /// The fault where the two are of one instruction and on other cores or threads.
-fn split_from(head: Head, earlier: Head) -> Option<Refusal>
+fn split_from(head: Head, earlier: Head) -> Option<ContentFault>
     ensures { Answers (SplitFrom head earlier) result }
 {
     if earlier.g.value != head.g.value {
         return None;
     }
     if earlier.core.value != head.core.value {
-        return Some(Refusal {
+        return Some(ContentFault {
             kind: FaultKind::SplitInstruction {
                 first: earlier.core.value,
                 again: head.core.value,
@@ -80,7 +91,7 @@ fn split_from(head: Head, earlier: Head) -> Option<Refusal>
         });
     }
     if earlier.thread.value != head.thread.value {
-        return Some(Refusal {
+        return Some(ContentFault {
             kind: FaultKind::SplitInstruction {
                 first: earlier.thread.value,
                 again: head.thread.value,
@@ -91,25 +102,25 @@ fn split_from(head: Head, earlier: Head) -> Option<Refusal>
     None
 }
 
-fn duplicate_op(before: &[Head], head: Head) -> Option<Refusal>
+fn duplicate_op(before: &[Head], head: Head) -> Option<ContentFault>
     ensures { Answers (SomeEarlier before.now (DuplicateOf head)) result }
 {
     for earlier in before {
-        if let Some(refusal) = duplicate_of(head, *earlier) {
-            return Some(refusal);
+        if let Some(fault) = duplicate_of(head, *earlier) {
+            return Some(fault);
         }
     }
     None
 }
 
 /// The fault where the two have one name.
-fn duplicate_of(head: Head, earlier: Head) -> Option<Refusal>
+fn duplicate_of(head: Head, earlier: Head) -> Option<ContentFault>
     ensures { Answers (DuplicateOf head earlier) result }
 {
     if earlier.g.value != head.g.value || earlier.n != head.n {
         return None;
     }
-    Some(Refusal {
+    Some(ContentFault {
         kind: FaultKind::DuplicateOp {
             first: earlier.g.at,
             again: head.g.at,
@@ -130,13 +141,13 @@ pub(crate) fn place_of(before: &[Head], end: End) -> usize
     before.len()
 }
 
-fn unknown(before: &[Head], end: End) -> Option<Refusal>
+fn unknown(before: &[Head], end: End) -> Option<ContentFault>
     ensures { Answers (Unknown before.now end) result }
 {
     if place_of(before, end) < before.len() {
         return None;
     }
-    Some(Refusal {
+    Some(ContentFault {
         kind: FaultKind::OpUnknown {
             g: end.g.value,
             n: end.n,
@@ -146,11 +157,11 @@ fn unknown(before: &[Head], end: End) -> Option<Refusal>
 }
 
 /// The fault of a relationship behind the micro-ops of these heads.
-pub(crate) fn relationship_fault(before: &[Head], source: End, target: End) -> Option<Refusal>
+pub(crate) fn relationship_fault(before: &[Head], source: End, target: End) -> Option<ContentFault>
     ensures { Answers (First (Unknown before.now source) (Unknown before.now target)) result }
 {
-    if let Some(refusal) = unknown(before, source) {
-        return Some(refusal);
+    if let Some(fault) = unknown(before, source) {
+        return Some(fault);
     }
     unknown(before, target)
 }

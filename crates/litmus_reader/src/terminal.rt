@@ -10,6 +10,7 @@ use uspec_lexer::{FromToken, Token, TokenKind};
 #[derive(Clone, Copy, PartialEq, Eq)]
 pub(crate) enum Terminal {
     Litmus,
+    Litmus2,
     Microop,
     Relationship,
     Init,
@@ -21,7 +22,9 @@ pub(crate) enum Terminal {
     Fence,
     Va,
     Pa,
+    Entry,
     Data,
+    Maps,
     /// Any other name. A word of the grammar is a name too, and stands wherever a name may.
     Name,
     Number,
@@ -65,6 +68,8 @@ fn word_terminal(word: &[u8]) -> Terminal
 {
     if is(word, b"Litmus") {
         Terminal::Litmus
+    } else if is(word, b"Litmus2") {
+        Terminal::Litmus2
     } else if is(word, b"Microop") {
         Terminal::Microop
     } else if is(word, b"Relationship") {
@@ -87,8 +92,12 @@ fn word_terminal(word: &[u8]) -> Terminal
         Terminal::Va
     } else if is(word, b"PA") {
         Terminal::Pa
+    } else if is(word, b"Entry") {
+        Terminal::Entry
     } else if is(word, b"Data") {
         Terminal::Data
+    } else if is(word, b"Maps") {
+        Terminal::Maps
     } else {
         Terminal::Name
     }

@@ -3,15 +3,15 @@ ghost use Rattle.pc_case.specs.declared.stated.Stated.{Stated as StatedPair};
 ghost use Rattle.litmus_reader.specs.Values.{stated_entry, IsUnstated, IsValueAt};
 
 use indexmap::IndexMap;
-use pc_case::{Page, Stated, StatedValues};
-use pc_common::{Listed, Memory};
+use pc_case::{Address, Stated, StatedValues};
+use pc_common::{Listed, Memory, Value};
 use std::alloc::Global;
 use std::marker::Model;
 
 /// The values that lines of one kind state, in text order and looked up by address.
 #[derive(Drop)]
 pub(crate) struct Values {
-    by_page: IndexMap<Page, u64>,
+    by_address: IndexMap<Address, Value>,
 }
 
 impl Model for Values {
@@ -21,7 +21,7 @@ impl Model for Values {
 
     ghost Value = { List StatedPair };
 
-    ghost view = { λ v. map stated_entry v.by_page.entries };
+    ghost view = { λ v. map stated_entry v.by_address.entries };
 }
 
 impl Values {
@@ -29,23 +29,23 @@ impl Values {
         ensures { result ≡ [] }
     {
         Values {
-            by_page: IndexMap::new(alloc),
+            by_address: IndexMap::new(alloc),
         }
     }
 
     /// The value that a line states at this address. One look-up.
-    pub(crate) fn get(&self, pa: Page) -> Option<u64>
+    pub(crate) fn get(&self, pa: Address) -> Option<Value>
         ensures { IsValueAt self.now pa result }
     {
-        self.by_page.get(&pa).copied()
+        self.by_address.get(&pa).copied()
     }
 
-    /// Keeps one more line, for an address that none has stated.
-    pub(crate) fn add(&mut self, pa: Page, value: u64) -> Result<(), Memory>
+    /// Takes one more line, for an address that none has stated.
+    pub(crate) fn add(&mut self, pa: Address, value: Value) -> Result<(), Memory>
         requires { IsUnstated self.old pa }
         ensures { OnOk result (self.new ≡ self.old ++ record { pa = pa; value = value } ∷ []) }
     {
-        self.by_page.insert(pa, value)?;
+        self.by_address.insert(pa, value)?;
         Ok(())
     }
 
@@ -64,7 +64,7 @@ impl Values {
         ensures value { result ≡ length self.now }
         ensures bound { length self.now < 2 ^ 63 }
     {
-        self.by_page.len()
+        self.by_address.len()
     }
 
     /// The line at `k`, from 0.
@@ -72,7 +72,7 @@ impl Values {
         requires { k < length self.now }
         ensures { slice_get self.now k ≡ Some result }
     {
-        match self.by_page.get_index(k) {
+        match self.by_address.get_index(k) {
             Some((pa, value)) => Stated {
                 pa: *pa,
                 value: *value,

@@ -1,8 +1,8 @@
-pub mod Reading
+pub mod ViablePrefixes
 pub mod Symbols
 pub mod Stack
 pub mod Progress
 pub mod Faults
-pub mod Meanings
+pub mod DerivesLaws
 pub mod Shallow
 pub mod Existence

@@ -5,8 +5,8 @@ use Rattle.std.proofs.lemmas.List.Folds.{list_all-append}
 use Rattle.std.proofs.Math.Seq.{take-length}
 use Rattle.std.specs.Cmp.Derive.{both_true}
 use Rattle.std.specs.List.{list_all}
-use Rattle.ll_grammar.specs.Rules.{Rules, Reads, Derives, can_be_empty}
-use Rattle.ll_grammar.specs.Rules.Reads.{done, class as r_class, ends as r_ends, begins as r_begins}
+use Rattle.ll_grammar.specs.Rules.{Rules, Yields, Derives, can_be_empty}
+use Rattle.ll_grammar.specs.Rules.Yields.{done, class as r_class, ends as r_ends, begins as r_begins}
 use Rattle.ll_grammar.specs.Texts.{IsText, IsViable, IsDeepAt, NoneDeep}
 use Rattle.ll_grammar.specs.FirstFault.{IsAccepted, IsFirstFault}
 use Rattle.ll_grammar.specs.Predictable.{IsReady, HasTexts}
@@ -15,14 +15,14 @@ use Rattle.ll_grammar.specs.declared.grammar.Symbol.{Symbol}
 use Rattle.ll_grammar.specs.declared.grammar.Symbol.TheVariants.{Class, Part}
 use Rattle.ll_grammar.specs.declared.grammar.Step.TheVariants.{Absent, Pushed, Deep}
 use Rattle.ll_grammar.specs.declared.fault.Fault.TheVariants.{Syntax, Depth}
-use Rattle.ll_grammar.proofs.Reading.{some_text}
+use Rattle.ll_grammar.proofs.ViablePrefixes.{some_text}
 
 -- the tokens before i are read, none too deep, and the symbols read what may come behind them
 pub record IsReading {C N : Type 0} (g : Rules C N) (follow : N → C → Bool) (start : N) (cs : List C) (i : ℕ)
     (symbols : List (Symbol C N)) : Type 0 where
   pub only : (rest : List C) (marks : List Bool) → Derives g start (take i cs ++ rest) marks
-      → (others : List Bool) × (marks ≡ replicate i false ++ others) × Reads g symbols rest others
-  pub each : (rest : List C) (others : List Bool) → Reads g symbols rest others
+      → (others : List Bool) × (marks ≡ replicate i false ++ others) × Yields g symbols rest others
+  pub each : (rest : List C) (others : List Bool) → Yields g symbols rest others
       → Derives g start (take i cs ++ rest) (replicate i false ++ others)
   pub shallow : NoneDeep (Derives g start) cs i
   pub ready : IsReady g follow symbols
@@ -55,7 +55,7 @@ begun g follow start cs = record {
 
 -- symbols that may all be without tokens read none
 empty : {C N : Type 0} (g : Rules C N) (symbols : List (Symbol C N))
-    → list_all (can_be_empty g) symbols ≡ true → Reads g symbols [] []
+    → list_all (can_be_empty g) symbols ≡ true → Yields g symbols [] []
 empty g [] all = done
 empty g (Class c ∷ rest) all = absurd (cc)
 empty g (Part n ∷ rest) all =
@@ -68,7 +68,7 @@ empty g (Part n ∷ rest) all =
 
 -- and others read some
 all_empty : {C N : Type 0} {g : Rules C N} {symbols : List (Symbol C N)} {cs : List C} {marks : List Bool}
-    → Reads g symbols cs marks → cs ≡ [] → list_all (can_be_empty g) symbols ≡ true
+    → Yields g symbols cs marks → cs ≡ [] → list_all (can_be_empty g) symbols ≡ true
 all_empty done e = refl
 all_empty (r_class reads) e = absurd (cc)
 all_empty (r_ends h reads) e = both_true h (all_empty reads e)
@@ -98,12 +98,12 @@ module _ {C N : Type 0} (g : Rules C N) (follow : N → C → Bool) (start : N) 
   module _ (c : C) (after : List (Symbol C N)) (within : i < length cs) (here : c ≡ get_or cs i c) where
     -- the tokens through i, as the symbols read them
     through_only : (rest : List C) (marks : List Bool) → Derives g start (take (i + 1) cs ++ rest) marks
-        → (others : List Bool) × (marks ≡ replicate i false ++ others) × Reads g symbols (c ∷ rest) others
+        → (others : List Bool) × (marks ≡ replicate i false ++ others) × Yields g symbols (c ∷ rest) others
     through_only rest marks derives =
         reading.only (c ∷ rest) marks
         (subst (λ (front : List C). Derives g start front marks) (taken cs i c within here rest) derives)
 
-    through_each : (rest : List C) (others : List Bool) → Reads g symbols (c ∷ rest) others
+    through_each : (rest : List C) (others : List Bool) → Yields g symbols (c ∷ rest) others
         → Derives g start (take (i + 1) cs ++ rest) (replicate i false ++ others)
     through_each rest others reads =
         subst (λ (front : List C). Derives g start front (replicate i false ++ others)) (sym (taken cs i c within here rest))
@@ -149,7 +149,7 @@ module _ {C N : Type 0} (g : Rules C N) (follow : N → C → Bool) (start : N) 
     whole : take i cs ≡ cs
     whole = ap (λ (n : ℕ). take n cs) at_end ∙ take-length cs
 
-    whole_only : (marks : List Bool) → Derives g start cs marks → (others : List Bool) × Reads g symbols [] others
+    whole_only : (marks : List Bool) → Derives g start cs marks → (others : List Bool) × Yields g symbols [] others
     whole_only marks derives =
         let front : take i cs ++ [] ≡ cs = append-nil (take i cs) ∙ whole in
         let (others, _, reads) = reading.only [] marks (subst (λ (x : List C). Derives g start x marks) (sym front) derives) in

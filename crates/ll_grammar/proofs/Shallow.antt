@@ -1,7 +1,7 @@
 -- A grammar with no bound on depth: its answers are of syntax alone.
 use Rattle.std.proofs.Common.{◌≡◌, ℕ, zero, suc, Bool, true, false, List, Option, Some, None, slice_get}
-use Rattle.ll_grammar.specs.Rules.{Rules, Reads, Derives}
-use Rattle.ll_grammar.specs.Rules.Reads.{done, class as r_class, ends as r_ends, begins as r_begins}
+use Rattle.ll_grammar.specs.Rules.{Rules, Yields, Derives}
+use Rattle.ll_grammar.specs.Rules.Yields.{done, class as r_class, ends as r_ends, begins as r_begins}
 use Rattle.ll_grammar.specs.Texts.{IsText}
 use Rattle.ll_grammar.specs.FirstFault.{IsAnswer, IsSyntaxAnswer}
 use Rattle.ll_grammar.specs.declared.grammar.Symbol.{Symbol}
@@ -10,7 +10,7 @@ use Rattle.ll_grammar.specs.declared.fault.Fault.TheVariants.{Syntax, Depth}
 use Rattle.ll_grammar.proofs.Faults.{fault-along}
 
 never_deep : {C N : Type 0} {g : Rules C N} → ((n : N) (c : C) → g.deep n c ≡ false)
-    → {symbols : List (Symbol C N)} {cs : List C} {marks : List Bool} → Reads g symbols cs marks
+    → {symbols : List (Symbol C N)} {cs : List C} {marks : List Bool} → Yields g symbols cs marks
     → (k : ℕ) → slice_get marks k ≡ Some true → ⊥
 never_deep shallow done k at = cc
 never_deep shallow (r_class reads) zero at = cc

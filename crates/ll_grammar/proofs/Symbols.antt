@@ -1,18 +1,18 @@
 -- One token against the symbols on the stack.
 use Rattle.std.proofs.Common.{◌≡◌, Bool, true, false, List, [], ◌∷◌, ◌++◌, Option, Some, None, IsTrue, IsSome, refl, sym, subst, ap, ◌∙◌, ◌⊎◌, inl, inr}
-use Rattle.ll_grammar.specs.Rules.{Rules, Reads}
-use Rattle.ll_grammar.specs.Rules.Reads.{done, class as r_class, ends as r_ends, begins as r_begins}
+use Rattle.ll_grammar.specs.Rules.{Rules, Yields}
+use Rattle.ll_grammar.specs.Rules.Yields.{done, class as r_class, ends as r_ends, begins as r_begins}
 use Rattle.ll_grammar.specs.Predictable.{MayFollow, IsFollowed, IsPredictable, IsReady, HasTexts}
 use Rattle.ll_grammar.specs.Steps.{IsRead}
 use Rattle.ll_grammar.specs.declared.grammar.Symbol.{Symbol}
 use Rattle.ll_grammar.specs.declared.grammar.Symbol.TheVariants.{Class, Part}
 use Rattle.ll_grammar.specs.declared.grammar.Step.{Step}
 use Rattle.ll_grammar.specs.declared.grammar.Step.TheVariants.{Absent, Pushed, Deep}
-use Rattle.ll_grammar.proofs.Reading.{some_text}
+use Rattle.ll_grammar.proofs.ViablePrefixes.{some_text}
 
 -- the class that the symbols read next may follow the part before them
 next_follows : {C N : Type 0} {g : Rules C N} {symbols : List (Symbol C N)} {cs : List C} {marks : List Bool}
-    → Reads g symbols cs marks → (follow : N → C → Bool) (m : N) → MayFollow g follow m symbols (Unit {0})
+    → Yields g symbols cs marks → (follow : N → C → Bool) (m : N) → MayFollow g follow m symbols (Unit {0})
     → (c : C) (rest : List C) → cs ≡ c ∷ rest → IsTrue (follow m c)
 next_follows done follow m may c rest e = absurd (cc)
 next_follows {C} (r_class {c = d} reads) follow m may c rest e =
@@ -54,21 +54,21 @@ ready-append g follow AtEnd (Part m ∷ front) back followed over ready = (
 
 -- an awaited class reads a token of that class
 class_read : {C N : Type 0} {g : Rules C N} {d c : C} {rest : List (Symbol C N)} {behind : List C} {marks : List Bool}
-    → Reads g (Class d ∷ rest) (c ∷ behind) marks
-    → (d ≡ c) × (others : List Bool) × (marks ≡ false ∷ others) × Reads g rest behind others
+    → Yields g (Class d ∷ rest) (c ∷ behind) marks
+    → (d ≡ c) × (others : List Bool) × (marks ≡ false ∷ others) × Yields g rest behind others
 class_read (r_class {marks = others} reads) = (refl, others, refl, reads)
 
 -- a part at a token ends before it, or begins with it
 part_read : {C N : Type 0} {g : Rules C N} {n : N} {c : C} {rest : List (Symbol C N)} {behind : List C} {marks : List Bool}
-    → Reads g (Part n ∷ rest) (c ∷ behind) marks
-    → (IsTrue (g.may_end n) × Reads g rest (c ∷ behind) marks)
+    → Yields g (Part n ∷ rest) (c ∷ behind) marks
+    → (IsTrue (g.may_end n) × Yields g rest (c ∷ behind) marks)
     ⊎ ((body : List (Symbol C N)) × (others : List Bool) × (g.behind n c ≡ Some body)
-    × (marks ≡ g.deep n c ∷ others) × Reads g (body ++ rest) behind others)
+    × (marks ≡ g.deep n c ∷ others) × Yields g (body ++ rest) behind others)
 part_read (r_ends h reads) = inl (h, reads)
 part_read (r_begins {marks = others} body e reads) = inr (body, others, e, refl, reads)
 
 -- the symbols that are read out read no token
-nothing_read : {C N : Type 0} {g : Rules C N} {c : C} {behind : List C} {marks : List Bool} → Reads g [] (c ∷ behind) marks → ⊥
+nothing_read : {C N : Type 0} {g : Rules C N} {c : C} {behind : List C} {marks : List Bool} → Yields g [] (c ∷ behind) marks → ⊥
 nothing_read reads = elim reads [ ]
 
 pub read-nothing : {C N : Type 0} (g : Rules C N) (follow : N → C → Bool) (c : C) (after : List (Symbol C N))
@@ -95,7 +95,7 @@ read-no_part g follow n c rest after none stays behind marks reads =
 
 -- a part that does not begin with the token, but may end, leaves it to the symbols below
 below_only : {C N : Type 0} {g : Rules C N} {n : N} {c : C} {rest : List (Symbol C N)} {behind : List C} {marks : List Bool}
-    → g.behind n c ≡ None → Reads g (Part n ∷ rest) (c ∷ behind) marks → Reads g rest (c ∷ behind) marks
+    → g.behind n c ≡ None → Yields g (Part n ∷ rest) (c ∷ behind) marks → Yields g rest (c ∷ behind) marks
 below_only none reads = elim (part_read reads) [ inl (_, below) ↦ below | inr (body, others, e, _, _) ↦ absurd (cc) ]
 
 pub read-end : {C N : Type 0} (g : Rules C N) (follow : N → C → Bool) (n : N) (c : C) (rest : List (Symbol C N)) (step : Step)
@@ -113,8 +113,8 @@ read-end g follow n c rest Deep after none ends read =
 -- a part that begins with the token
 begins_only : {C N : Type 0} {g : Rules C N} {follow : N → C → Bool} {n : N} {c : C} {rest : List (Symbol C N)}
     → IsPredictable g follow → IsReady g follow (Part n ∷ rest) → (body : List (Symbol C N)) → g.behind n c ≡ Some body
-    → (behind : List C) (marks : List Bool) → Reads g (Part n ∷ rest) (c ∷ behind) marks
-    → (others : List Bool) × (marks ≡ g.deep n c ∷ others) × Reads g (body ++ rest) behind others
+    → (behind : List C) (marks : List Bool) → Yields g (Part n ∷ rest) (c ∷ behind) marks
+    → (others : List Bool) × (marks ≡ g.deep n c ∷ others) × Yields g (body ++ rest) behind others
 begins_only {C} {N} {g = g} {follow = follow} {n = n} {c = c} {rest = rest} predictable ready body e behind marks reads =
     elim (part_read reads) [
       | inl (h, below) ↦
@@ -122,7 +122,7 @@ begins_only {C} {N} {g = g} {follow = follow} {n = n} {c = c} {rest = rest} pred
           absurd (cc)
       | inr (found, others, f, m, below) ↦
           let same : found ≡ body = cc in
-          (others, m, subst (λ (b : List (Symbol C N)). Reads g (b ++ rest) behind others) same below)
+          (others, m, subst (λ (b : List (Symbol C N)). Yields g (b ++ rest) behind others) same below)
     ]
 
 pub read-begins : {C N : Type 0} (g : Rules C N) (follow : N → C → Bool) (n : N) (c : C) (rest body : List (Symbol C N))
@@ -133,7 +133,7 @@ read-begins {C} {N} g follow n c rest body predictable ready e shallow = record 
       let (others, m, below) = begins_only predictable ready body e behind marks reads in
       (others, m ∙ ap (λ (b : Bool). b ∷ others) shallow, below);
   each = λ behind others reads.
-      subst (λ (b : Bool). Reads g (Part n ∷ rest) (c ∷ behind) (b ∷ others)) shallow (r_begins body e reads);
+      subst (λ (b : Bool). Yields g (Part n ∷ rest) (c ∷ behind) (b ∷ others)) shallow (r_begins body e reads);
   ready = ready-append g follow (λ m. (d : C) → IsTrue (follow n d) → IsTrue (follow m d)) body rest
       (predictable.closed n c body e) (λ m more. widened g follow n m more rest ready.0) ready.1;
 }
@@ -142,4 +142,4 @@ pub read-deep : {C N : Type 0} (g : Rules C N) (follow : N → C → Bool) (n : 
     → HasTexts g → g.behind n c ≡ Some body → g.deep n c ≡ true → IsRead g follow (Part n ∷ rest) c Deep after
 read-deep {C} {N} g follow n c rest body after texts e deep =
     let (behind, others, below) = some_text g texts (body ++ rest) in
-    (behind, others, subst (λ (b : Bool). Reads g (Part n ∷ rest) (c ∷ behind) (b ∷ others)) deep (r_begins body e below))
+    (behind, others, subst (λ (b : Bool). Yields g (Part n ∷ rest) (c ∷ behind) (b ∷ others)) deep (r_begins body e below))

@@ -1,6 +1,6 @@
 -- The condition under which one token in view decides: LL(1).
 use Rattle.std.specs.Prelude.{◌≡◌, Bool, List, [], ◌∷◌, Some, None, IsTrue, IsSome}
-use Rattle.ll_grammar.specs.Rules.{Rules, Reads}
+use Rattle.ll_grammar.specs.Rules.{Rules, Yields}
 use Rattle.ll_grammar.specs.declared.grammar.Symbol.{Symbol}
 use Rattle.ll_grammar.specs.declared.grammar.Symbol.TheVariants.{Class, Part}
 
@@ -32,4 +32,4 @@ IsReady g follow symbols = IsFollowed g follow (λ m. Unit {0}) symbols
 
 -- Each part has a text.
 abbrev pub HasTexts : {C N : Type 0} → Rules C N → Type 0
-HasTexts {C} {N} g = (n : N) → (cs : List C) × (marks : List Bool) × Reads g (Part n ∷ []) cs marks
+HasTexts {C} {N} g = (n : N) → (cs : List C) × (marks : List Bool) × Yields g (Part n ∷ []) cs marks

@@ -13,15 +13,15 @@ pub record Rules (C N : Type 0) : Type 0 where
   pub deep : N → C → Bool
 
 -- The symbols read as these tokens. For each token a mark says whether it stands too deep.
-pub data Reads {C N : Type 0} (g : Rules C N) : List (Symbol C N) → List C → List Bool → Type 0 where
-  done : Reads g [] [] []
+pub data Yields {C N : Type 0} (g : Rules C N) : List (Symbol C N) → List C → List Bool → Type 0 where
+  done : Yields g [] [] []
   class : {c : C} {rest : List (Symbol C N)} {cs : List C} {marks : List Bool}
-      → Reads g rest cs marks → Reads g (Class c ∷ rest) (c ∷ cs) (false ∷ marks)
+      → Yields g rest cs marks → Yields g (Class c ∷ rest) (c ∷ cs) (false ∷ marks)
   ends : {n : N} {rest : List (Symbol C N)} {cs : List C} {marks : List Bool}
-      → IsTrue (g.may_end n) → Reads g rest cs marks → Reads g (Part n ∷ rest) cs marks
+      → IsTrue (g.may_end n) → Yields g rest cs marks → Yields g (Part n ∷ rest) cs marks
   begins : {n : N} {c : C} {rest : List (Symbol C N)} {cs : List C} {marks : List Bool} (body : List (Symbol C N))
-      → g.behind n c ≡ Some body → Reads g (body ++ rest) cs marks
-      → Reads g (Part n ∷ rest) (c ∷ cs) (g.deep n c ∷ marks)
+      → g.behind n c ≡ Some body → Yields g (body ++ rest) cs marks
+      → Yields g (Part n ∷ rest) (c ∷ cs) (g.deep n c ∷ marks)
 
 -- Whether the symbol may have no token at all.
 abbrev pub can_be_empty : {C N : Type 0} → Rules C N → Symbol C N → Bool
@@ -30,7 +30,7 @@ can_be_empty g (Part n) = g.may_end n
 
 -- What the start part reads, with its marks.
 abbrev pub Derives : {C N : Type 0} → Rules C N → N → List C → List Bool → Type 0
-Derives g start cs marks = Reads g (Part start ∷ []) cs marks
+Derives g start cs marks = Yields g (Part start ∷ []) cs marks
 
 -- What begins a text, by cases on the rules, with no word of what follows.
 pub data Begins {C N : Type 0} (g : Rules C N) : List (Symbol C N) → List C → Type 0 where

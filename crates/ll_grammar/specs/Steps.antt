@@ -1,6 +1,6 @@
 -- What one step of the recogniser says of its stack, whose top is the list's last symbol.
 use Rattle.std.specs.Prelude.{◌≡◌, Bool, true, false, List, ◌∷◌, ◌++◌, Option, Some, None, reverse}
-use Rattle.ll_grammar.specs.Rules.{Rules, Reads}
+use Rattle.ll_grammar.specs.Rules.{Rules, Yields}
 use Rattle.ll_grammar.specs.Predictable.{IsReady}
 use Rattle.ll_grammar.specs.declared.grammar.Symbol.{Symbol}
 use Rattle.ll_grammar.specs.declared.grammar.Step.{Step}
@@ -19,14 +19,14 @@ IsStep (Some body) deep old Deep new = deep ≡ true
 -- What the symbols `before` read behind a token that is not too deep, the symbols `after` read.
 pub record Passes {C N : Type 0} (g : Rules C N) (follow : N → C → Bool)
     (before : List (Symbol C N)) (c : C) (after : List (Symbol C N)) : Type 0 where
-  pub only : (rest : List C) (marks : List Bool) → Reads g before (c ∷ rest) marks
-      → (others : List Bool) × (marks ≡ false ∷ others) × Reads g after rest others
-  pub each : (rest : List C) (others : List Bool) → Reads g after rest others → Reads g before (c ∷ rest) (false ∷ others)
+  pub only : (rest : List C) (marks : List Bool) → Yields g before (c ∷ rest) marks
+      → (others : List Bool) × (marks ≡ false ∷ others) × Yields g after rest others
+  pub each : (rest : List C) (others : List Bool) → Yields g after rest others → Yields g before (c ∷ rest) (false ∷ others)
   pub ready : IsReady g follow after
 
 -- The step of a stack at a token, its symbols from the top down.
 abbrev pub IsRead : {C N : Type 0} → Rules C N → (N → C → Bool) → List (Symbol C N) → C → Step → List (Symbol C N) → Type 0
-IsRead {C} g follow before c Absent after = (rest : List C) (marks : List Bool) → Reads g before (c ∷ rest) marks → ⊥
+IsRead {C} g follow before c Absent after = (rest : List C) (marks : List Bool) → Yields g before (c ∷ rest) marks → ⊥
 IsRead g follow before c Pushed after = Passes g follow before c after
 IsRead {C} g follow before c Deep after =
-    (rest : List C) × (marks : List Bool) × Reads g before (c ∷ rest) (true ∷ marks)
+    (rest : List C) × (marks : List Bool) × Yields g before (c ∷ rest) (true ∷ marks)

@@ -4,22 +4,22 @@ use Rattle.std.proofs.Common.{◌≡◌, ℕ, zero, suc, ◌+◌, ◌<◌, Bool,
 use Rattle.std.proofs.lemmas.Bool.{ltb-true}
 use Rattle.std.proofs.lemmas.List.{append-nil}
 use Rattle.std.specs.List.{list_all}
-use Rattle.ll_grammar.specs.Rules.{Rules, Reads}
-use Rattle.ll_grammar.specs.Rules.Reads.{done, class as r_class, ends as r_ends, begins as r_begins}
+use Rattle.ll_grammar.specs.Rules.{Rules, Yields}
+use Rattle.ll_grammar.specs.Rules.Yields.{done, class as r_class, ends as r_ends, begins as r_begins}
 use Rattle.ll_grammar.specs.Predictable.{MayFollow, IsFollowed, IsPredictable, HasTexts}
 use Rattle.ll_grammar.specs.declared.grammar.Symbol.{Symbol}
 use Rattle.ll_grammar.specs.declared.grammar.Symbol.TheVariants.{Class, Part}
 
 -- two lists of symbols, one behind the other, read their texts one behind the other
-pub reads-append : {C N : Type 0} {g : Rules C N} {front back : List (Symbol C N)} {cs ds : List C} {ms ns : List Bool}
-    → Reads g front cs ms → Reads g back ds ns → Reads g (front ++ back) (cs ++ ds) (ms ++ ns)
-reads-append done behind = behind
-reads-append (r_class front) behind = r_class (reads-append front behind)
-reads-append (r_ends e front) behind = r_ends e (reads-append front behind)
-reads-append {C} {N} {g} {back = back} {ds = ds} {ns = ns} (r_begins {rest = rest} {cs = cs} {marks = marks} body e front) behind =
+pub yields-append : {C N : Type 0} {g : Rules C N} {front back : List (Symbol C N)} {cs ds : List C} {ms ns : List Bool}
+    → Yields g front cs ms → Yields g back ds ns → Yields g (front ++ back) (cs ++ ds) (ms ++ ns)
+yields-append done behind = behind
+yields-append (r_class front) behind = r_class (yields-append front behind)
+yields-append (r_ends e front) behind = r_ends e (yields-append front behind)
+yields-append {C} {N} {g} {back = back} {ds = ds} {ns = ns} (r_begins {rest = rest} {cs = cs} {marks = marks} body e front) behind =
     r_begins body e
-    (subst (λ (symbols : List (Symbol C N)). Reads g symbols (cs ++ ds) (marks ++ ns)) (append_assoc body rest back)
-    (reads-append front behind))
+    (subst (λ (symbols : List (Symbol C N)). Yields g symbols (cs ++ ds) (marks ++ ns)) (append_assoc body rest back)
+    (yields-append front behind))
 
 both : (a b : Bool) → (a && b) ≡ true → (a ≡ true) × (b ≡ true)
 both true b e = (refl, e)
@@ -65,10 +65,10 @@ module _ {C N : Type 0} (g : Rules C N) (follow : N → C → Bool) (classes : L
       list_all (λ c. is_closed n (g.behind n c)) classes
       && (not (g.may_end n) || implied (follow n) (λ c. not (is_some (g.behind n c))))
 
-  module _ (place : C → ℕ) (listed : (c : C) → slice_get classes (place c) ≡ Some c) where
+  module _ (place : C → ℕ) (at_place : (c : C) → slice_get classes (place c) ≡ Some c) where
     implied-true : (p q : C → Bool) → implied p q ≡ true → (c : C) → IsTrue (p c) → IsTrue (q c)
     implied-true p q all c h =
-        implies (p c) (q c) (all_at (λ d. not (p d) || q d) classes (place c) c all (listed c)) h
+        implies (p c) (q c) (all_at (λ d. not (p d) || q d) classes (place c) c all (at_place c)) h
 
     may_follow-true : (n m : N) (symbols : List (Symbol C N)) → may_follow n m symbols ≡ true
         → MayFollow g follow m symbols ((d : C) → IsTrue (follow n d) → IsTrue (follow m d))
@@ -94,7 +94,7 @@ module _ {C N : Type 0} (g : Rules C N) (follow : N → C → Bool) (classes : L
       closed = λ n c body e.
           let first = (both (list_all (λ d. is_closed n (g.behind n d)) classes)
           (not (g.may_end n) || implied (follow n) (λ d. not (is_some (g.behind n d)))) (tested n)).0 in
-          let here = all_at (λ d. is_closed n (g.behind n d)) classes (place c) c first (listed c) in
+          let here = all_at (λ d. is_closed n (g.behind n d)) classes (place c) c first (at_place c) in
           is_followed-true n body (subst (λ (o : Option (List (Symbol C N))). is_closed n o ≡ true) e here);
       apart = λ n c may follows.
           let later = (both (list_all (λ d. is_closed n (g.behind n d)) classes)
@@ -117,10 +117,10 @@ module _ {C N : Type 0} (g : Rules C N) (first : N → C) (rank : N → ℕ) whe
   is_ranked_part n = g.may_end n || is_ranked_body (rank n) (g.behind n (first n))
 
   HasText : N → Type 0
-  HasText n = (cs : List C) × (marks : List Bool) × Reads g (Part n ∷ []) cs marks
+  HasText n = (cs : List C) × (marks : List Bool) × Yields g (Part n ∷ []) cs marks
 
   text_of_body : (k : ℕ) → ((m : N) → rank m < k → HasText m) → (body : List (Symbol C N)) → list_all (is_below k) body ≡ true
-      → (cs : List C) × (marks : List Bool) × Reads g body cs marks
+      → (cs : List C) × (marks : List Bool) × Yields g body cs marks
   unfolding HasText
   text_of_body k texts [] e = ([], [], done)
   text_of_body k texts (Class c ∷ rest) e =
@@ -129,7 +129,7 @@ module _ {C N : Type 0} (g : Rules C N) (first : N → C) (rank : N → ℕ) whe
       let (lower, others) = both (nat_lt (rank m) k) (list_all (is_below k) rest) e in
       let (cs, marks, front) = texts m (ltb-true (rank m) k lower) in
       let (ds, more, behind) = text_of_body k texts rest others in
-      (cs ++ ds, marks ++ more, reads-append front behind)
+      (cs ++ ds, marks ++ more, yields-append front behind)
 
   text_of_rule : (n : N) → ((m : N) → rank m < rank n → HasText m) → (found : Option (List (Symbol C N)))
       → g.behind n (first n) ≡ found → is_ranked_body (rank n) found ≡ true → HasText n
@@ -139,7 +139,7 @@ module _ {C N : Type 0} (g : Rules C N) (first : N → C) (rank : N → ℕ) whe
       let (cs, marks, reads) = text_of_body (rank n) texts body ranked in (
         first n ∷ cs,
         g.deep n (first n) ∷ marks,
-        r_begins body e (subst (λ (s : List (Symbol C N)). Reads g s cs marks) (sym (append-nil body)) reads),
+        r_begins body e (subst (λ (s : List (Symbol C N)). Yields g s cs marks) (sym (append-nil body)) reads),
       )
 
   text_of_part : (n : N) → ((m : N) → rank m < rank n → HasText m) → (empty : Bool) → g.may_end n ≡ empty

@@ -8,7 +8,7 @@
 //! Analysis, 1971). Such a recogniser has the viable-prefix property (Aho, Sethi and Ullman,
 //! Compilers, 1986): it reads on exactly as long as some text begins with the tokens read.
 //! The contract of [`first_fault`] is that property, both ways, over the grammar's own texts;
-//! `proofs/` carries it to any other statement of the same texts (`Meanings`, `Faults`). That each list
+//! `proofs/` carries it to any other statement of the same texts (`DerivesLaws`, `Faults`). That each list
 //! of tokens has such an answer, and one, are laws in `laws.rt`.
 #![tactic(auto)]
 

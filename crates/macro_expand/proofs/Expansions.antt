@@ -19,7 +19,7 @@ use Rattle.pc_syntax.proofs.ExpansionLaws.{expansion_true}
 use Rattle.macro_expand.specs.declared.macros.Macro.{Macro}
 use Rattle.macro_expand.specs.Faults.{AreExpansions}
 use Rattle.macro_expand.specs.Laws.{ExpansionKeepsTruth, ExpansionsSatisfy}
-use Rattle.macro_expand.specs.Tables.{before, macro_at, listed, OfAxiom}
+use Rattle.macro_expand.specs.Tables.{before, macro_at, plain_macros, OfAxiom}
 
 -- the names of the parameters of the macro at k
 pub parameter_names_at : (ms : List MacroAt) (names : List (List (List ℕ))) (k : ℕ) (m : MacroAt) (other : List (List ℕ))
@@ -28,8 +28,8 @@ parameter_names_at ms names k m other are here =
     get_or_from_slice_get names k (parameter_names m) other
     (ap (λ xs. slice_get xs k) are ∙ slice_get-map parameter_names ms k ∙ ap (option_map parameter_names) here)
 
-pub latest_first : (ms : List Macro) → before (listed ms) (length ms) ≡ reverse (listed ms)
-latest_first ms = ap reverse (take_all (length ms) (listed ms) (omega (arith, length-map ms macro_at)))
+pub latest_first : (ms : List Macro) → before (plain_macros ms) (length ms) ≡ reverse (plain_macros ms)
+latest_first ms = ap reverse (take_all (length ms) (plain_macros ms) (omega (arith, length-map ms macro_at)))
 
 -- where items have no macro fault, each axiom's body is as bodies with no fault are
 of_axioms : (P : Written → Type 0) (all earlier : List MacroAt) (items : List WrittenItem) → ((w : Written) → body_fault all w ≡ None → P w)
@@ -57,27 +57,27 @@ item_of_axiom P items i x within here all =
 
 -- what the checks of a model found, and its table of macros
 module _ (model : ModelFile) (items : List Item) (value : items ≡ model.items) (table : List Macro)
-    (all : listed table ≡ flat_map macro_of (map written_item items))
+    (all : plain_macros table ≡ flat_map macro_of (map written_item items))
     (judged : items_fault (flat_map macro_of (map written_item items)) [] (map written_item items) ≡ None) where
   pub no_macro_fault : first_macro_fault (written_model model) ≡ None
   no_macro_fault = subst (λ xs. items_fault (flat_map macro_of (map written_item xs)) [] (map written_item xs) ≡ None) value judged
 
-  sees_all : before (listed table) (length table) ≡ macros_of (written_model model)
+  sees_all : before (plain_macros table) (length table) ≡ macros_of (written_model model)
   sees_all = latest_first table ∙ ap reverse (all ∙ ap (λ xs. flat_map macro_of (map written_item xs)) value)
 
-  pub ready : All (OfAxiom (λ w. IsExpanded (expansion_of (before (listed table) (length table)) w))) (map written_item items)
+  pub ready : All (OfAxiom (λ w. IsExpanded (expansion_of (before (plain_macros table) (length table)) w))) (map written_item items)
   ready =
       subst (λ ms. All (OfAxiom (λ w. IsExpanded (expansion_of ms w))) (map written_item items)) (sym sees_all)
       (subst (λ xs. All (OfAxiom (λ w. IsExpanded (expansion_of (macros_of (written_model model)) w))) (map written_item xs)) (sym value)
       (axioms_are_expanded (written_model model) no_macro_fault))
 
-  pub same_size_fault : sizes_fault (before (listed table) (length table)) 0 (map written_item items) ≡ first_size_fault (written_model model)
+  pub same_size_fault : sizes_fault (before (plain_macros table) (length table)) 0 (map written_item items) ≡ first_size_fault (written_model model)
   same_size_fault =
       ap (λ ms. sizes_fault ms 0 (map written_item items)) sees_all
       ∙ ap (λ xs. sizes_fault (macros_of (written_model model)) 0 (map written_item xs)) value
 
   pub all_expansions : (es : List Expanded)
-      → map (λ e. written e.body) es ≡ map (expansion_of (before (listed table) (length table))) (flat_map axiom_of (map written_item items))
+      → map (λ e. written e.body) es ≡ map (expansion_of (before (plain_macros table) (length table))) (flat_map axiom_of (map written_item items))
       → AreExpansions (written_model model) es
   all_expansions es are =
       are

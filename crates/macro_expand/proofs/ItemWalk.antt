@@ -10,16 +10,16 @@ use Rattle.pc_common.specs.Names.{same_name}
 use Rattle.pc_syntax.specs.Written.{Written, not_, and_, or_, implies_, forall_, exists_, static_, nodes_, edges_, expand_, bind_, MacroAt, WrittenItem, axiom_, macro_, written_item}
 use Rattle.pc_syntax.specs.Observable.{macro_of}
 use Rattle.pc_syntax.specs.Fault.{Fault}
-use Rattle.pc_syntax.specs.MacroFaults.{macro_called, macro_again, parameters_fault, count_fault, body_fault, macro_fault, items_fault}
+use Rattle.pc_syntax.specs.MacroFaults.{macro_with_name, macro_again, parameters_fault, count_fault, body_fault, macro_fault, items_fault}
 use Rattle.pc_syntax.proofs.NoFault.{none_first}
 use Rattle.pc_syntax.proofs.ExpandedLaws.{NewNames, called_reversed}
-use Rattle.macro_expand.specs.Tables.{before, entered, first_of_names, AreNew, item_fault}
+use Rattle.macro_expand.specs.Tables.{before, with_macro, first_of_names, AreNew, item_fault}
 use Rattle.macro_expand.proofs.Tables.{macro_called_after, new_more}
 use Rattle.macro_expand.proofs.Names.{same_is}
 use Rattle.macro_expand.proofs.Walks.{flat_map_more}
 
 -- a body has the same fault wherever names call the same macros
-same_fault : (ms ns : List MacroAt) → ((name : List ℕ) → macro_called ms name ≡ macro_called ns name) → (w : Written)
+same_fault : (ms ns : List MacroAt) → ((name : List ℕ) → macro_with_name ms name ≡ macro_with_name ns name) → (w : Written)
     → body_fault ms w ≡ body_fault ns w
 same_fault ms ns same (not_ p) = same_fault ms ns same p
 same_fault ms ns same (and_ p q) = λ i. option_or (same_fault ms ns same p i) (same_fault ms ns same q i)
@@ -39,60 +39,60 @@ or_none None = refl
 or_none (Some x) = refl
 
 -- where a name is known already, one more macro of it changes no call
-known_called : (ms : List MacroAt) (m : MacroAt) (name : List ℕ) (x : MacroAt) → macro_called ms m.name.name ≡ Some x
-    → (b : Bool) → same_name m.name.name name ≡ b → macro_called ms name ≡ option_or (macro_called ms name) (cond b (Some m) None)
+known_called : (ms : List MacroAt) (m : MacroAt) (name : List ℕ) (x : MacroAt) → macro_with_name ms m.name.name ≡ Some x
+    → (b : Bool) → same_name m.name.name name ≡ b → macro_with_name ms name ≡ option_or (macro_with_name ms name) (cond b (Some m) None)
 known_called ms m name x e true s =
-    let h : macro_called ms name ≡ Some x = subst (λ w. macro_called ms w ≡ Some x) (same_is m.name.name name s) e in
+    let h : macro_with_name ms name ≡ Some x = subst (λ w. macro_with_name ms w ≡ Some x) (same_is m.name.name name s) e in
     h ∙ ap (λ o. option_or o (Some m)) (sym h)
-known_called ms m name x e false s = sym (or_none (macro_called ms name))
+known_called ms m name x e false s = sym (or_none (macro_with_name ms name))
 
 -- one more macro is called only by a name that no earlier one has
 entered_called : (ms : List MacroAt) (m : MacroAt) (name : List ℕ)
-    → macro_called (entered ms m) name ≡ option_or (macro_called ms name) (cond (same_name m.name.name name) (Some m) None)
-entered_called ms m name = by (macro_called ms m.name.name) refl
+    → macro_with_name (with_macro ms m) name ≡ option_or (macro_with_name ms name) (cond (same_name m.name.name name) (Some m) None)
+entered_called ms m name = by (macro_with_name ms m.name.name) refl
   where
-    by : (o : Option MacroAt) → macro_called ms m.name.name ≡ o
-        → macro_called (elim o [ None ↦ ms ++ m ∷ [] | Some first ↦ ms ]) name
-        ≡ option_or (macro_called ms name) (cond (same_name m.name.name name) (Some m) None)
+    by : (o : Option MacroAt) → macro_with_name ms m.name.name ≡ o
+        → macro_with_name (elim o [ None ↦ ms ++ m ∷ [] | Some first ↦ ms ]) name
+        ≡ option_or (macro_with_name ms name) (cond (same_name m.name.name name) (Some m) None)
     by None e = macro_called_after ms m name
     by (Some x) e = known_called ms m name x e (same_name m.name.name name) refl
 
 -- of macros of one name the first is called
 first_called : (done ms : List MacroAt) (name : List ℕ)
-    → macro_called (fold entered done ms) name ≡ option_or (macro_called done name) (macro_called ms name)
-first_called done [] name = sym (or_none (macro_called done name))
+    → macro_with_name (fold with_macro done ms) name ≡ option_or (macro_with_name done name) (macro_with_name ms name)
+first_called done [] name = sym (or_none (macro_with_name done name))
 first_called done (m ∷ ms) name =
-    first_called (entered done m) ms name
-    ∙ ap (λ o. option_or o (macro_called ms name)) (entered_called done m name)
-    ∙ by (macro_called done name) (same_name m.name.name name)
+    first_called (with_macro done m) ms name
+    ∙ ap (λ o. option_or o (macro_with_name ms name)) (entered_called done m name)
+    ∙ by (macro_with_name done name) (same_name m.name.name name)
   where
     by : (o : Option MacroAt) (b : Bool)
-        → option_or (option_or o (cond b (Some m) None)) (macro_called ms name) ≡ option_or o (cond b (Some m) (macro_called ms name))
+        → option_or (option_or o (cond b (Some m) None)) (macro_with_name ms name) ≡ option_or o (cond b (Some m) (macro_with_name ms name))
     by None true = refl
     by None false = refl
     by (Some x) b = refl
 
 -- what is in the table stays at its front
-stays_first : (done ms : List MacroAt) → (rest : List MacroAt) × (fold entered done ms ≡ done ++ rest)
+stays_first : (done ms : List MacroAt) → (rest : List MacroAt) × (fold with_macro done ms ≡ done ++ rest)
 stays_first done [] = ([], sym (append-nil done))
-stays_first done (m ∷ ms) = by (macro_called done m.name.name) (λ next. stays_first next ms)
+stays_first done (m ∷ ms) = by (macro_with_name done m.name.name) (λ next. stays_first next ms)
   where
-    by : (o : Option MacroAt) → ((next : List MacroAt) → (rest : List MacroAt) × (fold entered next ms ≡ next ++ rest))
-        → (rest : List MacroAt) × (fold entered (elim o [ None ↦ done ++ m ∷ [] | Some first ↦ done ]) ms ≡ done ++ rest)
+    by : (o : Option MacroAt) → ((next : List MacroAt) → (rest : List MacroAt) × (fold with_macro next ms ≡ next ++ rest))
+        → (rest : List MacroAt) × (fold with_macro (elim o [ None ↦ done ++ m ∷ [] | Some first ↦ done ]) ms ≡ done ++ rest)
     by None later =
         let r = later (done ++ m ∷ []) in (m ∷ r.0, r.1 ∙ append_assoc done (m ∷ []) r.0)
     by (Some first) later = later done
 
-entered_fresh : (done : List MacroAt) (m : MacroAt) → AreNew done → AreNew (entered done m)
-entered_fresh done m fresh = by (macro_called done m.name.name) refl
+entered_fresh : (done : List MacroAt) (m : MacroAt) → AreNew done → AreNew (with_macro done m)
+entered_fresh done m fresh = by (macro_with_name done m.name.name) refl
   where
-    by : (o : Option MacroAt) → macro_called done m.name.name ≡ o → AreNew (elim o [ None ↦ done ++ m ∷ [] | Some first ↦ done ])
+    by : (o : Option MacroAt) → macro_with_name done m.name.name ≡ o → AreNew (elim o [ None ↦ done ++ m ∷ [] | Some first ↦ done ])
     by None e = new_more done m fresh e
     by (Some first) e = fresh
 
-table_fresh : (done ms : List MacroAt) → AreNew done → AreNew (fold entered done ms)
+table_fresh : (done ms : List MacroAt) → AreNew done → AreNew (fold with_macro done ms)
 table_fresh done [] fresh = fresh
-table_fresh done (m ∷ ms) fresh = table_fresh (entered done m) ms (entered_fresh done m fresh)
+table_fresh done (m ∷ ms) fresh = table_fresh (with_macro done m) ms (entered_fresh done m fresh)
 
 as_new_names : (ms : List MacroAt) → AreNew ms → NewNames ms
 as_new_names [] fresh = tt
@@ -125,7 +125,7 @@ table_front : (done rest : List MacroAt) → first_of_names done ≡ done → be
 table_front done rest kept =
     let later = stays_first done rest in
     ap (λ ms. before ms (length done))
-    (fold-append entered [] done rest ∙ ap (λ ms. fold entered ms rest) kept ∙ later.1)
+    (fold-append with_macro [] done rest ∙ ap (λ ms. fold with_macro ms rest) kept ∙ later.1)
     ∙ ap reverse (take_at done later.0 (length done) refl)
 
 item_judged : (done rest : List MacroAt) (w : WrittenItem) → first_of_names done ≡ done
@@ -136,8 +136,8 @@ item_judged done rest (macro_ m) kept = ap (λ ms. macro_fault ms m) (table_fron
 fresh_from : (done : List MacroAt) → first_of_names done ≡ done → AreNew done
 fresh_from done kept = subst AreNew kept (table_fresh [] done tt)
 
-not_again : (ms : List MacroAt) (m : MacroAt) → macro_again ms m.name ≡ None → macro_called ms m.name.name ≡ None
-not_again ms m h = by (macro_called ms m.name.name) h
+not_again : (ms : List MacroAt) (m : MacroAt) → macro_again ms m.name ≡ None → macro_with_name ms m.name.name ≡ None
+not_again ms m h = by (macro_with_name ms m.name.name) h
   where
     by : (o : Option MacroAt) → option_map {T = MacroAt} {U = Fault} (λ x. (MacroAgain x.name.at m.name.at, m.name.at)) o ≡ None → o ≡ None
     by None e = refl
@@ -150,10 +150,10 @@ kept_after all done (axiom_ at body) kept fine = ap first_of_names (append-nil d
 kept_after all done (macro_ m) kept fine =
     let again =
     none_first (macro_again (reverse done) m.name) (option_or (parameters_fault [] m.parameters) (body_fault (reverse done) m.body)) fine in
-    let absent : macro_called done m.name.name ≡ None =
+    let absent : macro_with_name done m.name.name ≡ None =
     sym (called_reversed done m.name.name (as_new_names done (fresh_from done kept))) ∙ not_again (reverse done) m again in
-    fold-append entered [] done (m ∷ [])
-    ∙ ap (λ ms. entered ms m) kept
+    fold-append with_macro [] done (m ∷ [])
+    ∙ ap (λ ms. with_macro ms m) kept
     ∙ ap (λ o. elim o [ None ↦ done ++ m ∷ [] | Some first ↦ done ]) absent
 
 abbrev pub macros_of_items : List Item → List MacroAt

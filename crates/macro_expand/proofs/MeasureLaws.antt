@@ -8,68 +8,68 @@ use Rattle.pc_syntax.specs.declared.term.Arg.{Arg}
 use Rattle.pc_common.specs.Names.{same_name}
 use Rattle.pc_syntax.specs.Written.{expand_, bind_, MacroAt}
 use Rattle.pc_syntax.specs.Expansion.{parameter_names, expansion_of}
-use Rattle.pc_syntax.specs.Sizes.{size_of, height_of}
+use Rattle.pc_syntax.specs.Sizes.{expanded_size, expanded_height}
 use Rattle.macro_expand.specs.declared.measure.Measure.{Measure}
-use Rattle.macro_expand.specs.Tables.{called, before}
-use Rattle.macro_expand.specs.Measures.{capped, measure_of, AreMeasures}
+use Rattle.macro_expand.specs.Tables.{callee_of, before}
+use Rattle.macro_expand.specs.Measures.{capped_measure, measure_of, AreMeasures}
 
 module _ (at : Place) (name : Word) (args : List Arg) where
-  pub size_called : (ms : List MacroAt) → size_of ms (expand_ at name args)
-      ≡ elim (called ms name.name) [ None ↦ 1 | Some p ↦ 1 + size_of p.1 p.0.body ]
+  pub size_called : (ms : List MacroAt) → expanded_size ms (expand_ at name args)
+      ≡ elim (callee_of ms name.name) [ None ↦ 1 | Some p ↦ 1 + expanded_size p.1 p.0.body ]
   size_called [] = refl
   size_called (m ∷ ms) = by (same_name m.name.name name.name) (size_called ms)
     where
-      by : (b : Bool) → size_of ms (expand_ at name args) ≡ elim (called ms name.name) [ None ↦ 1 | Some p ↦ 1 + size_of p.1 p.0.body ]
-          → cond b (1 + size_of ms m.body) (size_of ms (expand_ at name args))
-          ≡ elim (cond b (Some (m, ms)) (called ms name.name)) [ None ↦ 1 | Some p ↦ 1 + size_of p.1 p.0.body ]
+      by : (b : Bool) → expanded_size ms (expand_ at name args) ≡ elim (callee_of ms name.name) [ None ↦ 1 | Some p ↦ 1 + expanded_size p.1 p.0.body ]
+          → cond b (1 + expanded_size ms m.body) (expanded_size ms (expand_ at name args))
+          ≡ elim (cond b (Some (m, ms)) (callee_of ms name.name)) [ None ↦ 1 | Some p ↦ 1 + expanded_size p.1 p.0.body ]
       by true rest = refl
       by false rest = rest
 
-  pub height_called : (ms : List MacroAt) → height_of ms (expand_ at name args)
-      ≡ elim (called ms name.name) [ None ↦ 0 | Some p ↦ 1 + height_of p.1 p.0.body ]
+  pub height_called : (ms : List MacroAt) → expanded_height ms (expand_ at name args)
+      ≡ elim (callee_of ms name.name) [ None ↦ 0 | Some p ↦ 1 + expanded_height p.1 p.0.body ]
   height_called [] = refl
   height_called (m ∷ ms) = by (same_name m.name.name name.name) (height_called ms)
     where
-      by : (b : Bool) → height_of ms (expand_ at name args) ≡ elim (called ms name.name) [ None ↦ 0 | Some p ↦ 1 + height_of p.1 p.0.body ]
-          → cond b (1 + height_of ms m.body) (height_of ms (expand_ at name args))
-          ≡ elim (cond b (Some (m, ms)) (called ms name.name)) [ None ↦ 0 | Some p ↦ 1 + height_of p.1 p.0.body ]
+      by : (b : Bool) → expanded_height ms (expand_ at name args) ≡ elim (callee_of ms name.name) [ None ↦ 0 | Some p ↦ 1 + expanded_height p.1 p.0.body ]
+          → cond b (1 + expanded_height ms m.body) (expanded_height ms (expand_ at name args))
+          ≡ elim (cond b (Some (m, ms)) (callee_of ms name.name)) [ None ↦ 0 | Some p ↦ 1 + expanded_height p.1 p.0.body ]
       by true rest = refl
       by false rest = rest
 
   pub expansion_called : (ms : List MacroAt) → expansion_of ms (expand_ at name args)
-      ≡ elim (called ms name.name) [ None ↦ expand_ at name args | Some p ↦ bind_ at (parameter_names p.0) args (expansion_of p.1 p.0.body) ]
+      ≡ elim (callee_of ms name.name) [ None ↦ expand_ at name args | Some p ↦ bind_ at (parameter_names p.0) args (expansion_of p.1 p.0.body) ]
   expansion_called [] = refl
   expansion_called (m ∷ ms) = by (same_name m.name.name name.name) (expansion_called ms)
     where
       by : (b : Bool) → expansion_of ms (expand_ at name args)
-          ≡ elim (called ms name.name) [ None ↦ expand_ at name args | Some p ↦ bind_ at (parameter_names p.0) args (expansion_of p.1 p.0.body) ]
+          ≡ elim (callee_of ms name.name) [ None ↦ expand_ at name args | Some p ↦ bind_ at (parameter_names p.0) args (expansion_of p.1 p.0.body) ]
           → cond b (bind_ at (parameter_names m) args (expansion_of ms m.body)) (expansion_of ms (expand_ at name args))
-          ≡ elim (cond b (Some (m, ms)) (called ms name.name))
+          ≡ elim (cond b (Some (m, ms)) (callee_of ms name.name))
           [ None ↦ expand_ at name args | Some p ↦ bind_ at (parameter_names p.0) args (expansion_of p.1 p.0.body) ]
       by true rest = refl
       by false rest = rest
 
   -- the measure of an expansion is that of its macro's body, and one more
-  pub measure_found : (ms : List MacroAt) (p : MacroAt × List MacroAt) (m : Measure) → called ms name.name ≡ Some p → m ≡ measure_of p.1 p.0.body
-      → capped (1 + m.size) (1 + m.height) ≡ measure_of ms (expand_ at name args)
+  pub measure_found : (ms : List MacroAt) (p : MacroAt × List MacroAt) (m : Measure) → callee_of ms name.name ≡ Some p → m ≡ measure_of p.1 p.0.body
+      → capped_measure (1 + m.size) (1 + m.height) ≡ measure_of ms (expand_ at name args)
   measure_found ms p m e is =
-      let size = size_called ms ∙ ap (λ o. elim o [ None ↦ 1 | Some q ↦ 1 + size_of q.1 q.0.body ]) e in
-      let height = height_called ms ∙ ap (λ o. elim o [ None ↦ 0 | Some q ↦ 1 + height_of q.1 q.0.body ]) e in
-      ap (λ x. capped (1 + x.size) (1 + x.height)) is
-      ∙ one_more (size_of p.1 p.0.body) (height_of p.1 p.0.body)
-      ∙ (λ i. capped (sym size i) (sym height i))
+      let size = size_called ms ∙ ap (λ o. elim o [ None ↦ 1 | Some q ↦ 1 + expanded_size q.1 q.0.body ]) e in
+      let height = height_called ms ∙ ap (λ o. elim o [ None ↦ 0 | Some q ↦ 1 + expanded_height q.1 q.0.body ]) e in
+      ap (λ x. capped_measure (1 + x.size) (1 + x.height)) is
+      ∙ one_more (expanded_size p.1 p.0.body) (expanded_height p.1 p.0.body)
+      ∙ (λ i. capped_measure (sym size i) (sym height i))
     where
-      one_more : (n h : ℕ) → capped (1 + min n 1000001) (1 + min h 513) ≡ capped (1 + n) (1 + h)
+      one_more : (n h : ℕ) → capped_measure (1 + min n 1000001) (1 + min h 513) ≡ capped_measure (1 + n) (1 + h)
       one_more n h =
           let a : min (1 + min n 1000001) 1000001 ≡ min (1 + n) 1000001 = omega arith in
           let b : min (1 + min h 513) 513 ≡ min (1 + h) 513 = omega arith in
           λ i. record { size = a i; height = b i }
 
-  pub measure_not_found : (ms : List MacroAt) → called ms name.name ≡ None → capped (1 + 0) 0 ≡ measure_of ms (expand_ at name args)
+  pub measure_not_found : (ms : List MacroAt) → callee_of ms name.name ≡ None → capped_measure (1 + 0) 0 ≡ measure_of ms (expand_ at name args)
   measure_not_found ms e =
-      let size = size_called ms ∙ ap (λ o. elim o [ None ↦ 1 | Some q ↦ 1 + size_of q.1 q.0.body ]) e in
-      let height = height_called ms ∙ ap (λ o. elim o [ None ↦ 0 | Some q ↦ 1 + height_of q.1 q.0.body ]) e in
-      λ i. capped (sym size i) (sym height i)
+      let size = size_called ms ∙ ap (λ o. elim o [ None ↦ 1 | Some q ↦ 1 + expanded_size q.1 q.0.body ]) e in
+      let height = height_called ms ∙ ap (λ o. elim o [ None ↦ 0 | Some q ↦ 1 + expanded_height q.1 q.0.body ]) e in
+      λ i. capped_measure (sym size i) (sym height i)
 
 get_before : {A : Type 0} (xs ys : List A) (k : ℕ) → k < length xs → slice_get (xs ++ ys) k ≡ slice_get xs k
 get_before [] ys k within = absurd (omega arith)
@@ -98,18 +98,18 @@ measures_more ms measures m x known here is = λ k y within found.
 
 module _ (at : Place) (name : Word) (args : List Arg) (ms : List MacroAt) where
   -- the body of an expansion's macro is lower than the expansion
-  pub lower : (p : MacroAt × List MacroAt) → called ms name.name ≡ Some p → height_of p.1 p.0.body < height_of ms (expand_ at name args)
+  pub lower : (p : MacroAt × List MacroAt) → callee_of ms name.name ≡ Some p → expanded_height p.1 p.0.body < expanded_height ms (expand_ at name args)
   lower p e =
-      let height = height_called at name args ms ∙ ap (λ o. elim o [ None ↦ 0 | Some q ↦ 1 + height_of q.1 q.0.body ]) e in
+      let height = height_called at name args ms ∙ ap (λ o. elim o [ None ↦ 0 | Some q ↦ 1 + expanded_height q.1 q.0.body ]) e in
       omega (arith, height)
 
-  pub expansion_found : (p : MacroAt × List MacroAt) → called ms name.name ≡ Some p
+  pub expansion_found : (p : MacroAt × List MacroAt) → callee_of ms name.name ≡ Some p
       → expansion_of ms (expand_ at name args) ≡ bind_ at (parameter_names p.0) args (expansion_of p.1 p.0.body)
   expansion_found p e =
       expansion_called at name args ms
       ∙ ap (λ o. elim o [ None ↦ expand_ at name args | Some q ↦ bind_ at (parameter_names q.0) args (expansion_of q.1 q.0.body) ]) e
 
-  pub expansion_not_found : called ms name.name ≡ None → expansion_of ms (expand_ at name args) ≡ expand_ at name args
+  pub expansion_not_found : callee_of ms name.name ≡ None → expansion_of ms (expand_ at name args) ≡ expand_ at name args
   expansion_not_found e =
       expansion_called at name args ms
       ∙ ap (λ o. elim o [ None ↦ expand_ at name args | Some q ↦ bind_ at (parameter_names q.0) args (expansion_of q.1 q.0.body) ]) e

@@ -7,26 +7,26 @@ use Rattle.indexmap.proofs.CallerLemmas.{insert_entry-new}
 use Rattle.pc_common.specs.declared.place.Place.{Place}
 use Rattle.pc_syntax.specs.declared.term.Word.{Word}
 use Rattle.pc_common.specs.Names.{same_name}
-use Rattle.pc_syntax.specs.MacroFaults.{word_called}
+use Rattle.pc_syntax.specs.MacroFaults.{word_with_name}
 use Rattle.macro_expand.specs.Tables.{word_at}
 use Rattle.macro_expand.proofs.Names.{same_either}
 
 pub place_of : (es : List (Bor (List ℕ) × Place)) (name : List ℕ)
-    → lookup (λ k. same_name name k.now) es ≡ option_map (λ w. w.at) (word_called (map word_at es) name)
+    → lookup (λ k. same_name name k.now) es ≡ option_map (λ w. w.at) (word_with_name (map word_at es) name)
 place_of [] name = refl
 place_of (e ∷ es) name =
     ap (λ b. cond b (Some e.1) (lookup (λ k. same_name name k.now) es)) (same_either name e.0.now)
     ∙ by (same_name e.0.now name) (place_of es name)
   where
-    by : (b : Bool) → lookup (λ k. same_name name k.now) es ≡ option_map (λ w. w.at) (word_called (map word_at es) name)
+    by : (b : Bool) → lookup (λ k. same_name name k.now) es ≡ option_map (λ w. w.at) (word_with_name (map word_at es) name)
         → cond b (Some e.1) (lookup (λ k. same_name name k.now) es)
-        ≡ option_map (λ w. w.at) (cond b (Some (word_at e)) (word_called (map word_at es) name))
+        ≡ option_map (λ w. w.at) (cond b (Some (word_at e)) (word_with_name (map word_at es) name))
     by true rest = refl
     by false rest = rest
 
 pub no_place : (es : List (Bor (List ℕ) × Place)) (name : List ℕ) → lookup (λ k. same_name name k.now) es ≡ None
-    → word_called (map word_at es) name ≡ None
-no_place es name e = by (word_called (map word_at es) name) (sym (place_of es name) ∙ e)
+    → word_with_name (map word_at es) name ≡ None
+no_place es name e = by (word_with_name (map word_at es) name) (sym (place_of es name) ∙ e)
   where
     by : (o : Option Word) → option_map (λ w. w.at) o ≡ None → o ≡ None
     by None h = refl

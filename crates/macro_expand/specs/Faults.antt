@@ -13,18 +13,18 @@ use Rattle.macro_expand.specs.declared.fault.MacroFault.{MacroFault}
 use Rattle.macro_expand.specs.declared.fault.MacroFault.TheVariants.{Again, ParameterAgain, Unknown, Arguments, TooDeep, TooBig, Memory}
 
 -- the fault that an answer tells of, with its place
-abbrev pub fault_told : MacroFault → Option Fault
-fault_told (Again at first again) = Some (MacroAgain first again, at)
-fault_told (ParameterAgain at first again) = Some (parameter_again first again, at)
-fault_told (Unknown at) = Some (MacroUnknown, at)
-fault_told (Arguments at found wanted) = Some (MacroArguments found wanted, at)
-fault_told (TooDeep at limit) = Some (too_deep limit, at)
-fault_told (TooBig at limit) = Some (too_big limit, at)
-fault_told Memory = None
+abbrev pub macro_fault_of : MacroFault → Option Fault
+macro_fault_of (Again at first again) = Some (MacroAgain first again, at)
+macro_fault_of (ParameterAgain at first again) = Some (parameter_again first again, at)
+macro_fault_of (Unknown at) = Some (MacroUnknown, at)
+macro_fault_of (Arguments at found wanted) = Some (MacroArguments found wanted, at)
+macro_fault_of (TooDeep at limit) = Some (too_deep limit, at)
+macro_fault_of (TooBig at limit) = Some (too_big limit, at)
+macro_fault_of Memory = None
 
 -- the fault is what the answer tells of, if it tells of one: memory may be refused at any time
 abbrev pub IsFault : Option Fault → MacroFault → Type 0
-IsFault fault answer = MatchOption (fault_told answer) (Unit {0}) (λ told. fault ≡ Some told)
+IsFault fault answer = MatchOption (macro_fault_of answer) (Unit {0}) (λ told. fault ≡ Some told)
 
 -- an answer comes where there is no fault, and an error tells of the fault
 abbrev pub Judges : {A : Type 0} → Option Fault → Result A MacroFault → Type 0

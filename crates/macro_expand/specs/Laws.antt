@@ -12,7 +12,8 @@ use Rattle.macro_expand.specs.Faults.{AreExpansions}
 -- an expansion is true exactly where its formula is: in each case, world and environment
 abbrev pub ExpansionKeepsTruth : Type 0
 ExpansionKeepsTruth =
-    (s : Setting) (ms : List MacroAt) (env : Environment) (w : Written) → is_true s ms env w ≡ is_true s [] env (expansion_of ms w)
+    (s : Setting) (ms : List MacroAt) (env : Environment) (w : Written)
+    → is_true s ms env w ≡ is_true s [] env (expansion_of ms w)
 
 -- a world satisfies a model exactly where its expanded axioms are true
 abbrev pub ExpansionsSatisfy : Type 0

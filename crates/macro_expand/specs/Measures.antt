@@ -4,29 +4,30 @@ use Rattle.std.specs.Option.{option_or}
 use Rattle.pc_syntax.specs.declared.limits.TheConstants.{MAX_HEIGHT, MAX_SIZE}
 use Rattle.pc_syntax.specs.Written.{Written, MacroAt, WrittenItem, axiom_, macro_}
 use Rattle.pc_syntax.specs.Fault.{Fault}
-use Rattle.pc_syntax.specs.Sizes.{size_of, height_of, depth_fault, total_fault}
+use Rattle.pc_syntax.specs.Sizes.{expanded_size, expanded_height, depth_fault, total_fault}
 use Rattle.macro_expand.specs.declared.measure.Measure.{Measure}
 use Rattle.macro_expand.specs.Tables.{before}
 
-abbrev pub capped : ℕ → ℕ → Measure
-capped size height = record { size = min size (MAX_SIZE + 1); height = min height (MAX_HEIGHT + 1) }
+abbrev pub capped_measure : ℕ → ℕ → Measure
+capped_measure size height = record { size = min size (MAX_SIZE + 1); height = min height (MAX_HEIGHT + 1) }
 
 -- the macros that the formula may name are listed latest first
 abbrev pub measure_of : List MacroAt → Written → Measure
-measure_of ms w = capped (size_of ms w) (height_of ms w)
+measure_of ms w = capped_measure (expanded_size ms w) (expanded_height ms w)
 
 -- the measures of the bodies of the first macros
 abbrev pub AreMeasures : List MacroAt → List Measure → Type 0
 AreMeasures ms measures =
-    (k : ℕ) (m : MacroAt) → k < length measures → slice_get ms k ≡ Some m → slice_get measures k ≡ Some (measure_of (before ms k) m.body)
+    (k : ℕ) (m : MacroAt) → k < length measures → slice_get ms k ≡ Some m
+    → slice_get measures k ≡ Some (measure_of (before ms k) m.body)
 
 -- the size fault of an item, where the axioms before it are of the size `total` together
 abbrev pub item_size_fault : List MacroAt → ℕ → WrittenItem → Option Fault
 item_size_fault ms total (axiom_ at body) =
-    option_or (depth_fault at (height_of ms body)) (total_fault at (total + size_of ms body))
+    option_or (depth_fault at (expanded_height ms body)) (total_fault at (total + expanded_size ms body))
 item_size_fault ms total (macro_ m) = None
 
 -- the size of the axioms up to this item
 abbrev pub total_after : List MacroAt → ℕ → WrittenItem → ℕ
-total_after ms total (axiom_ at body) = total + size_of ms body
+total_after ms total (axiom_ at body) = total + expanded_size ms body
 total_after ms total (macro_ m) = total

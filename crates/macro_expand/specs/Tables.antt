@@ -7,36 +7,36 @@ use Rattle.pc_syntax.specs.declared.term.Word.{Word}
 use Rattle.pc_common.specs.Names.{same_name}
 use Rattle.pc_syntax.specs.Written.{Written, written, MacroAt, WrittenItem, axiom_, macro_}
 use Rattle.pc_syntax.specs.Fault.{Fault}
-use Rattle.pc_syntax.specs.MacroFaults.{macro_called, body_fault, macro_fault}
+use Rattle.pc_syntax.specs.MacroFaults.{macro_with_name, body_fault, macro_fault}
 use Rattle.macro_expand.specs.declared.macros.Macro.{Macro}
 
 -- the macro that a name calls, with those that its body may name; macros are listed latest first
-abbrev pub called : List MacroAt → List ℕ → Option (MacroAt × List MacroAt)
-called [] name = None
-called (m ∷ ms) name = if same_name m.name.name name then Some (m, ms) else called ms name
+abbrev pub callee_of : List MacroAt → List ℕ → Option (MacroAt × List MacroAt)
+callee_of [] name = None
+callee_of (m ∷ ms) name = if same_name m.name.name name then Some (m, ms) else callee_of ms name
 
 -- the first n macros, latest first
 abbrev pub before : List MacroAt → ℕ → List MacroAt
 before ms n = reverse (take n ms)
 
 -- one more macro, unless an earlier one has its name
-abbrev pub entered : List MacroAt → MacroAt → List MacroAt
-entered ms m = elim (macro_called ms m.name.name) [ None ↦ ms ++ m ∷ [] | Some first ↦ ms ]
+abbrev pub with_macro : List MacroAt → MacroAt → List MacroAt
+with_macro ms m = elim (macro_with_name ms m.name.name) [ None ↦ ms ++ m ∷ [] | Some first ↦ ms ]
 
 -- of macros of one name the first
 abbrev pub first_of_names : List MacroAt → List MacroAt
-first_of_names ms = fold entered [] ms
+first_of_names ms = fold with_macro [] ms
 
 -- no macro has the name of an earlier one
 abbrev pub AreNew : List MacroAt → Type 0
 AreNew [] = Unit {0}
-AreNew (m ∷ ms) = (macro_called ms m.name.name ≡ None) × AreNew ms
+AreNew (m ∷ ms) = (macro_with_name ms m.name.name ≡ None) × AreNew ms
 
 abbrev pub macro_at : Macro → MacroAt
 macro_at m = record { name = m.name.now; parameters = m.parameters.now; body = written m.body.now }
 
-abbrev pub listed : List Macro → List MacroAt
-listed ms = map macro_at ms
+abbrev pub plain_macros : List Macro → List MacroAt
+plain_macros ms = map macro_at ms
 
 -- the entries from the n-th on: each is kept under its own name and with its own number
 abbrev pub AreNumbered : ℕ → List (Bor (List ℕ) × Macro) → Type 0

@@ -1,7 +1,7 @@
 ghost use Rattle.std.specs.Prelude.{◌≡◌, ◌+◌, ◌<◌, ◌^◌, ◌∷◌, [], Ok, map, length};
 ghost use Rattle.pc_syntax.specs.Written.{written, written_item};
 ghost use Rattle.pc_syntax.specs.MacroFaults.{count_fault, call_fault, body_fault, macro_fault, items_fault};
-ghost use Rattle.macro_expand.specs.Tables.{before, listed, macro_at};
+ghost use Rattle.macro_expand.specs.Tables.{before, plain_macros, macro_at};
 ghost use Rattle.macro_expand.specs.Faults.{Judges};
 
 use super::fault::MacroFault;
@@ -33,9 +33,9 @@ fn check_call(
     name: &Word,
     args: &Args,
 ) -> Result<(), MacroFault>
-    ensures { Judges (call_fault (before (listed macros.now) earlier) name.now args.now) result }
+    ensures { Judges (call_fault (before (plain_macros macros.now) earlier) name.now args.now) result }
 {
-    match macros.called(name.name.as_slice(), earlier) {
+    match macros.callee(name.name.as_slice(), earlier) {
         Some(callee) => check_count(name, args, &callee),
         None => Err(MacroFault::Unknown { at: name.at }),
     }
@@ -49,7 +49,7 @@ pub(crate) fn check_body(
     earlier: usize,
     formula: &Formula,
 ) -> Result<(), MacroFault>
-    ensures { Judges (body_fault (before (listed macros.now) earlier) (written formula.now)) result }
+    ensures { Judges (body_fault (before (plain_macros macros.now) earlier) (written formula.now)) result }
 {
     match formula {
         Formula::Not(body)
@@ -75,10 +75,10 @@ pub(crate) fn check_macro(
     parameters: &Words,
     body: &Formula,
 ) -> Result<(), MacroFault>
-    ensures { Judges (macro_fault (before (listed macros.now) earlier)
+    ensures { Judges (macro_fault (before (plain_macros macros.now) earlier)
         (record { name = name.now; parameters = parameters.now; body = written body.now })) result }
 {
-    if let Some(first) = macros.called(name.name.as_slice(), earlier) {
+    if let Some(first) = macros.callee(name.name.as_slice(), earlier) {
         return Err(MacroFault::Again {
             at: name.at,
             first: first.name.at,

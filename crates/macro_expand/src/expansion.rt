@@ -3,7 +3,7 @@ ghost use Rattle.std.specs.List.{flat_map};
 ghost use Rattle.pc_syntax.specs.Written.{written, written_item, bind_};
 ghost use Rattle.pc_syntax.specs.Observable.{axiom_of};
 ghost use Rattle.pc_syntax.specs.Expansion.{expansion_of, parameter_names, IsExpanded};
-ghost use Rattle.macro_expand.specs.Tables.{before, listed, OfAxiom};
+ghost use Rattle.macro_expand.specs.Tables.{before, plain_macros, OfAxiom};
 
 use super::macros::Macros;
 use super::parameter_names::names_of_macros;
@@ -27,8 +27,9 @@ impl<'a> Expander<'a> {
     /// It nests at most two calls for each connective, quantifier and expansion above an atom.
     #[cycle(walk)]
     fn expansion(&self, earlier: usize, formula: &Formula) -> Result<Formula, Memory>
-        requires { self.now.names.now ≡ map parameter_names (listed self.now.macros.now) }
-        ensures { IfOk result (λ f. written f ≡ expansion_of (before (listed self.now.macros.now) earlier) (written formula.now)) }
+        requires { self.now.names.now ≡ map parameter_names (plain_macros self.now.macros.now) }
+        ensures { let ms = before (plain_macros self.now.macros.now) earlier in
+            IfOk result (λ f. written f ≡ expansion_of ms (written formula.now)) }
     {
         match formula {
             Formula::Not(body) => { Formula::negation(self.alloc, self.expansion(earlier, body)?) }
@@ -74,7 +75,7 @@ impl<'a> Expander<'a> {
                 formula.copy(self.alloc)
             }
             Formula::Expand { at, name, args } => {
-                match self.macros.called(name.name.as_slice(), earlier) {
+                match self.macros.callee(name.name.as_slice(), earlier) {
                     Some(callee) => {
                         let names = &self.names[callee.number];
                         self.binding(callee.number, *at, names, args, callee.body)
@@ -93,9 +94,10 @@ impl<'a> Expander<'a> {
         left: &Formula,
         right: &Formula,
     ) -> Result<(Formula, Formula), Memory>
-        requires { self.now.names.now ≡ map parameter_names (listed self.now.macros.now) }
-        ensures { let ms = before (listed self.now.macros.now) earlier in
-            IfOk result (λ both. (written both.0 ≡ expansion_of ms (written left.now)) × (written both.1 ≡ expansion_of ms (written right.now))) }
+        requires { self.now.names.now ≡ map parameter_names (plain_macros self.now.macros.now) }
+        ensures { let ms = before (plain_macros self.now.macros.now) earlier in
+            IfOk result (λ both. (written both.0 ≡ expansion_of ms (written left.now))
+            × (written both.1 ≡ expansion_of ms (written right.now))) }
     {
         let left = self.expansion(earlier, left)?;
         let right = self.expansion(earlier, right)?;
@@ -112,8 +114,9 @@ impl<'a> Expander<'a> {
         args: &Args,
         body: &Formula,
     ) -> Result<Formula, Memory>
-        requires { self.now.names.now ≡ map parameter_names (listed self.now.macros.now) }
-        ensures { IfOk result (λ f. written f ≡ bind_ at names.now args.now (expansion_of (before (listed self.now.macros.now) earlier) (written body.now))) }
+        requires { self.now.names.now ≡ map parameter_names (plain_macros self.now.macros.now) }
+        ensures { let ms = before (plain_macros self.now.macros.now) earlier in
+            IfOk result (λ f. written f ≡ bind_ at names.now args.now (expansion_of ms (written body.now))) }
     {
         let names = names.share()?;
         let args = args.share()?;
@@ -123,9 +126,11 @@ impl<'a> Expander<'a> {
 
     /// An axiom's body, which may name any macro, with its macros expanded.
     fn expanded(&self, body: &Formula) -> Result<Expanded, Memory>
-        requires names { self.now.names.now ≡ map parameter_names (listed self.now.macros.now) }
-        requires expanded { IsExpanded (expansion_of (before (listed self.now.macros.now) (length self.now.macros.now)) (written body.now)) }
-        ensures { IfOk result (λ e. written e.body ≡ expansion_of (before (listed self.now.macros.now) (length self.now.macros.now)) (written body.now)) }
+        requires names { self.now.names.now ≡ map parameter_names (plain_macros self.now.macros.now) }
+        requires expanded { let ms = before (plain_macros self.now.macros.now) (length self.now.macros.now) in
+            IsExpanded (expansion_of ms (written body.now)) }
+        ensures { let ms = before (plain_macros self.now.macros.now) (length self.now.macros.now) in
+            IfOk result (λ e. written e.body ≡ expansion_of ms (written body.now)) }
     {
         let body = self.expansion(self.macros.len(), body)?;
         Ok(Expanded { body })
@@ -133,10 +138,12 @@ impl<'a> Expander<'a> {
 
     /// The axioms among the items, in order, with their macros expanded.
     fn axioms(&self, items: &[Item]) -> Result<Vec<Expanded>, Memory>
-        requires names { self.now.names.now ≡ map parameter_names (listed self.now.macros.now) }
-        requires expanded { All (OfAxiom (λ w. IsExpanded (expansion_of (before (listed self.now.macros.now) (length self.now.macros.now)) w))) (map written_item items.now) }
-        ensures { IfOk result (λ axioms. map (λ e. written e.body) axioms.items
-            ≡ map (expansion_of (before (listed self.now.macros.now) (length self.now.macros.now))) (flat_map axiom_of (map written_item items.now))) }
+        requires names { self.now.names.now ≡ map parameter_names (plain_macros self.now.macros.now) }
+        requires expanded { let ms = before (plain_macros self.now.macros.now) (length self.now.macros.now) in
+            All (OfAxiom (λ w. IsExpanded (expansion_of ms w))) (map written_item items.now) }
+        ensures { let ms = before (plain_macros self.now.macros.now) (length self.now.macros.now) in
+            IfOk result (λ axioms. map (λ e. written e.body) axioms.items
+            ≡ map (expansion_of ms) (flat_map axiom_of (map written_item items.now))) }
     {
         let mut axioms = Vec::new(self.alloc);
         for item in items {
@@ -154,9 +161,11 @@ pub(crate) fn expand_axioms(
     macros: &Macros<'_>,
     items: &[Item],
 ) -> Result<Vec<Expanded>, Memory>
-    requires { All (OfAxiom (λ w. IsExpanded (expansion_of (before (listed macros.now) (length macros.now)) w))) (map written_item items.now) }
-    ensures { IfOk result (λ axioms. map (λ e. written e.body) axioms.items
-        ≡ map (expansion_of (before (listed macros.now) (length macros.now))) (flat_map axiom_of (map written_item items.now))) }
+    requires { let ms = before (plain_macros macros.now) (length macros.now) in
+        All (OfAxiom (λ w. IsExpanded (expansion_of ms w))) (map written_item items.now) }
+    ensures { let ms = before (plain_macros macros.now) (length macros.now) in
+        IfOk result (λ axioms. map (λ e. written e.body) axioms.items
+        ≡ map (expansion_of ms) (flat_map axiom_of (map written_item items.now))) }
 {
     let names = names_of_macros(alloc, macros)?;
     let expander = Expander {

@@ -3,7 +3,7 @@ ghost use Rattle.std.specs.List.{flat_map};
 ghost use Rattle.pc_syntax.specs.Written.{written_item};
 ghost use Rattle.pc_syntax.specs.Observable.{macro_of};
 ghost use Rattle.pc_syntax.specs.MacroFaults.{items_fault};
-ghost use Rattle.macro_expand.specs.Tables.{listed, first_of_names, item_fault};
+ghost use Rattle.macro_expand.specs.Tables.{plain_macros, first_of_names, item_fault};
 ghost use Rattle.macro_expand.specs.Faults.{Judges};
 
 use super::calls::{check_body, check_macro};
@@ -23,7 +23,7 @@ fn check_item(
     item: &Item,
 ) -> Result<usize, MacroFault>
     requires { earlier < 2 ^ 63 }
-    ensures judged { Judges (item_fault (listed macros.now) earlier (written_item item.now)) result }
+    ensures judged { Judges (item_fault (plain_macros macros.now) earlier (written_item item.now)) result }
     ensures counted { IfOk result (λ next. next ≡ earlier + length (macro_of (written_item item.now))) }
 {
     match item {
@@ -48,10 +48,11 @@ pub(crate) fn check_items(
     macros: &Macros<'_>,
     items: &[Item],
 ) -> Result<(), MacroFault>
-    requires macros { listed macros.now ≡ first_of_names (flat_map macro_of (map written_item items.now)) }
+    requires macros { plain_macros macros.now ≡ first_of_names (flat_map macro_of (map written_item items.now)) }
     requires bound { length items.now < 2 ^ 63 }
-    ensures judged { Judges (items_fault (flat_map macro_of (map written_item items.now)) [] (map written_item items.now)) result }
-    ensures all { OnOk result (listed macros.now ≡ flat_map macro_of (map written_item items.now)) }
+    ensures judged { let items = map written_item items.now in
+        Judges (items_fault (flat_map macro_of items) [] items) result }
+    ensures all { OnOk result (plain_macros macros.now ≡ flat_map macro_of (map written_item items.now)) }
 {
     let mut earlier = 0;
     for item in items {

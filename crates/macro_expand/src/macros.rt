@@ -2,7 +2,7 @@ ghost use Rattle.std.specs.Prelude.{◌≡◌, ◌<◌, ◌^◌, length, slice_g
 ghost use Rattle.std.specs.List.{flat_map};
 ghost use Rattle.pc_syntax.specs.Written.{written, written_item};
 ghost use Rattle.pc_syntax.specs.Observable.{macro_of};
-ghost use Rattle.macro_expand.specs.Tables.{called as called_in, before, entered, first_of_names, macro_at, listed};
+ghost use Rattle.macro_expand.specs.Tables.{callee_of, before, with_macro, first_of_names, macro_at, plain_macros};
 
 use indexmap::IndexMap;
 use pc_common::Memory;
@@ -31,7 +31,7 @@ impl<'a> Model for Macros<'a> {
     ghost use Rattle.std.specs.Coded.{codes};
     ghost use Rattle.macro_expand.specs.declared.macros.Macro.{Macro as SMacro};
     ghost use Rattle.pc_syntax.specs.contracts.formula.Formula as formula;
-    ghost use Rattle.macro_expand.specs.Tables.{listed, AreNew, AreNumbered};
+    ghost use Rattle.macro_expand.specs.Tables.{plain_macros, AreNew, AreNumbered};
 
     ghost Value = { List SMacro };
 
@@ -39,7 +39,8 @@ impl<'a> Model for Macros<'a> {
 
     ghost view = { λ s. map (λ e. e.1) s.by_name.entries };
 
-    ghost invariant = { λ s. AreNumbered 0 s.by_name.entries × AreNew (listed (map (λ e. e.1) s.by_name.entries)) };
+    ghost invariant = { λ s. AreNumbered 0 s.by_name.entries
+        × AreNew (plain_macros (map (λ e. e.1) s.by_name.entries)) };
 }
 
 impl<'a> Macros<'a> {
@@ -54,7 +55,8 @@ impl<'a> Macros<'a> {
 
     /// The macros of these items.
     pub(crate) fn of(alloc: Global, items: &'a [Item]) -> Result<Macros<'a>, Memory>
-        ensures { IfOk result (λ ms. listed ms ≡ first_of_names (flat_map macro_of (map written_item items.now))) }
+        ensures { let all = flat_map macro_of (map written_item items.now) in
+            IfOk result (λ ms. plain_macros ms ≡ first_of_names all) }
     {
         let mut macros = Macros::new(alloc);
         for item in items {
@@ -77,7 +79,7 @@ impl<'a> Macros<'a> {
         parameters: &'a Words,
         body: &'a Formula,
     ) -> Result<(), Memory>
-        ensures { OnOk result (listed self.new ≡ entered (listed self.old)
+        ensures { OnOk result (plain_macros self.new ≡ with_macro (plain_macros self.old)
             (record { name = name.now; parameters = parameters.now; body = written body.now })) }
     {
         let key = name.name.as_slice();
@@ -105,11 +107,11 @@ impl<'a> Macros<'a> {
     }
 
     /// The macro of this name, if it is one of the first `earlier`.
-    pub(crate) fn called(&self, name: &[u8], earlier: usize) -> Option<Macro<'a>>
-        ensures { MatchOption result
-            (called_in (before (listed self.now) earlier) name.now ≡ None)
-            (λ m. (m.number < earlier) × (slice_get (listed self.now) m.number ≡ Some (macro_at m)) ×
-            (called_in (before (listed self.now) earlier) name.now ≡ Some (macro_at m, before (listed self.now) m.number))) }
+    pub(crate) fn callee(&self, name: &[u8], earlier: usize) -> Option<Macro<'a>>
+        ensures { let ms = before (plain_macros self.now) earlier in
+            MatchOption result (callee_of ms name.now ≡ None)
+            (λ m. (m.number < earlier) × (slice_get (plain_macros self.now) m.number ≡ Some (macro_at m)) ×
+            (callee_of ms name.now ≡ Some (macro_at m, before (plain_macros self.now) m.number))) }
     {
         match self.by_name.get(name) {
             Some(found) if found.number < earlier => Some(*found),

@@ -1,5 +1,5 @@
 ghost use Rattle.std.specs.Prelude.{◌≡◌, ◌+◌, max};
-ghost use Rattle.macro_expand.specs.Measures.{capped};
+ghost use Rattle.macro_expand.specs.Measures.{capped_measure};
 
 use pc_syntax::{MAX_HEIGHT, MAX_SIZE};
 
@@ -13,7 +13,7 @@ pub(crate) struct Measure {
 
 impl Measure {
     fn capped(size: u64, height: u64) -> Measure
-        ensures { result ≡ capped size height }
+        ensures { result ≡ capped_measure size height }
     {
         Measure {
             size: size.min(MAX_SIZE + 1),
@@ -23,21 +23,21 @@ impl Measure {
 
     /// An atom, or a list of so many atoms.
     pub(crate) fn atoms(count: usize) -> Measure
-        ensures { result ≡ capped (1 + count) 0 }
+        ensures { result ≡ capped_measure (1 + count) 0 }
     {
         Measure::capped((count as u64).saturating_add(1), 0)
     }
 
     /// A formula of one part.
     pub(crate) fn above(self) -> Measure
-        ensures { result ≡ capped (1 + self.size) (1 + self.height) }
+        ensures { result ≡ capped_measure (1 + self.size) (1 + self.height) }
     {
         Measure::capped(self.size.saturating_add(1), self.height.saturating_add(1))
     }
 
     /// A formula of two parts.
     pub(crate) fn joined(self, other: Measure) -> Measure
-        ensures { result ≡ capped (1 + (self.size + other.size)) (1 + max self.height other.height) }
+        ensures { result ≡ capped_measure (1 + (self.size + other.size)) (1 + max self.height other.height) }
     {
         let size = self.size.saturating_add(other.size);
         let height = self.height.max(other.height);

@@ -1,6 +1,6 @@
 ghost use Rattle.std.specs.Prelude.{◌≡◌, IfOk, map};
 ghost use Rattle.pc_syntax.specs.Expansion.{parameter_names};
-ghost use Rattle.macro_expand.specs.Tables.{listed};
+ghost use Rattle.macro_expand.specs.Tables.{plain_macros};
 
 use super::macros::Macros;
 use pc_common::{Listed, Memory, Shared};
@@ -15,12 +15,12 @@ fn names_of(alloc: Global, parameters: &Words) -> Result<Names, Memory>
     for word in parameters.as_slice() {
         names.push(word.name.share()?)?;
     }
-    Shared::new(names)
+    Shared::of(names)
 }
 
 /// The names of each macro's parameters, by the macros' numbers. Each expansion of a macro shares them.
 pub(crate) fn names_of_macros(alloc: Global, macros: &Macros<'_>) -> Result<Vec<Names>, Memory>
-    ensures { IfOk result (λ names. names.items ≡ map parameter_names (listed macros.now)) }
+    ensures { IfOk result (λ names. names.items ≡ map parameter_names (plain_macros macros.now)) }
 {
     let mut names = Vec::new(alloc);
     for number in 0..macros.len() {

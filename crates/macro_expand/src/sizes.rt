@@ -5,8 +5,8 @@ ghost use Rattle.pc_syntax.specs.declared.term.Arg.{Arg};
 ghost use Rattle.pc_syntax.specs.Written.{written, written_item, expand_};
 ghost use Rattle.pc_syntax.specs.Sizes.{depth_fault, total_fault, sizes_fault};
 ghost use Rattle.std.specs.Option.{option_or};
-ghost use Rattle.macro_expand.specs.Tables.{before, listed};
-ghost use Rattle.macro_expand.specs.Measures.{capped, measure_of, AreMeasures, item_size_fault, total_after};
+ghost use Rattle.macro_expand.specs.Tables.{before, plain_macros};
+ghost use Rattle.macro_expand.specs.Measures.{capped_measure, measure_of, AreMeasures, item_size_fault, total_after};
 ghost use Rattle.macro_expand.specs.Faults.{Judges};
 
 use super::fault::MacroFault;
@@ -18,11 +18,11 @@ use std::alloc::Global;
 
 /// The measure of an expansion, `measures` being those of the macros that it may name.
 fn measure_call(macros: &Macros<'_>, measures: &[Measure], name: &Word) -> Measure
-    requires { AreMeasures (listed macros.now) measures.now }
+    requires { AreMeasures (plain_macros macros.now) measures.now }
     ensures { (at : SPlace) (args : List Arg) →
-        result ≡ measure_of (before (listed macros.now) (length measures.now)) (expand_ at name.now args) }
+        result ≡ measure_of (before (plain_macros macros.now) (length measures.now)) (expand_ at name.now args) }
 {
-    match macros.called(name.name.as_slice(), measures.len()) {
+    match macros.callee(name.name.as_slice(), measures.len()) {
         Some(callee) => measures[callee.number].above(),
         None => Measure::atoms(0),
     }
@@ -32,8 +32,8 @@ fn measure_call(macros: &Macros<'_>, measures: &[Measure], name: &Word) -> Measu
 ///
 /// It nests a call for each connective and quantifier above an atom.
 fn measure(macros: &Macros<'_>, measures: &[Measure], formula: &Formula) -> Measure
-    requires { AreMeasures (listed macros.now) measures.now }
-    ensures { result ≡ measure_of (before (listed macros.now) (length measures.now)) (written formula.now) }
+    requires { AreMeasures (plain_macros macros.now) measures.now }
+    ensures { result ≡ measure_of (before (plain_macros macros.now) (length measures.now)) (written formula.now) }
 {
     match formula {
         Formula::Not(body)
@@ -52,7 +52,8 @@ fn measure(macros: &Macros<'_>, measures: &[Measure], formula: &Formula) -> Meas
 
 /// The measures of all macros' bodies, each once.
 fn measure_macros(alloc: Global, macros: &Macros<'_>) -> Result<Vec<Measure>, Memory>
-    ensures { IfOk result (λ measures. AreMeasures (listed macros.now) measures.items × (length measures.items ≡ length macros.now)) }
+    ensures { IfOk result (λ measures. AreMeasures (plain_macros macros.now) measures.items
+        × (length measures.items ≡ length macros.now)) }
 {
     let mut measures = Vec::new(alloc);
     for number in 0..macros.len() {
@@ -67,7 +68,8 @@ fn measure_macros(alloc: Global, macros: &Macros<'_>) -> Result<Vec<Measure>, Me
 /// with this one. Its height is judged first.
 fn check_size(at: Place, measured: Measure, total: u64) -> Result<u64, MacroFault>
     requires { total ≤ MAX_SIZE }
-    ensures judged { Judges (option_or (depth_fault at measured.height) (total_fault at (total + measured.size))) result }
+    ensures judged { let now = total + measured.size in
+        Judges (option_or (depth_fault at measured.height) (total_fault at now)) result }
     ensures total { IfOk result (λ now. (now ≡ total + measured.size) × (now ≤ MAX_SIZE)) }
 {
     if measured.height > MAX_HEIGHT {
@@ -92,10 +94,12 @@ fn check_item_size(
     item: &Item,
     total: u64,
 ) -> Result<u64, MacroFault>
-    requires measures { AreMeasures (listed macros.now) measures.now }
+    requires measures { AreMeasures (plain_macros macros.now) measures.now }
     requires total { total ≤ MAX_SIZE }
-    ensures judged { Judges (item_size_fault (before (listed macros.now) (length measures.now)) total (written_item item.now)) result }
-    ensures total { IfOk result (λ now. (now ≡ total_after (before (listed macros.now) (length measures.now)) total (written_item item.now)) × (now ≤ MAX_SIZE)) }
+    ensures judged { let ms = before (plain_macros macros.now) (length measures.now) in
+        Judges (item_size_fault ms total (written_item item.now)) result }
+    ensures total { let ms = before (plain_macros macros.now) (length measures.now) in
+        IfOk result (λ now. (now ≡ total_after ms total (written_item item.now)) × (now ≤ MAX_SIZE)) }
 {
     match item {
         Item::Axiom { at, body } => check_size(*at, measure(macros, measures, body), total),
@@ -109,8 +113,9 @@ fn check_measured(
     measures: &[Measure],
     items: &[Item],
 ) -> Result<(), MacroFault>
-    requires { AreMeasures (listed macros.now) measures.now }
-    ensures { Judges (sizes_fault (before (listed macros.now) (length measures.now)) 0 (map written_item items.now)) result }
+    requires { AreMeasures (plain_macros macros.now) measures.now }
+    ensures { let ms = before (plain_macros macros.now) (length measures.now) in
+        Judges (sizes_fault ms 0 (map written_item items.now)) result }
 {
     let mut total = 0;
     for item in items {
@@ -125,7 +130,8 @@ pub(crate) fn check_sizes(
     macros: &Macros<'_>,
     items: &[Item],
 ) -> Result<(), MacroFault>
-    ensures { Judges (sizes_fault (before (listed macros.now) (length macros.now)) 0 (map written_item items.now)) result }
+    ensures { let ms = before (plain_macros macros.now) (length macros.now) in
+        Judges (sizes_fault ms 0 (map written_item items.now)) result }
 {
     let measures = measure_macros(alloc, macros)?;
     check_measured(macros, &measures, items)

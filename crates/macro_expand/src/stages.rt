@@ -1,6 +1,7 @@
 ghost use Rattle.std.specs.Prelude.{◌≡◌, option_copied};
 ghost use Rattle.pc_syntax.specs.Written.{written_model};
-ghost use Rattle.pc_syntax.specs.StageFaults.{stage_numbered, stage_called, stage_fault, first_stage_fault};
+ghost use Rattle.pc_syntax.specs.Stages.{stage_with_number, stage_with_name};
+ghost use Rattle.pc_syntax.specs.StageFaults.{stage_fault, first_stage_fault};
 
 use pc_common::{FaultKind, Place};
 use pc_syntax::{MAX_STAGE, ModelFile, StageItem};
@@ -30,10 +31,10 @@ fn fault_after(earlier: &[StageItem], stage: &StageItem) -> Option<(FaultKind, P
         let number = stage.number;
         return Some((FaultKind::StageNumber { number }, stage.number_at));
     }
-    if let Some(first) = numbered(earlier, stage.number) {
+    if let Some(first) = with_number(earlier, stage.number) {
         return Some(again(first.number_at, stage.number_at));
     }
-    let first = called(earlier, stage.name.name.as_slice())?;
+    let first = with_name(earlier, stage.name.name.as_slice())?;
     Some(again(first.name.at, stage.name.at))
 }
 
@@ -44,8 +45,8 @@ fn again(first: Place, again: Place) -> (FaultKind, Place)
 }
 
 /// The first stage of this number.
-fn numbered(stages: &[StageItem], number: u64) -> Option<&StageItem>
-    ensures { option_copied result ≡ stage_numbered stages.now number }
+fn with_number(stages: &[StageItem], number: u64) -> Option<&StageItem>
+    ensures { option_copied result ≡ stage_with_number stages.now number }
 {
     for stage in stages {
         if stage.number == number {
@@ -56,8 +57,8 @@ fn numbered(stages: &[StageItem], number: u64) -> Option<&StageItem>
 }
 
 /// The first stage of this name.
-fn called<'a>(stages: &'a [StageItem], name: &[u8]) -> Option<&'a StageItem>
-    ensures { option_copied result ≡ stage_called stages.now name.now }
+fn with_name<'a>(stages: &'a [StageItem], name: &[u8]) -> Option<&'a StageItem>
+    ensures { option_copied result ≡ stage_with_name stages.now name.now }
 {
     for stage in stages {
         if stage.name.name.as_slice() == name {

@@ -2,7 +2,7 @@ ghost use Rattle.std.specs.Prelude.{◌≡◌, IfOk, IfErr, map};
 ghost use Rattle.std.specs.List.{flat_map};
 ghost use Rattle.pc_syntax.specs.Written.{written_model, written_item};
 ghost use Rattle.pc_syntax.specs.Observable.{macro_of};
-ghost use Rattle.macro_expand.specs.Tables.{listed, first_of_names};
+ghost use Rattle.macro_expand.specs.Tables.{plain_macros, first_of_names};
 ghost use Rattle.macro_expand.specs.Faults.{IsExpandable, AreExpansions, IsFirstMacroFault};
 
 use super::expansion::expand_axioms;
@@ -22,7 +22,8 @@ use std::alloc::Global;
 /// these. An axiom is of height 512 at most when it is expanded, and its expansion nests at most two calls
 /// for each level of that, and one more.
 pub fn expand(alloc: Global, model: &ModelFile) -> Result<Vec<Expanded>, MacroFault>
-    ensures ok { IfOk result (λ axioms. IsExpandable (written_model model.now) × AreExpansions (written_model model.now) axioms.items) }
+    ensures ok { let m = written_model model.now in
+        IfOk result (λ axioms. IsExpandable m × AreExpansions m axioms.items) }
     ensures err { IfErr result (λ fault. IsFirstMacroFault (written_model model.now) fault) }
 {
     let macros = Macros::of(alloc, model.items.as_slice())?;
@@ -35,8 +36,9 @@ fn expand_with(
     macros: &Macros<'_>,
     model: &ModelFile,
 ) -> Result<Vec<Expanded>, MacroFault>
-    requires { listed macros.now ≡ first_of_names (flat_map macro_of (map written_item model.now.items)) }
-    ensures ok { IfOk result (λ axioms. IsExpandable (written_model model.now) × AreExpansions (written_model model.now) axioms.items) }
+    requires { plain_macros macros.now ≡ first_of_names (flat_map macro_of (map written_item model.now.items)) }
+    ensures ok { let m = written_model model.now in
+        IfOk result (λ axioms. IsExpandable m × AreExpansions m axioms.items) }
     ensures err { IfErr result (λ fault. IsFirstMacroFault (written_model model.now) fault) }
 {
     let items = model.items.as_slice();

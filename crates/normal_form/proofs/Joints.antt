@@ -3,18 +3,18 @@ use Rattle.std.proofs.Common.{◌≡◌, Bool, true, false, List, [], ◌∷◌,
 use Rattle.pc_common.specs.World.{Node}
 use Rattle.pc_ground.specs.Tree.{Tree}
 use Rattle.pc_ground.specs.PlainGround.{PlainGround, ground_and, ground_or, pushed, folded}
-use Rattle.normal_form.specs.declared.joint.Connective.TheVariants.{And, Or}
+use Rattle.normal_form.specs.declared.joint.Junction.TheVariants.{And, Or}
 use Rattle.normal_form.specs.declared.joint.Joint.{Joint}
-use Rattle.normal_form.specs.Spine.{before, joined, left_tree, under}
+use Rattle.normal_form.specs.Spine.{before, junction_of, left_tree, under}
 
-pub before-push : (js : List Joint) (j : Joint) (t : Tree Node) → before (js ++ j ∷ []) t ≡ before js (joined j.connective (left_tree j) t)
+pub before-push : (js : List Joint) (j : Joint) (t : Tree Node) → before (js ++ j ∷ []) t ≡ before js (junction_of j.junction (left_tree j) t)
 before-push [] j t = refl
-before-push (i ∷ js) j t = ap (joined i.connective (left_tree i)) (before-push js j t)
+before-push (i ∷ js) j t = ap (junction_of i.junction (left_tree i)) (before-push js j t)
 
-pub pushed-and : (m : Bool) (g h : PlainGround) → folded (pushed m (ground_and g h)) ≡ joined (under m And) (folded (pushed m g)) (folded (pushed m h))
+pub pushed-and : (m : Bool) (g h : PlainGround) → folded (pushed m (ground_and g h)) ≡ junction_of (under m And) (folded (pushed m g)) (folded (pushed m h))
 pushed-and true g h = refl
 pushed-and false g h = refl
 
-pub pushed-or : (m : Bool) (g h : PlainGround) → folded (pushed m (ground_or g h)) ≡ joined (under m Or) (folded (pushed m g)) (folded (pushed m h))
+pub pushed-or : (m : Bool) (g h : PlainGround) → folded (pushed m (ground_or g h)) ≡ junction_of (under m Or) (folded (pushed m g)) (folded (pushed m h))
 pushed-or true g h = refl
 pushed-or false g h = refl

@@ -1,3 +1,3 @@
-pub mod Folding
+pub mod JunctionOf
 pub mod Joints
-pub mod Seeing
+pub mod NumberingAfter

@@ -1,3 +1,3 @@
 pub mod Parts
 pub mod Spine
-pub mod Seen
+pub mod RowNodes

@@ -4,19 +4,19 @@ ghost use Rattle.normal_form.specs.Spine.{neutral as neutral_spec, under, row_ki
 use pc_ground::{Ground, NodeKey, RowKind};
 
 #[derive(Clone, Copy)]
-pub(crate) enum Connective {
+pub(crate) enum Junction {
     And,
     Or,
 }
 
-impl Connective {
+impl Junction {
     /// The connective itself, or under a negation the other one.
-    pub(crate) fn under(self, holds: bool) -> Connective
+    pub(crate) fn under(self, holds: bool) -> Junction
         ensures { result ≡ under holds self }
     {
         match (self, holds) {
-            (Connective::And, true) | (Connective::Or, false) => Connective::And,
-            (Connective::Or, true) | (Connective::And, false) => Connective::Or,
+            (Junction::And, true) | (Junction::Or, false) => Junction::And,
+            (Junction::Or, true) | (Junction::And, false) => Junction::Or,
         }
     }
 
@@ -25,8 +25,8 @@ impl Connective {
         ensures { result ≡ neutral_spec self }
     {
         match self {
-            Connective::And => true,
-            Connective::Or => false,
+            Junction::And => true,
+            Junction::Or => false,
         }
     }
 
@@ -35,8 +35,8 @@ impl Connective {
         ensures { result ≡ row_kind self }
     {
         match self {
-            Connective::And => RowKind::And,
-            Connective::Or => RowKind::Or,
+            Junction::And => RowKind::And,
+            Junction::Or => RowKind::Or,
         }
     }
 }
@@ -44,7 +44,7 @@ impl Connective {
 /// A connective on the right side of a formula, with what stands on its left.
 #[derive(Clone, Copy)]
 pub(crate) struct Joint<'a> {
-    pub(crate) connective: Connective,
+    pub(crate) junction: Junction,
     pub(crate) left: &'a Ground,
     /// Whether the left formula is meant, or else its negation.
     pub(crate) holds: bool,

@@ -4,7 +4,7 @@ ghost use Rattle.pc_ground.specs.Tree.{Tree};
 ghost use Rattle.pc_ground.specs.Rows.{rows_of};
 ghost use Rattle.pc_ground.specs.Keys.{row_node};
 ghost use Rattle.pc_ground.specs.Numbers.{numbered};
-ghost use Rattle.normal_form.specs.Seen.{all_seen, nodes_of_row};
+ghost use Rattle.normal_form.specs.RowNodes.{numbering_after, nodes_of_row};
 
 use pc_common::Memory;
 use pc_ground::{Flat, Literal, NodeKey, Numbering, Row, RowKind};
@@ -12,7 +12,7 @@ use std::alloc::Global;
 
 /// Numbers the nodes of a row, an edge's first node before its second.
 fn see_row(numbering: &mut Numbering, row: Row<NodeKey>) -> Result<(), Memory>
-    ensures { OnOk result (numbering.new ≡ all_seen numbering.old (nodes_of_row (row_node row))) }
+    ensures { OnOk result (numbering.new ≡ numbering_after numbering.old (nodes_of_row (row_node row))) }
 {
     match row.kind {
         RowKind::Lit(Literal::Node(a) | Literal::NoNode(a)) => numbering.see(a),

@@ -1,12 +1,12 @@
 ghost use Rattle.std.specs.Prelude.{◌≡◌, ◌<◌, ℕ, All, OnOk, IfOk, if◌then◌else◌};
 ghost use Rattle.pc_common.specs.World.{Node as PlainNode};
-ghost use Rattle.pc_ground.specs.Tree.{Tree};
+ghost use Rattle.pc_ground.specs.Tree.{Tree, contrary};
 ghost use Rattle.pc_ground.specs.Keys.{literal_node};
-ghost use Rattle.pc_ground.specs.PlainGround.{plain_ground, pushed, folded, contrary};
+ghost use Rattle.pc_ground.specs.PlainGround.{plain_ground, pushed, folded};
 ghost use Rattle.pc_ground.specs.declared.ground.Ground.{size-Ground};
-ghost use Rattle.normal_form.specs.Spine.{end_tree, before, joined, under};
+ghost use Rattle.normal_form.specs.Spine.{end_tree, before, junction_of, under};
 
-use super::joint::{Connective, Joint};
+use super::joint::{Joint, Junction};
 use pc_common::Memory;
 use pc_ground::{Ground, Literal, NodeKey};
 use std::alloc::Global;
@@ -26,39 +26,29 @@ pub(crate) struct Spine<'a> {
     pub(crate) end: End,
 }
 
-/// The literal that is true exactly where this one is not.
-fn contrary_of(literal: Literal<NodeKey>) -> Literal<NodeKey>
-    ensures { literal_node result ≡ contrary (literal_node literal) }
-{
-    match literal {
-        Literal::Node(a) => Literal::NoNode(a),
-        Literal::Edge(a, b) => Literal::NoEdge(a, b),
-        Literal::NoNode(a) => Literal::Node(a),
-        Literal::NoEdge(a, b) => Literal::Edge(a, b),
-    }
-}
-
 /// The literal, or its contrary where the negation is meant.
 fn signed(literal: Literal<NodeKey>, holds: bool) -> Literal<NodeKey>
     ensures { literal_node result ≡ (if holds then literal_node literal else contrary (literal_node literal)) }
 {
-    if holds { literal } else { contrary_of(literal) }
+    if holds { literal } else { literal.contrary() }
 }
 
 /// Puts one more connective last, turned and with its left side negated where the negation is meant.
 fn push<'a>(
     joints: &mut Vec<Joint<'a>>,
-    connective: Connective,
+    junction: Junction,
     left: &'a Ground,
     holds: bool,
 ) -> Result<(), Memory>
     ensures tree { OnOk result ((t : Tree PlainNode) → before joints.new.items t
-        ≡ before joints.old.items (joined (under holds connective) (folded (pushed holds (plain_ground left.now))) t)) }
+        ≡ before joints.old.items
+        (junction_of (under holds junction) (folded (pushed holds (plain_ground left.now))) t)) }
     ensures smaller { OnOk result ((n : ℕ) → size-Ground left.now < n
-        → All (λ j. size-Ground j.left.now < n) joints.old.items → All (λ j. size-Ground j.left.now < n) joints.new.items) }
+        → All (λ j. size-Ground j.left.now < n) joints.old.items
+        → All (λ j. size-Ground j.left.now < n) joints.new.items) }
 {
     joints.push(Joint {
-        connective: connective.under(holds),
+        junction: junction.under(holds),
         left,
         holds,
     })?;
@@ -71,7 +61,8 @@ pub(crate) fn spine_of<'a>(
     ground: &'a Ground,
     holds: bool,
 ) -> Result<Spine<'a>, Memory>
-    ensures tree { IfOk result (λ s. before s.joints.items (end_tree s.end) ≡ folded (pushed holds (plain_ground ground.now))) }
+    ensures tree { IfOk result (λ s. before s.joints.items (end_tree s.end)
+        ≡ folded (pushed holds (plain_ground ground.now))) }
     ensures smaller { IfOk result (λ s. All (λ j. size-Ground j.left.now < size-Ground ground.now) s.joints.items) }
 {
     let mut joints = Vec::new(alloc);
@@ -96,11 +87,11 @@ pub(crate) fn spine_of<'a>(
                 meant = !meant;
             }
             Ground::And(left, right) => {
-                push(&mut joints, Connective::And, left, meant)?;
+                push(&mut joints, Junction::And, left, meant)?;
                 rest = right;
             }
             Ground::Or(left, right) => {
-                push(&mut joints, Connective::Or, left, meant)?;
+                push(&mut joints, Junction::Or, left, meant)?;
                 rest = right;
             }
         }

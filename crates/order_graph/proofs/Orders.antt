@@ -5,21 +5,22 @@ use Rattle.std.proofs.lemmas.Bool.{cases_eq, both_ways}
 use Rattle.std.proofs.lemmas.List.{take_all, take_at, take-append-le, get_or_at, get_or_append_left, get_or-take, length_push, length-take-le, take_more_set}
 use Rattle.std.proofs.lemmas.List.Elements.{All-nil}
 use Rattle.pc_common.specs.Chain.{Leads, Chain}
+use Rattle.pc_common.specs.declared.limits.TheConstants.{MAX_NODES}
 use Rattle.pc_ground.specs.declared.literal.Literal.{Literal}
 use Rattle.pc_ground.specs.declared.literal.Literal.TheVariants.{Node, Edge, NoNode, NoEdge}
 use Rattle.pc_ground.specs.Literals.{Joins, IsPresent, IsConsistent, as_node, as_start, as_end}
 use Rattle.undo_trail.specs.Bits.{has}
-use Rattle.undo_trail.specs.Kept.{Kept, tables, Extends}
+use Rattle.undo_trail.specs.BitTable.{BitTable, tables, Extends}
 use Rattle.undo_trail.proofs.ExtendsLaws.{table_last, table_kept}
 use Rattle.undo_trail.proofs.BitWords.{has-clear}
 use Rattle.order_graph.specs.Ways.{IsBelow}
 use Rattle.order_graph.specs.declared.clash.Clash.{Clash}
 use Rattle.order_graph.specs.Clashes.{IsClash}
-use Rattle.order_graph.specs.State.{words_for, most_words, IsKept}
-use Rattle.order_graph.specs.Rows.{pair_row, present_row, missing_row, Stands, HasEntered, IsSized}
+use Rattle.order_graph.specs.State.{words_for, most_words, IsPushed}
+use Rattle.order_graph.specs.Rows.{pair_row, present_row, missing_row, Represents, Enters, IsSized}
 use Rattle.order_graph.specs.Marks.{marks_from}
 use Rattle.order_graph.specs.Order.{IsOrder}
-use Rattle.order_graph.proofs.Standing.{stands_more}
+use Rattle.order_graph.proofs.Represents.{represents_more}
 use Rattle.order_graph.proofs.MarkLists.{marks_none, IsCutAt}
 
 nothing : (x : Literal ℕ) → Contains [] x → ⊥
@@ -40,12 +41,13 @@ none_present a (as_end b h) = nothing (Edge b a) h
 unset : {P : Type 0} (b : Bool) → b ≡ false → (P → ⊥) → ((b ≡ true → P) × (P → b ≡ true))
 unset b e n = ((λ t. absurd (both_ways b e t)), (λ p. absurd (n p)))
 
-stands_first : (n words size : ℕ) → Stands n words [] (replicate size 0)
-stands_first n words size = record {
+represents_first : (n words size : ℕ) → Represents n words [] (replicate size 0)
+represents_first n words size = record {
   reach = λ x y xh yh. unset (has words (replicate size 0) x y) (has-clear words size x y) (no_chain x y);
   pairs = λ x y xh yh. unset (has words (replicate size 0) (pair_row n x) y) (has-clear words size (pair_row n x) y) (nothing (NoEdge x y));
   present = λ x xh. unset (has words (replicate size 0) (present_row n) x) (has-clear words size (present_row n) x) (none_present x);
   missing = λ x xh. unset (has words (replicate size 0) (missing_row n) x) (has-clear words size (missing_row n) x) (nothing (NoNode x));
+  denying = λ x y xh h. absurd (nothing (NoEdge x y) h);
   below = All-nil (IsBelow n);
   consistent = record {
     acyclic = λ a c. no_chain a a c;
@@ -54,11 +56,11 @@ stands_first n words size = record {
   };
 }
 
-pub order_first : (n : ℕ) (v : Kept) → n ≤ 262144
-    → v ≡ record { rows = 2 * n + 2; words = words_for n; past = []; now = replicate ((2 * n + 2) * words_for n) 0 }
+pub order_first : (n : ℕ) (v : BitTable) → n ≤ MAX_NODES
+    → v ≡ record { rows = 2 * n + 3; words = words_for n; past = []; now = replicate ((2 * n + 3) * words_for n) 0; room = v.room }
     → IsOrder n v [] (0 ∷ []) (0 ∷ []) 0
 order_first n v few is =
-    let P : Kept → Type 0 = λ w. IsOrder n w [] (0 ∷ []) (0 ∷ []) 0 in
+    let P : BitTable → Type 0 = λ w. IsOrder n w [] (0 ∷ []) (0 ∷ []) 0 in
     subst P (sym is)
     record {
       few = few;
@@ -68,30 +70,30 @@ order_first n v few is =
       counts_all = omega arith;
       last = refl;
       rising = λ i h. absurd (omega arith);
-      stands = λ i h. let e : i ≡ 0 = omega arith in rw e (stands_first n (words_for n) ((2 * n + 2) * words_for n));
+      represents = λ i h. let e : i ≡ 0 = omega arith in rw e (represents_first n (words_for n) ((2 * n + 3) * words_for n));
       lived = refl;
     }
 
 pub wide : (n : ℕ) → n ≤ 64 * words_for n
 wide n = omega arith
 
-pub order_sized : (n : ℕ) (v : Kept) (ls : List (Literal ℕ)) (moments counts : List ℕ) (live : ℕ) → IsOrder n v ls moments counts live → IsSized n v
+pub order_sized : (n : ℕ) (v : BitTable) (ls : List (Literal ℕ)) (moments counts : List ℕ) (live : ℕ) → IsOrder n v ls moments counts live → IsSized n v
 order_sized n v ls moments counts live o =
     let words = o.words in
     let w = wide n in
     (o.rows, omega arith, o.few)
 
--- the table stands for the literals now
-pub order_now : (n : ℕ) (v : Kept) (ls : List (Literal ℕ)) (moments counts : List ℕ) (live : ℕ) → IsOrder n v ls moments counts live → Stands n v.words ls v.now
+-- the table represents the literals now
+pub order_now : (n : ℕ) (v : BitTable) (ls : List (Literal ℕ)) (moments counts : List ℕ) (live : ℕ) → IsOrder n v ls moments counts live → Represents n v.words ls v.now
 order_now n v ls moments counts live o =
-    let s = o.stands (length ls) (omega arith) in
-    let P : List (Literal ℕ) → Type 0 = λ ms. Stands n v.words ms v.now in
+    let s = o.represents (length ls) (omega arith) in
+    let P : List (Literal ℕ) → Type 0 = λ ms. Represents n v.words ms v.now in
     subst P (take_all (length ls) ls (omega arith))
-    (let Q : List ℕ → Type 0 = Stands n v.words (take (length ls) ls) in
+    (let Q : List ℕ → Type 0 = Represents n v.words (take (length ls) ls) in
     subst Q (ap (λ m. get_or (tables v) m []) o.last ∙ table_last v) s)
 
 -- moments only rise
-pub moment_below : (n : ℕ) (v : Kept) (ls : List (Literal ℕ)) (moments counts : List ℕ) (live : ℕ) → IsOrder n v ls moments counts live
+pub moment_below : (n : ℕ) (v : BitTable) (ls : List (Literal ℕ)) (moments counts : List ℕ) (live : ℕ) → IsOrder n v ls moments counts live
     → (i j : ℕ) → i + j ≤ length ls → get_or moments i 0 ≤ get_or moments (i + j) 0
 moment_below n v ls moments counts live o i zero h = ap_le (i + 0) i (omega arith)
   where
@@ -105,7 +107,7 @@ moment_below n v ls moments counts live o i (suc j) h =
     omega arith
 
 -- each literal takes at most so many words
-pub moment_near : (n : ℕ) (v : Kept) (ls : List (Literal ℕ)) (moments counts : List ℕ) (live : ℕ) → IsOrder n v ls moments counts live
+pub moment_near : (n : ℕ) (v : BitTable) (ls : List (Literal ℕ)) (moments counts : List ℕ) (live : ℕ) → IsOrder n v ls moments counts live
     → (i j : ℕ) → i + j ≤ length ls → get_or moments (i + j) 0 ≤ get_or moments i 0 + j * most_words n
 moment_near n v ls moments counts live o i zero h =
     let e : i + 0 ≡ i = omega arith in
@@ -119,8 +121,8 @@ moment_near n v ls moments counts live o i (suc j) h =
     let g : (suc j) * most_words n ≡ j * most_words n + most_words n = suc-mul j (most_words n) in
     omega arith
 
-pub order_more : (n : ℕ) (v w : Kept) (ls : List (Literal ℕ)) (moments counts : List ℕ) (live : ℕ) (l : Literal ℕ)
-    → IsOrder n v ls moments counts live → IsBelow n l → HasEntered n l v w → Extends v w (n * (v.words + 1) + 2) → IsConsistent (ls ++ l ∷ [])
+pub order_more : (n : ℕ) (v w : BitTable) (ls : List (Literal ℕ)) (moments counts : List ℕ) (live : ℕ) (l : Literal ℕ)
+    → IsOrder n v ls moments counts live → IsBelow n l → Enters n l v w → Extends v w (n * (v.words + 1) + 2) → IsConsistent (ls ++ l ∷ [])
     → (ms cs : List ℕ) → ms ≡ moments ++ length w.past ∷ [] → length cs ≡ length counts + 1 → marks_from 0 cs ≡ marks_from 0 counts
     → IsOrder n w (ls ++ l ∷ []) ms cs live
 order_more n v w ls moments counts live l o below entered extends consistent ms cs moments_is counts_more marks_same =
@@ -156,15 +158,15 @@ order_more n v w ls moments counts live l o below entered extends consistent ms 
             let high = step.1 in
             (omega arith, omega arith)
       ];
-      stands = λ i h. elim (cases_eq i (length ls + 1)) [
+      represents = λ i h. elim (cases_eq i (length ls + 1)) [
         | inl here ↦
-            let s = stands_more n v w ls l (order_now n v ls moments counts live o) below (let e = o.words in let f = wide n in omega arith) extends.same_words entered consistent in
+            let s = represents_more n v w ls l (order_now n v ls moments counts live o) below (let e = o.words in let f = wide n in omega arith) extends.same_words entered consistent in
             let whole : take i (ls ++ l ∷ []) ≡ ls ++ l ∷ [] = take_all i (ls ++ l ∷ []) (omega arith) in
             let at : get_or (tables w) (get_or ms i 0) [] ≡ w.now = ap (λ k. get_or (tables w) (get_or ms k 0) []) here ∙ ap (λ m. get_or (tables w) m []) newest ∙ table_last w in
             rw (whole, at) s
         | inr earlier ↦
             let low : i ≤ length ls = omega arith in
-            let s = o.stands i low in
+            let s = o.represents i low in
             let first : take i (ls ++ l ∷ []) ≡ take i ls = take-append-le i ls (l ∷ []) low in
             let j = length ls - i in
             let under = moment_below n v ls moments counts live o i (length ls - i) (omega arith) in
@@ -177,7 +179,7 @@ order_more n v w ls moments counts live l o below entered extends consistent ms 
       lived = o.lived ∙ ap length (sym marks_same);
     }
 
-pub order_marked : (n : ℕ) (v : Kept) (ls : List (Literal ℕ)) (moments counts : List ℕ) (live : ℕ) → IsOrder n v ls moments counts live
+pub order_marked : (n : ℕ) (v : BitTable) (ls : List (Literal ℕ)) (moments counts : List ℕ) (live : ℕ) → IsOrder n v ls moments counts live
     → (cs : List ℕ) (more : ℕ) → length cs ≡ length counts → more ≡ length (marks_from 0 cs) → IsOrder n v ls moments cs more
 order_marked n v ls moments counts live o cs more size lived = record {
   few = o.few;
@@ -187,11 +189,11 @@ order_marked n v ls moments counts live o cs more size lived = record {
   counts_all = size ∙ o.counts_all;
   last = o.last;
   rising = o.rising;
-  stands = o.stands;
+  represents = o.represents;
   lived = lived;
 }
 
-pub order_cut : (n : ℕ) (v w : Kept) (ls : List (Literal ℕ)) (moments counts : List ℕ) (live : ℕ) → IsOrder n v ls moments counts live
+pub order_cut : (n : ℕ) (v w : BitTable) (ls : List (Literal ℕ)) (moments counts : List ℕ) (live : ℕ) → IsOrder n v ls moments counts live
     → (k : ℕ) → k ≤ length ls → w.rows ≡ v.rows → w.words ≡ v.words → tables w ≡ take (get_or moments k 0 + 1) (tables v)
     → (cs : List ℕ) (more : ℕ) → length cs ≡ k + 1 → more ≡ length (marks_from 0 cs)
     → IsOrder n w (take k ls) (take (k + 1) moments) cs more
@@ -221,8 +223,8 @@ order_cut n v w ls moments counts live o k low rows words cut cs more size lived
           let low_step = step.0 in
           let high_step = step.1 in
           (omega arith, omega arith);
-      stands = λ i h.
-          let s = o.stands i (omega arith) in
+      represents = λ i h.
+          let s = o.represents i (omega arith) in
           let first : take i (take k ls) ≡ take i ls = take-take i k ls (omega arith) in
           let below_k = moment_below n v ls moments counts live o i (k - i) (omega arith) in
           let g : i + (k - i) ≡ k = omega arith in
@@ -248,10 +250,10 @@ found_some xs ls l (Some j) k e m f =
     subst P e (let Q : Clash → Type 0 = IsClash (xs ++ l ∷ []) in subst Q same m)
 
 -- how the graph is seen with one literal more
-pub order_kept : (n : ℕ) (v w : Kept) (ls : List (Literal ℕ)) (moments counts : List ℕ) (live : ℕ) (l : Literal ℕ)
+pub order_kept : (n : ℕ) (v w : BitTable) (ls : List (Literal ℕ)) (moments counts : List ℕ) (live : ℕ) (l : Literal ℕ)
     → IsOrder n v ls moments counts live → Extends v w (n * (v.words + 1) + 2)
     → (ks : List (Literal ℕ)) (ms cs : List ℕ) → ks ≡ ls ++ l ∷ [] → ms ≡ moments ++ length w.past ∷ [] → cs ≡ counts ++ 0 ∷ []
-    → IsKept (record { nodes = n; literals = ls; marks = marks_from 0 counts; recorded = moments }) l (record { nodes = n; literals = ks; marks = marks_from 0 cs; recorded = ms })
+    → IsPushed (record { nodes = n; literals = ls; marks = marks_from 0 counts; recorded = moments }) l (record { nodes = n; literals = ks; marks = marks_from 0 cs; recorded = ms })
 order_kept n v w ls moments counts live l o extends ks ms cs literals_are moments_are counts_are =
     let all = o.moments_all in
     let size : length ks ≡ length ls + 1 = ap length literals_are ∙ length_push ls l in
@@ -270,7 +272,7 @@ order_kept n v w ls moments counts live l o extends ks ms cs literals_are moment
     }
 
 -- the graph cut at a mark
-pub order_undone : (n : ℕ) (v w : Kept) (ls : List (Literal ℕ)) (moments counts : List ℕ) (live : ℕ) → IsOrder n v ls moments counts live
+pub order_undone : (n : ℕ) (v w : BitTable) (ls : List (Literal ℕ)) (moments counts : List ℕ) (live : ℕ) → IsOrder n v ls moments counts live
     → (k r m : ℕ) → k < length counts → IsCutAt counts k r m → w.rows ≡ v.rows → w.words ≡ v.words → tables w ≡ take (get_or moments k 0 + 1) (tables v)
     → IsOrder n w (take k ls) (take (k + 1) moments) (take (k + 1) (set counts k r)) (m + 1)
 order_undone n v w ls moments counts live o k r m inside cut rows words tables_are =
@@ -282,7 +284,7 @@ order_undone n v w ls moments counts live o k r m inside cut rows words tables_a
     (ap length is ∙ length_push (take k counts) r ∙ ap (λ x. x + 1) short) (sym (ap (λ xs. length (marks_from 0 xs)) is ∙ cut.many))
 
 -- how many words are put back
-pub order_cost : (n : ℕ) (v : Kept) (ls : List (Literal ℕ)) (moments counts : List ℕ) (live : ℕ) → IsOrder n v ls moments counts live
+pub order_cost : (n : ℕ) (v : BitTable) (ls : List (Literal ℕ)) (moments counts : List ℕ) (live : ℕ) → IsOrder n v ls moments counts live
     → (k : ℕ) → k ≤ length ls
     → (get_or moments k 0 ≤ length v.past) × (length v.past - get_or moments k 0 ≤ (length ls - k) * most_words n)
 order_cost n v ls moments counts live o k low =

@@ -1,19 +1,9 @@
--- Levels of nodes: how many edges away a target is.
-use Rattle.std.specs.Prelude.{ℕ, ◌≡◌, ◌≢◌, ◌+◌, ◌<◌, ◌≤◌, ◌⊎◌, List, length, slice_index, Contains, sum_by, ◌==◌, if◌then◌else◌}
+-- Levels of nodes: how many edges away a target is, found backwards from it.
+use Rattle.std.specs.Prelude.{ℕ, ◌≡◌, ◌≢◌, ◌+◌, ◌<◌, ◌≤◌, ◌⊎◌, List, [], ◌∷◌, ◌++◌, length, slice_index, slice_index_or, slice_set, Contains, sum_by, ◌==◌, if◌then◌else◌}
 
 -- the level of a node from which the target was not reached
 abbrev pub far : ℕ
 far = 4294967295
-
--- nodes keep their level, and one that gets one has an edge to a node of the level before
-pub record IsGrown (edges : List (ℕ × ℕ)) (level : ℕ) (old new : List ℕ) : Type 0 where
-  pub keeps : (a : ℕ) → slice_index old a ≢ far → slice_index new a ≡ slice_index old a
-  pub steps : (a : ℕ) → slice_index old a ≡ far → slice_index new a ≢ far
-      → (slice_index new a ≡ level + 1) × ((b : ℕ) × Contains edges (a, b) × (slice_index old b ≡ level))
-
--- each node with an edge to a node of this level has a level
-abbrev pub IsClosedAt : List (ℕ × ℕ) → ℕ → List ℕ → Type 0
-IsClosedAt edges level levels = (a b : ℕ) → Contains edges (a, b) → slice_index levels b ≡ level → slice_index levels a ≢ far
 
 -- 1 for a node with no level
 abbrev pub one_if_far : ℕ → ℕ
@@ -23,20 +13,57 @@ one_if_far d = if d == far then 1 else 0
 abbrev pub far_count : List ℕ → ℕ
 far_count levels = sum_by one_if_far levels
 
--- only the target is at level 0, and a node further away has an edge to one that is one level nearer
-abbrev pub IsGrounded : List (ℕ × ℕ) → ℕ → List ℕ → Type 0
-IsGrounded edges target levels = (a : ℕ) (level : ℕ) → slice_index levels a ≡ level → level ≢ far
-    → a < length levels → ((level ≡ 0) × (a ≡ target)) ⊎ ((b : ℕ) × Contains edges (a, b) × (slice_index levels b + 1 ≡ level))
+-- edge k is on the linked list that begins with the edge of this number, edge j being j + 1 there
+pub data OnList (links : List ℕ) : ℕ → ℕ → Type 0 where
+  here : (k : ℕ) → OnList links (k + 1) k
+  later : (e k : ℕ) → OnList links (slice_index links e) k → OnList links (e + 1) k
+
+-- the first k edges are on the lists of the nodes that they lead to
+pub record AreLists (edges : List (ℕ × ℕ)) (nodes k : ℕ) (heads links : List ℕ) : Type 0 where
+  pub heads_all : length heads ≡ nodes
+  pub links_all : length links ≡ k
+  pub low : (b : ℕ) → slice_index heads b ≤ k
+  pub falling : (j : ℕ) → slice_index links j ≤ j
+  pub all : (j a b : ℕ) → j < k → slice_index_or edges j (a, b) ≡ (a, b) → OnList links (slice_index heads b) j
+
+-- what an edge changes: its first node gets the level after that of its second, or the second as a lower next node
+pub data HasRaised (levels nexts queue : List ℕ) (from to : ℕ) (now next_now queue_now : List ℕ) : Type 0 where
+  fresh : slice_index levels from ≡ far → now ≡ slice_set levels from (slice_index levels to + 1) → next_now ≡ slice_set nexts from to
+      → queue_now ≡ queue ++ from ∷ [] → HasRaised levels nexts queue from to now next_now queue_now
+  nearer : slice_index levels from ≡ slice_index levels to + 1 → now ≡ levels → next_now ≡ slice_set nexts from to → queue_now ≡ queue
+      → HasRaised levels nexts queue from to now next_now queue_now
+  known : slice_index levels from ≢ far → now ≡ levels → next_now ≡ nexts → queue_now ≡ queue → HasRaised levels nexts queue from to now next_now queue_now
+
+-- an edge to the node changes that, and another nothing
+abbrev pub HasFollowed : ℕ × ℕ → ℕ → List ℕ → List ℕ → List ℕ → List ℕ → List ℕ → List ℕ → Type 0
+HasFollowed edge node levels nexts queue now next_now queue_now =
+    ((edge.1 ≡ node) × HasRaised levels nexts queue edge.0 node now next_now queue_now)
+    ⊎ ((edge.1 ≢ node) × (now ≡ levels) × (next_now ≡ nexts) × (queue_now ≡ queue))
+
+-- only the target is at level 0, and a node further away has a next node one level nearer
+abbrev pub HasNext : ℕ → List ℕ → List ℕ → Type 0
+HasNext target levels nexts = (a : ℕ) → a < length levels → slice_index levels a ≢ far
+    → ((slice_index levels a ≡ 0) × (a ≡ target))
+    ⊎ ((slice_index nexts a < length levels) × (slice_index levels (slice_index nexts a) + 1 ≡ slice_index levels a))
+
+-- b is the next node of a, which has a level
+abbrev pub IsNext : List ℕ → List ℕ → ℕ → ℕ → Type 0
+IsNext levels nexts a b = (a < length levels) × (slice_index levels a ≢ far) × (slice_index levels a ≢ 0) × (slice_index nexts a ≡ b)
+
+-- the nodes in the queue are those with a level, and from the first h of them all edges backwards were followed
+pub record IsSearched (edges : List (ℕ × ℕ)) (target nodes h : ℕ) (levels nexts queue : List ℕ) : Type 0 where
+  pub levels_all : length levels ≡ nodes
+  pub nexts_all : length nexts ≡ nodes
+  pub home : slice_index levels target ≡ 0
+  pub next : HasNext target levels nexts
+  pub steps : (a b : ℕ) → IsNext levels nexts a b → Contains edges (a, b)
+  pub bounded : (a : ℕ) → a < nodes → slice_index levels a ≢ far → slice_index levels a < length queue
+  pub queued : (a : ℕ) → a < nodes → slice_index levels a ≢ far → Contains queue a
+  pub reached : (j : ℕ) → j < length queue → (slice_index queue j < nodes) × (slice_index levels (slice_index queue j) ≢ far)
+  pub count : far_count levels + length queue ≡ nodes
+  pub low : h ≤ length queue
+  pub closed : (j a : ℕ) → j < h → Contains edges (a, slice_index queue j) → slice_index levels a ≢ far
 
 -- no edge leads from a node with no level to one with a level
 abbrev pub IsClosed : List (ℕ × ℕ) → List ℕ → Type 0
 IsClosed edges levels = (a b : ℕ) → Contains edges (a, b) → slice_index levels b ≢ far → slice_index levels a ≢ far
-
--- the search backwards has come to a level
-pub record Reached (edges : List (ℕ × ℕ)) (target nodes level : ℕ) (levels : List ℕ) : Type 0 where
-  pub all : length levels ≡ nodes
-  pub target_is : slice_index levels target ≡ 0
-  pub grounded : IsGrounded edges target levels
-  pub bounded : (a : ℕ) → slice_index levels a ≢ far → slice_index levels a ≤ level
-  pub closed : (a b : ℕ) → Contains edges (a, b) → slice_index levels b < level → slice_index levels a ≢ far
-  pub fits : level + far_count levels ≤ nodes

@@ -27,7 +27,7 @@ abbrev pub recorded_since : Graph → ℕ → ℕ
 recorded_since g k = slice_index g.recorded (length g.literals) - slice_index g.recorded k
 
 -- the literal is the last one, and the marks are as they were
-pub record IsKept (old : Graph) (l : Literal ℕ) (new : Graph) : Type 0 where
+pub record IsPushed (old : Graph) (l : Literal ℕ) (new : Graph) : Type 0 where
   pub same_nodes : new.nodes ≡ old.nodes
   pub literals : new.literals ≡ old.literals ++ l ∷ []
   pub marks : new.marks ≡ old.marks

@@ -15,10 +15,6 @@ abbrev pub Follows : (ℕ → ℕ → Type 0) → ℕ → List ℕ → ℕ → T
 Follows R a [] b = a ≡ b
 Follows R a (x ∷ xs) b = R a x × Follows R x xs b
 
--- b is a, or a chain leads from a to b
-abbrev pub Reach : (ℕ → ℕ → Type 0) → ℕ → ℕ → Type 0
-Reach R a b = (via : List ℕ) × Follows R a via b
-
 -- the listed nodes lead from a, the first of them, to b, the last
 abbrev pub IsWay : (ℕ → ℕ → Type 0) → ℕ → List ℕ → ℕ → Type 0
 IsWay R a [] b = ⊥

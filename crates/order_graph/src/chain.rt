@@ -1,9 +1,10 @@
-ghost use Rattle.std.specs.Prelude.{◌≡◌, ◌↔◌, IsTrue, ◌≢◌, ⊤, MatchBool, slice_set, ◌^◌, ◌+◌, ◌-◌, ◌<◌, ◌≤◌, ◌⊎◌, ℕ, List, [], ◌∷◌, length, slice_index, All, Contains, IfOk, MatchOption, vec_len, EachIndex, count_by, nat_eq, filter_map};
+ghost use Rattle.std.specs.Prelude.{◌≡◌, ◌≢◌, ◌+◌, ◌<◌, ◌≤◌, ℕ, List, [], ◌∷◌, length, slice_index, slice_index_or, replicate, All, Contains, IfOk, OnOk, vec_len, filter_map};
 ghost use Rattle.order_graph.specs.Edges.{IsInside, IsEdge, IsEdgeWay, edge_of};
-ghost use Rattle.order_graph.specs.Ways.{Reach, IsBelow, IsWay};
+ghost use Rattle.pc_common.specs.Chain.{Reach};
+ghost use Rattle.pc_common.specs.declared.limits.TheConstants.{MAX_NODES};
+ghost use Rattle.order_graph.specs.Ways.{IsBelow, IsWay};
 ghost use Rattle.pc_ground.specs.Literals.{Joins};
-ghost use Rattle.order_graph.specs.Levels.{IsGrown, IsClosedAt, far, far_count, IsGrounded, IsClosed, Reached};
-ghost use Rattle.std.specs.Bool.{OnTrue};
+ghost use Rattle.order_graph.specs.Levels.{AreLists, HasFollowed, HasRaised, HasNext, IsNext, IsSearched, OnList, far};
 
 use pc_common::Memory;
 use pc_ground::Literal;
@@ -12,125 +13,153 @@ use std::alloc::Global;
 /// The level of a node from which the target was not reached.
 pub const FAR: u32 = u32::MAX;
 
-/// Gives `from` the level after `level` where it has none and `to` is at `level`. Answers whether it did.
-fn raise(levels: &mut [u32], from: usize, to: usize, level: u32) -> bool
-    requires from_in { from < length levels.old }
-    requires to_in { to < length levels.old }
-    requires low { level + 1 < far }
-    ensures raised { OnTrue result ((levels.new ≡ slice_set levels.old from (level + 1)) × (slice_index levels.old from ≡ far) × (slice_index levels.old to ≡ level)) }
-    ensures kept { MatchBool result ⊤ ((levels.new ≡ levels.old) × (slice_index levels.old to ≡ level → slice_index levels.old from ≢ far)) }
-{
-    if levels[to] == level && levels[from] == FAR {
-        levels[from] = level + 1;
-        return true;
-    }
-    false
-}
-
-/// One turn of the search backwards: each node with an edge to a node at `level` that has no level
-/// itself gets the next one. Answers whether one did.
-fn widen(levels: &mut [u32], edges: &[(u32, u32)], level: u32) -> bool
-    requires inside { All (IsInside (length levels.old)) edges.now }
-    requires low { level + 1 < far }
-    ensures grown { IsGrown edges.now level levels.old levels.new }
-    ensures closed { IsClosedAt edges.now level levels.new }
-    ensures fewer { OnTrue result (far_count levels.new < far_count levels.old) }
-    ensures same { MatchBool result ⊤ (levels.new ≡ levels.old) }
-{
-    let mut widened = false;
-    for edge in edges {
-        if raise(levels, edge.0 as usize, edge.1 as usize, level) {
-            widened = true;
-        }
-    }
-    widened
-}
-
-/// Gives each node from which a chain leads to `target` its level, where only `target` has one.
-fn spread(levels: &mut [u32], edges: &[(u32, u32)], target: u32)
-    requires few { length levels.old + 2 < far }
-    requires inside { All (IsInside (length levels.old)) edges.now }
-    requires first { Reached edges.now target (length levels.old) 0 levels.old }
-    ensures home { slice_index levels.new target ≡ 0 }
-    ensures grounded { IsGrounded edges.now target levels.new }
-    ensures closed { IsClosed edges.now levels.new }
-{
-    let mut level = 0;
-    while widen(levels, edges, level) {
-        level += 1;
-    }
-}
-
-/// How many edges each node is away from `target`, or FAR where no chain leads there.
-fn levels(
+/// The edges into each node, as linked lists: for each node the last edge into it, and for each edge the
+/// one before it. Edge k is k + 1 there, and none is 0.
+fn edge_lists(
     alloc: Global,
     nodes: usize,
     edges: &[(u32, u32)],
-    target: u32,
-) -> Result<Vec<u32>, Memory>
-    requires few { nodes + 2 < far }
-    requires inside { All (IsInside nodes) edges.now }
-    requires target_in { target < nodes }
-    ensures { IfOk result (λ levels. (vec_len levels ≡ nodes) × (slice_index levels.items target ≡ 0) × IsGrounded edges.now target levels.items × IsClosed edges.now levels.items) }
+) -> Result<(Vec<usize>, Vec<usize>), Memory>
+    requires { All (IsInside nodes) edges.now }
+    ensures { IfOk result (λ lists. AreLists edges.now nodes (length edges.now) lists.0.items lists.1.items) }
 {
-    let mut levels: Vec<u32> = vec![in alloc; FAR; nodes]?;
-    levels[target as usize] = 0;
-    spread(&mut levels, edges, target);
-    Ok(levels)
-}
-
-/// The lesser of a node found before, if there is one, and `node`.
-fn least(found: Option<u32>, node: u32) -> u32
-    ensures { (result ≡ node) ⊎ (found ≡ Some result) }
-{
-    match found {
-        Some(other) if other < node => other,
-        _ => node,
-    }
-}
-
-/// Whether this is an edge from `node` to a node at `level`.
-fn leads_nearer(levels: &[u32], edge: (u32, u32), node: u32, level: u32) -> bool
-    requires { edge.1 < length levels.now }
-    ensures { IsTrue result ↔ (edge.0 ≡ node) × (slice_index levels.now edge.1 ≡ level) }
-{
-    edge.0 == node && levels[edge.1 as usize] == level
-}
-
-/// The lowest numbered node to which an edge leads from `node` and that is at `level`.
-fn nearer(levels: &[u32], edges: &[(u32, u32)], node: u32, level: u32) -> Option<u32>
-    requires inside { All (IsInside (length levels.now)) edges.now }
-    ensures { MatchOption result ((b : ℕ) → Contains edges.now (node, b) → slice_index levels.now b ≡ level → ⊥) (λ b. Contains edges.now (node, b) × (slice_index levels.now b ≡ level)) }
-{
-    let mut found: Option<u32> = None;
+    let mut heads: Vec<usize> = vec![in alloc; 0; nodes]?;
+    let mut links: Vec<usize> = Vec::new(alloc);
     for edge in edges {
-        if leads_nearer(levels, *edge, node, level) {
-            found = Some(least(found, edge.1));
-        }
+        let to = edge.1 as usize;
+        links.push(heads[to])?;
+        heads[to] = links.len();
     }
-    found
+    Ok((heads, links))
 }
 
-/// The nodes from `from` to the node at level 0, each the lowest numbered of those one level nearer.
+/// Gives `from`, with an edge to `to`, the level after that of `to` where it has none, and puts it last in
+/// the queue. `to` is the next node of `from` then, and where it is lower than that and no further away.
+fn raise(
+    levels: &mut [u32],
+    nexts: &mut [u32],
+    queue: &mut Vec<u32>,
+    from: u32,
+    to: u32,
+) -> Result<(), Memory>
+    requires from_in { from < length levels.old }
+    requires to_in { to < length levels.old }
+    requires all { length nexts.old ≡ length levels.old }
+    requires low { slice_index levels.old to + 1 < far }
+    ensures { OnOk result (HasRaised levels.old nexts.old queue.old.items from to levels.new nexts.new queue.new.items) }
+{
+    let level = levels[to as usize] + 1;
+    if levels[from as usize] == FAR {
+        queue.push(from)?;
+        levels[from as usize] = level;
+        nexts[from as usize] = to;
+        return Ok(());
+    }
+    if levels[from as usize] == level && to < nexts[from as usize] {
+        nexts[from as usize] = to;
+        return Ok(());
+    }
+    Ok(())
+}
+
+/// Follows the edge, where it leads to `node`.
+fn follow(
+    levels: &mut [u32],
+    nexts: &mut [u32],
+    queue: &mut Vec<u32>,
+    edge: (u32, u32),
+    node: u32,
+) -> Result<(), Memory>
+    requires from_in { edge.0 < length levels.old }
+    requires node_in { node < length levels.old }
+    requires all { length nexts.old ≡ length levels.old }
+    requires low { slice_index levels.old node + 1 < far }
+    ensures { OnOk result (HasFollowed edge node levels.old nexts.old queue.old.items levels.new nexts.new queue.new.items) }
+{
+    if edge.1 == node {
+        return raise(levels, nexts, queue, edge.0, node);
+    }
+    Ok(())
+}
+
+/// Follows the edges into `node` backwards, which are on the list of the edge numbered `head`. The target
+/// and how many nodes were done before stand in contracts alone.
+fn visit(
+    levels: &mut [u32],
+    nexts: &mut [u32],
+    queue: &mut Vec<u32>,
+    edges: &[(u32, u32)],
+    links: &[usize],
+    head: usize,
+    node: u32,
+    target: u32,
+    done: usize,
+) -> Result<(), Memory>
+    requires inside { All (IsInside (length levels.old)) edges.now }
+    requires few { length levels.old + 2 < far }
+    requires searched { IsSearched edges.now target (length levels.old) done levels.old nexts.old queue.old.items }
+    requires node_is { (done < length queue.old.items) × (slice_index queue.old.items done ≡ node) }
+    requires links_all { length links.now ≡ length edges.now }
+    requires head_in { head ≤ length edges.now }
+    requires falling { (j : ℕ) → slice_index links.now j ≤ j }
+    requires all { (k a : ℕ) → k < length edges.now → slice_index_or edges.now k (a, node) ≡ (a, node) → OnList links.now head k }
+    ensures { OnOk result (IsSearched edges.now target (length levels.old) (done + 1) levels.new nexts.new queue.new.items) }
+{
+    let mut at = head;
+    while at > 0 {
+        at -= 1;
+        follow(levels, nexts, queue, edges[at], node)?;
+        at = links[at];
+    }
+    Ok(())
+}
+
+/// Gives each node from which a chain leads to `target` its level and its next node, where only `target`
+/// has a level.
+fn spread(
+    levels: &mut [u32],
+    nexts: &mut [u32],
+    queue: &mut Vec<u32>,
+    edges: &[(u32, u32)],
+    heads: &[usize],
+    links: &[usize],
+    target: u32,
+) -> Result<(), Memory>
+    requires inside { All (IsInside (length levels.old)) edges.now }
+    requires few { length levels.old + 2 < far }
+    requires searched { IsSearched edges.now target (length levels.old) 0 levels.old nexts.old queue.old.items }
+    requires lists { AreLists edges.now (length levels.old) (length edges.now) heads.now links.now }
+    ensures { OnOk result (IsSearched edges.now target (length levels.old) (length queue.new.items) levels.new nexts.new queue.new.items) }
+{
+    let mut done = 0;
+    while done < queue.len() {
+        let node = queue[done];
+        let head = heads[node as usize];
+        visit(levels, nexts, queue, edges, links, head, node, target, done)?;
+        done += 1;
+    }
+    Ok(())
+}
+
+/// The nodes from `from` to the node at level 0, each the next one of that before.
 fn walk(
     alloc: Global,
     levels: &[u32],
-    edges: &[(u32, u32)],
+    nexts: &[u32],
     from: u32,
     to: u32,
 ) -> Result<Vec<u32>, Memory>
-    requires inside { All (IsInside (length levels.now)) edges.now }
+    requires all { length nexts.now ≡ length levels.now }
     requires from_in { from < length levels.now }
-    requires grounded { IsGrounded edges.now to levels.now }
+    requires next { HasNext to levels.now nexts.now }
     requires near { slice_index levels.now from ≢ far }
-    ensures { IfOk result (λ way. IsEdgeWay edges.now from way.items to) }
+    ensures { IfOk result (λ way. IsWay (IsNext levels.now nexts.now) from way.items to) }
 {
     let mut way: Vec<u32> = vec![in alloc; from]?;
     let mut at = from;
     while levels[at as usize] > 0 {
-        let next = nearer(levels, edges, at, levels[at as usize] - 1).unwrap();
-        way.push(next)?;
-        at = next;
+        at = nexts[at as usize];
+        way.push(at)?;
     }
     Ok(way)
 }
@@ -157,11 +186,38 @@ fn edges_of(alloc: Global, literals: &[Literal<u32>]) -> Result<Vec<(u32, u32)>,
     )
 }
 
+/// The way of `shortest_way`, where no node has a level yet.
+fn way_back(
+    alloc: Global,
+    levels: &mut [u32],
+    nexts: &mut [u32],
+    edges: &[(u32, u32)],
+    heads: &[usize],
+    links: &[usize],
+    from: u32,
+    to: u32,
+) -> Result<Vec<u32>, Memory>
+    requires few { length levels.old + 2 < far }
+    requires clear { levels.old ≡ replicate (length levels.old) far }
+    requires all { length nexts.old ≡ length levels.old }
+    requires inside { All (IsInside (length levels.old)) edges.now }
+    requires lists { AreLists edges.now (length levels.old) (length edges.now) heads.now links.now }
+    requires from_in { from < length levels.old }
+    requires to_in { to < length levels.old }
+    requires there { Reach (IsEdge edges.now) from to }
+    ensures { IfOk result (λ way. IsEdgeWay edges.now from way.items to) }
+{
+    let mut queue: Vec<u32> = vec![in alloc; to]?;
+    levels[to as usize] = 0;
+    spread(levels, nexts, &mut queue, edges, heads, links, to)?;
+    walk(alloc, levels, nexts, from, to)
+}
+
 /// A shortest way over the edges from `from` to `to`, which there is: its nodes, `from` first and `to`
 /// last, the one node where they are one. Of several shortest ways it is the one with the lowest number at
 /// the first place where they differ.
 ///
-/// Breadth first, from the end backwards (Moore 1959).
+/// Breadth first, from the end backwards (Moore 1959), in time of nodes and edges.
 fn shortest_way(
     alloc: Global,
     nodes: usize,
@@ -176,8 +232,19 @@ fn shortest_way(
     requires there { Reach (IsEdge edges.now) from to }
     ensures { IfOk result (λ way. IsEdgeWay edges.now from way.items to) }
 {
-    let levels = levels(alloc, nodes, edges, to)?;
-    walk(alloc, &levels, edges, from, to)
+    let (heads, links) = edge_lists(alloc, nodes, edges)?;
+    let mut levels: Vec<u32> = vec![in alloc; FAR; nodes]?;
+    let mut nexts: Vec<u32> = vec![in alloc; 0; nodes]?;
+    way_back(
+        alloc,
+        &mut levels,
+        &mut nexts,
+        edges,
+        &heads,
+        &links,
+        from,
+        to,
+    )
 }
 
 /// A shortest way over the asserted edges from `from` to `to`, which there is. Of several it is the one with
@@ -189,7 +256,7 @@ pub fn way(
     from: u32,
     to: u32,
 ) -> Result<Vec<u32>, Memory>
-    requires few { nodes ≤ 262144 }
+    requires few { nodes ≤ MAX_NODES }
     requires below { All (IsBelow nodes) literals.now }
     requires from_in { from < nodes }
     requires to_in { to < nodes }

@@ -1,14 +1,15 @@
 ghost use Rattle.std.specs.Prelude.{◌≡◌, ◌<◌, ◌≤◌, ◌+◌, ◌*◌, ◌++◌, [], ◌∷◌, ℕ, List, true, false, All, Contains, IfOk, MatchOption, MatchBool};
-ghost use Rattle.undo_trail.specs.Kept.{bit_now};
+ghost use Rattle.pc_common.specs.declared.limits.TheConstants.{MAX_NODES};
+ghost use Rattle.undo_trail.specs.BitTable.{bit_now};
 ghost use Rattle.pc_ground.specs.Literals.{Joins, IsConsistent};
 ghost use Rattle.pc_ground.specs.declared.literal.Literal.{Literal as AnyLiteral};
 ghost use Rattle.order_graph.specs.Ways.{IsBelow};
-ghost use Rattle.order_graph.specs.Rows.{pair_row, leads_to, IsSized, IsOver, Stands};
-ghost use Rattle.order_graph.specs.Clashes.{IsClash, JoinsNone};
+ghost use Rattle.order_graph.specs.Rows.{IsSized, IsOver, IsDeniedPast, IsDeniedNowherePast, JoinsDenied, JoinsNoneFrom, Represents};
+ghost use Rattle.order_graph.specs.Clashes.{IsClash, JoinsNone, TellsClash};
 
 use super::chain::way;
 use super::clash::{Clash, Numbers};
-use super::rows::{is_missing, is_present, leads_to, reaches};
+use super::rows::{is_denier, is_missing, is_present, leads_to, reaches};
 use pc_common::Memory;
 use pc_ground::Literal;
 use std::alloc::Global;
@@ -19,45 +20,84 @@ fn is_denied_past(table: &UndoTable, nodes: u32, x: u32, b: u32) -> bool
     requires sized { IsSized nodes table.now }
     requires x_in { x < nodes }
     requires b_in { b < nodes }
-    ensures { MatchBool result ((y : ℕ) × (y < 64 * table.now.words) × (leads_to table.now b y ≡ true) × (bit_now table.now (pair_row nodes x) y ≡ true)) ((y : ℕ) → y < 64 * table.now.words → leads_to table.now b y ≡ true → bit_now table.now (pair_row nodes x) y ≡ false) }
+    ensures { MatchBool result (IsDeniedPast nodes table.now x b) (IsDeniedNowherePast nodes table.now x b) }
 {
     let row = nodes as usize + x as usize;
     table.bit(row, b as usize) || meets_words(table.row(b as usize), table.row(row))
 }
 
-/// Whether the edge from `a` to `b` would join a denied pair.
-fn joins_denied(table: &UndoTable, nodes: u32, a: u32, b: u32) -> bool
+/// Where the columns of this word of a row end.
+fn end_of_word(nodes: u32, word: u32) -> u32
+    requires word_in { 64 * word < nodes }
+    requires few { nodes ≤ MAX_NODES }
+    ensures low { result ≤ nodes }
+    ensures all { (x : ℕ) → x < 64 * word + 64 → x < nodes → x < result }
+{
+    let end = 64 * word + 64;
+    if end < nodes { end } else { nodes }
+}
+
+/// Whether the edge from `a` to `b` would join a pair that is denied from a node of this word of a row.
+fn word_joins_denied(table: &UndoTable, nodes: u32, word: u32, a: u32, b: u32) -> bool
     requires sized { IsSized nodes table.now }
+    requires word_in { 64 * word < nodes }
     requires a_in { a < nodes }
     requires b_in { b < nodes }
-    ensures { MatchBool result ((x : ℕ) × (y : ℕ) × (x < nodes) × (y < 64 * table.now.words) × IsOver table.now a b x y × (bit_now table.now (pair_row nodes x) y ≡ true)) ((x y : ℕ) → x < nodes → y < 64 * table.now.words → IsOver table.now a b x y → bit_now table.now (pair_row nodes x) y ≡ false) }
+    ensures { MatchBool result (JoinsDenied nodes table.now a b) (JoinsNoneFrom nodes table.now a b (64 * word) (64 * word + 64)) }
 {
-    for x in 0..nodes {
-        if leads_to(table, x, a) && is_denied_past(table, nodes, x, b) {
+    let deniers = table.row(2 * nodes as usize + 2);
+    if deniers[word as usize] == 0 {
+        return false;
+    }
+    for x in 64 * word..end_of_word(nodes, word) {
+        if is_denier(table, nodes, x)
+            && leads_to(table, x, a)
+            && is_denied_past(table, nodes, x, b)
+        {
             return true;
         }
     }
     false
 }
 
-/// Whether the edge from `a` to `b` would clash with the literals that the table stands for.
+/// Whether the edge from `a` to `b` would join a denied pair. Where no pair is denied from the nodes of a
+/// word, they are passed over.
+fn joins_denied(table: &UndoTable, nodes: u32, a: u32, b: u32) -> bool
+    requires sized { IsSized nodes table.now }
+    requires a_in { a < nodes }
+    requires b_in { b < nodes }
+    ensures { MatchBool result (JoinsDenied nodes table.now a b) (JoinsNoneFrom nodes table.now a b 0 nodes) }
+{
+    for word in 0..(nodes + 63) / 64 {
+        if word_joins_denied(table, nodes, word, a, b) {
+            return true;
+        }
+    }
+    false
+}
+
+/// Whether the edge from `a` to `b` would clash with the literals that the table represents.
 fn edge_would_clash(table: &UndoTable, nodes: u32, a: u32, b: u32) -> bool
     requires sized { IsSized nodes table.now }
     requires a_in { a < nodes }
     requires b_in { b < nodes }
-    ensures { (ls : List (AnyLiteral ℕ)) → Stands nodes table.now.words ls table.now.now → MatchBool result (IsConsistent (ls ++ Literal.Edge a b ∷ []) → ⊥) (IsConsistent (ls ++ Literal.Edge a b ∷ [])) }
+    ensures { TellsClash nodes table.now (Literal.Edge a b) result }
 {
+    // an edge that a chain goes over changes nothing
+    if reaches(table, a, b) {
+        return false;
+    }
     if is_missing(table, nodes, a) || is_missing(table, nodes, b) || leads_to(table, b, a) {
         return true;
     }
     joins_denied(table, nodes, a, b)
 }
 
-/// Whether the literal would clash with those that the table stands for. It takes no memory.
+/// Whether the literal would clash with those that the table represents. It takes no memory.
 pub fn would_clash(table: &UndoTable, nodes: u32, literal: Literal<u32>) -> bool
     requires sized { IsSized nodes table.now }
     requires below { IsBelow nodes literal }
-    ensures { (ls : List (AnyLiteral ℕ)) → Stands nodes table.now.words ls table.now.now → MatchBool result (IsConsistent (ls ++ literal ∷ []) → ⊥) (IsConsistent (ls ++ literal ∷ [])) }
+    ensures { TellsClash nodes table.now literal result }
 {
     match literal {
         Literal::Node(a) => is_missing(table, nodes, a),
@@ -119,7 +159,7 @@ fn path_clash(
     b: u32,
 ) -> Result<Option<Clash>, Memory>
     requires sized { IsSized nodes table.now }
-    requires stands { Stands nodes table.now.words literals.now table.now.now }
+    requires represents { Represents nodes table.now.words literals.now table.now.now }
     requires a_in { a < nodes }
     requires b_in { b < nodes }
     ensures { IfOk result (λ found. MatchOption found (JoinsNone literals.now a b) (IsClash (literals.now ++ Literal.Edge a b ∷ []))) }
@@ -143,11 +183,14 @@ fn edge_clash(
     b: u32,
 ) -> Result<Option<Clash>, Memory>
     requires sized { IsSized nodes table.now }
-    requires stands { Stands nodes table.now.words literals.now table.now.now }
+    requires represents { Represents nodes table.now.words literals.now table.now.now }
     requires a_in { a < nodes }
     requires b_in { b < nodes }
     ensures { IfOk result (λ found. MatchOption found (IsConsistent (literals.now ++ Literal.Edge a b ∷ [])) (IsClash (literals.now ++ Literal.Edge a b ∷ []))) }
 {
+    if reaches(table, a, b) {
+        return Ok(None);
+    }
     if is_missing(table, nodes, a) {
         return Ok(Some(Clash::Absent(a)));
     }
@@ -174,7 +217,7 @@ fn no_edge_clash(
     b: u32,
 ) -> Result<Option<Clash>, Memory>
     requires sized { IsSized nodes table.now }
-    requires stands { Stands nodes table.now.words literals.now table.now.now }
+    requires represents { Represents nodes table.now.words literals.now table.now.now }
     requires a_in { a < nodes }
     requires b_in { b < nodes }
     ensures { IfOk result (λ found. MatchOption found (IsConsistent (literals.now ++ Literal.NoEdge a b ∷ [])) (IsClash (literals.now ++ Literal.NoEdge a b ∷ []))) }
@@ -197,7 +240,7 @@ fn absence(clashes: bool, a: u32) -> Option<Clash>
     }
 }
 
-/// The clash of the literal with `literals`, for which the table stands, or none where all are consistent.
+/// The clash of the literal with `literals`, which the table represents, or none where all are consistent.
 pub fn clash_of(
     alloc: Global,
     table: &UndoTable,
@@ -206,7 +249,7 @@ pub fn clash_of(
     literal: Literal<u32>,
 ) -> Result<Option<Clash>, Memory>
     requires sized { IsSized nodes table.now }
-    requires stands { Stands nodes table.now.words literals.now table.now.now }
+    requires represents { Represents nodes table.now.words literals.now table.now.now }
     requires below { IsBelow nodes literal }
     ensures { IfOk result (λ found. MatchOption found (IsConsistent (literals.now ++ literal ∷ [])) (IsClash (literals.now ++ literal ∷ []))) }
 {

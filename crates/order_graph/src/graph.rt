@@ -1,17 +1,18 @@
 ghost use Rattle.std.specs.Prelude.{◌≡◌, ◌↔◌, ◌<◌, ◌≤◌, ◌+◌, ◌-◌, ◌*◌, ◌++◌, [], ◌∷◌, ℕ, true, length, take, slice_get, slice_index, Some, IsTrue, IfOk, OnOk, OnErr, MatchBool};
 ghost use Rattle.pc_common.specs.Chain.{Chain};
+ghost use Rattle.pc_common.specs.declared.limits.TheConstants.{MAX_NODES};
 ghost use Rattle.pc_ground.specs.Literals.{Joins, IsPresent, IsConsistent, Holds};
-ghost use Rattle.undo_trail.specs.Kept.{Extends};
+ghost use Rattle.undo_trail.specs.BitTable.{Extends};
 ghost use Rattle.order_graph.specs.Ways.{IsBelow};
 ghost use Rattle.order_graph.specs.State.{words_for, most_words, recorded_since, IsCut, IsGraph};
 ghost use Rattle.order_graph.specs.Adding.{IsAdded};
-ghost use Rattle.order_graph.specs.Rows.{HasEntered, IsSized, ClosesNone};
+ghost use Rattle.order_graph.specs.Rows.{Enters, IsSized, Takes};
 
 use super::clash::Added;
 use super::clashes::{clash_of, would_clash};
 use super::counts::count_at;
 use super::mark::Mark;
-use super::rows::{enter_whole, is_present, is_true, reaches};
+use super::rows::{enter, is_present, is_true, reaches};
 use pc_common::Memory;
 use pc_ground::Literal;
 use std::alloc::Global;
@@ -56,20 +57,19 @@ fn keep<L: Ledger>(
 ) -> Result<(), Memory>
     requires sized { IsSized nodes table.old }
     requires below { IsBelow nodes literal }
-    requires no_cycle { ClosesNone literal table.old }
-    ensures entered { OnOk result (HasEntered nodes literal table.old table.new) }
+    requires takes { Takes nodes literal table.old }
+    ensures entered { OnOk result (Enters nodes literal table.old table.new) }
     ensures trail { OnOk result (Extends table.old table.new (nodes * (table.old.words + 1) + 2)) }
     ensures literals { OnOk result (literals.new.items ≡ literals.old.items ++ literal ∷ []) }
     ensures moments { OnOk result (moments.new.items ≡ moments.old.items ++ length table.new.past ∷ []) }
     ensures counts { OnOk result (counts.new.items ≡ counts.old.items ++ 0 ∷ []) }
     ensures err { OnErr result ((table.new ≡ table.old) × (literals.new.items ≡ literals.old.items) × (moments.new.items ≡ moments.old.items) × (counts.new.items ≡ counts.old.items)) }
-    ensures cost { OnOk result (steps.new ≤ steps.old + nodes) }
-    ensures most { steps.new ≤ steps.old + nodes + (nodes * (table.old.words + 1) + 2) }
+    ensures cost { steps.new ≤ steps.old + nodes }
 {
     literals.reserve(1)?;
     moments.reserve(1)?;
     counts.reserve(1)?;
-    enter_whole(table, nodes, literal, steps)?;
+    enter(table, nodes, literal, steps)?;
     literals.push(literal)?;
     moments.push(table.mark())?;
     counts.push(0)?;
@@ -80,11 +80,11 @@ impl OrderGraph {
     /// A graph over the nodes from 0 to one below `nodes`, of which there are at most 262,144, with no
     /// literal and no mark. Takes memory for two bit rows a node.
     pub fn new(alloc: Global, nodes: u32) -> Result<OrderGraph, Memory>
-        requires { nodes ≤ 262144 }
+        requires { nodes ≤ MAX_NODES }
         ensures { IfOk result (λ g. g ≡ record { nodes = nodes; literals = []; marks = []; recorded = 0 ∷ [] }) }
     {
         let words = (nodes as usize + 63) / 64;
-        let table = UndoTable::new(alloc, 2 * nodes as usize + 2, words)?;
+        let table = UndoTable::new(alloc, 2 * nodes as usize + 3, words)?;
         let moments = vec![in alloc; table.mark()]?;
         let counts = vec![in alloc; 0]?;
         Ok(OrderGraph {
@@ -162,9 +162,8 @@ impl OrderGraph {
         requires { IsBelow self.old.nodes literal }
         ensures added { IfOk result (λ added. IsAdded self.old literal self.new added) }
         ensures err { OnErr result (self.new ≡ self.old) }
-        // each joined row is a step; where memory is refused, words that are put back are steps too
-        ensures cost { OnOk result (steps.new ≤ steps.old + self.old.nodes) }
-        ensures most { steps.new ≤ steps.old + self.old.nodes + most_words self.old.nodes }
+        // each joined row is a step
+        ensures cost { steps.new ≤ steps.old + self.old.nodes }
     {
         let alloc = *self.literals.allocator();
         let found = clash_of(alloc, &self.table, self.nodes, &self.literals, literal)?;

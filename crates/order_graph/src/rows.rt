@@ -1,18 +1,20 @@
-ghost use Rattle.std.specs.Prelude.{◌≡◌, ◌<◌, ◌≤◌, ◌+◌, ◌*◌, ◌||◌, ◌==◌, ◌↔◌, ℕ, List, true, false, OnOk, OnErr, if◌then◌else◌};
-ghost use Rattle.undo_trail.specs.Kept.{bit_now, Extends, HasSet};
+ghost use Rattle.std.specs.Prelude.{◌≡◌, ◌<◌, ◌≤◌, ◌+◌, ◌*◌, ◌^◌, ◌||◌, ◌==◌, ◌↔◌, ℕ, List, true, false, OnOk, OnErr, if◌then◌else◌};
+ghost use Rattle.std.specs.Bool.{OnTrue};
+ghost use Rattle.undo_trail.specs.BitTable.{bit_now, Extends, HasSet};
 ghost use Rattle.pc_common.specs.Chain.{Chain};
 ghost use Rattle.pc_ground.specs.Literals.{Joins, IsPresent, Holds};
 ghost use Rattle.pc_ground.specs.declared.literal.Literal.{Literal as AnyLiteral};
 ghost use Rattle.order_graph.specs.Ways.{IsBelow};
-ghost use Rattle.order_graph.specs.Rows.{pair_row, present_row, missing_row, leads_to, with_edge, HasEntered, IsSized, ClosesNone, Stands};
+ghost use Rattle.order_graph.specs.Rows.{present_row, missing_row, denier_row, leads_to, with_edge, gains, words_gained, row_words, Enters, IsSized, Takes, TakesEdge, Represents};
 
 use pc_common::Memory;
 use pc_ground::Literal;
 use std::sync::ledger::Ledger;
-use undo_trail::{Steps, UndoTable};
+use undo_trail::{Steps, UndoTable, meets_words};
 
 // The rows of `nodes` nodes, in this order: for each node what chains from it reach, for each node the nodes
-// that it is denied to come before, the present nodes, the denied nodes.
+// that it is denied to come before, the present nodes, the denied nodes, and the nodes from which a pair is
+// denied. So `undo` of the table takes all of them back, and where no pair is denied one row says so.
 
 /// Whether a chain leads from `a` to `b`.
 pub fn reaches(table: &UndoTable, a: u32, b: u32) -> bool
@@ -50,47 +52,140 @@ pub fn is_missing(table: &UndoTable, nodes: u32, a: u32) -> bool
     table.bit(2 * nodes as usize + 1, a as usize)
 }
 
-/// Puts `b` and all that it reaches into what `x` reaches.
-fn join_row(table: &mut UndoTable, x: u32, b: u32) -> Result<(), Memory>
+/// Whether a pair is denied from `a`.
+pub fn is_denier(table: &UndoTable, nodes: u32, a: u32) -> bool
+    requires sized { IsSized nodes table.now }
+    requires inside { a < nodes }
+    ensures { result ≡ bit_now table.now (denier_row nodes) a }
+{
+    table.bit(2 * nodes as usize + 2, a as usize)
+}
+
+/// Whether row `x` gains by an edge from `a` to `b`: `x` comes to `a`, and not yet to `b`.
+fn gains(table: &UndoTable, x: u32, a: u32, b: u32) -> bool
+    requires row_in { x < table.now.rows }
+    requires a_in { a < 64 * table.now.words }
+    requires b_in { b < 64 * table.now.words }
+    ensures { result ≡ gains table.now a b x }
+{
+    leads_to(table, x, a) && !reaches(table, x, b)
+}
+
+/// Whether `b` reaches nothing.
+fn is_sink(table: &UndoTable, b: u32) -> bool
+    requires { b < table.now.rows }
+    ensures { OnTrue result ((d : ℕ) → d < 64 * table.now.words → bit_now table.now b d ≡ false) }
+{
+    let row = table.row(b as usize);
+    !meets_words(row, row)
+}
+
+/// How many words a row changes that takes `b`, with all that it reaches where `b` is no sink.
+fn row_words(table: &UndoTable, b: u32, is_sink: bool) -> usize
+    requires { b < table.now.rows }
+    ensures value { result ≡ row_words table.now is_sink }
+    ensures bound { result ≤ 2 ^ 32 }
+{
+    if is_sink {
+        1
+    } else {
+        table.row(b as usize).len() + 1
+    }
+}
+
+/// How many words an edge from `a` to `b` can change in what nodes reach, `each` in each row that gains.
+fn words_gained(table: &UndoTable, nodes: u32, a: u32, b: u32, each: usize) -> usize
+    requires sized { IsSized nodes table.now }
+    requires a_in { a < nodes }
+    requires b_in { b < nodes }
+    requires small { each ≤ 2 ^ 32 }
+    ensures value { result ≡ words_gained table.now a b each nodes }
+    ensures bound { result ≤ 2 ^ 50 }
+{
+    let mut words = 0;
+    for x in 0..nodes {
+        if gains(table, x, a, b) {
+            words += each;
+        }
+    }
+    words
+}
+
+/// Puts `b` and all that it reaches into what `x` reaches. A sink is one bit.
+fn join_row(table: &mut UndoTable, x: u32, b: u32, is_sink: bool)
     requires x_in { x < table.old.rows }
     requires b_in { b < table.old.rows }
     requires column_in { b < 64 * table.old.words }
-    ensures joined { OnOk result ((q d : ℕ) → q < table.old.rows → d < 64 * table.old.words → bit_now table.new q d ≡ (if q == x then bit_now table.old q d || leads_to table.old b d else bit_now table.old q d)) }
-    ensures trail { Extends table.old table.new (table.old.words + 1) }
+    requires sink { OnTrue is_sink ((d : ℕ) → d < 64 * table.old.words → bit_now table.old b d ≡ false) }
+    requires room { row_words table.old is_sink ≤ table.old.room }
+    ensures joined { (q d : ℕ) → q < table.old.rows → d < 64 * table.old.words → bit_now table.new q d ≡ (if q == x then bit_now table.old q d || leads_to table.old b d else bit_now table.old q d) }
+    ensures trail { Extends table.old table.new (row_words table.old is_sink) }
+    ensures room { table.old.room ≤ table.new.room + row_words table.old is_sink }
 {
-    table.or_row(x as usize, b as usize)?;
-    table.set_bit(x as usize, b as usize)?;
-    Ok(())
+    if is_sink {
+        table.set_bit_reserved(x as usize, b as usize);
+        return;
+    }
+    table.or_row_reserved(x as usize, b as usize);
+    table.set_bit_reserved(x as usize, b as usize);
 }
 
 /// Enters the edge from `a` to `b` into what nodes reach: `b` and all that it reaches go to `a` and to all
-/// nodes that reach it. Each row that takes them is one step.
+/// nodes that reach it, where they do not have it yet. Each row that takes them is one step.
 fn close_over<L: Ledger>(
     table: &mut UndoTable,
     nodes: u32,
     a: u32,
     b: u32,
+    is_sink: bool,
     steps: &mut Steps<L>,
-) -> Result<(), Memory>
+)
     requires sized { IsSized nodes table.old }
     requires a_in { a < nodes }
     requires b_in { b < nodes }
-    requires no_cycle { leads_to table.old b a ≡ false }
-    ensures closed { OnOk result ((x y : ℕ) → x < nodes → y < 64 * table.old.words → bit_now table.new x y ≡ with_edge table.old a b x y) }
-    ensures others { OnOk result ((q d : ℕ) → nodes ≤ q → q < table.old.rows → d < 64 * table.old.words → bit_now table.new q d ≡ bit_now table.old q d) }
+    requires takes { TakesEdge nodes table.old a b }
+    requires sink { OnTrue is_sink ((d : ℕ) → d < 64 * table.old.words → bit_now table.old b d ≡ false) }
+    requires room { words_gained table.old a b (row_words table.old is_sink) nodes ≤ table.old.room }
+    ensures closed { (x y : ℕ) → x < nodes → y < 64 * table.old.words → bit_now table.new x y ≡ with_edge table.old a b x y }
+    ensures others { (q d : ℕ) → nodes ≤ q → q < table.old.rows → d < 64 * table.old.words → bit_now table.new q d ≡ bit_now table.old q d }
     ensures trail { Extends table.old table.new (nodes * (table.old.words + 1)) }
+    ensures room { table.old.room ≤ table.new.room + words_gained table.old a b (row_words table.old is_sink) nodes }
     ensures cost { steps.new ≤ steps.old + nodes }
 {
     for x in 0..nodes {
-        if leads_to(table, x, a) {
-            join_row(table, x, b)?;
+        if gains(table, x, a, b) {
+            join_row(table, x, b, is_sink);
             steps.tick();
         }
     }
-    Ok(())
 }
 
-/// Enters the edge from `a` to `b`, and that both are present.
+/// Enters the edge from `a` to `b`, and that both are present. The trail has room for all of it.
+fn enter_edge_reserved<L: Ledger>(
+    table: &mut UndoTable,
+    nodes: u32,
+    a: u32,
+    b: u32,
+    is_sink: bool,
+    steps: &mut Steps<L>,
+)
+    requires sized { IsSized nodes table.old }
+    requires a_in { a < nodes }
+    requires b_in { b < nodes }
+    requires takes { TakesEdge nodes table.old a b }
+    requires sink { OnTrue is_sink ((d : ℕ) → d < 64 * table.old.words → bit_now table.old b d ≡ false) }
+    requires room { words_gained table.old a b (row_words table.old is_sink) nodes + 2 ≤ table.old.room }
+    ensures entered { Enters nodes (Literal.Edge a b) table.old table.new }
+    ensures trail { Extends table.old table.new (nodes * (table.old.words + 1) + 2) }
+    ensures cost { steps.new ≤ steps.old + nodes }
+{
+    close_over(table, nodes, a, b, is_sink, steps);
+    table.set_bit_reserved(2 * nodes as usize, a as usize);
+    table.set_bit_reserved(2 * nodes as usize, b as usize);
+}
+
+/// Enters the edge from `a` to `b`, and that both are present. Where a chain leads from `a` to `b` already,
+/// the rows have all of that. The room of all words is taken before the first changes.
 fn enter_edge<L: Ledger>(
     table: &mut UndoTable,
     nodes: u32,
@@ -101,31 +196,52 @@ fn enter_edge<L: Ledger>(
     requires sized { IsSized nodes table.old }
     requires a_in { a < nodes }
     requires b_in { b < nodes }
-    requires no_cycle { leads_to table.old b a ≡ false }
-    ensures entered { OnOk result (HasEntered nodes (Literal.Edge a b) table.old table.new) }
-    ensures trail { Extends table.old table.new (nodes * (table.old.words + 1) + 2) }
+    requires takes { TakesEdge nodes table.old a b }
+    ensures entered { OnOk result (Enters nodes (Literal.Edge a b) table.old table.new) }
+    ensures trail { OnOk result (Extends table.old table.new (nodes * (table.old.words + 1) + 2)) }
+    ensures err { OnErr result (table.new ≡ table.old) }
     ensures cost { steps.new ≤ steps.old + nodes }
 {
-    close_over(table, nodes, a, b, steps)?;
-    table.set_bit(2 * nodes as usize, a as usize)?;
-    table.set_bit(2 * nodes as usize, b as usize)?;
+    if reaches(table, a, b) {
+        return Ok(());
+    }
+    let is_sink = is_sink(table, b);
+    let each = row_words(table, b, is_sink);
+    table.reserve(words_gained(table, nodes, a, b, each) + 2)?;
+    enter_edge_reserved(table, nodes, a, b, is_sink, steps);
     Ok(())
 }
 
-/// Enters what a literal other than an edge says: one bit.
+/// Enters that a node is asserted, or denied: one bit.
 fn enter_bit(table: &mut UndoTable, nodes: u32, row: usize, column: u32) -> Result<(), Memory>
     requires sized { IsSized nodes table.old }
-    requires row_in { row < 2 * nodes + 2 }
+    requires row_in { row < 2 * nodes + 3 }
     requires column_in { column < nodes }
     ensures set { OnOk result (HasSet table.old table.new row column) }
-    ensures trail { Extends table.old table.new (nodes * (table.old.words + 1) + 2) }
+    ensures trail { OnOk result (Extends table.old table.new (nodes * (table.old.words + 1) + 2)) }
+    ensures err { OnErr result (table.new ≡ table.old) }
 {
     table.set_bit(row, column as usize)?;
     Ok(())
 }
 
-/// Enters the literal, which closes no cycle.
-fn enter<L: Ledger>(
+/// Enters that `a` is denied to come before `b`: their bit, and that a pair is denied from `a`.
+fn enter_pair(table: &mut UndoTable, nodes: u32, a: u32, b: u32) -> Result<(), Memory>
+    requires sized { IsSized nodes table.old }
+    requires a_in { a < nodes }
+    requires b_in { b < nodes }
+    ensures entered { OnOk result (Enters nodes (Literal.NoEdge a b) table.old table.new) }
+    ensures trail { OnOk result (Extends table.old table.new (nodes * (table.old.words + 1) + 2)) }
+    ensures err { OnErr result (table.new ≡ table.old) }
+{
+    table.reserve(2)?;
+    table.set_bit_reserved(nodes as usize + a as usize, b as usize);
+    table.set_bit_reserved(2 * nodes as usize + 2, a as usize);
+    Ok(())
+}
+
+/// Enters the literal, which the rows can take, or where memory is refused leaves the table as it was.
+pub fn enter<L: Ledger>(
     table: &mut UndoTable,
     nodes: u32,
     literal: Literal<u32>,
@@ -133,43 +249,17 @@ fn enter<L: Ledger>(
 ) -> Result<(), Memory>
     requires sized { IsSized nodes table.old }
     requires below { IsBelow nodes literal }
-    requires no_cycle { ClosesNone literal table.old }
-    ensures entered { OnOk result (HasEntered nodes literal table.old table.new) }
-    ensures trail { Extends table.old table.new (nodes * (table.old.words + 1) + 2) }
+    requires takes { Takes nodes literal table.old }
+    ensures entered { OnOk result (Enters nodes literal table.old table.new) }
+    ensures trail { OnOk result (Extends table.old table.new (nodes * (table.old.words + 1) + 2)) }
+    ensures err { OnErr result (table.new ≡ table.old) }
     ensures cost { steps.new ≤ steps.old + nodes }
 {
     match literal {
         Literal::Node(a) => enter_bit(table, nodes, 2 * nodes as usize, a),
         Literal::Edge(a, b) => enter_edge(table, nodes, a, b, steps),
         Literal::NoNode(a) => enter_bit(table, nodes, 2 * nodes as usize + 1, a),
-        Literal::NoEdge(a, b) => enter_bit(table, nodes, nodes as usize + a as usize, b),
-    }
-}
-
-/// Enters the literal, or where memory is refused leaves the table as it was. Then the words put back are
-/// steps too.
-pub fn enter_whole<L: Ledger>(
-    table: &mut UndoTable,
-    nodes: u32,
-    literal: Literal<u32>,
-    steps: &mut Steps<L>,
-) -> Result<(), Memory>
-    requires sized { IsSized nodes table.old }
-    requires below { IsBelow nodes literal }
-    requires no_cycle { ClosesNone literal table.old }
-    ensures entered { OnOk result (HasEntered nodes literal table.old table.new) }
-    ensures trail { OnOk result (Extends table.old table.new (nodes * (table.old.words + 1) + 2)) }
-    ensures err { OnErr result (table.new ≡ table.old) }
-    ensures cost { OnOk result (steps.new ≤ steps.old + nodes) }
-    ensures most { steps.new ≤ steps.old + nodes + (nodes * (table.old.words + 1) + 2) }
-{
-    let before = table.mark();
-    match enter(table, nodes, literal, steps) {
-        Ok(()) => Ok(()),
-        Err(memory) => {
-            table.undo(before, steps);
-            Err(memory)
-        }
+        Literal::NoEdge(a, b) => enter_pair(table, nodes, a, b),
     }
 }
 
@@ -178,7 +268,7 @@ pub fn enter_whole<L: Ledger>(
 pub fn is_true(table: &UndoTable, nodes: u32, literal: Literal<u32>) -> bool
     requires sized { IsSized nodes table.now }
     requires below { IsBelow nodes literal }
-    ensures { (ls : List (AnyLiteral ℕ)) → Stands nodes table.now.words ls table.now.now → (result ≡ true) ↔ Holds (IsPresent ls) (Chain (Joins ls)) literal }
+    ensures { (ls : List (AnyLiteral ℕ)) → Represents nodes table.now.words ls table.now.now → (result ≡ true) ↔ Holds (IsPresent ls) (Chain (Joins ls)) literal }
 {
     match literal {
         Literal::Node(a) => is_present(table, nodes, a),

@@ -9,7 +9,7 @@ use Rattle.indexmap.specs.IndexMap.{IndexMap, get_by, insert_entry}
 use Rattle.indexmap.specs.IndexSet.{IndexSet}
 use Rattle.indexmap.proofs.CallerLemmas.{insert_entry-new}
 use Rattle.pc_case.specs.declared.dependency.Ends.{Ends}
-use Rattle.pc_case.specs.Tables.{are_ends, ties, joins}
+use Rattle.pc_case.specs.Tables.{are_ends, has_ends, goes_between}
 
 abbrev same : List ℕ → List ℕ → Bool
 same = pointwise nat_eq
@@ -122,10 +122,10 @@ ends_put e i j s n h = h ∙ rw (eqb_flip e.source i, eqb_flip e.target j) (or_y
 pub first_of_kind : {S T : Type 0} (m : IndexMap (Vec ℕ Global) (IndexSet Ends T) S) (new : List (Vec ℕ Global × IndexSet Ends T))
     (k : Vec ℕ Global) (w : IndexSet Ends T) (p q : List ℕ) (e : Ends) (i j : ℕ)
     → k.items ≡ p → get_by (λ y. same p y.items) m ≡ None → new ≡ insert_entry (λ x y. same x.items y.items) m.entries k w
-    → list_any (are_ends i j) w.keys ≡ are_ends i j e → ties new q i j ≡ (ties m.entries q i j || joins p e q i j)
+    → list_any (are_ends i j) w.keys ≡ are_ends i j e → has_ends new q i j ≡ (has_ends m.entries q i j || goes_between p e q i j)
 first_of_kind m new k w p q e i j is none put has =
     let eq = λ (x y : Vec ℕ Global). same x.items y.items in
     let fresh = ap (λ r. lookup (λ (y : Vec ℕ Global). same r y.items) m.entries) is ∙ none in
-    ap (λ es. ties es q i j) (put ∙ insert_entry-new eq m k w fresh)
+    ap (λ es. has_ends es q i j) (put ∙ insert_entry-new eq m k w fresh)
     ∙ added (λ s. list_any (are_ends i j) s.keys) p q m.entries k w is none
-    ∙ ap (λ b. ties m.entries q i j || (same p q && b)) has
+    ∙ ap (λ b. has_ends m.entries q i j || (same p q && b)) has

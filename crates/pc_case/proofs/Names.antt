@@ -9,7 +9,7 @@ use Rattle.std.proofs.lemmas.List.{length-map}
 use Rattle.pc_common.specs.Case.{MicroOp}
 use Rattle.pc_case.specs.declared.op.Op.{Op}
 use Rattle.pc_case.specs.Plain.{micro_op}
-use Rattle.pc_case.specs.Kept.{IsNamed}
+use Rattle.pc_case.specs.MicroOps.{IsNamed}
 
 -- the micro-op that stands at a place
 pub stands_at : (ops items : List Op) (plain : List MicroOp) (i : ℕ) (o : Op) → map micro_op ops ≡ plain → items ≡ ops → i < length items

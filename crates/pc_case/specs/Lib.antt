@@ -1,4 +1,4 @@
 pub mod Plain
-pub mod Kept
+pub mod MicroOps
 pub mod Stated
 pub mod Tables

@@ -1,7 +1,11 @@
 -- What the code's micro-ops, dependencies, stated values and expectations are as plain data.
 use Rattle.std.specs.Prelude.{Option, Some, None}
-use Rattle.pc_common.specs.Case.{PageAt, Address, page, Value, number, Touch, Kind, read, write, fence, MicroOp, Dependency as PlainDependency, Expectation, permitted, forbidden, unstated}
-use Rattle.pc_case.specs.declared.op.Page.{Page}
+use Rattle.pc_common.specs.Case.{PageAt, Address as PlainAddress, page, entry_of, Value as PlainValue, number, entry, Touch, Kind, read, write, fence, MicroOp, Dependency as PlainDependency, Expectation, permitted, forbidden, unstated}
+use Rattle.pc_common.specs.declared.value.Value.{Value}
+use Rattle.pc_common.specs.declared.value.Value.TheVariants.{Number, Entry as EntryValue}
+use Rattle.pc_case.specs.declared.address.Page.{Page}
+use Rattle.pc_case.specs.declared.address.Address.{Address}
+use Rattle.pc_case.specs.declared.address.Address.TheVariants.{Page as PageAddress, Entry as EntryAddress}
 use Rattle.pc_case.specs.declared.op.Memop.{Memop}
 use Rattle.pc_case.specs.declared.op.Access.{Access}
 use Rattle.pc_case.specs.declared.op.Access.TheVariants.{Read, Write, Fence}
@@ -14,12 +18,20 @@ use Rattle.pc_case.specs.declared.case.Expect.TheVariants.{Permitted, Forbidden,
 abbrev pub page_at : Page → PageAt
 page_at p = record { tag = p.tag; index = p.index }
 
-abbrev pub address_at : Page → Address
-address_at p = page (page_at p)
+abbrev pub address_at : Address → PlainAddress
+address_at (PageAddress tag index) = page (record { tag = tag; index = index })
+address_at (EntryAddress tag) = entry_of tag
+
+abbrev pub plain_value : Value → PlainValue
+plain_value (Number n) = number n
+plain_value (EntryValue tag accessed dirty) = entry (record { tag = tag; accessed = accessed; dirty = dirty })
+
+abbrev pub touch_at : Memop → Touch
+touch_at m = record { va = page_at m.va; pa = address_at m.pa; value = plain_value m.value }
 
 abbrev pub touch_of : Option Memop → Option Touch
 touch_of None = None
-touch_of (Some m) = Some (record { va = page_at m.va; pa = address_at m.pa; value = number m.value })
+touch_of (Some m) = Some (touch_at m)
 
 abbrev pub kind_of : Access → Kind
 kind_of Read = read
@@ -28,13 +40,21 @@ kind_of Fence = fence
 
 abbrev pub micro_op : Op → MicroOp
 micro_op o =
-    record { g = o.id.g; n = o.id.n; core = o.core; thread = o.thread; types = o.types; kind = kind_of o.access; touch = touch_of o.memop }
+    record {
+      g = o.id.g;
+      n = o.id.n;
+      core = o.core;
+      thread = o.thread;
+      types = o.types;
+      kind = kind_of o.access;
+      touch = touch_of o.memop;
+    }
 
 abbrev pub dependency : Dependency → PlainDependency
 dependency d = record { kind = d.kind; source = d.source; target = d.target }
 
-abbrev pub stated_value : Stated → Address × Value
-stated_value s = (address_at s.pa, number s.value)
+abbrev pub stated_value : Stated → PlainAddress × PlainValue
+stated_value s = (address_at s.pa, plain_value s.value)
 
 abbrev pub expectation : Expect → Expectation
 expectation Permitted = permitted

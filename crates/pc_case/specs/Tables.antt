@@ -5,30 +5,31 @@ use Rattle.std.specs.Map.{lookup}
 use Rattle.std.specs.Prelude.{Vec}
 use Rattle.std.specs.declared.alloc.Global.{Global}
 use Rattle.indexmap.specs.IndexSet.{IndexSet}
-use Rattle.pc_common.specs.Case.{Address, Value, number, Dependency}
+use Rattle.pc_common.specs.declared.value.Value.{Value}
+use Rattle.pc_common.specs.Case.{Address as PlainAddress, Value as PlainValue, Dependency}
 use Rattle.pc_common.specs.Names.{same_name}
 use Rattle.pc_common.specs.Dependencies.{depends_by}
-use Rattle.pc_case.specs.declared.op.Page.{Page}
+use Rattle.pc_case.specs.declared.address.Address.{Address}
 use Rattle.pc_case.specs.declared.dependency.Ends.{Ends}
-use Rattle.pc_case.specs.Plain.{address_at}
+use Rattle.pc_case.specs.Plain.{address_at, plain_value}
 
 -- each address with its value
-abbrev pub pairs_of : List (Page × ℕ) → List (Address × Value)
-pairs_of es = map (λ e. (address_at e.0, number e.1)) es
+abbrev pub pairs_of : List (Address × Value) → List (PlainAddress × PlainValue)
+pairs_of es = map (λ e. (address_at e.0, plain_value e.1)) es
 
 -- these are the places i and j
 abbrev pub are_ends : ℕ → ℕ → Ends → Bool
 are_ends i j e = (i == e.source) && (j == e.target)
 
--- whether these places are ends of a dependency of this kind
-abbrev pub ties : {S : Type 0} → List (Vec ℕ Global × IndexSet Ends S) → List ℕ → ℕ → ℕ → Bool
-ties es kind i j =
+-- whether the table has a dependency of this kind from i to j
+abbrev pub has_ends : {S : Type 0} → List (Vec ℕ Global × IndexSet Ends S) → List ℕ → ℕ → ℕ → Bool
+has_ends es kind i j =
     elim (lookup (λ k. same_name kind k.items) es) [ None ↦ false | Some ends ↦ list_any (are_ends i j) ends.keys ]
 
 -- a dependency of the first kind between these ends is one of this kind from i to j
-abbrev pub joins : List ℕ → Ends → List ℕ → ℕ → ℕ → Bool
-joins name e kind i j = same_name name kind && are_ends i j e
+abbrev pub goes_between : List ℕ → Ends → List ℕ → ℕ → ℕ → Bool
+goes_between name e kind i j = same_name name kind && are_ends i j e
 
 -- the table answers by the list
-abbrev pub Ties : {S : Type 0} → List (Vec ℕ Global × IndexSet Ends S) → List Dependency → Type 0
-Ties es ds = (kind : List ℕ) (i j : ℕ) → ties es kind i j ≡ depends_by ds kind i j
+abbrev pub IsTableOf : {S : Type 0} → List (Vec ℕ Global × IndexSet Ends S) → List Dependency → Type 0
+IsTableOf es ds = (kind : List ℕ) (i j : ℕ) → has_ends es kind i j ≡ depends_by ds kind i j

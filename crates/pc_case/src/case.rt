@@ -1,16 +1,17 @@
 ghost use Rattle.std.specs.Prelude.{◌≡◌, ◌<◌, ◌≤◌, [], ℕ, length, map, slice_get, IfOk, MatchOption};
 ghost use Rattle.std.specs.Option.{option_map};
-ghost use Rattle.pc_common.specs.Case.{Case as PlainCase, number, cores_of};
-ghost use Rattle.pc_case.specs.Plain.{micro_op, dependency, stated_value, address_at, expectation};
-ghost use Rattle.pc_case.specs.Kept.{IsKept, IsNamed};
+ghost use Rattle.pc_common.specs.Case.{Case as PlainCase, cores_of};
+ghost use Rattle.pc_case.specs.Plain.{micro_op, dependency, stated_value, address_at, plain_value, expectation};
+ghost use Rattle.pc_case.specs.MicroOps.{AreMicroOps, IsNamed};
 ghost use Rattle.pc_common.specs.Addresses.{stated_at, initial_at};
 ghost use Rattle.pc_common.specs.Dependencies.{depends_by};
 ghost use Rattle.pc_case.specs.Stated.{IsStatedOnce, AreWithin};
 
+use super::address::Address;
 use super::dependency::{Dependencies, DependencyTable};
-use super::op::{Op, OpId, Page};
+use super::op::{Op, OpId};
 use super::stated::{StatedValues, ValueTable};
-use pc_common::{Listed, Memory};
+use pc_common::{Listed, Memory, Value};
 use std::alloc::Global;
 use std::marker::Model;
 
@@ -40,15 +41,31 @@ pub struct Case {
 impl Model for Case {
     ghost Value = { PlainCase };
 
-    ghost view = { λ c. record { ops = map micro_op c.ops; dependencies = c.dependencies; initial = c.initial; final = c.final_values; expectation = expectation c.expect } };
+    ghost view = { λ c. record {
+      ops = map micro_op c.ops;
+      dependencies = c.dependencies;
+      initial = c.initial;
+      final = c.final_values;
+      expectation = expectation c.expect;
+    } };
 
-    ghost invariant = { λ c. IsKept (map micro_op c.ops) × (c.cores ≡ cores_of (map micro_op c.ops))
+    ghost invariant = { λ c. AreMicroOps (map micro_op c.ops) × (c.cores ≡ cores_of (map micro_op c.ops))
         × AreWithin (length c.ops) c.dependencies × IsStatedOnce c.initial × IsStatedOnce c.final_values };
+}
+
+fn copy_ops(alloc: Global, ops: &Ops) -> Result<Ops, Memory>
+    ensures { IfOk result (λ c. c ≡ ops.now) }
+{
+    let mut copies = Listed::new(alloc);
+    for op in ops.as_slice() {
+        copies.push(op.copy(alloc)?)?;
+    }
+    Ok(copies)
 }
 
 /// One more than the greatest core of these micro-ops, or 0 where there are none.
 fn core_count(ops: &Ops) -> usize
-    requires { IsKept (map micro_op ops.now) }
+    requires { AreMicroOps (map micro_op ops.now) }
     ensures { result ≡ cores_of (map micro_op ops.now) }
 {
     let mut cores = 0;
@@ -65,8 +82,14 @@ impl Case {
     /// The case of these micro-ops, in test order, with no dependency and no stated value.
     /// Takes no memory.
     pub fn new(ops: Ops, expect: Expect) -> Case
-        requires { IsKept (map micro_op ops) }
-        ensures { result ≡ record { ops = map micro_op ops; dependencies = []; initial = []; final = []; expectation = expectation expect } }
+        requires { AreMicroOps (map micro_op ops) }
+        ensures { result ≡ record {
+          ops = map micro_op ops;
+          dependencies = [];
+          initial = [];
+          final = [];
+          expectation = expectation expect;
+        } }
     {
         let cores = core_count(&ops);
         let ops = ops.into_vec();
@@ -91,7 +114,7 @@ impl Case {
         final_values: StatedValues,
         expect: Expect,
     ) -> Result<Case, Memory>
-        requires kept { IsKept (map micro_op ops) }
+        requires kept { AreMicroOps (map micro_op ops) }
         requires within { AreWithin (length ops) (map dependency dependencies) }
         requires initial_once { IsStatedOnce (map stated_value initial) }
         requires final_once { IsStatedOnce (map stated_value final_values) }
@@ -114,10 +137,28 @@ impl Case {
         })
     }
 
+    /// The same case once more. The one error is that memory was refused.
+    pub fn copy(&self, alloc: Global) -> Result<Case, Memory>
+        ensures { IfOk result (λ c. c ≡ self.now) }
+    {
+        let ops = copy_ops(alloc, &self.ops)?;
+        let dependencies = self.dependencies.copy(alloc)?;
+        let initial = self.initial.copy()?;
+        let final_values = self.final_values.copy()?;
+        Ok(Case {
+            ops,
+            cores: self.cores,
+            dependencies,
+            initial,
+            final_values,
+            expect: self.expect,
+        })
+    }
+
     /// How many micro-ops there are, at most 64. Takes no memory.
     pub fn ops(&self) -> usize
         ensures count { result ≡ length self.now.ops }
-        ensures kept { IsKept self.now.ops }
+        ensures kept { AreMicroOps self.now.ops }
     {
         self.ops.len()
     }
@@ -126,7 +167,7 @@ impl Case {
     pub fn op(&self, k: usize) -> &Op
         requires { k < length self.now.ops }
         ensures op { slice_get self.now.ops k ≡ Some (micro_op result.now) }
-        ensures kept { IsKept self.now.ops }
+        ensures kept { AreMicroOps self.now.ops }
     {
         self.ops.get(k)
     }
@@ -134,7 +175,7 @@ impl Case {
     /// One more than the greatest core, or 0 without micro-ops; at most 64. Takes no memory.
     pub fn cores(&self) -> usize
         ensures count { result ≡ cores_of self.now.ops }
-        ensures kept { IsKept self.now.ops }
+        ensures kept { AreMicroOps self.now.ops }
     {
         self.cores
     }
@@ -145,19 +186,22 @@ impl Case {
         self.expect
     }
 
-    /// The value at this physical address at the start: 0 where no line states one. One look-up;
-    /// takes no memory.
-    pub fn initial(&self, pa: Page) -> u64
-        ensures value { number result ≡ initial_at self.now (address_at pa) }
+    /// The value at this physical address at the start: where no line states one, 0 at a page, and at the
+    /// entry of a tag that very tag with neither mark. One look-up; takes no memory.
+    pub fn initial(&self, pa: Address) -> Value
+        ensures value { plain_value result ≡ initial_at self.now (address_at pa) }
         ensures once { IsStatedOnce self.now.initial }
     {
-        self.initial.get(pa).unwrap_or(0)
+        match self.initial.get(pa) {
+            Some(value) => value,
+            None => pa.default_value(),
+        }
     }
 
     /// The value at this physical address at the end, None where no line states one. One look-up;
     /// takes no memory.
-    pub fn final_of(&self, pa: Page) -> Option<u64>
-        ensures value { option_map number result ≡ stated_at self.now.final (address_at pa) }
+    pub fn final_of(&self, pa: Address) -> Option<Value>
+        ensures value { option_map plain_value result ≡ stated_at self.now.final (address_at pa) }
         ensures once { IsStatedOnce self.now.final }
     {
         self.final_values.get(pa)
@@ -175,7 +219,9 @@ impl Case {
     /// The place of the micro-op of this name, None where there is none. A walk over the at most 64
     /// micro-ops; takes no memory.
     pub fn find(&self, id: OpId) -> Option<usize>
-        ensures { MatchOption result ((k : ℕ) → IsNamed self.now.ops id.g id.n k → ⊥) (λ k. IsNamed self.now.ops id.g id.n k) }
+        ensures { MatchOption result
+            ((k : ℕ) → IsNamed self.now.ops id.g id.n k → ⊥)
+            (λ k. IsNamed self.now.ops id.g id.n k) }
     {
         for (k, op) in self.ops.as_slice().iter().enumerate() {
             if op.id == id {

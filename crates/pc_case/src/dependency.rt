@@ -1,8 +1,9 @@
 ghost use Rattle.std.specs.Prelude.{◌≡◌, ◌||◌, false, List, [], IfOk, OnOk, ℕ, map, take};
 ghost use Rattle.pc_case.specs.Plain.{dependency};
 ghost use Rattle.pc_common.specs.Dependencies.{depends_by};
-ghost use Rattle.pc_case.specs.Tables.{ties, joins};
+ghost use Rattle.pc_case.specs.Tables.{has_ends, goes_between};
 
+use super::op::copy_name;
 use indexmap::{IndexMap, IndexSet};
 use pc_common::{Listed, Memory};
 use std::alloc::Global;
@@ -14,6 +15,19 @@ pub struct Dependency {
     pub kind: Listed<u8>,
     pub source: u8,
     pub target: u8,
+}
+
+impl Dependency {
+    /// The same dependency once more. The one error is that memory was refused.
+    pub fn copy(&self, alloc: Global) -> Result<Dependency, Memory>
+        ensures { IfOk result (λ c. c ≡ self.now) }
+    {
+        Ok(Dependency {
+            kind: copy_name(alloc, &self.kind)?,
+            source: self.source,
+            target: self.target,
+        })
+    }
 }
 
 /// Dependencies in test order. One may be repeated.
@@ -41,18 +55,19 @@ impl Model for DependencyTable {
     ghost use Rattle.std.specs.Prelude.{List, map};
     ghost use Rattle.pc_common.specs.Case.{Dependency as PlainDependency};
     ghost use Rattle.pc_case.specs.Plain.{dependency};
-    ghost use Rattle.pc_case.specs.Tables.{Ties};
+    ghost use Rattle.pc_case.specs.Tables.{IsTableOf};
 
     ghost Value = { List PlainDependency };
 
     ghost view = { λ t. map dependency t.listed };
 
-    ghost invariant = { λ t. Ties t.ends.entries (map dependency t.listed) };
+    ghost invariant = { λ t. IsTableOf t.ends.entries (map dependency t.listed) };
 }
 
 /// Adds a dependency of this kind.
 fn add(alloc: Global, table: &mut EndsByKind, kind: &[u8], ends: Ends) -> Result<(), Memory>
-    ensures { OnOk result ((k : List ℕ) (i j : ℕ) → ties table.new.entries k i j ≡ (ties table.old.entries k i j || joins kind.now ends k i j)) }
+    ensures { OnOk result ((k : List ℕ) (i j : ℕ) → has_ends table.new.entries k i j
+        ≡ (has_ends table.old.entries k i j || goes_between kind.now ends k i j)) }
 {
     match table.get_mut(kind) {
         Some(known) => {
@@ -65,6 +80,16 @@ fn add(alloc: Global, table: &mut EndsByKind, kind: &[u8], ends: Ends) -> Result
         }
     }
     Ok(())
+}
+
+fn copy_listed(alloc: Global, listed: &Dependencies) -> Result<Dependencies, Memory>
+    ensures { IfOk result (λ c. c ≡ listed.now) }
+{
+    let mut copies = Listed::new(alloc);
+    for dependency in listed.as_slice() {
+        copies.push(dependency.copy(alloc)?)?;
+    }
+    Ok(copies)
 }
 
 impl DependencyTable {
@@ -104,5 +129,12 @@ impl DependencyTable {
                 target: j,
             }),
         }
+    }
+
+    /// The same table once more.
+    pub(crate) fn copy(&self, alloc: Global) -> Result<DependencyTable, Memory>
+        ensures { IfOk result (λ c. c ≡ self.now) }
+    {
+        DependencyTable::of(alloc, copy_listed(alloc, &self.listed)?)
     }
 }

@@ -2,19 +2,22 @@
 //!
 //! It takes lists in test order (micro-ops, dependencies, stated initial and final values) and the
 //! expectation, and answers by place, by address, by kind and by name. Addresses and kinds are looked
-//! up by hash, so that no question walks the test; the readers take no memory.
+//! up by hash, so that no question walks the test; the readers take no memory. A physical address is a
+//! page or the page-table entry of a virtual tag, and a value is a number or such an entry.
 //!
 //! The type keeps that there are at most 64 micro-ops, no two with one (g, n), on cores 0 to 63, that
 //! fences alone have no address and no value, that a dependency goes between micro-ops of the case,
 //! and that no address has two initial or two final values.
 #![tactic(auto)]
 
+mod address;
 mod case;
 mod dependency;
 mod op;
 mod stated;
 
+pub use address::{Address, Page};
 pub use case::{Case, Expect, Ops};
 pub use dependency::{Dependencies, Dependency};
-pub use op::{Access, Memop, Op, OpId, Page, TypeNames};
+pub use op::{Access, Memop, Op, OpId, TypeNames};
 pub use stated::{Stated, StatedValues};

@@ -1,4 +1,8 @@
-use pc_common::Listed;
+ghost use Rattle.std.specs.Prelude.{◌≡◌, IfOk, take};
+
+use super::address::{Address, Page};
+use pc_common::{Listed, Memory, Value};
+use std::alloc::Global;
 
 /// A micro-op's name: the number of its instruction and its number inside it.
 #[derive(Clone, Copy, Debug, PartialEq, Eq, Hash)]
@@ -7,19 +11,12 @@ pub struct OpId {
     pub n: u64,
 }
 
-/// A page of memory, virtual or physical: its tag and the index inside it.
-#[derive(Clone, Copy, Debug, PartialEq, Eq, Hash)]
-pub struct Page {
-    pub tag: u64,
-    pub index: u64,
-}
-
 /// What a read or a write touches: its virtual address, its physical address and its value.
 #[derive(Clone, Copy, Debug, PartialEq, Eq)]
 pub struct Memop {
     pub va: Page,
-    pub pa: Page,
-    pub value: u64,
+    pub pa: Address,
+    pub value: Value,
 }
 
 #[derive(Clone, Copy, Debug, PartialEq, Eq)]
@@ -42,4 +39,38 @@ pub struct Op {
     pub types: TypeNames,
     pub access: Access,
     pub memop: Option<Memop>,
+}
+
+/// A name once more.
+pub(crate) fn copy_name(alloc: Global, name: &Listed<u8>) -> Result<Listed<u8>, Memory>
+    ensures { IfOk result (λ c. c ≡ name.now) }
+{
+    let bytes = Vec::from_slice(alloc, name.as_slice())?;
+    Ok(Listed::from_vec(bytes))
+}
+
+fn copy_types(alloc: Global, types: &TypeNames) -> Result<TypeNames, Memory>
+    ensures { IfOk result (λ c. c ≡ types.now) }
+{
+    let mut copies = Listed::new(alloc);
+    for name in types.as_slice() {
+        copies.push(copy_name(alloc, name)?)?;
+    }
+    Ok(copies)
+}
+
+impl Op {
+    /// The same micro-op once more. The one error is that memory was refused.
+    pub fn copy(&self, alloc: Global) -> Result<Op, Memory>
+        ensures { IfOk result (λ c. c ≡ self.now) }
+    {
+        Ok(Op {
+            id: self.id,
+            core: self.core,
+            thread: self.thread,
+            types: copy_types(alloc, &self.types)?,
+            access: self.access,
+            memop: self.memop,
+        })
+    }
 }

@@ -1,22 +1,21 @@
 ghost use Rattle.std.specs.Prelude.{◌≡◌, ◌<◌, List, IfOk, OnOk, length, map, take, ◌++◌, ◌∷◌, [], slice_get, Some, None};
 ghost use Rattle.std.specs.Option.{option_map};
-ghost use Rattle.pc_common.specs.Case.{number};
-ghost use Rattle.pc_case.specs.Plain.{address_at, stated_value};
+ghost use Rattle.pc_case.specs.Plain.{address_at, plain_value, stated_value};
 ghost use Rattle.pc_common.specs.Addresses.{stated_at};
 ghost use Rattle.pc_case.specs.Stated.{IsStatedOnce};
 ghost use Rattle.pc_case.specs.Tables.{pairs_of};
 
-use super::op::Page;
+use super::address::Address;
 use indexmap::IndexMap;
-use pc_common::{Listed, Memory};
+use pc_common::{Listed, Memory, Value};
 use std::alloc::Global;
 use std::marker::Model;
 
 /// What a line states: the value at a physical address.
 #[derive(Clone, Copy, Debug, PartialEq, Eq)]
 pub struct Stated {
-    pub pa: Page,
-    pub value: u64,
+    pub pa: Address,
+    pub value: Value,
 }
 
 /// Stated values in test order.
@@ -25,15 +24,15 @@ pub type StatedValues = Listed<Stated>;
 /// Stated values in test order, looked up by address.
 #[derive(Drop)]
 pub(crate) struct ValueTable {
-    values: IndexMap<Page, u64>,
+    values: IndexMap<Address, Value>,
 }
 
 impl Model for ValueTable {
     ghost use Rattle.std.specs.Prelude.{List};
-    ghost use Rattle.pc_common.specs.Case.{Address, Value as PlainValue};
+    ghost use Rattle.pc_common.specs.Case.{Address as PlainAddress, Value as PlainValue};
     ghost use Rattle.pc_case.specs.Tables.{pairs_of};
 
-    ghost Value = { List (Address × PlainValue) };
+    ghost Value = { List (PlainAddress × PlainValue) };
 
     ghost view = { λ t. pairs_of t.values.entries };
 }
@@ -61,9 +60,18 @@ impl ValueTable {
     }
 
     /// The value that is stated at this address. Takes no memory.
-    pub(crate) fn get(&self, pa: Page) -> Option<u64>
-        ensures { option_map number result ≡ stated_at self.now (address_at pa) }
+    pub(crate) fn get(&self, pa: Address) -> Option<Value>
+        ensures { option_map plain_value result ≡ stated_at self.now (address_at pa) }
     {
         self.values.get(&pa).copied()
+    }
+
+    /// The same table once more.
+    pub(crate) fn copy(&self) -> Result<ValueTable, Memory>
+        ensures { IfOk result (λ c. c ≡ self.now) }
+    {
+        Ok(ValueTable {
+            values: self.values.clone()?,
+        })
     }
 }

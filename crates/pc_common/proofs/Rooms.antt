@@ -5,9 +5,10 @@ use Rattle.std.proofs.lemmas.List.{append_cancel_left, take_at, take-take, take_
 use Rattle.std.proofs.Math.Seq.{take-add, take-length}
 use Rattle.pc_common.specs.Faults.{Rose}
 use Rattle.pc_common.specs.Pieces.{IsCutShort}
-use Rattle.pc_common.specs.Writes.{Went, Writes, done}
+use Rattle.pc_common.specs.Outside.{SinkView}
+use Rattle.pc_common.specs.Writes.{Went, Writes, success}
 use Rattle.pc_common.specs.Waiting.{waiting_bytes}
-use Rattle.pc_common.specs.Room.{waits, so_far, Puts, Flushes}
+use Rattle.pc_common.specs.Room.{waits, room_view, Puts, Flushes}
 use Rattle.pc_common.specs.declared.room.Room.{Room}
 use Rattle.pc_common.specs.declared.waiting.Waiting.{Waiting}
 use Rattle.pc_common.proofs.Writes.{writes_then, writes_stop}
@@ -16,63 +17,63 @@ still : (b c : Bool) → c ≡ b → IsTrue b → IsTrue c
 still b c same is = let P : Bool → Type 0 = λ x. IsTrue x in subst P (sym same) is
 
 -- what a sink took only grew in each of two calls
-grows_then : {K : Type 0} (told : K → Bool) (taken : K → List ℕ) (a b c : K) → told b ≡ told a
-    → (IsTrue (told a) → (sent : List ℕ) × (taken b ≡ taken a ++ sent)) → (IsTrue (told b) → (sent : List ℕ) × (taken c ≡ taken b ++ sent))
-    → IsTrue (told a) → (sent : List ℕ) × (taken c ≡ taken a ++ sent)
-grows_then told taken a b c same first next is =
+grows_then : {K : Type 0} (view : K → SinkView) (a b c : K) → (view b).modelled ≡ (view a).modelled
+    → (IsTrue (view a).modelled → (sent : List ℕ) × ((view b).taken ≡ (view a).taken ++ sent)) → (IsTrue (view b).modelled → (sent : List ℕ) × ((view c).taken ≡ (view b).taken ++ sent))
+    → IsTrue (view a).modelled → (sent : List ℕ) × ((view c).taken ≡ (view a).taken ++ sent)
+grows_then view a b c same first next is =
     let f = first is in
-    let n = next (still (told a) (told b) same is) in
-    (f.0 ++ n.0, n.1 ∙ ap (λ xs. xs ++ n.0) f.1 ∙ append_assoc (taken a) f.0 n.0)
+    let n = next (still (view a).modelled (view b).modelled same is) in
+    (f.0 ++ n.0, n.1 ∙ ap (λ xs. xs ++ n.0) f.1 ∙ append_assoc (view a).taken f.0 n.0)
 
 -- all of a first text was put, and then the next call put
-pub puts_then : {K : Type 0} {told : K → Bool} {faults : K → ℕ} {taken : K → List ℕ} {old mid new : Room K}
+pub puts_then : {K : Type 0} {view : K → SinkView} {old mid new : Room K}
     {T E U F : Type 0} {r : Result T E} {s : Result U F} {first next : List ℕ}
-    → IsOk r → Puts told faults taken old mid r first → Puts told faults taken mid new s next
-    → Puts told faults taken old new s (first ++ next)
-puts_then {told = told} {taken = taken} {old} {mid} {new} ok one two = record {
+    → IsOk r → Puts view old mid r first → Puts view mid new s next
+    → Puts view old new s (first ++ next)
+puts_then {view = view} {old} {mid} {new} ok one two = record {
   same_sink = two.same_sink ∙ one.same_sink;
   writes = writes_then ok one.writes two.writes;
-  grows = grows_then told taken old.out.now mid.out.now new.out.now one.writes.same_told one.grows two.grows;
+  grows = grows_then view old.out.now mid.out.now new.out.now one.writes.same_modelled one.grows two.grows;
 }
 
 -- the call of a first text failed, and the next was not made
-pub puts_stop : {K : Type 0} {told : K → Bool} {faults : K → ℕ} {taken : K → List ℕ} {old new : Room K}
+pub puts_stop : {K : Type 0} {view : K → SinkView} {old new : Room K}
     {T E U F : Type 0} {r : Result T E} {s : Result U F} {first : List ℕ} (next : List ℕ)
-    → IsErr r → IsErr s → Puts told faults taken old new r first → Puts told faults taken old new s (first ++ next)
+    → IsErr r → IsErr s → Puts view old new r first → Puts view old new s (first ++ next)
 puts_stop next err fails one =
     record { same_sink = one.same_sink; writes = writes_stop next err fails one.writes; grows = one.grows }
 
 -- a call that left all as it was
-pub puts_nothing : {K : Type 0} (told : K → Bool) (faults : K → ℕ) (taken : K → List ℕ) (old new : Room K) → new ≡ old
-    → Puts told faults taken old new done []
-puts_nothing {K} told faults taken old new same =
-    let P : Room K → Type 0 = λ room. Puts told faults taken old room done [] in
+pub puts_nothing : {K : Type 0} (view : K → SinkView) (old new : Room K) → new ≡ old
+    → Puts view old new success []
+puts_nothing {K} view old new same =
+    let P : Room K → Type 0 = λ room. Puts view old room success [] in
     subst P (sym same) (record {
       same_sink = refl;
-      writes = record { same_told = refl; count = omega arith; cause = tt; went = λ is. sym (append-nil (so_far taken old)) };
-      grows = λ is. ([], sym (append-nil (taken old.out.now)));
+      writes = record { same_modelled = refl; count = omega arith; cause = tt; went = λ is. sym (append-nil (room_view view old).taken) };
+      grows = λ is. ([], sym (append-nil (view old.out.now).taken));
     })
 
 -- bytes that were put behind what waits
-pub puts_behind : {K : Type 0} (told : K → Bool) (faults : K → ℕ) (taken : K → List ℕ) (old : Room K) (w : Waiting) (text : List ℕ)
-    → waiting_bytes w ≡ waits old ++ text → Puts told faults taken old (record { out = old.out; waiting = w }) done text
-puts_behind told faults taken old w text behind = record {
+pub puts_behind : {K : Type 0} (view : K → SinkView) (old : Room K) (w : Waiting) (text : List ℕ)
+    → waiting_bytes w ≡ waits old ++ text → Puts view old (record { out = old.out; waiting = w }) success text
+puts_behind view old w text behind = record {
   same_sink = refl;
   writes = record {
-    same_told = refl;
+    same_modelled = refl;
     count = omega arith;
     cause = tt;
-    went = λ is. ap (λ xs. taken old.out.now ++ xs) behind ∙ sym (append_assoc (taken old.out.now) (waits old) text);
+    went = λ is. ap (λ xs. (view old.out.now).taken ++ xs) behind ∙ sym (append_assoc (view old.out.now).taken (waits old) text);
   };
-  grows = λ is. ([], sym (append-nil (taken old.out.now)));
+  grows = λ is. ([], sym (append-nil (view old.out.now).taken));
 }
 
 -- the same text
-pub puts_text : {K : Type 0} {told : K → Bool} {faults : K → ℕ} {taken : K → List ℕ} {old new : Room K}
+pub puts_text : {K : Type 0} {view : K → SinkView} {old new : Room K}
     {T E : Type 0} {r : Result T E} {text : List ℕ} (other : List ℕ) → text ≡ other
-    → Puts told faults taken old new r text → Puts told faults taken old new r other
-puts_text {told = told} {faults} {taken} {old} {new} {r = r} other same puts =
-    let P : List ℕ → Type 0 = λ t. Puts told faults taken old new r t in subst P same puts
+    → Puts view old new r text → Puts view old new r other
+puts_text {view = view} {old} {new} {r = r} other same puts =
+    let P : List ℕ → Type 0 = λ t. Puts view old new r t in subst P same puts
 
 -- the first bytes of a piece, and the next ones of what is left of it
 pub next_bytes : (piece : List ℕ) (at n : ℕ)
@@ -92,19 +93,19 @@ on_err (Err e) (Ok y) P Q err f given = tt
 on_err (Err e) (Err g) P Q err f given = f given
 
 -- the room could not be handed on before the rest of the piece
-pub puts_cut : {K : Type 0} {told : K → Bool} {faults : K → ℕ} {taken : K → List ℕ} {old mid new : Room K}
+pub puts_cut : {K : Type 0} {view : K → SinkView} {old mid new : Room K}
     {T E U F : Type 0} {r : Result T E} (s : Result U F) (piece : List ℕ) (at : ℕ) → at < length piece → IsErr r → IsErr s
-    → Puts told faults taken old mid done (take at piece) → Flushes told faults taken mid new r → Puts told faults taken old new s piece
-puts_cut {told = told} {faults} {taken} {old} {mid} {new} {r = r} s piece at within err fails puts flush =
+    → Puts view old mid success (take at piece) → Flushes view mid new r → Puts view old new s piece
+puts_cut {view = view} {old} {mid} {new} {r = r} s piece at within err fails puts flush =
     let both = puts_then refl puts flush.puts in record {
       same_sink = both.same_sink;
       writes = record {
-        same_told = both.writes.same_told;
+        same_modelled = both.writes.same_modelled;
         count = both.writes.count;
-        cause = on_err r s (Rose (faults mid.out.now) (faults new.out.now)) (Rose (faults old.out.now) (faults new.out.now)) err
+        cause = on_err r s (Rose (view mid.out.now).faults (view new.out.now).faults) (Rose (view old.out.now).faults (view new.out.now).faults) err
             (λ rose below. let after = rose below in omega (arith, puts.writes.count)) flush.cause;
-        went = λ is. went_cut s (so_far taken old) piece (so_far taken new) at within fails
-            (both.writes.went is ∙ ap (λ xs. so_far taken old ++ xs) (append-nil (take at piece)));
+        went = λ is. went_cut s (room_view view old).taken piece (room_view view new).taken at within fails
+            (both.writes.went is ∙ ap (λ xs. (room_view view old).taken ++ xs) (append-nil (take at piece)));
       };
       grows = both.grows;
     }
@@ -134,17 +135,17 @@ stop_went (Err e) s before wait sent text after err fails is cut =
     cut_err s before text after fails (sent_cut before sent wait text after cut.shown is
     (cut.bytes ∙ ap (λ xs. xs ++ take cut.shown text) (append-nil before)) (omega arith) (omega arith))
 
-stopped : {K : Type 0} {told : K → Bool} {faults : K → ℕ} {taken : K → List ℕ} {old new : Room K}
+stopped : {K : Type 0} {view : K → SinkView} {old new : Room K}
     {T E U F : Type 0} {r : Result T E} (s : Result U F) {text : List ℕ} → waits old ≡ [] → IsErr r → IsErr s
-    → Puts told faults taken old new r text → Writes told faults taken old.out.now new.out.now s text
-stopped {told = told} {faults} {taken} {old} {new} {r = r} s {text} empty err fails puts = record {
-  same_told = puts.writes.same_told;
+    → Puts view old new r text → Writes view old.out.now new.out.now s text
+stopped {view = view} {old} {new} {r = r} s {text} empty err fails puts = record {
+  same_modelled = puts.writes.same_modelled;
   count = puts.writes.count;
-  cause = on_err r s (Rose (faults old.out.now) (faults new.out.now)) (Rose (faults old.out.now) (faults new.out.now)) err (λ rose. rose) puts.writes.cause;
+  cause = on_err r s (Rose (view old.out.now).faults (view new.out.now).faults) (Rose (view old.out.now).faults (view new.out.now).faults) err (λ rose. rose) puts.writes.cause;
   went = λ is.
       let sent = puts.grows is in
-      let P : List ℕ → Type 0 = λ xs. Went r (taken old.out.now ++ xs) text (so_far taken new) in
-      stop_went r s (taken old.out.now) (waits new) sent.0 text (taken new.out.now) err fails sent.1 (subst P empty (puts.writes.went is));
+      let P : List ℕ → Type 0 = λ xs. Went r ((view old.out.now).taken ++ xs) text (room_view view new).taken in
+      stop_went r s (view old.out.now).taken (waits new) sent.0 text (view new.out.now).taken err fails sent.1 (subst P empty (puts.writes.went is));
 }
 
 flush_went : {U F : Type 0} (s : Result U F) (before sent wait text after : List ℕ) → after ≡ before ++ sent → after ++ wait ≡ before ++ text
@@ -161,36 +162,36 @@ on_same : {U F : Type 0} (s : Result U F) (P Q : Type 0) → (P → Q) → OnErr
 on_same (Ok x) P Q f given = tt
 on_same (Err e) P Q f given = f given
 
-flushed : {K : Type 0} {told : K → Bool} {faults : K → ℕ} {taken : K → List ℕ} {old mid new : Room K}
+flushed : {K : Type 0} {view : K → SinkView} {old mid new : Room K}
     {T E U F : Type 0} {r : Result T E} {s : Result U F} {text : List ℕ} → waits old ≡ [] → IsOk r
-    → Puts told faults taken old mid r text → Flushes told faults taken mid new s → Writes told faults taken old.out.now new.out.now s text
-flushed {told = told} {faults} {taken} {old} {mid} {new} {s = s} {text} empty ok puts flush =
+    → Puts view old mid r text → Flushes view mid new s → Writes view old.out.now new.out.now s text
+flushed {view = view} {old} {mid} {new} {s = s} {text} empty ok puts flush =
     let both = puts_then ok puts flush.puts in record {
-      same_told = both.writes.same_told;
+      same_modelled = both.writes.same_modelled;
       count = both.writes.count;
-      cause = on_same s (Rose (faults mid.out.now) (faults new.out.now)) (Rose (faults old.out.now) (faults new.out.now))
+      cause = on_same s (Rose (view mid.out.now).faults (view new.out.now).faults) (Rose (view old.out.now).faults (view new.out.now).faults)
           (λ rose below. let after = rose below in omega (arith, puts.writes.count)) flush.cause;
       went = λ is.
           let sent = both.grows is in
-          flush_went s (taken old.out.now) sent.0 (waits new) text (taken new.out.now) sent.1
-          (both.writes.went is ∙ ap (λ xs. (taken old.out.now ++ xs) ++ (text ++ [])) empty ∙ ap (λ xs. xs ++ (text ++ [])) (append-nil (taken old.out.now)) ∙ ap (λ xs. taken old.out.now ++ xs) (append-nil text))
+          flush_went s (view old.out.now).taken sent.0 (waits new) text (view new.out.now).taken sent.1
+          (both.writes.went is ∙ ap (λ xs. ((view old.out.now).taken ++ xs) ++ (text ++ [])) empty ∙ ap (λ xs. xs ++ (text ++ [])) (append-nil (view old.out.now).taken) ∙ ap (λ xs. (view old.out.now).taken ++ xs) (append-nil text))
           (none_waits s new flush.empty) flush.left;
     }
 
-at_ends : {K : Type 0} (told : K → Bool) (faults : K → ℕ) (taken : K → List ℕ) {a b first last : K} {U F : Type 0} {s : Result U F} {text : List ℕ}
-    → a ≡ first → last ≡ b → Writes told faults taken a b s text → Writes told faults taken first last s text
-at_ends {K} told faults taken {last = last} {s = s} {text} from to writes =
-    let P : K → K → Type 0 = λ x y. Writes told faults taken x y s text in
+at_ends : {K : Type 0} (view : K → SinkView) {a b first last : K} {U F : Type 0} {s : Result U F} {text : List ℕ}
+    → a ≡ first → last ≡ b → Writes view a b s text → Writes view first last s text
+at_ends {K} view {last = last} {s = s} {text} from to writes =
+    let P : K → K → Type 0 = λ x y. Writes view x y s text in
     subst (λ x. P x last) from (subst (P _) (sym to) writes)
 
 -- a text was put into an empty room in front of a sink until a call failed: so much of it the sink took
-pub room_stop : {K : Type 0} {told : K → Bool} {faults : K → ℕ} {taken : K → List ℕ} {first last : K} {old new : Room K}
+pub room_stop : {K : Type 0} {view : K → SinkView} {first last : K} {old new : Room K}
     {T E U F : Type 0} {r : Result T E} {s : Result U F} {text : List ℕ} → old.out.now ≡ first → last ≡ new.out.now → waits old ≡ []
-    → IsErr r → IsErr s → Puts told faults taken old new r text → Writes told faults taken first last s text
-room_stop {told = told} {faults} {taken} {s = s} from to empty err fails puts = at_ends told faults taken from to (stopped s empty err fails puts)
+    → IsErr r → IsErr s → Puts view old new r text → Writes view first last s text
+room_stop {view = view} {s = s} from to empty err fails puts = at_ends view from to (stopped s empty err fails puts)
 
 -- a text was put into an empty room in front of a sink, and the room flushed: so much of it the sink took
-pub room_flushed : {K : Type 0} {told : K → Bool} {faults : K → ℕ} {taken : K → List ℕ} {first last : K} {old mid new : Room K}
+pub room_flushed : {K : Type 0} {view : K → SinkView} {first last : K} {old mid new : Room K}
     {T E U F : Type 0} {r : Result T E} {s : Result U F} {text : List ℕ} → old.out.now ≡ first → last ≡ new.out.now → waits old ≡ []
-    → IsOk r → Puts told faults taken old mid r text → Flushes told faults taken mid new s → Writes told faults taken first last s text
-room_flushed {told = told} {faults} {taken} from to empty ok puts flush = at_ends told faults taken from to (flushed empty ok puts flush)
+    → IsOk r → Puts view old mid r text → Flushes view mid new s → Writes view first last s text
+room_flushed {view = view} from to empty ok puts flush = at_ends view from to (flushed empty ok puts flush)

@@ -6,13 +6,21 @@ pub record PageAt : Type 0 where
   pub tag : ℕ
   pub index : ℕ
 
--- a physical address
+-- a physical address: a page of memory, or the page-table entry of a virtual tag
 pub data Address : Type 0 where
   page : PageAt → Address
+  entry_of : ℕ → Address
+
+-- what a page-table entry holds: the physical tag that it maps to, its accessed mark and its dirty mark (0 or 1)
+pub record TableEntry : Type 0 where
+  pub tag : ℕ
+  pub accessed : ℕ
+  pub dirty : ℕ
 
 -- what is written or read
 pub data Value : Type 0 where
   number : ℕ → Value
+  entry : TableEntry → Value
 
 -- what an access touches: its virtual address, its physical address and its value
 pub record Touch : Type 0 where

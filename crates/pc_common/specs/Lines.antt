@@ -1,9 +1,10 @@
 -- The lines of a certificate, over plain nodes, and the text of each.
-use Rattle.std.specs.Prelude.{ℕ, List, [], ◌∷◌, ◌++◌, Option, Some, None, codes, slice_get, ◌==◌, if◌then◌else◌}
+use Rattle.std.specs.Prelude.{ℕ, Bool, true, false, List, [], ◌∷◌, ◌++◌, Option, Some, None, codes, slice_get, ◌==◌, if◌then◌else◌}
 use Rattle.std.specs.List.{flat_map}
 use Rattle.std.specs.Fmt.{decimal}
 use Rattle.pc_common.specs.Case.{MicroOp, Expectation, permitted, forbidden, unstated}
 use Rattle.pc_common.specs.World.{Node}
+use Rattle.pc_common.specs.Steps.{Leaf, cycle, path, absent, false_step, Step, split, close}
 
 pub data Verdict : Type 0 where
   observable : Verdict
@@ -13,13 +14,11 @@ pub data Line : Type 0 where
   verdict : Verdict → Line
   -- how the verdict compares with what the test states
   second : Verdict → Expectation → Line
+  -- the splits of the text may be signed
+  version_two : Line
   node : Node → Line
   edge : Node → Node → Line
-  split : ℕ → Line
-  cycle : List Node → Line
-  path : List Node → Line
-  absent : Node → Line
-  false_step : Line
+  step : Step Node → Line
   end : Line
 
 -- a stage: its number and its name
@@ -63,16 +62,28 @@ second_text unobservable unstated = codes "test unstated"
 abbrev pub nodes_text : Names → List Node → List ℕ
 nodes_text names nodes = flat_map (λ a. codes " " ++ node_text names a) nodes
 
+-- a position that is meant negated has the sign `~`
+abbrev pub sign_text : Bool → List ℕ
+sign_text true = codes "~"
+sign_text false = []
+
+abbrev pub leaf_words : Names → Leaf Node → List ℕ
+leaf_words names (cycle nodes) = codes "cycle" ++ nodes_text names nodes
+leaf_words names (path nodes) = codes "path" ++ nodes_text names nodes
+leaf_words names (absent a) = codes "absent" ++ nodes_text names (a ∷ [])
+leaf_words names false_step = codes "false"
+
+abbrev pub step_words : Names → Step Node → List ℕ
+step_words names (split negated p) = codes "split " ++ sign_text negated ++ decimal p
+step_words names (close l) = leaf_words names l
+
 abbrev pub line_words : Names → Line → List ℕ
 line_words names (verdict v) = verdict_text v
 line_words names (second v e) = second_text v e
+line_words names version_two = codes "version 2"
 line_words names (node a) = codes "node" ++ nodes_text names (a ∷ [])
 line_words names (edge a b) = codes "edge" ++ nodes_text names (a ∷ b ∷ [])
-line_words names (split p) = codes "split " ++ decimal p
-line_words names (cycle nodes) = codes "cycle" ++ nodes_text names nodes
-line_words names (path nodes) = codes "path" ++ nodes_text names nodes
-line_words names (absent a) = codes "absent" ++ nodes_text names (a ∷ [])
-line_words names false_step = codes "false"
+line_words names (step s) = step_words names s
 line_words names end = codes "end"
 
 -- a line ends with LF

@@ -1,9 +1,10 @@
 -- What a call that reads keeps of files.
-use Rattle.std.specs.Prelude.{◌≡◌, ◌≤◌, ℕ, Bool, List, Option}
+use Rattle.std.specs.Prelude.{◌≡◌, ◌≤◌}
+use Rattle.pc_common.specs.Outside.{FilesView}
 
--- told, holds, calm and faults are those of the files' kind
-pub record Reads {F : Type 0} (told : F → Bool) (holds : F → List ℕ → Option (List ℕ)) (calm : F → Bool) (faults : F → ℕ) (old new : F) : Type 0 where
-  pub same_told : told new ≡ told old
-  pub same_held : holds new ≡ holds old
-  pub same_calm : calm new ≡ calm old
-  pub count : faults old ≤ faults new
+-- `view` is that of the files' kind
+pub record Reads {F : Type 0} (view : F → FilesView) (old new : F) : Type 0 where
+  pub same_modelled : (view new).modelled ≡ (view old).modelled
+  pub same_held : (view new).holds ≡ (view old).holds
+  pub same_failing : (view new).only_missing_fail ≡ (view old).only_missing_fail
+  pub count : (view old).faults ≤ (view new).faults

@@ -1,10 +1,13 @@
 use super::place::Place;
+use super::value::Value;
 
 /// Which of the input files a fault stands in.
 #[derive(Clone, Copy, Debug, PartialEq, Eq)]
 pub enum Which {
     Model,
     Test,
+    /// The formula that is asked of a model and a test.
+    Query,
 }
 
 /// What is wrong with an input file: one variant for each fault word, with what it carries.
@@ -57,11 +60,25 @@ pub enum FaultKind {
     /// `op-unknown`: a relationship's end is no earlier micro-op.
     OpUnknown { g: u64, n: u64 },
     /// `again-initial`: a second initial value at one address.
-    AgainInitial { first: u64, again: u64 },
+    AgainInitial { first: Value, again: Value },
     /// `again-final`: a second final value at one address.
-    AgainFinal { first: u64, again: u64 },
+    AgainFinal { first: Value, again: Value },
     /// `again-expectation`: a second `Permitted` or `Forbidden`.
     AgainExpectation { first: Place, again: Place },
+    /// `mark-value`: a mark of a page-table entry over 1.
+    MarkValue { mark: u64 },
+    /// `too-many-rows`: more combinations of read values than the limit.
+    TooManyRows { limit: u64 },
+    /// `x86-column`: a column's name is not its number's, or a line has another number of cells.
+    X86Column,
+    /// `x86-reload`: a thread loads a register again.
+    X86Reload,
+    /// `x86-unloaded`: the condition names a register that its thread does not load.
+    X86Unloaded,
+    /// `x86-again`: the condition gives a thread's register a second value.
+    X86Again,
+    /// `x86-open`: the condition does not say which value a load reads.
+    X86Open,
 }
 
 /// A fault of an input file: where it stands, and what is wrong.

@@ -13,6 +13,7 @@ mod failed;
 mod fault;
 mod files;
 mod held;
+mod laws;
 mod limits;
 mod line_column;
 mod listed;
@@ -29,6 +30,7 @@ mod sink;
 mod status;
 mod sure_files;
 mod sure_sink;
+mod value;
 mod waiting;
 mod writing;
 
@@ -36,7 +38,8 @@ pub use failed::Failed;
 pub use fault::{FaultKind, InputFault, Which};
 pub use files::Files;
 pub use held::{Held, HeldFile};
-pub use limits::{MAX_CORE, MAX_OPS};
+pub use laws::limits_are;
+pub use limits::{MAX_CERTIFICATE, MAX_CORE, MAX_NODES, MAX_OPS};
 pub use line_column::line_col;
 pub use listed::Listed;
 pub use mem_files::MemFiles;
@@ -51,6 +54,7 @@ pub use sink::Sink;
 pub use status::Status;
 pub use sure_files::SureFiles;
 pub use sure_sink::SureSink;
+pub use value::Value;
 pub use writing::write_all;
 
 /// A list of bytes.

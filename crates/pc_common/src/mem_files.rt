@@ -15,7 +15,7 @@ use std::alloc::Global;
 /// Files in memory, of which chosen calls fail. `start` and `read` are numbered together, from 1.
 ///
 /// A name that was not given is missing. A `read` moves as many bytes as fit, at most a step.
-/// The files are calm where no call is to fail.
+/// Where no call is to fail, only a missing name does.
 #[derive(Drop)]
 pub struct MemFiles {
     shelf: Shelf,
@@ -58,19 +58,16 @@ impl MemFiles {
 }
 
 impl Files for MemFiles {
-    ghost told = { λ files. true };
+    ghost view = { λ files. record {
+      modelled = true;
+      holds = held_bytes files.shelf.held;
+      left = left_of files.shelf;
+      started = is_some files.shelf.started;
+      faults = files.schedule.faults;
+      only_missing_fail = is_none_listed files.schedule.fails;
+    } };
 
-    ghost holds = { λ files. held_bytes files.shelf.held };
-
-    ghost left = { λ files. left_of files.shelf };
-
-    ghost started = { λ files. is_some files.shelf.started };
-
-    ghost faults = { λ files. files.schedule.faults };
-
-    ghost calm = { λ files. is_none_listed files.schedule.fails };
-
-    ghost calm_told = { λ files calm. refl };
+    ghost failing_modelled = { λ files failing. refl };
 
     fn start(&mut self, name: &str) -> Result<(), Failed>
         ensures exact { let holds = is_some (held_bytes self.old.shelf.held name.now) in

@@ -83,11 +83,11 @@ impl MemSink {
 }
 
 impl Sink for MemSink {
-    ghost told = { λ sink. true };
-
-    ghost taken = { λ sink. take sink.used sink.room.items };
-
-    ghost faults = { λ sink. sink.schedule.faults };
+    ghost view = { λ sink. record {
+      modelled = true;
+      taken = take sink.used sink.room.items;
+      faults = sink.schedule.faults;
+    } };
 
     fn write(&mut self, piece: &[u8]) -> Result<usize, Failed>
         ensures exact { let room_left = nat_lt self.old.used (vec_len self.old.room) in

@@ -54,19 +54,19 @@ pub fn read_all<F: Files>(
     limit: usize,
 ) -> Result<Vec<u8>, ReadEnd>
     requires { limit < 4294967296 }
-    ensures keeps { Reads F.told F.holds F.calm F.faults files.old files.new }
+    ensures keeps { Reads F.view files.old files.new }
     ensures within { IfOk result (λ bytes. vec_len bytes ≤ limit) }
-    ensures whole { IfOk result (λ bytes. IsTrue (F.told files.old) →
-        F.holds files.old name.now ≡ Some bytes.items) }
-    ensures too_large { result ≡ Err TooLarge → IsTrue (F.told files.old) →
-        (bytes : List ℕ) × (F.holds files.old name.now ≡ Some bytes) × (limit < length bytes) }
+    ensures whole { IfOk result (λ bytes. IsTrue (F.view files.old).modelled →
+        (F.view files.old).holds name.now ≡ Some bytes.items) }
+    ensures too_large { result ≡ Err TooLarge → IsTrue (F.view files.old).modelled →
+        (bytes : List ℕ) × ((F.view files.old).holds name.now ≡ Some bytes) × (limit < length bytes) }
     // exactly one byte past the limit was read
-    ensures stops { result ≡ Err TooLarge → IsTrue (F.told files.old) →
+    ensures stops { result ≡ Err TooLarge → IsTrue (F.view files.old).modelled →
         (read : List ℕ) × (length read ≡ limit + 1)
-        × (F.holds files.old name.now ≡ Some (read ++ F.left files.new)) }
-    ensures cause { result ≡ Err ReadFault → Rose (F.faults files.old) (F.faults files.new) }
-    ensures sure { IsTrue (F.calm files.old) →
-        (result ≡ Err ReadFault) ↔ (F.holds files.old name.now ≡ None) }
+        × ((F.view files.old).holds name.now ≡ Some (read ++ (F.view files.new).left)) }
+    ensures cause { result ≡ Err ReadFault → Rose (F.view files.old).faults (F.view files.new).faults }
+    ensures sure { IsTrue (F.view files.old).only_missing_fail →
+        (result ≡ Err ReadFault) ↔ ((F.view files.old).holds name.now ≡ None) }
 {
     files.start(name)?;
     let mut piece = [0; PIECE];
@@ -82,16 +82,17 @@ fn read_rest<F: Files>(
 ) -> Result<Vec<u8>, ReadEnd>
     requires limit { limit < 4294967296 }
     requires room { 0 < length buf.old }
-    requires started { IsTrue (F.started files.old) }
-    ensures keeps { Reads F.told F.holds F.calm F.faults files.old files.new }
+    requires started { IsTrue (F.view files.old).started }
+    ensures keeps { Reads F.view files.old files.new }
     ensures within { IfOk result (λ bytes. vec_len bytes ≤ limit) }
-    ensures whole { IfOk result (λ bytes. IsTrue (F.told files.old) → F.left files.old ≡ bytes.items) }
-    ensures too_large { result ≡ Err TooLarge → IsTrue (F.told files.old) → limit < length (F.left files.old) }
-    ensures stops { result ≡ Err TooLarge → IsTrue (F.told files.old) →
+    ensures whole { IfOk result (λ bytes. IsTrue (F.view files.old).modelled → (F.view files.old).left ≡ bytes.items) }
+    ensures too_large { result ≡ Err TooLarge → IsTrue (F.view files.old).modelled
+        → limit < length (F.view files.old).left }
+    ensures stops { result ≡ Err TooLarge → IsTrue (F.view files.old).modelled →
         (read : List ℕ) × (length read ≡ limit + 1)
-        × (F.left files.old ≡ read ++ F.left files.new) }
-    ensures cause { result ≡ Err ReadFault → Rose (F.faults files.old) (F.faults files.new) }
-    ensures sure { IsTrue (F.calm files.old) → result ≢ Err ReadFault }
+        × ((F.view files.old).left ≡ read ++ (F.view files.new).left) }
+    ensures cause { result ≡ Err ReadFault → Rose (F.view files.old).faults (F.view files.new).faults }
+    ensures sure { IsTrue (F.view files.old).only_missing_fail → result ≢ Err ReadFault }
 {
     let mut bytes = Vec::new(alloc);
     loop {

@@ -36,7 +36,7 @@ impl<'a, K: Sink> Room<'a, K> {
     ///
     /// A piece that has space behind what waits is put without a call of the sink.
     pub fn put(&mut self, piece: &[u8]) -> Result<(), Failed>
-        ensures puts { Puts K.told K.faults K.taken self.old self.new result piece.now }
+        ensures puts { Puts K.view self.old self.new result piece.now }
         ensures fits { self.old.waiting.used + length piece.now ≤ 4096
             → IsOk result × (self.new.out.now ≡ self.old.out.now) }
     {
@@ -48,9 +48,10 @@ impl<'a, K: Sink> Room<'a, K> {
         Ok(())
     }
 
-    /// Puts the pieces behind what waits, one after another. Where handing on fails, the first bytes of them were put, but not all.
+    /// Puts the pieces behind what waits, one after another. Where handing on fails, the first bytes of them
+    /// were put, but not all.
     pub fn put_all(&mut self, pieces: &[&[u8]]) -> Result<(), Failed>
-        ensures { Puts K.told K.faults K.taken self.old self.new result (flat_map (λ p. p.now) pieces.now) }
+        ensures { Puts K.view self.old self.new result (flat_map (λ p. p.now) pieces.now) }
     {
         for piece in pieces {
             self.put(piece)?;
@@ -60,7 +61,7 @@ impl<'a, K: Sink> Room<'a, K> {
 
     /// Hands on what waits. Where a call of the sink fails, the bytes that it did not take wait on.
     pub fn flush(&mut self) -> Result<(), Failed>
-        ensures { Flushes K.told K.faults K.taken self.old self.new result }
+        ensures { Flushes K.view self.old self.new result }
     {
         let waiting = self.waiting.as_slice().len();
         let sent = send(self.out, self.waiting.as_slice());
@@ -70,9 +71,10 @@ impl<'a, K: Sink> Room<'a, K> {
         }
         Ok(())
     }
+
     // Hands on a full room. A room that is not full stays as it is.
     fn make_space(&mut self) -> Result<(), Failed>
-        ensures full { self.old.waiting.used ≡ 4096 → Flushes K.told K.faults K.taken self.old self.new result }
+        ensures full { self.old.waiting.used ≡ 4096 → Flushes K.view self.old self.new result }
         ensures kept { self.old.waiting.used < 4096 → IsOk result × (self.new ≡ self.old) }
         ensures space { OnOk result (self.new.waiting.used < 4096) }
     {

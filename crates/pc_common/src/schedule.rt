@@ -32,7 +32,7 @@ impl Schedule {
     pub fn is_due(&mut self) -> bool
         ensures listed { result ≡ is_next_listed self.old }
         ensures counted { self.new ≡ record self.old { calls = one_more self.old.calls } }
-        ensures calm { IsTrue (is_none_listed self.old.fails) → result ≡ false }
+        ensures none_listed { IsTrue (is_none_listed self.old.fails) → result ≡ false }
     {
         self.calls = self.calls.saturating_add(1);
         let number = self.calls;

@@ -1,38 +1,51 @@
-ghost use Rattle.std.specs.Prelude.{◌≡◌, ◌^◌, ◌<◌, length, slice_get, Some, IfOk};
+ghost use Rattle.std.specs.Prelude.{◌≡◌, ◌^◌, ◌<◌, ◌++◌, [], ◌∷◌, length, slice_get, Some, IfOk, is_ok, if◌then◌else◌};
 
 use super::listed::Listed;
 use super::memory::Memory;
+use std::alloc::{AllocError, Global};
 use std::marker::Model;
 use std::rc::RcSlice;
 
-/// A list that never changes, that contracts see as a plain list, and whose copies are kept once.
+/// A list that contracts see as a plain list, and whose copies are kept once.
 ///
 /// Each copy counts as one more owner of the items, which go with the last of them.
 #[derive(Drop)]
 pub struct Shared<T> {
-    items: RcSlice<T>,
+    alloc: Global,
+    // None: the list is empty.
+    items: Option<RcSlice<T>>,
 }
 
 impl<T> Model for Shared<T> {
     ghost use Rattle.std.specs.Prelude.{◌^◌, ◌<◌, List, length};
-    ghost use Rattle.std.specs.Rc.{rc_slice_items};
+    ghost use Rattle.pc_common.specs.Shared.{owned_items};
 
     ghost Value = { List T };
 
-    ghost view = { λ s. rc_slice_items s.items };
+    ghost view = { λ s. owned_items s.items };
 
-    ghost invariant = { λ s. length (rc_slice_items s.items) < 2 ^ 63 };
+    ghost invariant = { λ s. length (owned_items s.items) < 2 ^ 63 };
 }
 
 impl<T> Shared<T> {
+    /// The empty list. Takes no memory.
+    pub fn new(alloc: Global) -> Shared<T>
+        ensures { result ≡ [] }
+    {
+        Shared { alloc, items: None }
+    }
+
     /// The items of a list, which are moved and not copied.
-    pub fn new(items: Listed<T>) -> Result<Shared<T>, Memory>
+    pub fn of(items: Listed<T>) -> Result<Shared<T>, Memory>
     where
         T: Drop,
         ensures { IfOk result (λ shared. shared ≡ items) }
     {
+        let items = items.into_vec();
+        let alloc = *items.allocator();
         Ok(Shared {
-            items: RcSlice::from_vec(items.into_vec())?,
+            alloc,
+            items: Some(RcSlice::from_vec(items)?),
         })
     }
 
@@ -42,8 +55,13 @@ impl<T> Shared<T> {
         T: Drop,
         ensures { IfOk result (λ shared. shared ≡ self.now) }
     {
+        let items = match &self.items {
+            None => None,
+            Some(items) => Some(items.clone()?),
+        };
         Ok(Shared {
-            items: self.items.clone()?,
+            alloc: self.alloc,
+            items,
         })
     }
 
@@ -51,7 +69,7 @@ impl<T> Shared<T> {
         ensures value { result ≡ length self.now }
         ensures bound { length self.now < 2 ^ 63 }
     {
-        self.items.len()
+        self.as_slice().len()
     }
 
     /// The item at `k`, from 0.
@@ -59,13 +77,44 @@ impl<T> Shared<T> {
         requires { k < length self.now }
         ensures { slice_get self.now k ≡ Some result.now }
     {
-        &self.items.as_slice()[k]
+        &self.as_slice()[k]
     }
 
     pub fn as_slice(&self) -> &[T]
         ensures value { result.now ≡ self.now }
         ensures bound { length self.now < 2 ^ 63 }
     {
-        self.items.as_slice()
+        match &self.items {
+            None => &[],
+            Some(items) => items.as_slice(),
+        }
+    }
+
+    /// Puts `x` last, or changes nothing where memory is refused. The items are copied, since other owners
+    /// keep the list as it was: a list that is made item by item is made as a [`Listed`] first.
+    pub fn push(&mut self, x: T) -> Result<(), Memory>
+    where
+        T: Clone + Drop,
+        requires { (a b : T) → T.is_clone a b → a ≡ b }
+        ensures { self.new ≡ (if is_ok result then self.old ++ x ∷ [] else self.old) }
+    {
+        let mut items = Listed::new(self.alloc);
+        for y in self.as_slice() {
+            items.push(y.clone()?)?;
+        }
+        items.push(x)?;
+        *self = Shared::of(items)?;
+        Ok(())
+    }
+}
+
+impl<T: Drop> Clone for Shared<T> {
+    ghost is_clone = { λ a b. b ≡ a };
+
+    fn clone(&self) -> Result<Shared<T>, AllocError> {
+        match self.share() {
+            Ok(copy) => Ok(copy),
+            Err(Memory) => Err(AllocError),
+        }
     }
 }

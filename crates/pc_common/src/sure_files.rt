@@ -25,19 +25,16 @@ impl SureFiles {
 }
 
 impl Files for SureFiles {
-    ghost told = { λ files. true };
+    ghost view = { λ files. record {
+      modelled = true;
+      holds = sure_bytes files.shelf.held;
+      left = left_of files.shelf;
+      started = is_some files.shelf.started;
+      faults = 0;
+      only_missing_fail = true;
+    } };
 
-    ghost holds = { λ files. sure_bytes files.shelf.held };
-
-    ghost left = { λ files. left_of files.shelf };
-
-    ghost started = { λ files. is_some files.shelf.started };
-
-    ghost faults = { λ files. 0 };
-
-    ghost calm = { λ files. true };
-
-    ghost calm_told = { λ files calm. refl };
+    ghost failing_modelled = { λ files failing. refl };
 
     fn start(&mut self, name: &str) -> Result<(), Failed>
         ensures sure { IsOk result }

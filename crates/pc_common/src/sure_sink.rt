@@ -3,7 +3,7 @@ ghost use Rattle.std.specs.Prelude.{◌≡◌, false, Ok, length, []};
 use super::failed::Failed;
 use super::sink::Sink;
 
-/// Takes every piece, keeps none and tells nothing.
+/// Takes every piece and keeps none; what it took is not modelled.
 #[derive(Drop)]
 pub struct SureSink;
 
@@ -15,11 +15,7 @@ impl SureSink {
 }
 
 impl Sink for SureSink {
-    ghost told = { λ sink. false };
-
-    ghost taken = { λ sink. [] };
-
-    ghost faults = { λ sink. 0 };
+    ghost view = { λ sink. record { modelled = false; taken = []; faults = 0 } };
 
     fn write(&mut self, piece: &[u8]) -> Result<usize, Failed>
         ensures { result ≡ Ok (length piece.now) }

@@ -7,11 +7,12 @@ use super::sink::Sink;
 
 /// Writes the first bytes of the piece, as many as go out before a call fails, and answers how many.
 pub(crate) fn send<K: Sink>(sink: &mut K, piece: &[u8]) -> usize
-    ensures same_told { K.told sink.new ≡ K.told sink.old }
-    ensures count { K.faults sink.old ≤ K.faults sink.new }
+    ensures same_modelled { (K.view sink.new).modelled ≡ (K.view sink.old).modelled }
+    ensures count { (K.view sink.old).faults ≤ (K.view sink.new).faults }
     ensures within { result ≤ length piece.now }
-    ensures cause { result < length piece.now → Rose (K.faults sink.old) (K.faults sink.new) }
-    ensures bytes { IsTrue (K.told sink.old) → K.taken sink.new ≡ K.taken sink.old ++ take result piece.now }
+    ensures cause { result < length piece.now → Rose (K.view sink.old).faults (K.view sink.new).faults }
+    ensures bytes { IsTrue (K.view sink.old).modelled → (K.view sink.new).taken ≡ (K.view sink.old).taken
+        ++ take result piece.now }
 {
     let mut at = 0;
     while at < piece.len() {
@@ -26,7 +27,7 @@ pub(crate) fn send<K: Sink>(sink: &mut K, piece: &[u8]) -> usize
 /// Writes the whole piece. Takes no memory. Where a call fails, the first bytes of the piece went
 /// out, but not all of them.
 pub fn write_all<K: Sink>(sink: &mut K, piece: &[u8]) -> Result<(), Failed>
-    ensures { Writes K.told K.faults K.taken sink.old sink.new result piece.now }
+    ensures { Writes K.view sink.old sink.new result piece.now }
 {
     if send(sink, piece) < piece.len() {
         return Err(Failed);

@@ -32,7 +32,7 @@ use Rattle.uspec_parser.specs.declared.fault.ParseFault.{ParseFault}
 use Rattle.uspec_parser.specs.declared.fault.ParseFault.TheVariants.{Syntax as a_syntax_fault, Depth as a_depth_fault, Memory as no_memory_to_parse}
 use Rattle.macro_expand.specs.Faults.{AreExpansions}
 use Rattle.scope_check.specs.FirstFault.{IsNoneOr}
-use Rattle.pc_front.specs.ModelFront.{ModelOf, lexical, syntax, depth, said, closed_axiom, IsModelEnd}
+use Rattle.pc_front.specs.ModelFront.{ModelOf, lexical, syntax, depth, of_tree, closed_axiom, IsModelEnd}
 use Rattle.pc_front.specs.Ends.{end_of, lexical_end, parse_end}
 use Rattle.pc_front.specs.ModelSteps.{axiom_fault, closing_of_axiom}
 
@@ -139,20 +139,20 @@ module _ (m : WrittenModel) where
       names_first es expansions None h = tt
       names_first es expansions (Some f) h = only_names ∙ sym (names_of_expansions m es expansions) ∙ h
 
--- the first fault of a model, as it is told
+-- the first fault of a model, as an end
 pub front_end : (bytes : List ℕ) (m : WrittenModel) → ModelOf bytes m → (o : Option Fault)
     → IsNoneOr (first_model_fault m) o → IsModelEnd bytes (end_of o)
 front_end bytes m of None is = tt
-front_end bytes m of (Some f) is = (refl, said of is)
+front_end bytes m of (Some f) is = (refl, of_tree of is)
 
--- a fault of the bytes, as it is told
-pub lexical_told : (bytes : List ℕ) (fault : LexFault) → IsRefusal bytes fault → IsModelEnd bytes (lexical_end fault)
-lexical_told bytes (a_lexical_fault place) is = (refl, lexical is)
-lexical_told bytes no_memory is = tt
+-- a fault of the bytes, as an end
+pub lexical_is_end : (bytes : List ℕ) (fault : LexFault) → IsRefusal bytes fault → IsModelEnd bytes (lexical_end fault)
+lexical_is_end bytes (a_lexical_fault place) is = (refl, lexical is)
+lexical_is_end bytes no_memory is = tt
 
--- a fault of the tokens, as it is told
-pub parse_told : (bytes : List ℕ) (ts : List Token) (fault : ParseFault) → Spells bytes ts
+-- a fault of the tokens, as an end
+pub parse_is_end : (bytes : List ℕ) (ts : List Token) (fault : ParseFault) → Spells bytes ts
     → IsParseRefusal IsMarkedModel (terminals ts) fault → IsModelEnd bytes (parse_end bytes ts fault)
-parse_told bytes ts (a_syntax_fault k) spelled is = (refl, syntax spelled is refl)
-parse_told bytes ts (a_depth_fault k) spelled is = (refl, depth spelled is refl)
-parse_told bytes ts no_memory_to_parse spelled is = tt
+parse_is_end bytes ts (a_syntax_fault k) spelled is = (refl, syntax spelled is refl)
+parse_is_end bytes ts (a_depth_fault k) spelled is = (refl, depth spelled is refl)
+parse_is_end bytes ts no_memory_to_parse spelled is = tt

@@ -1,5 +1,5 @@
 pub mod FrontLaws
 pub mod OneModel
 pub mod ModelOrFault
-pub mod StagesKept
-pub mod Joined
+pub mod StageTables
+pub mod PartsOf

@@ -15,13 +15,13 @@ use Rattle.uspec_parser.proofs.Trees.{text_model}
 use Rattle.pc_syntax.specs.Fault.{Fault}
 use Rattle.pc_syntax.specs.Written.{WrittenModel}
 use Rattle.pc_syntax.specs.ModelFault.{first_model_fault}
-use Rattle.pc_front.specs.ModelFront.{ModelOf, lexical, syntax, depth, said}
+use Rattle.pc_front.specs.ModelFront.{ModelOf, lexical, syntax, depth, of_tree}
 use Rattle.pc_front.specs.Laws.{HasModelOrFault}
 
 -- of a model that they say
 of_model : (bytes : List ℕ) (m : WrittenModel) → ModelOf bytes m → (found : Option Fault) → first_model_fault m ≡ found → HasModelOrFault bytes
 of_model bytes m x None none = inl (m, record { model = x; no_fault = none })
-of_model bytes m x (Some (kind, at)) is = inr (kind, at, said x is)
+of_model bytes m x (Some (kind, at)) is = inr (kind, at, of_tree x is)
 
 -- of tokens that they spell
 of_tokens : (bytes : List ℕ) (ts : List Token) → Spells bytes ts → (found : Option TokenFault) → IsAnswer IsMarkedModel (terminals ts) found

@@ -8,14 +8,14 @@ use Rattle.ll_grammar.specs.declared.fault.Fault.TheVariants.{Syntax as a_syntax
 use Rattle.ll_grammar.proofs.Faults.{one_answer}
 use Rattle.uspec_lexer.specs.Token.{Token, token_place}
 use Rattle.uspec_lexer.specs.Spells.{Spells}
-use Rattle.uspec_lexer.proofs.Spelling.{spells-unique, spells-no_fault, lexical_fault-unique}
+use Rattle.uspec_lexer.proofs.SpellsLaws.{spells-unique, spells-no_fault, lexical_fault-unique}
 use Rattle.uspec_parser.specs.Marks.{IsMarkedModel}
 use Rattle.uspec_parser.specs.Syntax.{DerivesModel}
 use Rattle.uspec_parser.specs.Answers.{terminals}
 use Rattle.uspec_parser.proofs.Trees.{one_model}
 use Rattle.pc_syntax.specs.Written.{WrittenModel}
 use Rattle.pc_syntax.specs.ModelFault.{first_model_fault}
-use Rattle.pc_front.specs.ModelFront.{ModelOf, IsModelFault, lexical, syntax, depth, said}
+use Rattle.pc_front.specs.ModelFront.{ModelOf, IsModelFault, lexical, syntax, depth, of_tree}
 
 pub one_whole_model : (bytes : List ℕ) (m n : WrittenModel) → ModelOf bytes m → ModelOf bytes n → m ≡ n
 one_whole_model bytes m n x y =
@@ -35,7 +35,7 @@ pub no_whole_fault : (bytes : List ℕ) (m : WrittenModel) → ModelOf bytes m �
 no_whole_fault bytes m x none _ at (lexical fault) = spells-no_fault x.spelled fault
 no_whole_fault bytes m x none _ at (syntax {ts = ts} {k = k} spelled fault place) = accepted_alone bytes m ts (a_syntax_fault k) x spelled fault
 no_whole_fault bytes m x none _ at (depth {ts = ts} {k = k} spelled fault place) = accepted_alone bytes m ts (a_depth_fault k) x spelled fault
-no_whole_fault bytes m x none kind at (said {m = n} y is) =
+no_whole_fault bytes m x none kind at (of_tree {m = n} y is) =
     let same = ap first_model_fault (one_whole_model bytes n m y x) in
     let both = sym is ∙ same ∙ none in
     cc
@@ -71,7 +71,7 @@ unfolding number_of
 one_model_fault bytes _ _ p q (lexical x) (lexical y) = (refl, place_is p q (lexical_fault-unique x y))
 one_model_fault bytes _ _ p q (lexical x) (syntax spelled f at) = absurd (spells-no_fault spelled x)
 one_model_fault bytes _ _ p q (lexical x) (depth spelled f at) = absurd (spells-no_fault spelled x)
-one_model_fault bytes _ _ p q (lexical x) (said m is) = absurd (spells-no_fault m.spelled x)
+one_model_fault bytes _ _ p q (lexical x) (of_tree m is) = absurd (spells-no_fault m.spelled x)
 one_model_fault bytes _ _ p q (syntax spelled f at) (lexical y) = absurd (spells-no_fault spelled y)
 one_model_fault bytes _ _ p q (syntax {ts = ts} {k = k} spelled f at) (syntax {ts = us} {k = l} other g there) =
     let same = one_token_fault bytes ts us (a_syntax_fault k) (a_syntax_fault l) spelled other f g in
@@ -79,7 +79,7 @@ one_model_fault bytes _ _ p q (syntax {ts = ts} {k = k} spelled f at) (syntax {t
 one_model_fault bytes _ _ p q (syntax {ts = ts} {k = k} spelled f at) (depth {ts = us} {k = l} other g there) =
     let same = one_token_fault bytes ts us (a_syntax_fault k) (a_depth_fault l) spelled other f g in
     absurd (cc)
-one_model_fault bytes _ _ p q (syntax {ts = ts} {k = k} spelled f at) (said {m = m} x is) =
+one_model_fault bytes _ _ p q (syntax {ts = ts} {k = k} spelled f at) (of_tree {m = m} x is) =
     absurd (accepted_alone bytes m ts (a_syntax_fault k) x spelled f)
 one_model_fault bytes _ _ p q (depth spelled f at) (lexical y) = absurd (spells-no_fault spelled y)
 one_model_fault bytes _ _ p q (depth {ts = ts} {k = k} spelled f at) (syntax {ts = us} {k = l} other g there) =
@@ -88,14 +88,14 @@ one_model_fault bytes _ _ p q (depth {ts = ts} {k = k} spelled f at) (syntax {ts
 one_model_fault bytes _ _ p q (depth {ts = ts} {k = k} spelled f at) (depth {ts = us} {k = l} other g there) =
     let same = one_token_fault bytes ts us (a_depth_fault k) (a_depth_fault l) spelled other f g in
     (refl, one_token_place bytes ts us (a_depth_fault k) (a_depth_fault l) p q spelled other same at there)
-one_model_fault bytes _ _ p q (depth {ts = ts} {k = k} spelled f at) (said {m = m} x is) =
+one_model_fault bytes _ _ p q (depth {ts = ts} {k = k} spelled f at) (of_tree {m = m} x is) =
     absurd (accepted_alone bytes m ts (a_depth_fault k) x spelled f)
-one_model_fault bytes _ _ p q (said m is) (lexical y) = absurd (spells-no_fault m.spelled y)
-one_model_fault bytes _ _ p q (said {m = m} x is) (syntax {ts = us} {k = l} other g there) =
+one_model_fault bytes _ _ p q (of_tree m is) (lexical y) = absurd (spells-no_fault m.spelled y)
+one_model_fault bytes _ _ p q (of_tree {m = m} x is) (syntax {ts = us} {k = l} other g there) =
     absurd (accepted_alone bytes m us (a_syntax_fault l) x other g)
-one_model_fault bytes _ _ p q (said {m = m} x is) (depth {ts = us} {k = l} other g there) =
+one_model_fault bytes _ _ p q (of_tree {m = m} x is) (depth {ts = us} {k = l} other g there) =
     absurd (accepted_alone bytes m us (a_depth_fault l) x other g)
-one_model_fault bytes j k p q (said {m = m} x is) (said {m = n} y are) =
+one_model_fault bytes j k p q (of_tree {m = m} x is) (of_tree {m = n} y are) =
     let same = sym is ∙ ap first_model_fault (one_whole_model bytes m n x y) ∙ are in
     let both : (j, p) ≡ (k, q) = ap (λ o. unwrap_or o (j, p)) same in
     (ap (λ f. f.0) both, ap (λ f. f.1) both)

@@ -1,4 +1,4 @@
--- The ends that faults are told by.
+-- The ends of the readers' faults.
 use Rattle.std.specs.Prelude.{ℕ, List, Option, Some, None}
 use Rattle.pc_common.specs.declared.fault.FaultKind.TheVariants.{Lexical, Syntax, Depth}
 use Rattle.pc_common.specs.declared.fault.InputFault.{InputFault}
@@ -11,14 +11,14 @@ use Rattle.uspec_parser.specs.declared.level.TheConstants.{MAX_OPENERS}
 use Rattle.uspec_parser.specs.declared.fault.ParseFault.{ParseFault}
 use Rattle.uspec_parser.specs.declared.fault.ParseFault.TheVariants.{Syntax as a_syntax_fault, Depth as a_depth_fault, Memory as no_memory_to_parse}
 use Rattle.pc_syntax.specs.Fault.{Fault}
-use Rattle.macro_expand.specs.Faults.{fault_told as macro_fault_told}
+use Rattle.macro_expand.specs.Faults.{macro_fault_of}
 use Rattle.macro_expand.specs.declared.fault.MacroFault.{MacroFault}
-use Rattle.scope_check.specs.FirstFault.{fault_told as name_fault_told}
+use Rattle.scope_check.specs.FirstFault.{name_fault_of}
 use Rattle.scope_check.specs.declared.fault.NameFault.{NameFault}
 use Rattle.litmus_reader.specs.declared.fault.CaseFault.{CaseFault}
 use Rattle.pc_front.specs.declared.model_front.FrontEnd.{FrontEnd}
 use Rattle.pc_front.specs.declared.model_front.FrontEnd.TheVariants.{Refused, Memory}
-use Rattle.pc_front.specs.Front.{fault_at, told_fault}
+use Rattle.pc_front.specs.Front.{fault_at, case_fault_of}
 
 -- the first fault of a model; without one, memory was refused
 abbrev pub end_of : Option Fault → FrontEnd
@@ -39,15 +39,15 @@ parse_end bytes ts (a_depth_fault k) = Refused (fault_at Model (Depth MAX_OPENER
 parse_end bytes ts no_memory_to_parse = Memory
 
 abbrev pub macro_end : MacroFault → FrontEnd
-macro_end fault = end_of (macro_fault_told fault)
+macro_end fault = end_of (macro_fault_of fault)
 
 abbrev pub name_end : NameFault → FrontEnd
-name_end fault = end_of (name_fault_told fault)
+name_end fault = end_of (name_fault_of fault)
 
 -- the first fault of a test; without one, memory was refused
-abbrev pub end_told : Option InputFault → FrontEnd
-end_told None = Memory
-end_told (Some fault) = Refused fault
+abbrev pub test_end_of : Option InputFault → FrontEnd
+test_end_of None = Memory
+test_end_of (Some fault) = Refused fault
 
 abbrev pub case_end : CaseFault → FrontEnd
-case_end fault = end_told (told_fault fault)
+case_end fault = test_end_of (case_fault_of fault)

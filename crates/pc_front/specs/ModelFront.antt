@@ -36,15 +36,18 @@ pub record ModelOf (bytes : List ℕ) (m : WrittenModel) : Type 0 where
 -- the first fault of a model's bytes: of its bytes, of its tokens, or of what its tree says
 pub data IsModelFault (bytes : List ℕ) : FaultKind → Place → Type 0 where
   lexical : {at : Place} → IsLexicalFault bytes at.offset → IsModelFault bytes Lexical at
-  syntax : {ts : List Token} {k : ℕ} {at : Place} → Spells bytes ts → IsFirstFault IsMarkedModel (terminals ts) (a_syntax_fault k)
+  syntax : {ts : List Token} {k : ℕ} {at : Place} → Spells bytes ts
+      → IsFirstFault IsMarkedModel (terminals ts) (a_syntax_fault k)
       → at.offset ≡ token_place bytes ts k → IsModelFault bytes Syntax at
-  depth : {ts : List Token} {k : ℕ} {at : Place} → Spells bytes ts → IsFirstFault IsMarkedModel (terminals ts) (a_depth_fault k)
+  depth : {ts : List Token} {k : ℕ} {at : Place} → Spells bytes ts
+      → IsFirstFault IsMarkedModel (terminals ts) (a_depth_fault k)
       → at.offset ≡ token_place bytes ts k → IsModelFault bytes (Depth MAX_OPENERS) at
-  said : {m : WrittenModel} {kind : FaultKind} {at : Place} → ModelOf bytes m → first_model_fault m ≡ Some (kind, at)
+  of_tree : {m : WrittenModel} {kind : FaultKind} {at : Place} → ModelOf bytes m
+      → first_model_fault m ≡ Some (kind, at)
       → IsModelFault bytes kind at
 
-abbrev pub stage_said : StageItem → ℕ × List ℕ
-stage_said s = (s.number, s.name.name)
+abbrev pub written_stage : StageItem → ℕ × List ℕ
+written_stage s = (s.number, s.name.name)
 
 -- an axiom with its macros expanded and its names resolved
 abbrev pub closed_axiom : WrittenModel → Written → PlainClosed
@@ -53,7 +56,7 @@ closed_axiom m w = closing_of m.stages [] (expansion_of (macros_of m) w)
 -- the stages of the model, and its axioms, closed; in each case and world they are true exactly where the model's are
 pub record IsModelFrontOf (m : WrittenModel) (front : ModelFront) : Type 0 where
   pub no_fault : first_model_fault m ≡ None
-  pub stages : map plain_stage front.stages ≡ map stage_said m.stages
+  pub stages : map plain_stage front.stages ≡ map written_stage m.stages
   pub axioms : plain_axioms front.axioms ≡ map (closed_axiom m) (axioms_of m)
   pub true_alike : (c : Case) (w : World Node) → satisfies m c w ≡ closed_satisfies (plain_axioms front.axioms) c w
 

@@ -1,4 +1,4 @@
-// How the fault of each reader is told. Each becomes a `FrontEnd` here, so that a `?` hands it on.
+// How the fault of each reader ends the reading. Each becomes a `FrontEnd` here, so that a `?` hands it on.
 ghost use Rattle.std.specs.Prelude.{◌≡◌, ◌<◌, ◌^◌, length};
 ghost use Rattle.pc_front.specs.declared.model_front.FrontEnd.TheVariants.{Refused, Memory as no_memory};
 ghost use Rattle.pc_common.specs.declared.fault.Which.TheVariants.{Model, Test};

@@ -1,5 +1,13 @@
 // Laws of the definitions in specs/. Each function does nothing: its contract is the law.
+ghost use Rattle.std.specs.Prelude.{◌≡◌};
 ghost use Rattle.pc_front.specs.Laws.{HasModelOrFault, HasOneModel, HasOneModelFault, HasNoFaultBeside};
+
+use super::limits::MAX_FILE;
+
+/// The limit is this number.
+pub fn limits_are()
+    ensures { MAX_FILE ≡ 1048576 }
+{}
 
 /// Bytes say a whole model without a fault, or have a first fault.
 pub fn model_or_fault(bytes: &[u8])

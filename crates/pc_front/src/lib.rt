@@ -1,18 +1,18 @@
 //! From the bytes of a model and a test to the ground tree, or the exact first fault.
 //!
-//! `read_model` joins the readers of a whole model: tokens, tree, stages, macros, names. `front` adds the test,
-//! and goes on to what search and checker work on: the ground tree, in flat rows, with its node numbers.
+//! `read_model` joins the readers of a whole model: tokens, tree, stages, macros, names. `read_parts` adds the
+//! test, and `front` what search and checker work on: the ground tree, in flat rows, with its node numbers.
 #![tactic(auto)]
 
 mod faults;
-mod joining;
 mod laws;
 mod limits;
 mod model_front;
 mod reading;
+mod two_files;
 
-pub use joining::front;
-pub use laws::{model_or_fault, no_model_fault, one_model, one_model_fault};
+pub use laws::{limits_are, model_or_fault, no_model_fault, one_model, one_model_fault};
 pub use limits::MAX_FILE;
 pub use model_front::{FrontEnd, ModelFront};
 pub use reading::read_model;
+pub use two_files::{front, read_parts};

@@ -8,7 +8,7 @@ ghost use Rattle.pc_syntax.specs.StageFaults.{stages_fault, first_stage_fault};
 ghost use Rattle.uspec_lexer.specs.Spells.{Spells};
 ghost use Rattle.scope_check.specs.FirstFault.{Answers};
 ghost use Rattle.pc_ground.specs.Stages.{plain_stage, plain_axioms};
-ghost use Rattle.pc_front.specs.ModelFront.{ModelOf, IsModelFront, IsModelFrontOf, IsModelEnd, stage_said, closed_axiom};
+ghost use Rattle.pc_front.specs.ModelFront.{ModelOf, IsModelFront, IsModelFrontOf, IsModelEnd, written_stage, closed_axiom};
 ghost use Rattle.pc_front.specs.ModelSteps.{axiom_fault, AreClosings};
 ghost use Rattle.pc_front.specs.Ends.{end_of};
 
@@ -45,7 +45,8 @@ pub fn read_model(alloc: Global, bytes: &[u8]) -> Result<ModelFront, FrontEnd>
 /// The stages and the closed axioms of a model as written.
 fn judged(alloc: Global, model: &ModelFile) -> Result<ModelFront, FrontEnd>
     ensures ok { IfOk result (IsModelFrontOf (written_model model.now)) }
-    ensures err { IfErr result (λ end. (bytes : List ℕ) → ModelOf bytes (written_model model.now) → IsModelEnd bytes end) }
+    ensures err { IfErr result (λ end. (bytes : List ℕ) → ModelOf bytes (written_model model.now)
+        → IsModelEnd bytes end) }
 {
     check_stages(model)?;
     let axioms = closed_axioms(alloc, model)?;
@@ -58,8 +59,10 @@ fn closed_axioms(alloc: Global, model: &ModelFile) -> Result<Axioms, FrontEnd>
     requires { first_stage_fault (written_model model.now) ≡ None }
     ensures no_fault { IfOk result (λ _. first_model_fault (written_model model.now) ≡ None) }
     ensures no_name_fault { IfOk result (λ _. first_name_fault (written_model model.now) ≡ None) }
-    ensures axioms { IfOk result (λ closed. plain_axioms closed ≡ map (closed_axiom (written_model model.now)) (axioms_of (written_model model.now))) }
-    ensures err { IfErr result (λ end. (bytes : List ℕ) → ModelOf bytes (written_model model.now) → IsModelEnd bytes end) }
+    ensures axioms { IfOk result (λ closed. plain_axioms closed
+        ≡ map (closed_axiom (written_model model.now)) (axioms_of (written_model model.now))) }
+    ensures err { IfErr result (λ end. (bytes : List ℕ) → ModelOf bytes (written_model model.now)
+        → IsModelEnd bytes end) }
 {
     let expanded = expand(alloc, model)?;
     let axioms = close_axioms(alloc, model, &expanded)?;
@@ -92,7 +95,8 @@ fn model_of(alloc: Global, bytes: &[u8], tokens: &Tokens<'_>) -> Result<ModelFil
 /// Passes a model without a stage fault, and refuses another with its first one.
 fn check_stages(model: &ModelFile) -> Result<(), FrontEnd>
     ensures ok { IfOk result (λ _. first_stage_fault (written_model model.now) ≡ None) }
-    ensures err { IfErr result (λ end. (fault : Fault) × (first_stage_fault (written_model model.now) ≡ Some fault) × (end ≡ end_of (Some fault))) }
+    ensures err { IfErr result (λ end. (fault : Fault) × (first_stage_fault (written_model model.now) ≡ Some fault)
+        × (end ≡ end_of (Some fault))) }
 {
     match stage_faults(model) {
         None => Ok(()),
@@ -116,7 +120,7 @@ fn close_axioms(alloc: Global, model: &ModelFile, axioms: &[Expanded]) -> Result
 /// The stages of a model that has no stage fault.
 fn stages_of(alloc: Global, stages: &StageItems) -> Result<Stages, Memory>
     requires { stages_fault [] stages.now ≡ None }
-    ensures { IfOk result (λ kept. map plain_stage kept ≡ map stage_said stages.now) }
+    ensures { IfOk result (λ kept. map plain_stage kept ≡ map written_stage stages.now) }
 {
     let mut kept = Listed::new(alloc);
     for stage in stages.as_slice() {

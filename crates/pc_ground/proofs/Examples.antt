@@ -1,5 +1,5 @@
 -- A small model on a test of two writes of one core: its ground tree, its rows, its numbers and a refutation.
-use Rattle.std.proofs.Common.{◌≡◌, ℕ, List, [], ◌∷◌, Some, None, map, refl, lit<}
+use Rattle.std.proofs.Common.{false, ◌≡◌, ℕ, List, [], ◌∷◌, Some, None, map, refl, lit<}
 use Rattle.std.specs.Prelude.{codes}
 use Rattle.pc_common.specs.Case.{PageAt, page, number, write, MicroOp, Case, forbidden}
 use Rattle.pc_common.specs.World.{Node}
@@ -16,7 +16,9 @@ use Rattle.pc_ground.specs.Tree.{Tree, leaf, both, either}
 use Rattle.pc_ground.specs.Rows.{rows_of}
 use Rattle.pc_ground.specs.GroundTree.{ground_tree}
 use Rattle.pc_ground.specs.Numbers.{numbered}
-use Rattle.pc_ground.specs.Refutes.{split, path, IsRefutation, a_path}
+use Rattle.pc_common.specs.Steps.{split, path, close}
+use Rattle.pc_ground.specs.declared.version.Version.TheVariants.{One, Two}
+use Rattle.pc_ground.specs.Refutes.{IsRefutation, a_path, a_contradiction}
 
 -- names without places, of which a tree says nothing
 abbrev at : Place
@@ -104,13 +106,25 @@ unfolding m_either t_two all_preds
 numbers = refl
 
 -- split 1; path 0.0@0:S 1.0@0:S; path 1.0@0:S 0.0@0:S 0.0@0:T
-refuted : IsRefutation the_tree (split 1 ∷ path (S0 ∷ S1 ∷ []) ∷ path (S1 ∷ S0 ∷ T0 ∷ []) ∷ [])
+refuted : IsRefutation One the_tree (split false 1 ∷ close (path (S0 ∷ S1 ∷ [])) ∷ close (path (S1 ∷ S0 ∷ T0 ∷ [])) ∷ [])
 refuted = (
   leaf (Edge S0 S1),
   leaf (Edge S1 S0),
   ((1, lit< tt, refl), refl),
   (
-    a_path S0 [] S1 (3, lit< tt, refl) (0, lit< tt, refl),
-    (a_path S1 (S0 ∷ []) T0 ((3, lit< tt, refl), (1, lit< tt, refl)) (2, lit< tt, refl), refl),
+    a_contradiction (a_path S0 [] S1 (3, lit< tt, refl) (0, lit< tt, refl)),
+    (a_contradiction (a_path S1 (S0 ∷ []) T0 ((3, lit< tt, refl), (1, lit< tt, refl)) (2, lit< tt, refl)), refl),
+  ),
+)
+
+-- the same steps in version 2, where the right branch also denies the left side
+refuted_signed : IsRefutation Two the_tree (split false 1 ∷ close (path (S0 ∷ S1 ∷ [])) ∷ close (path (S1 ∷ S0 ∷ T0 ∷ [])) ∷ [])
+refuted_signed = (
+  leaf (Edge S0 S1),
+  leaf (Edge S1 S0),
+  ((1, lit< tt, refl), refl),
+  (
+    a_contradiction (a_path S0 [] S1 (3, lit< tt, refl) (0, lit< tt, refl)),
+    (a_contradiction (a_path S1 (S0 ∷ []) T0 ((4, lit< tt, refl), (1, lit< tt, refl)) (2, lit< tt, refl)), refl),
   ),
 )

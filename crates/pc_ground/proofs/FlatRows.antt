@@ -9,9 +9,9 @@ use Rattle.pc_ground.specs.declared.row.RowKind.{RowKind}
 use Rattle.pc_ground.specs.declared.row.RowKind.TheVariants.{True, False, Lit, And, Or}
 use Rattle.pc_ground.specs.declared.row.Row.{Row}
 use Rattle.pc_ground.specs.Tree.{Tree, always, never, leaf, both, either, size_of}
-use Rattle.pc_ground.specs.Rows.{rows_of}
+use Rattle.pc_ground.specs.Rows.{root_kind, literals_of_kind, rows_of, turned_kind, turned_row, turned_rows, IsFlat}
 use Rattle.pc_ground.specs.Refutes.{subtree_at, literal_of, literals_of}
-use Rattle.pc_ground.specs.Walks.{literals_of_kind, literals_of_row}
+use Rattle.pc_ground.specs.Walks.{literals_of_row}
 use Rattle.pc_ground.proofs.Bools.{true_or_false, false_from_not}
 
 not_lt : (p n : ℕ) → n ≤ p → nat_lt p n ≡ false
@@ -21,16 +21,8 @@ not_lt p n past = false_from_not (nat_lt p n) (λ h. omega (arith, past, ltb-tru
 abbrev pub IsPart : {N : Type 0} → List (Row N) → ℕ → Tree N → Type 0
 IsPart {N} rows p s = (rest : List (Row N)) × (drop p rows ≡ rows_of s ++ rest)
 
--- what stands at the root
-abbrev pub kind_of : {N : Type 0} → Tree N → RowKind N
-kind_of always = True
-kind_of never = False
-kind_of (leaf l) = Lit l
-kind_of (both a b) = And
-kind_of (either a b) = Or
-
 abbrev pub root_of : {N : Type 0} → Tree N → Row N
-root_of t = record { kind = kind_of t; skip = size_of t }
+root_of t = record { kind = root_kind t; skip = size_of t }
 
 pub size_pos : {N : Type 0} (t : Tree N) → 0 < size_of t
 size_pos always = omega arith
@@ -109,7 +101,7 @@ part_within rows p s (rest, e) =
 pub one_tree : {N : Type 0} (s t : Tree N) (xs ys : List (Row N)) → rows_of s ++ xs ≡ rows_of t ++ ys → (s ≡ t) × (xs ≡ ys)
 one_tree s t xs ys e = go s t xs ys e
   where
-    kind_at : {N : Type 0} (s t : Tree N) (xs ys : List (Row N)) → rows_of s ++ xs ≡ rows_of t ++ ys → kind_of s ≡ kind_of t
+    kind_at : {N : Type 0} (s t : Tree N) (xs ys : List (Row N)) → rows_of s ++ xs ≡ rows_of t ++ ys → root_kind s ≡ root_kind t
     kind_at {N} s t xs ys e =
         let f = first_row s in
         let g = first_row t in
@@ -277,24 +269,12 @@ subtree_past (either a b) (suc p) past =
     let out : nat_lt p (size_of a) ≡ false = not_lt p (size_of a) (omega (arith, past)) in
     rw out (subtree_past b (p - size_of a) (omega (arith, past)))
 
-literals_of_root : {N : Type 0} (s : Tree N) → literal_of (Some s) ≡ literals_of_kind (kind_of s)
-literals_of_root always = refl
-literals_of_root never = refl
-literals_of_root (leaf l) = refl
-literals_of_root (both a b) = refl
-literals_of_root (either a b) = refl
-
 -- the literal at a position, by its row
 pub literal_by_row : {N : Type 0} (t : Tree N) (p : ℕ) → literal_of (subtree_at t p) ≡ literals_of_row (slice_get (rows_of t) p)
 literal_by_row t p =
     elim (true_or_false (nat_lt p (size_of t))) [
       | inl h ↦ (let there = subtree_within t p (ltb-true p (size_of t) h) in
-          ap literal_of there.1 ∙ literals_of_root there.0 ∙ ap literals_of_row (sym (subtree_row t p there.0 there.1)))
+          ap literal_of there.1 ∙ ap literals_of_row (sym (subtree_row t p there.0 there.1)))
       | inr h ↦ (let past = ltb-false p (size_of t) h in
           ap literal_of (subtree_past t p past) ∙ ap literals_of_row (sym (slice_get_past (rows_of t) p (omega (arith, past, length_rows t)))))
     ]
-
--- the literals of a branch, by the rows
-pub literals_by_rows : {N : Type 0} (t : Tree N) (ps : List ℕ) → literals_of t ps ≡ flat_map (λ p. literals_of_row (slice_get (rows_of t) p)) ps
-literals_by_rows t [] = refl
-literals_by_rows t (p ∷ ps) = rw (literal_by_row t p, literals_by_rows t ps) refl

@@ -6,14 +6,15 @@ pub mod Cuts
 pub mod Outside
 pub mod StageWalks
 pub mod OpWalks
-pub mod NodeReading
+pub mod ReadableNodes
 pub mod FlatRows
+pub mod Turned
 pub mod Walks
 pub mod NormalForms
 pub mod UnfoldedTruth
 pub mod Refuted
 pub mod CutTruth
-pub mod UnfoldedClosing
+pub mod KeptTrees
 pub mod TreeNodes
 pub mod FirstSeen
 mod Examples

@@ -3,8 +3,8 @@ use Rattle.std.proofs.Common.{◌≡◌, Bool, true, false, not, ◌&&◌, ◌||
 use Rattle.pc_common.specs.World.{Node, World, has_node, has_edge}
 use Rattle.pc_ground.specs.declared.literal.Literal.{Literal}
 use Rattle.pc_ground.specs.declared.literal.Literal.TheVariants.{Node as a_node, Edge, NoNode, NoEdge}
-use Rattle.pc_ground.specs.Tree.{Tree, always, never, leaf, both, either, literal_true, tree_true}
-use Rattle.pc_ground.specs.PlainGround.{PlainGround, ground_true, ground_false, ground_literal, ground_not, ground_and, ground_or, contrary, pushed, conjoined, disjoined, folded, normal, negated, ground_conjoined, ground_disjoined, simplified}
+use Rattle.pc_ground.specs.Tree.{Tree, always, never, leaf, both, either, contrary, literal_true, tree_true}
+use Rattle.pc_ground.specs.PlainGround.{PlainGround, ground_true, ground_false, ground_literal, ground_not, ground_and, ground_or, pushed, conjoined, disjoined, folded, normal, negated, ground_conjoined, ground_disjoined, simplified}
 use Rattle.pc_ground.specs.Folded.{IsFolded}
 
 -- the truth of a ground formula

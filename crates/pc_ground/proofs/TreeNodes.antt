@@ -5,7 +5,7 @@ use Rattle.std.proofs.lemmas.Option.{slice_get-get_or}
 use Rattle.pc_common.specs.Case.{MicroOp, Case, cores_of}
 use Rattle.pc_common.specs.World.{Node}
 use Rattle.pc_common.proofs.Elements.{In, in_from_contains, contains_from_in, in_either, from_map, from_range, any_holds}
-use Rattle.pc_case.specs.Kept.{IsKept}
+use Rattle.pc_case.specs.MicroOps.{AreMicroOps}
 use Rattle.pc_syntax.specs.declared.term.Sort.{Sort}
 use Rattle.pc_syntax.specs.declared.term.Sort.TheVariants.{Microop, Core}
 use Rattle.pc_syntax.specs.declared.closed.Closed.{Closed}
@@ -21,8 +21,8 @@ use Rattle.pc_syntax.specs.IsClosed.{FitsCore, FitsNode, FitNodes, FitEdges, Has
 use Rattle.pc_syntax.specs.StagesWithin.{IsAmong, NodesWithin, EdgesWithin, StagesWithin}
 use Rattle.pc_ground.specs.declared.literal.Literal.{Literal}
 use Rattle.pc_ground.specs.declared.literal.Literal.TheVariants.{Node as a_node, Edge, NoNode, NoEdge}
-use Rattle.pc_ground.specs.Tree.{Tree, always, never, leaf, both, either}
-use Rattle.pc_ground.specs.PlainGround.{PlainGround, ground_true, ground_false, ground_literal, ground_not, ground_and, ground_or, contrary, pushed, conjoined, disjoined, folded}
+use Rattle.pc_ground.specs.Tree.{Tree, always, never, leaf, both, either, contrary}
+use Rattle.pc_ground.specs.PlainGround.{PlainGround, ground_true, ground_false, ground_literal, ground_not, ground_and, ground_or, pushed, conjoined, disjoined, folded}
 use Rattle.pc_ground.specs.Unfolded.{all_of, some_of, decided, node_said, edge_said, closed_unfolded}
 use Rattle.pc_ground.specs.GroundTree.{closed_ground_tree}
 use Rattle.pc_ground.specs.Numbers.{nodes_of_literal, nodes_of_tree}
@@ -35,7 +35,7 @@ cores_few (o ∷ os) h =
     let rest = cores_few os (λ k p at. h (suc k) p at) in
     omega (arith, here, rest)
 
-module _ (numbers : List ℕ) (c : Case) (kept : IsKept c.ops) where
+module _ (numbers : List ℕ) (c : Case) (kept : AreMicroOps c.ops) where
   abbrev IsOf : Node → Type 0
   IsOf a = IsNodeOf numbers c.ops a
 
@@ -306,6 +306,6 @@ module _ (numbers : List ℕ) (c : Case) (kept : IsKept c.ops) where
       tree_node_of (closed_ground_tree c (plain_axioms axioms)) a (folded_of (pushed true g) (pushed_of true g (axioms_of axioms within)))
       (in_from_contains a (nodes_of_tree (closed_ground_tree c (plain_axioms axioms))) has)
 
-pub nodes_are_of : (c : Case) (numbers : List ℕ) (axioms : List Closed) → IsKept c.ops → AxiomsWithin numbers (plain_axioms axioms)
+pub nodes_are_of : (c : Case) (numbers : List ℕ) (axioms : List Closed) → AreMicroOps c.ops → AxiomsWithin numbers (plain_axioms axioms)
     → (a : Node) → Contains (nodes_of_tree (closed_ground_tree c (plain_axioms axioms))) a → IsNodeOf numbers c.ops a
 nodes_are_of c numbers axioms kept within a has = tree_nodes_of numbers c kept axioms within a has

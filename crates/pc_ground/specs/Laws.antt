@@ -1,9 +1,9 @@
 -- What joins the layers: laws of the definitions alone.
-use Rattle.std.specs.Prelude.{ℕ, ◌≡◌, List, [], None, map, IsTrue, Contains, ◌↔◌, ◌+◌, Some}
+use Rattle.std.specs.Prelude.{ℕ, ◌≡◌, Bool, false, not, List, [], None, map, IsTrue, Contains, ◌↔◌, ◌+◌, Some}
 use Rattle.std.specs.List.{list_all}
 use Rattle.pc_common.specs.Case.{Case}
 use Rattle.pc_common.specs.World.{Node, World, IsWorld, has_node, has_edge}
-use Rattle.pc_case.specs.Kept.{IsKept}
+use Rattle.pc_case.specs.MicroOps.{AreMicroOps}
 use Rattle.pc_syntax.specs.declared.closed.Closed.{Closed}
 use Rattle.pc_syntax.specs.Written.{WrittenModel}
 use Rattle.pc_syntax.specs.Observable.{axioms_of, macros_of, satisfies, IsNodeOf}
@@ -11,8 +11,11 @@ use Rattle.pc_syntax.specs.Expansion.{expansion_of}
 use Rattle.pc_syntax.specs.Closing.{closing_of}
 use Rattle.pc_syntax.specs.NameFaults.{first_name_fault}
 use Rattle.pc_syntax.specs.Closed.{PlainClosed, closed_true}
-use Rattle.pc_ground.specs.Tree.{Tree, size_of, tree_true}
-use Rattle.pc_ground.specs.Rows.{rows_of}
+use Rattle.pc_common.specs.Steps.{Step}
+use Rattle.pc_ground.specs.declared.version.Version.{Version}
+use Rattle.pc_ground.specs.declared.version.Version.TheVariants.{One}
+use Rattle.pc_ground.specs.Tree.{Tree, negation, turned, size_of, tree_true}
+use Rattle.pc_ground.specs.Rows.{rows_of, turned_rows}
 use Rattle.pc_ground.specs.Walks.{Walk}
 use Rattle.pc_ground.specs.PlainGround.{PlainGround, normal, simplified}
 use Rattle.pc_ground.specs.Unfolded.{all_of, unfolded}
@@ -21,7 +24,7 @@ use Rattle.pc_ground.specs.GroundTree.{ground_tree, closed_ground_tree}
 use Rattle.pc_ground.specs.Numbers.{nodes_of_tree, numbered, AreDistinct}
 use Rattle.pc_ground.specs.Stages.{plain_axioms, AxiomsWithin}
 use Rattle.pc_ground.specs.CutWorlds.{cut_to}
-use Rattle.pc_ground.specs.Refutes.{Step, subtree_at, asserted, IsRefutation}
+use Rattle.pc_ground.specs.Refutes.{subtree_at, asserted, Signed, Branch, IsPartial, IsRefutation}
 
 -- a world satisfies a model exactly where the model's ground tree is true in it
 abbrev pub TreeSaysModel : Type 0
@@ -55,7 +58,7 @@ NormalOfSimplified = (g : PlainGround) → normal (simplified g) ≡ normal g
 -- each node of closed axioms' ground tree is of the test, and of the stages that the axioms name
 abbrev pub NodesAreNamed : Type 0
 NodesAreNamed =
-    (c : Case) (numbers : List ℕ) (axioms : List Closed) → IsKept c.ops → AxiomsWithin numbers (plain_axioms axioms)
+    (c : Case) (numbers : List ℕ) (axioms : List Closed) → AreMicroOps c.ops → AxiomsWithin numbers (plain_axioms axioms)
     → (a : Node) → Contains (nodes_of_tree (closed_ground_tree c (plain_axioms axioms))) a → IsNodeOf numbers c.ops a
 
 -- two worlds that agree on the nodes of a tree's literals give the tree one truth
@@ -76,7 +79,21 @@ CutIsWorld = (nodes : List Node) (w : World Node) → IsWorld w → IsWorld (cut
 
 -- a tree with a refutation is true in no world
 abbrev pub RefutationIsSound : Type 0
-RefutationIsSound = (t : Tree Node) (steps : List (Step Node)) → IsRefutation t steps → (w : World Node) → IsWorld w → IsTrue (tree_true w t) → ⊥
+RefutationIsSound =
+    (v : Version) (t : Tree Node) (steps : List (Step Node)) → IsRefutation v t steps → (w : World Node) → IsWorld w → IsTrue (tree_true w t) → ⊥
+
+-- in version 1 no position of an open branch has a sign
+abbrev pub OneHasNoSign : Type 0
+OneHasNoSign =
+    (t : Tree Node) (steps : List (Step Node)) (opens : List Branch) → IsPartial One t steps opens
+    → (ps : Branch) → Contains opens ps → (q : Signed) → Contains ps q → q.negated ≡ false
+
+-- the negation of a tree is true exactly where the tree is not, and its rows are the tree's rows turned
+abbrev pub NegationTurnsTruth : Type 0
+NegationTurnsTruth = (w : World Node) (t : Tree Node) → tree_true w (negation t) ≡ not (tree_true w t)
+
+abbrev pub NegationTurnsRows : Type 0
+NegationTurnsRows = (n : Bool) (t : Tree Node) → rows_of (turned n t) ≡ turned_rows n (rows_of t)
 
 -- the numbered nodes of a tree are the nodes of its literals, each once
 abbrev pub NumberedListsNodes : Type 0

@@ -14,5 +14,5 @@ pub mod Laws
 pub mod Stages
 pub mod Decimals
 pub mod NodeForm
-pub mod Parts
+pub mod LineParts
 pub mod NodeWords

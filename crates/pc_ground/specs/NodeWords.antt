@@ -5,7 +5,7 @@ use Rattle.std.specs.Fmt.{decimal}
 use Rattle.pc_common.specs.Case.{MicroOp}
 use Rattle.pc_common.specs.World.{Node}
 use Rattle.pc_common.specs.Lines.{StageName, Names}
-use Rattle.pc_case.specs.Kept.{IsKept, IsNamed}
+use Rattle.pc_case.specs.MicroOps.{AreMicroOps, IsNamed}
 use Rattle.pc_ground.specs.Stages.{AreStages}
 use Rattle.pc_ground.specs.declared.node_words.NodeWords.{NodeWords}
 
@@ -40,5 +40,5 @@ pub record NamesNode (names : Names) (w : NodeWords) (a : Node) : Type 0 where
 -- what the type of a node text keeps of its names
 pub record AreKept (names : Names) : Type 0 where
   pub small : AreSmall names.ops
-  pub kept : IsKept names.ops
+  pub kept : AreMicroOps names.ops
   pub stages : AreStages names.stages

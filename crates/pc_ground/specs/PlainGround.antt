@@ -2,11 +2,10 @@
 use Rattle.std.specs.Prelude.{Bool, true, false}
 use Rattle.pc_common.specs.World.{Node}
 use Rattle.pc_ground.specs.declared.literal.Literal.{Literal}
-use Rattle.pc_ground.specs.declared.literal.Literal.TheVariants.{Node as a_node, Edge, NoNode, NoEdge}
 use Rattle.pc_ground.specs.declared.ground.Ground.{Ground}
 use Rattle.pc_ground.specs.declared.ground.Ground.TheVariants.{True, False, Lit, Not', And', Or'}
 use Rattle.pc_ground.specs.Keys.{literal_node}
-use Rattle.pc_ground.specs.Tree.{Tree, always, never, leaf, both, either}
+use Rattle.pc_ground.specs.Tree.{Tree, always, never, leaf, both, either, contrary}
 
 pub data PlainGround : Type 0 where
   ground_true : PlainGround
@@ -23,13 +22,6 @@ plain_ground (Lit l) = ground_literal (literal_node l)
 plain_ground (Not' p a) = ground_not (plain_ground a)
 plain_ground (And' p a q b) = ground_and (plain_ground a) (plain_ground b)
 plain_ground (Or' p a q b) = ground_or (plain_ground a) (plain_ground b)
-
--- true exactly where the literal is not
-abbrev pub contrary : {N : Type 0} → Literal N → Literal N
-contrary (a_node a) = NoNode a
-contrary (Edge a b) = NoEdge a b
-contrary (NoNode a) = a_node a
-contrary (NoEdge a b) = Edge a b
 
 -- the tree of the formula (true), or of its negation (false)
 abbrev pub pushed : Bool → PlainGround → Tree Node

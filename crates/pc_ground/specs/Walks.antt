@@ -4,6 +4,7 @@ use Rattle.pc_ground.specs.declared.literal.Literal.{Literal}
 use Rattle.pc_ground.specs.declared.row.RowKind.{RowKind}
 use Rattle.pc_ground.specs.declared.row.RowKind.TheVariants.{True, False, Lit, And, Or}
 use Rattle.pc_ground.specs.declared.row.Row.{Row}
+use Rattle.pc_ground.specs.Rows.{literals_of_kind}
 
 abbrev pub stride_of : {N : Type 0} → RowKind N → ℕ → ℕ
 stride_of True skip = 1
@@ -21,13 +22,6 @@ pub data Walk {N : Type 0} (rows : List (Row N)) (end : ℕ) : ℕ → List ℕ 
   at_end : Walk rows end end []
   onward : {ps : List ℕ} (at : ℕ) (r : Row N) → at < end → slice_get rows at ≡ Some r → Walk rows end (at + stride r) ps
       → Walk rows end at (at ∷ ps)
-
-abbrev pub literals_of_kind : {N : Type 0} → RowKind N → List (Literal N)
-literals_of_kind True = []
-literals_of_kind False = []
-literals_of_kind (Lit l) = l ∷ []
-literals_of_kind And = []
-literals_of_kind Or = []
 
 -- the literal of a row, if it is one's
 abbrev pub literals_of_row : {N : Type 0} → Option (Row N) → List (Literal N)

@@ -17,7 +17,8 @@ pub fn decimal_value(bytes: &[u8]) -> Option<u64>
 
 /// The value of decimal digits; None where a byte is no digit or past the greatest `u64`.
 fn digits_value(digits: &[u8]) -> Option<u64>
-    ensures { MatchOption result ((n : ℕ) → IsDecimal digits.now n → ⊥) (λ n. (n ≤ 18446744073709551615) × IsDigits digits.now n) }
+    ensures { MatchOption result ((n : ℕ) → IsDecimal digits.now n → ⊥)
+        (λ n. (n ≤ 18446744073709551615) × IsDigits digits.now n) }
 {
     let mut value: u64 = 0;
     for digit in digits {

@@ -1,5 +1,5 @@
 // Laws of the definitions. The functions do nothing: their contracts are the laws.
-ghost use Rattle.pc_ground.specs.Laws.{TreeSaysModel, TreeSaysClosed, ExpansionKeepsTree, ClosingKeepsTree, NormalIsFolded, NormalOfSimplified, NodesAreNamed, TruthIsOfLiterals, CutKeepsTruth, CutIsWorld, RefutationIsSound, NumberedListsNodes, RowsSpellOneTree, WalkIsAsserted};
+ghost use Rattle.pc_ground.specs.Laws.{TreeSaysModel, TreeSaysClosed, ExpansionKeepsTree, ClosingKeepsTree, NormalIsFolded, NormalOfSimplified, NodesAreNamed, TruthIsOfLiterals, CutKeepsTruth, CutIsWorld, RefutationIsSound, OneHasNoSign, NegationTurnsTruth, NegationTurnsRows, NumberedListsNodes, RowsSpellOneTree, WalkIsAsserted};
 
 /// A world satisfies a model exactly where the model's ground tree is true in it.
 #[tactic(auto, using(crate::proofs::UnfoldedTruth::ground_tree_true))]
@@ -14,7 +14,7 @@ pub fn tree_says_closed()
 {}
 
 /// Expansion and closing keep the ground tree of a model without name faults.
-#[tactic(auto, using(crate::proofs::UnfoldedClosing::expanded_tree, crate::proofs::UnfoldedClosing::closed_tree))]
+#[tactic(auto, using(crate::proofs::KeptTrees::expanded_tree, crate::proofs::KeptTrees::closed_tree))]
 pub fn tree_is_kept()
     ensures expansion { ExpansionKeepsTree }
     ensures closing { ClosingKeepsTree }
@@ -51,10 +51,22 @@ pub fn cut_is_world()
     ensures { CutIsWorld }
 {}
 
-/// A tree that has a refutation is true in no world.
+/// A tree that has a refutation, of either version, is true in no world.
 #[tactic(auto, using(crate::proofs::Refuted::refutation_sound))]
 pub fn refutation_is_sound()
     ensures { RefutationIsSound }
+{}
+
+/// In version 1 no position of an open branch has a sign.
+pub fn one_has_no_sign()
+    ensures { OneHasNoSign }
+{}
+
+/// The negation of a tree is true exactly where the tree is not, and its rows are the tree's rows turned.
+#[tactic(auto, using(crate::proofs::Turned::negation_true, crate::proofs::Turned::rows_turned))]
+pub fn negation_turns()
+    ensures truth { NegationTurnsTruth }
+    ensures rows { NegationTurnsRows }
 {}
 
 /// The numbered nodes of a tree are the nodes of its literals, each once.

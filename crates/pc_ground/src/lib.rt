@@ -15,6 +15,7 @@ mod front;
 mod ground;
 mod laws;
 mod line_fault;
+mod line_part;
 mod literal;
 mod node_key;
 mod node_text;
@@ -23,21 +24,24 @@ mod numbering;
 mod parts;
 mod row;
 mod stage;
+mod version;
 
 pub use decimal::decimal_value;
 pub use flat::Flat;
 pub use front::Front;
 pub use ground::Ground;
 pub use laws::{
-    cut_is_world, nodes_are_named, normal_is_folded, normal_of_simplified, numbered_lists_nodes,
-    refutation_is_sound, rows_spell_one_tree, tree_is_kept, tree_says_closed, tree_says_model,
-    truth_is_of_literals, walk_is_asserted,
+    cut_is_world, negation_turns, nodes_are_named, normal_is_folded, normal_of_simplified,
+    numbered_lists_nodes, one_has_no_sign, refutation_is_sound, rows_spell_one_tree, tree_is_kept,
+    tree_says_closed, tree_says_model, truth_is_of_literals, walk_is_asserted,
 };
 pub use line_fault::LineFault;
+pub use line_part::{LinePart, put_line_parts};
 pub use literal::Literal;
 pub use node_key::NodeKey;
 pub use node_text::NodeText;
 pub use numbering::Numbering;
-pub use parts::{Part, put_parts};
+pub use parts::Parts;
 pub use row::{Row, RowKind};
-pub use stage::{Axioms, Stage, Stages};
+pub use stage::{Axioms, Stage, Stages, copy_stages};
+pub use version::Version;

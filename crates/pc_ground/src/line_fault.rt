@@ -7,6 +7,6 @@ pub enum LineFault {
     #[error("no line of a certificate")]
     Malformed,
     /// It has the form, and a node names no micro-op of the test, no core 0 to 63 or no stage of the model.
-    #[error("a node of neither file")]
+    #[error("a node that names no micro-op, core or stage of the files")]
     Foreign,
 }

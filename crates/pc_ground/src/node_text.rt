@@ -4,16 +4,17 @@ ghost use Rattle.pc_common.specs.declared.limits.TheConstants.{MAX_CORE};
 ghost use Rattle.pc_common.specs.Lines.{node_text, stage_name as name_of_stage};
 ghost use Rattle.pc_common.specs.Room.{Puts};
 ghost use Rattle.pc_common.specs.Writes.{Writes};
-ghost use Rattle.pc_case.specs.Kept.{IsKept, IsNamed};
+ghost use Rattle.pc_case.specs.MicroOps.{AreMicroOps, IsNamed};
 ghost use Rattle.pc_ground.specs.Keys.{key_node};
-ghost use Rattle.pc_ground.specs.Stages.{plain_stage};
-ghost use Rattle.pc_ground.specs.NodeForm.{names_of, IsNodeIn, Reads, Answers, AreReadable};
+ghost use Rattle.pc_ground.specs.Stages.{plain_stage, AreStages, AreStages-prop};
+ghost use Rattle.pc_ground.specs.NodeForm.{names_by, names_of, names_of_parts, IsNodeIn, ReadsNode, Answers, AreReadable};
 ghost use Rattle.pc_ground.specs.NodeWords.{IsStage, AreSmall, AreKept, NamesNode};
 
 use super::front::Front;
 use super::line_fault::LineFault;
 use super::node_key::NodeKey;
 use super::node_words::{NodeWords, node_words};
+use super::parts::Parts;
 use super::stage::Stages;
 use itoa::Buffer;
 use pc_case::{Case, OpId};
@@ -21,23 +22,27 @@ use pc_common::{Failed, MAX_CORE, Room, Sink};
 use std::marker::Model;
 use uspec_lexer::is_name;
 
-/// What the nodes of a front are written and read by: its test's micro-ops and its model's stages.
+/// What nodes are written and read by: a test's micro-ops and a model's stages.
 #[derive(Drop)]
 pub struct NodeText<'a> {
-    front: &'a Front,
+    case: &'a Case,
+    stages: &'a Stages,
+    ghost named: { AreStages (map plain_stage stages.now) } by { AreStages-prop (map plain_stage stages.now) },
 }
 
 impl<'a> Model for NodeText<'a> {
     ghost use Rattle.pc_common.specs.Lines.{Names};
-    ghost use Rattle.pc_case.specs.Kept.{IsKept};
-    ghost use Rattle.pc_ground.specs.NodeForm.{names_of};
+    ghost use Rattle.pc_case.specs.MicroOps.{AreMicroOps};
+    ghost use Rattle.std.specs.Prelude.{map};
+    ghost use Rattle.pc_ground.specs.NodeForm.{names_by};
+    ghost use Rattle.pc_ground.specs.Stages.{plain_stage};
     ghost use Rattle.pc_ground.specs.NodeWords.{AreSmall};
 
     ghost Value = { Names };
 
-    ghost view = { λ t. names_of t.front.now };
+    ghost view = { λ t. names_by t.case.now (map plain_stage t.stages.now) };
 
-    ghost invariant = { λ t. AreSmall t.front.now.case.ops × IsKept t.front.now.case.ops };
+    ghost invariant = { λ t. AreSmall t.case.now.ops × AreMicroOps t.case.now.ops };
 }
 
 /// The name of the first stage with this number, or nothing where there is none. A walk over at most 64 stages.
@@ -55,7 +60,8 @@ fn stage_name(stages: &Stages, number: u8) -> &[u8]
 
 /// The number of the stage of this name, None where there is none. A walk over at most 64 stages.
 fn stage_named(stages: &Stages, name: &[u8]) -> Option<u8>
-    ensures { MatchOption result ((n : ℕ) → IsStage (map plain_stage stages.now) n name.now → ⊥) (λ n. IsStage (map plain_stage stages.now) n name.now) }
+    ensures { MatchOption result ((n : ℕ) → IsStage (map plain_stage stages.now) n name.now → ⊥)
+        (λ n. IsStage (map plain_stage stages.now) n name.now) }
 {
     for k in 0..stages.len() {
         let stage = stages.get(k);
@@ -74,7 +80,7 @@ fn show_name(id: OpId)
 /// Does nothing. It shows that the numbers of each micro-op are of 64 bits, which a case's contract does not say.
 fn show_numbers(case: &Case)
     ensures small { AreSmall case.now.ops }
-    ensures kept { IsKept case.now.ops }
+    ensures kept { AreMicroOps case.now.ops }
 {
     for k in 0..case.ops() {
         show_name(case.op(k).id);
@@ -88,13 +94,28 @@ impl<'a> NodeText<'a> {
         ensures readable { AreReadable result }
     {
         show_numbers(&front.case);
-        NodeText { front }
+        NodeText {
+            case: &front.case,
+            stages: &front.stages,
+        }
+    }
+
+    /// The view of these parts. Takes no memory.
+    pub fn of_parts(parts: &'a Parts) -> NodeText<'a>
+        ensures view { result ≡ names_of_parts parts.now }
+        ensures readable { AreReadable result }
+    {
+        show_numbers(&parts.case);
+        NodeText {
+            case: &parts.case,
+            stages: &parts.stages,
+        }
     }
 
     /// Writes the node's text, g.n@core:Stage. Takes no memory.
     pub fn write<K: Sink>(&self, sink: &mut K, key: NodeKey) -> Result<(), Failed>
         requires { IsNodeIn self.now (key_node key) }
-        ensures { Writes K.told K.faults K.taken sink.old sink.new result (node_text self.now (key_node key)) }
+        ensures { Writes K.view sink.old sink.new result (node_text self.now (key_node key)) }
     {
         let mut room = Room::new(sink);
         self.put(&mut room, key)?;
@@ -104,10 +125,9 @@ impl<'a> NodeText<'a> {
     /// Puts the node's text into a room in front of a sink. Takes no memory.
     pub fn put<K: Sink>(&self, room: &mut Room<'_, K>, key: NodeKey) -> Result<(), Failed>
         requires { IsNodeIn self.now (key_node key) }
-        ensures { Puts K.told K.faults K.taken room.old room.new result (node_text self.now (key_node key)) }
+        ensures { Puts K.view room.old room.new result (node_text self.now (key_node key)) }
     {
-        let front = self.front;
-        let id = front.case.op(key.op as usize).id;
+        let id = self.case.op(key.op as usize).id;
         let mut g = Buffer::new();
         let mut n = Buffer::new();
         let mut core = Buffer::new();
@@ -118,7 +138,7 @@ impl<'a> NodeText<'a> {
             b"@",
             core.format(key.core).as_bytes(),
             b":",
-            stage_name(&front.stages, key.stage),
+            stage_name(self.stages, key.stage),
         ])
     }
 
@@ -126,7 +146,7 @@ impl<'a> NodeText<'a> {
     /// has and names no micro-op of the test, no core 0 to 63 or no stage of the model. Takes no memory. The bytes of
     /// its stage are judged only where the word names no node.
     pub fn read(&self, word: &[u8]) -> Result<NodeKey, LineFault>
-        ensures read { Reads self.now word.now result }
+        ensures read { ReadsNode self.now word.now result }
         ensures readable { AreReadable self.now }
         ensures again { (a : Node) → IsNodeIn self.now a → word.now ≡ node_text self.now a → Answers result a }
     {
@@ -152,20 +172,20 @@ impl<'a> NodeText<'a> {
     fn show_kept(&self)
         ensures { AreKept self.now }
     {
-        let _front = self.front;
+        let _case = self.case;
     }
 
     /// The node that these words name, None where they name none.
     fn named(&self, words: &NodeWords<'_>) -> Option<NodeKey>
-        ensures { MatchOption result ((a : Node) → a.core < MAX_CORE + 1 → NamesNode self.now words.now a → ⊥) (λ key. NamesNode self.now words.now (key_node key)) }
+        ensures { MatchOption result ((a : Node) → a.core < MAX_CORE + 1 → NamesNode self.now words.now a → ⊥)
+            (λ key. NamesNode self.now words.now (key_node key)) }
     {
-        let front = self.front;
         let id = OpId {
             g: words.g,
             n: words.n,
         };
-        let op = front.case.find(id)?;
-        let stage = stage_named(&front.stages, words.stage)?;
+        let op = self.case.find(id)?;
+        let stage = stage_named(self.stages, words.stage)?;
         if words.core > MAX_CORE {
             return None;
         }

@@ -1,4 +1,5 @@
 ghost use Rattle.std.specs.Prelude.{◌≡◌, ◌≤◌, ◌<◌, [], ℕ, MatchOption, Some, length, slice_get, is_ok, if◌then◌else◌};
+ghost use Rattle.pc_common.specs.declared.limits.TheConstants.{MAX_NODES};
 ghost use Rattle.pc_ground.specs.Keys.{key_node};
 ghost use Rattle.pc_ground.specs.Numbers.{seen, IsNumberOf, AreDistinct};
 
@@ -17,13 +18,14 @@ pub struct Numbering {
 impl Model for Numbering {
     ghost use Rattle.std.specs.Prelude.{List, map, length, ◌≤◌};
     ghost use Rattle.pc_common.specs.World.{Node};
+    ghost use Rattle.pc_common.specs.declared.limits.TheConstants.{MAX_NODES};
     ghost use Rattle.pc_ground.specs.Keys.{key_node};
 
     ghost Value = { List Node };
 
     ghost view = { λ s. map key_node s.keys.keys };
 
-    ghost invariant = { λ s. length s.keys.keys ≤ 262144 };
+    ghost invariant = { λ s. length s.keys.keys ≤ MAX_NODES };
 }
 
 impl Numbering {
@@ -47,7 +49,7 @@ impl Numbering {
     /// How many nodes there are, at most 262,144. Takes no memory.
     pub fn len(&self) -> u32
         ensures count { result ≡ length self.now }
-        ensures bound { length self.now ≤ 262144 }
+        ensures bound { length self.now ≤ MAX_NODES }
         ensures distinct { AreDistinct self.now }
     {
         self.keys.len() as u32
@@ -55,7 +57,8 @@ impl Numbering {
 
     /// The number of this node, None where it has none. One look-up; takes no memory.
     pub fn number(&self, key: NodeKey) -> Option<u32>
-        ensures { MatchOption result ((k : ℕ) → IsNumberOf self.now k (key_node key) → ⊥) (λ k. IsNumberOf self.now k (key_node key)) }
+        ensures { MatchOption result ((k : ℕ) → IsNumberOf self.now k (key_node key) → ⊥)
+            (λ k. IsNumberOf self.now k (key_node key)) }
     {
         let number = self.keys.get_index_of(&key)?;
         Some(number as u32)

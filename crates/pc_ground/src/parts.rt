@@ -1,45 +1,18 @@
-ghost use Rattle.std.specs.Prelude.{All};
-ghost use Rattle.std.specs.List.{flat_map};
-ghost use Rattle.pc_common.specs.Room.{Puts};
-ghost use Rattle.pc_ground.specs.Parts.{part_text, IsPartOf};
+ghost use Rattle.std.specs.Prelude.{map};
+ghost use Rattle.pc_ground.specs.Stages.{plain_stage, plain_axioms, numbers_of, AreStages, AreStages-prop, AxiomsWithin, AxiomsWithin-prop};
 
-use super::node_key::NodeKey;
-use super::node_text::NodeText;
-use pc_common::{Failed, Room, Sink};
+use super::stage::{Axioms, Stages};
+use pc_case::Case;
 
-/// A part of a line: bytes as they are, or a node's text.
-#[derive(Clone, Copy)]
-pub enum Part<'a> {
-    Bytes(&'a [u8]),
-    Node(NodeKey),
-}
-
-/// Puts a part into a room in front of a sink.
-fn put_part<K: Sink>(
-    room: &mut Room<'_, K>,
-    names: &NodeText<'_>,
-    part: &Part<'_>,
-) -> Result<(), Failed>
-    requires { IsPartOf names.now part.now }
-    ensures { Puts K.told K.faults K.taken room.old room.new result (part_text names.now part.now) }
-{
-    match part {
-        Part::Bytes(bytes) => room.put(bytes),
-        Part::Node(key) => names.put(room, *key),
-    }
-}
-
-/// Puts the parts into a room in front of a sink, one after another. Takes no memory.
-pub fn put_parts<K: Sink>(
-    room: &mut Room<'_, K>,
-    names: &NodeText<'_>,
-    parts: &[Part<'_>],
-) -> Result<(), Failed>
-    requires { All (IsPartOf names.now) parts.now }
-    ensures { Puts K.told K.faults K.taken room.old room.new result (flat_map (part_text names.now) parts.now) }
-{
-    for part in parts {
-        put_part(room, names, part)?;
-    }
-    Ok(())
+/// What a front is made of: a test, a model's stages, and closed axioms in the text's order.
+///
+/// The type keeps that stage numbers are below 64 and stage names are names, that no two stages have one
+/// number or one name, and that the axioms name no other stages.
+#[derive(Drop)]
+pub struct Parts {
+    pub case: Case,
+    pub stages: Stages,
+    pub axioms: Axioms,
+    pub ghost named: { AreStages (map plain_stage stages) } by { AreStages-prop (map plain_stage stages) },
+    pub ghost within: { AxiomsWithin (numbers_of (map plain_stage stages)) (plain_axioms axioms) } by { AxiomsWithin-prop (numbers_of (map plain_stage stages)) (plain_axioms axioms) },
 }

@@ -1,4 +1,5 @@
-ghost use Rattle.std.specs.Prelude.{◌≡◌};
+ghost use Rattle.std.specs.Prelude.{◌≡◌, true};
+ghost use Rattle.pc_ground.specs.Rows.{turned_kind, turned_row};
 ghost use Rattle.pc_ground.specs.Walks.{stride as stride_by};
 
 use super::literal::Literal;
@@ -22,7 +23,31 @@ pub struct Row<N> {
     pub skip: usize,
 }
 
+impl<N> RowKind<N> {
+    /// What stands there in the tree's negation.
+    fn negated(self) -> RowKind<N>
+        ensures { result ≡ turned_kind true self }
+    {
+        match self {
+            RowKind::True => RowKind::False,
+            RowKind::False => RowKind::True,
+            RowKind::Lit(literal) => RowKind::Lit(literal.contrary()),
+            RowKind::And => RowKind::Or,
+            RowKind::Or => RowKind::And,
+        }
+    }
+}
+
 impl<N> Row<N> {
+    /// The row of the tree, or of its negation. Takes no memory.
+    pub fn turned(self, negated: bool) -> Row<N>
+        ensures { result ≡ turned_row negated self }
+    {
+        let Row { kind, skip } = self;
+        let kind = if negated { kind.negated() } else { kind };
+        Row { kind, skip }
+    }
+
     /// How far it is to the next position that a side asserts, on a walk from the side's root to its
     /// end: past the whole of an Or, whose children are not asserted, and one elsewhere. Takes no memory.
     pub fn stride(&self) -> usize

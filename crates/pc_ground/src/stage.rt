@@ -1,5 +1,8 @@
-use pc_common::Listed;
+ghost use Rattle.std.specs.Prelude.{◌≡◌, IfOk};
+
+use pc_common::{Listed, Memory};
 use pc_syntax::{Closed, Name};
+use std::alloc::Global;
 
 /// A stage of a model.
 #[derive(Drop)]
@@ -9,6 +12,29 @@ pub struct Stage {
     pub name: Name,
 }
 
+impl Stage {
+    /// The same stage once more, with its name shared. Takes no memory.
+    pub fn copy(&self) -> Result<Stage, Memory>
+        ensures { IfOk result (λ stage. stage ≡ self.now) }
+    {
+        Ok(Stage {
+            number: self.number,
+            name: self.name.share()?,
+        })
+    }
+}
+
 pub type Stages = Listed<Stage>;
 
 pub type Axioms = Listed<Closed>;
+
+/// The same stages once more, with their names shared.
+pub fn copy_stages(alloc: Global, stages: &Stages) -> Result<Stages, Memory>
+    ensures { IfOk result (λ copies. copies ≡ stages.now) }
+{
+    let mut copies = Listed::new(alloc);
+    for stage in stages.as_slice() {
+        copies.push(stage.copy()?)?;
+    }
+    Ok(copies)
+}

@@ -18,9 +18,9 @@ use Rattle.pc_syntax.specs.declared.pred.Pred.TheVariants.{True}
 use Rattle.pc_common.specs.Names.{same_name}
 use Rattle.pc_syntax.specs.declared.pred.Takes.{Takes}
 use Rattle.pc_syntax.specs.declared.pred.Takes.TheVariants.{Op as takes_op, Core as takes_core, Plain as takes_plain}
-use Rattle.pc_syntax.specs.Predicates.{pred_named, takes_of}
+use Rattle.pc_syntax.specs.Predicates.{pred_with_name, takes_of}
 use Rattle.pc_syntax.specs.Written.{Written, not_, and_, or_, implies_, forall_, exists_, static_, nodes_, edges_, expand_, bind_}
-use Rattle.pc_syntax.specs.Truth.{stage_of}
+use Rattle.pc_syntax.specs.Stages.{stage_with_name, stage_number_of}
 use Rattle.pc_syntax.specs.IsClosed.{IsBound, FitsArg, FitArgs, FitsCore, FitsNode, FitNodes, FitEdges, HasValue, HaveValues, sort_of, IsClosed}
 use Rattle.pc_syntax.specs.Scope.{Binding, Scope, binding_of, sort_of_arg, quantified_in, bindings_from, bound_in}
 use Rattle.pc_syntax.specs.Fault.{Fault, first_fault}
@@ -33,12 +33,13 @@ use Rattle.pc_syntax.proofs.ClosingTruth.{sorts_equal, bound_length}
 
 -- each stage's number is below 64
 abbrev pub StagesBelow : List StageItem → Type 0
-StagesBelow stages = (name : List ℕ) (n : ℕ) → stage_of stages name ≡ Some n → n < 64
+StagesBelow stages = (name : List ℕ) (n : ℕ) → stage_number_of stages name ≡ Some n → n < 64
 
-one_stage : (b : Bool) (number n : ℕ) (rest : Option ℕ)
-    → number < 64 → (rest ≡ Some n → n < 64) → cond b (Some number) rest ≡ Some n → n < 64
-one_stage true number n rest below later e = let same : number ≡ n = cc in omega arith
-one_stage false number n rest below later e = later e
+one_stage : (b : Bool) (s : StageItem) (n : ℕ) (rest : Option StageItem) → s.number < 64
+    → (option_map (λ (x : StageItem). x.number) rest ≡ Some n → n < 64)
+    → option_map (λ (x : StageItem). x.number) (cond b (Some s) rest) ≡ Some n → n < 64
+one_stage true s n rest below later e = let same : s.number ≡ n = cc in omega (arith, same, below)
+one_stage false s n rest below later e = later e
 
 stages_below : (earlier stages : List StageItem) → stages_fault earlier stages ≡ None → StagesBelow stages
 stages_below earlier [] f name n e = cc
@@ -47,7 +48,7 @@ stages_below earlier (s ∷ ss) f name n e =
     let here = none_first (stage_fault earlier s) rest f in
     let number = none_first (number_fault s) (option_or (number_again earlier s) (name_again earlier s)) here in
     let most = ltb-false 63 s.number (none_where (nat_lt 63 s.number) _ number) in
-    one_stage (same_name s.name.name name) s.number n (stage_of ss name) (omega (arith, most))
+    one_stage (same_name s.name.name name) s n (stage_with_name ss name) (omega (arith, most))
     (stages_below (earlier ++ s ∷ []) ss (none_second (stage_fault earlier s) rest f) name n) e
 
 -- a model without stage faults has stage numbers below 64
@@ -155,7 +156,7 @@ module _ (sorts : List Sort) (scope : Scope) (fits : SortsFit sorts scope) where
       let rest = none_second op (option_or core stage) f in (
         variable_closed Microop t.op (none_first op (option_or core stage) f),
         location_closed t.core (none_first core stage rest),
-        stage_closed (stage_of stages t.stage.name) t.stage (below t.stage.name) (none_second core stage rest),
+        stage_closed (stage_number_of stages t.stage.name) t.stage (below t.stage.name) (none_second core stage rest),
       )
 
   nodes_closed : (stages : List StageItem) → StagesBelow stages → (ts : List NodeTerm)
@@ -245,7 +246,7 @@ bound_limit sorts scope names args same limit =
 static_shape : (sorts : List Sort) (scope : Scope) → SortsFit sorts scope → (stages : List StageItem) (pred : Word) (args : List Arg)
     → name_fault stages [] scope (static_ pred args) ≡ None → IsClosed sorts (closing_of stages scope (static_ pred args))
 static_shape sorts scope fits stages pred args f =
-    static_closed sorts scope fits pred args (pred_named pred.name) f
+    static_closed sorts scope fits pred args (pred_with_name pred.name) f
 
 -- closing a formula without name faults gives a closed formula
 pub closing_closed : (stages : List StageItem) → StagesBelow stages → (sorts : List Sort) (scope : Scope)

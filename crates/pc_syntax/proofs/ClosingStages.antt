@@ -1,5 +1,5 @@
 -- Closing a formula without name faults names stages of the model alone.
-use Rattle.std.proofs.Common.{◌≡◌, ℕ, Bool, true, false, ◌||◌, List, [], ◌∷◌, Option, Some, None, map, cond, refl, unwrap_or, eq-eqb, eqb-true, nat_eq, subst}
+use Rattle.std.proofs.Common.{◌≡◌, ℕ, Bool, true, false, ◌||◌, List, [], ◌∷◌, Option, Some, None, map, cond, option_map, refl, unwrap_or, eq-eqb, eqb-true, nat_eq, subst}
 use Rattle.std.specs.Prelude.{Contains}
 use Rattle.std.specs.List.{list_any}
 use Rattle.std.specs.Option.{option_or}
@@ -12,7 +12,7 @@ use Rattle.pc_syntax.specs.declared.term.NodeTerm.{NodeTerm}
 use Rattle.pc_syntax.specs.declared.term.EdgeTerm.{EdgeTerm}
 use Rattle.pc_syntax.specs.declared.model.StageItem.{StageItem}
 use Rattle.pc_syntax.specs.Written.{Written, not_, and_, or_, implies_, forall_, exists_, static_, nodes_, edges_, expand_, bind_, stage_numbers}
-use Rattle.pc_syntax.specs.Truth.{stage_of}
+use Rattle.pc_syntax.specs.Stages.{stage_with_name, stage_number_of}
 use Rattle.pc_syntax.specs.Scope.{Scope, quantified_in, bound_in}
 use Rattle.pc_syntax.specs.Fault.{Fault, first_fault}
 use Rattle.pc_syntax.specs.NameFaults.{variable_fault, location_fault, stage_name_fault, node_fault, edge_fault, scope_fault, binding_fault, name_fault}
@@ -28,17 +28,20 @@ or_this : (a b : Bool) → a ≡ true → a || b ≡ true
 or_this true b h = refl
 or_this false b h = cc
 
-one_named : (b : Bool) (s n : ℕ) (rest : Option ℕ) (others : List ℕ)
-    → (rest ≡ Some n → IsAmong others n) → cond b (Some s) rest ≡ Some n → IsAmong (s ∷ others) n
+one_named : (b : Bool) (s : StageItem) (n : ℕ) (rest : Option StageItem) (others : List ℕ)
+    → (option_map (λ (x : StageItem). x.number) rest ≡ Some n → IsAmong others n)
+    → option_map (λ (x : StageItem). x.number) (cond b (Some s) rest) ≡ Some n → IsAmong (s.number ∷ others) n
 one_named true s n rest others later e =
-    or_this (nat_eq s n) (list_any (λ m. nat_eq m n) others) (let same : s ≡ n = cc in eq-eqb s n same)
-one_named false s n rest others later e = or_else (nat_eq s n) (list_any (λ m. nat_eq m n) others) (later e)
+    or_this (nat_eq s.number n) (list_any (λ m. nat_eq m n) others)
+    (let same : s.number ≡ n = cc in eq-eqb s.number n same)
+one_named false s n rest others later e = or_else (nat_eq s.number n) (list_any (λ m. nat_eq m n) others) (later e)
 
 -- the number of a stage that a name has is one of the stages' numbers
-pub stage_among : (stages : List StageItem) (name : List ℕ) (n : ℕ) → stage_of stages name ≡ Some n → IsAmong (stage_numbers stages) n
+pub stage_among : (stages : List StageItem) (name : List ℕ) (n : ℕ)
+    → stage_number_of stages name ≡ Some n → IsAmong (stage_numbers stages) n
 stage_among [] name n e = cc
 stage_among (s ∷ ss) name n e =
-    one_named (same_name s.name.name name) s.number n (stage_of ss name) (stage_numbers ss) (stage_among ss name n) e
+    one_named (same_name s.name.name name) s n (stage_with_name ss name) (stage_numbers ss) (stage_among ss name n) e
 
 named_among : (numbers : List ℕ) (found : Option ℕ) (w : Word) → ((n : ℕ) → found ≡ Some n → IsAmong numbers n)
     → ◌≡◌ {A = Option Fault} (elim found [ None ↦ Some (StageUnknown, w.at) | Some n ↦ None ]) None
@@ -48,11 +51,11 @@ named_among numbers (Some n) w each f = each n refl
 
 module _ (stages : List StageItem) where
   node_within : (scope : Scope) (t : NodeTerm) → node_fault stages scope t ≡ None
-      → IsAmong (stage_numbers stages) (unwrap_or (stage_of stages t.stage.name) 0)
+      → IsAmong (stage_numbers stages) (unwrap_or (stage_number_of stages t.stage.name) 0)
   node_within scope t f =
       let core = location_fault scope t.core in
       let stage = stage_name_fault stages t.stage in
-      named_among (stage_numbers stages) (stage_of stages t.stage.name) t.stage (stage_among stages t.stage.name)
+      named_among (stage_numbers stages) (stage_number_of stages t.stage.name) t.stage (stage_among stages t.stage.name)
       (none_second core stage (none_second (variable_fault scope Microop t.op) (option_or core stage) f))
 
   nodes_within : (scope : Scope) (ts : List NodeTerm) → first_fault (node_fault stages scope) ts ≡ None

@@ -19,10 +19,11 @@ use Rattle.pc_syntax.specs.declared.pred.Pred.{Pred}
 use Rattle.pc_syntax.specs.declared.pred.Pred.TheVariants.{True}
 use Rattle.pc_syntax.specs.declared.pred.Takes.{Takes}
 use Rattle.pc_syntax.specs.declared.pred.Takes.TheVariants.{Op as takes_op, Core as takes_core, Plain as takes_plain}
+use Rattle.pc_syntax.specs.Stages.{stage_number_of}
 use Rattle.pc_syntax.specs.Arguments.{Argument, op_at, core_at}
-use Rattle.pc_syntax.specs.Predicates.{pred_named, takes_of, predicate_holds}
+use Rattle.pc_syntax.specs.Predicates.{pred_with_name, takes_of, predicate_holds}
 use Rattle.pc_syntax.specs.Written.{Written, not_, and_, or_, implies_, forall_, exists_, static_, nodes_, edges_, expand_, bind_}
-use Rattle.pc_syntax.specs.Truth.{Meaning, an_op, a_core, Environment, Setting, value_of, value_of_arg, bound_to, stage_of, op_of, core_of, location_core, node_at, core_there, node_of, node_holds, edge_holds, argument_of, put_first, arguments_of, pred_holds, static_holds, below, range_of, is_true}
+use Rattle.pc_syntax.specs.Truth.{Meaning, an_op, a_core, Environment, Setting, value_of, value_of_arg, bound_to, op_of, core_of, location_core, node_at, core_there, node_of, node_holds, edge_holds, argument_of, put_first, arguments_of, pred_holds, static_holds, below, range_of, is_true}
 use Rattle.pc_syntax.specs.Closed.{value_at, closed_value, argument_at, closed_argument, closed_core, core_at_op, closed_node, closed_true}
 use Rattle.pc_syntax.specs.Scope.{Binding, Scope, binding_of, sort_of_arg, quantified_in, bindings_from, bound_in}
 use Rattle.pc_syntax.specs.Fault.{Fault, first_fault}
@@ -163,11 +164,11 @@ module _ (slots : List Meaning) (env : Environment) (scope : Scope) (fits : Fits
       let v = variable_value Microop t.op (none_first (variable_fault scope Microop t.op) (option_or (location_fault scope t.core) (stage_name_fault stages t.stage)) f) in
       let op : op_of (value_of env t.op.name) ≡ op_of (Some (value_at slots (slot_of scope t.op))) =
       ap op_of (v.is_value ∙ ap Some (sym v.in_slot)) in
-      (λ i. node_at (op i) (core_there c env (op i) t.core) (stage_of stages t.stage.name))
+      (λ i. node_at (op i) (core_there c env (op i) t.core) (stage_number_of stages t.stage.name))
       ∙ (λ i. node_at
       (op_of (Some (value_at slots (slot_of scope t.op))))
       (core_law c (op_of (Some (value_at slots (slot_of scope t.op)))) t.core core i)
-      (stage_law (stage_of stages t.stage.name) t.stage stage i))
+      (stage_law (stage_number_of stages t.stage.name) t.stage stage i))
 
   nodes_law : (stages : List StageItem) (c : Case) (w : World Node) (ts : List NodeTerm)
       → first_fault (node_fault stages scope) ts ≡ None
@@ -293,7 +294,7 @@ pub static_true : (slots : List Meaning) (env : Environment) (scope : Scope) →
     → name_fault stages [] scope (static_ pred args) ≡ None
     → static_holds c env pred.name args ≡ closed_true c w slots (closing_of stages scope (static_ pred args))
 static_true slots env scope fits stages c w pred args f =
-    static_law slots env scope fits c w pred args (pred_named pred.name) f
+    static_law slots env scope fits c w pred args (pred_with_name pred.name) f
 
 -- closing keeps truth, in each environment that fits the scope and the slots
 pub closing_true : (s : Setting) (slots : List Meaning) (env : Environment) (scope : Scope)

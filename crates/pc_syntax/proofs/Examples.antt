@@ -10,7 +10,7 @@ use Rattle.pc_syntax.specs.declared.term.Arg.TheVariants.{Word as word_arg, Numb
 use Rattle.pc_syntax.specs.declared.model.StageItem.{StageItem}
 use Rattle.pc_syntax.specs.Predicates.{all_preds}
 use Rattle.pc_syntax.specs.Written.{Written, not_, and_, forall_, static_, nodes_, expand_, MacroAt, WrittenItem, axiom_, macro_, WrittenModel}
-use Rattle.pc_syntax.specs.Sizes.{size_of, height_of}
+use Rattle.pc_syntax.specs.Sizes.{expanded_size, expanded_height}
 use Rattle.pc_syntax.specs.StageFaults.{first_stage_fault}
 use Rattle.pc_syntax.specs.MacroFaults.{first_macro_fault}
 use Rattle.pc_syntax.specs.NameFaults.{first_name_fault}
@@ -145,11 +145,11 @@ tower zero = record { name = word (0 ∷ []) 0; parameters = []; body = truth } 
 tower (suc n) =
     record { name = word (suc n ∷ []) 0; parameters = []; body = not_ (expand_ (at 0) (word (n ∷ []) 0) []) } ∷ tower n
 
-height_511 : height_of (tower 255) (expand_ (at 0) (word (255 ∷ []) 0) []) ≡ 511
+height_511 : expanded_height (tower 255) (expand_ (at 0) (word (255 ∷ []) 0) []) ≡ 511
 unfolding truth
 height_511 = refl
 
-height_513 : height_of (tower 256) (expand_ (at 0) (word (256 ∷ []) 0) []) ≡ 513
+height_513 : expanded_height (tower 256) (expand_ (at 0) (word (256 ∷ []) 0) []) ≡ 513
 unfolding truth
 height_513 = refl
 
@@ -161,6 +161,6 @@ wide_tower (suc n) =
     record { name = word (suc n ∷ []) 0; parameters = []; body = and_ before before } ∷ wide_tower n
 
 -- 4 * 2 ^ n - 2
-size_30 : size_of (wide_tower 3) (expand_ (at 0) (word (3 ∷ []) 0) []) ≡ 30
+size_30 : expanded_size (wide_tower 3) (expand_ (at 0) (word (3 ∷ []) 0) []) ≡ 30
 unfolding truth
 size_30 = refl

@@ -13,7 +13,7 @@ use Rattle.pc_syntax.specs.Written.{Written, not_, and_, or_, implies_, forall_,
 use Rattle.pc_syntax.specs.Observable.{axiom_of, macro_of, axioms_of, macros_in_order, macros_of}
 use Rattle.pc_syntax.specs.Expansion.{parameter_names, expansion_of, IsExpanded}
 use Rattle.pc_syntax.specs.Fault.{Fault}
-use Rattle.pc_syntax.specs.MacroFaults.{macro_called, macro_again, parameters_fault, count_fault, body_fault, macro_fault, items_fault, first_macro_fault}
+use Rattle.pc_syntax.specs.MacroFaults.{macro_with_name, macro_again, parameters_fault, count_fault, body_fault, macro_fault, items_fault, first_macro_fault}
 use Rattle.pc_syntax.proofs.NoFault.{none_first, none_second}
 
 -- each macro's body names only macros before it
@@ -52,7 +52,7 @@ expansion_expanded ms earlier (edges_ ts) f = tt
 expansion_expanded ms earlier (bind_ at names args p) f = expansion_expanded ms earlier p f
 expansion_expanded [] earlier (expand_ at name args) f = absurd (cc)
 expansion_expanded (m ∷ ms) earlier (expand_ at name args) f =
-    chosen (same_name m.name.name name.name) m (macro_called ms name.name) name args
+    chosen (same_name m.name.name name.name) m (macro_with_name ms name.name) name args
     (bind_ at (parameter_names m) args (expansion_of ms m.body))
     (expansion_of ms (expand_ at name args))
     (expansion_expanded ms earlier.1 m.body earlier.0)
@@ -100,7 +100,7 @@ axioms_fine all earlier (macro_ m ∷ items) f =
 -- no two macros have one name; each macro's body names only macros before it
 abbrev pub NewNames : List MacroAt → Type 0
 NewNames [] = Unit {0}
-NewNames (m ∷ ms) = (macro_called ms m.name.name ≡ None) × NewNames ms
+NewNames (m ∷ ms) = (macro_with_name ms m.name.name ≡ None) × NewNames ms
 
 none_again : (o : Option MacroAt) (f : MacroAt → Fault) → option_map f o ≡ None → o ≡ None
 none_again None f h = refl
@@ -117,35 +117,35 @@ after_new_names all earlier (macro_ m ∷ items) f h =
     let again =
     none_first (macro_again earlier m.name) (option_or (parameters_fault [] m.parameters) (body_fault earlier m.body)) here in
     after_new_names all (m ∷ earlier) items (none_second (macro_fault earlier m) rest f)
-    (none_again (macro_called earlier m.name.name) (λ e. (MacroAgain e.name.at m.name.at, m.name.at)) again, h)
+    (none_again (macro_with_name earlier m.name.name) (λ e. (MacroAgain e.name.at m.name.at, m.name.at)) again, h)
 
 called_after : (xs : List MacroAt) (m : MacroAt) (name : List ℕ)
-    → macro_called (xs ++ m ∷ []) name ≡ option_or (macro_called xs name) (if same_name m.name.name name then Some m else None)
+    → macro_with_name (xs ++ m ∷ []) name ≡ option_or (macro_with_name xs name) (if same_name m.name.name name then Some m else None)
 called_after [] m name = refl
 called_after (x ∷ xs) m name = by (same_name x.name.name name) (called_after xs m name)
   where
     by : (b : Bool)
-        → macro_called (xs ++ m ∷ []) name ≡ option_or (macro_called xs name) (if same_name m.name.name name then Some m else None)
-        → cond b (Some x) (macro_called (xs ++ m ∷ []) name)
-        ≡ option_or (cond b (Some x) (macro_called xs name)) (if same_name m.name.name name then Some m else None)
+        → macro_with_name (xs ++ m ∷ []) name ≡ option_or (macro_with_name xs name) (if same_name m.name.name name then Some m else None)
+        → cond b (Some x) (macro_with_name (xs ++ m ∷ []) name)
+        ≡ option_or (cond b (Some x) (macro_with_name xs name)) (if same_name m.name.name name then Some m else None)
     by true rest = refl
     by false rest = rest
 
 -- where no two macros have one name, a name is found in either order
-pub called_reversed : (ms : List MacroAt) (name : List ℕ) → NewNames ms → macro_called (reverse ms) name ≡ macro_called ms name
+pub called_reversed : (ms : List MacroAt) (name : List ℕ) → NewNames ms → macro_with_name (reverse ms) name ≡ macro_with_name ms name
 called_reversed [] name h = refl
 called_reversed (m ∷ ms) name h =
-    ap (λ xs. macro_called xs name) (reverse-append (m ∷ []) ms)
+    ap (λ xs. macro_with_name xs name) (reverse-append (m ∷ []) ms)
     ∙ called_after (reverse ms) m name
     ∙ ap (λ o. option_or o (if same_name m.name.name name then Some m else None)) (called_reversed ms name h.1)
     ∙ by (same_name m.name.name name) refl
   where
     by : (b : Bool) → same_name m.name.name name ≡ b
-        → option_or (macro_called ms name) (cond b (Some m) None) ≡ cond b (Some m) (macro_called ms name)
+        → option_or (macro_with_name ms name) (cond b (Some m) None) ≡ cond b (Some m) (macro_with_name ms name)
     by true e =
         ap (λ o. option_or o (Some m))
-        (ap (λ n. macro_called ms n) (sym ((bytes_eq-Decides m.name.name name).0 e)) ∙ h.0)
-    by false e = or_none (macro_called ms name)
+        (ap (λ n. macro_with_name ms n) (sym ((bytes_eq-Decides m.name.name name).0 e)) ∙ h.0)
+    by false e = or_none (macro_with_name ms name)
       where
         or_none : (o : Option MacroAt) → option_or o None ≡ o
         or_none None = refl
@@ -163,9 +163,9 @@ module _ (m : WrittenModel) (f : first_macro_fault m ≡ None) where
       (after_new_names (macros_in_order m) [] m.items f tt)
 
   -- the macro that a name calls is the same, in the text's order and latest first
-  pub same_called : (name : List ℕ) → macro_called (macros_in_order m) name ≡ macro_called (macros_of m) name
+  pub same_called : (name : List ℕ) → macro_with_name (macros_in_order m) name ≡ macro_with_name (macros_of m) name
   same_called name =
-      ap (λ xs. macro_called xs name) (sym (reverse-reverse (macros_in_order m)))
+      ap (λ xs. macro_with_name xs name) (sym (reverse-reverse (macros_in_order m)))
       ∙ called_reversed (macros_of m) name macros_new_names
 
   pub same_body_fault : (w : Written) → body_fault (macros_in_order m) w ≡ body_fault (macros_of m) w

@@ -7,7 +7,7 @@ use Rattle.pc_common.specs.Names.{same_name}
 use Rattle.pc_syntax.specs.Written.{Written, not_, and_, or_, implies_, forall_, exists_, static_, nodes_, edges_, expand_, bind_, MacroAt}
 use Rattle.pc_syntax.specs.Truth.{Environment, Setting, bound_to, range_of, is_true}
 use Rattle.pc_syntax.specs.Expansion.{parameter_names, expansion_of, IsExpanded}
-use Rattle.pc_syntax.specs.Sizes.{size_of, height_of}
+use Rattle.pc_syntax.specs.Sizes.{expanded_size, expanded_height}
 use Rattle.pc_syntax.specs.Scope.{Scope, quantified_in, bound_in}
 use Rattle.pc_syntax.specs.NameFaults.{scope_fault, binding_fault, name_fault}
 
@@ -56,7 +56,7 @@ expanded_true s ms env (edges_ ts) h = refl
 expanded_true s ms env (bind_ at names args p) h = expanded_true s ms (bound_to env names args ++ env) p h
 expanded_true s ms env (expand_ at name args) h = elim h [ ]
 
-pub expansion_size : (ms : List MacroAt) (w : Written) → size_of ms w ≡ size_of [] (expansion_of ms w)
+pub expansion_size : (ms : List MacroAt) (w : Written) → expanded_size ms w ≡ expanded_size [] (expansion_of ms w)
 expansion_size ms (not_ p) = λ i. 1 + expansion_size ms p i
 expansion_size ms (and_ p q) = λ i. 1 + (expansion_size ms p i + expansion_size ms q i)
 expansion_size ms (or_ p q) = λ i. 1 + (expansion_size ms p i + expansion_size ms q i)
@@ -69,13 +69,13 @@ expansion_size ms (edges_ ts) = refl
 expansion_size ms (bind_ at names args p) = λ i. 1 + expansion_size ms p i
 expansion_size [] (expand_ at name args) = refl
 expansion_size (m ∷ ms) (expand_ at name args) =
-    choose (λ w. size_of [] w) (same_name m.name.name name.name) _ _
+    choose (λ w. expanded_size [] w) (same_name m.name.name name.name) _ _
     (bind_ at (parameter_names m) args (expansion_of ms m.body))
     (expansion_of ms (expand_ at name args))
     (λ i. 1 + expansion_size ms m.body i)
     (expansion_size ms (expand_ at name args))
 
-pub expansion_height : (ms : List MacroAt) (w : Written) → height_of ms w ≡ height_of [] (expansion_of ms w)
+pub expansion_height : (ms : List MacroAt) (w : Written) → expanded_height ms w ≡ expanded_height [] (expansion_of ms w)
 expansion_height ms (not_ p) = λ i. 1 + expansion_height ms p i
 expansion_height ms (and_ p q) = λ i. 1 + max (expansion_height ms p i) (expansion_height ms q i)
 expansion_height ms (or_ p q) = λ i. 1 + max (expansion_height ms p i) (expansion_height ms q i)
@@ -88,7 +88,7 @@ expansion_height ms (edges_ ts) = refl
 expansion_height ms (bind_ at names args p) = λ i. 1 + expansion_height ms p i
 expansion_height [] (expand_ at name args) = refl
 expansion_height (m ∷ ms) (expand_ at name args) =
-    choose (λ w. height_of [] w) (same_name m.name.name name.name) _ _
+    choose (λ w. expanded_height [] w) (same_name m.name.name name.name) _ _
     (bind_ at (parameter_names m) args (expansion_of ms m.body))
     (expansion_of ms (expand_ at name args))
     (λ i. 1 + expansion_height ms m.body i)

@@ -10,30 +10,30 @@ pub data Argument : Type 0 where
   plain_name : List ℕ → Argument
 
 -- the place of a micro-op, a core, or a plain name, where the argument is one
-abbrev pub place_of : Argument → Option ℕ
-place_of (op_at i) = Some i
-place_of (core_at k) = None
-place_of (plain_name name) = None
+abbrev pub place_argument : Argument → Option ℕ
+place_argument (op_at i) = Some i
+place_argument (core_at k) = None
+place_argument (plain_name name) = None
 
-abbrev pub core_of : Argument → Option ℕ
-core_of (op_at i) = None
-core_of (core_at k) = Some k
-core_of (plain_name name) = None
+abbrev pub core_argument : Argument → Option ℕ
+core_argument (op_at i) = None
+core_argument (core_at k) = Some k
+core_argument (plain_name name) = None
 
-abbrev pub plain_of : Argument → Option (List ℕ)
-plain_of (op_at i) = None
-plain_of (core_at k) = None
-plain_of (plain_name name) = Some name
+abbrev pub plain_argument : Argument → Option (List ℕ)
+plain_argument (op_at i) = None
+plain_argument (core_at k) = None
+plain_argument (plain_name name) = Some name
 
 -- so is the argument at place k
 abbrev pub place_in : List Argument → ℕ → Option ℕ
-place_in args k = option_and_then place_of (slice_get args k)
+place_in args k = option_and_then place_argument (slice_get args k)
 
 abbrev pub core_in : List Argument → ℕ → Option ℕ
-core_in args k = option_and_then core_of (slice_get args k)
+core_in args k = option_and_then core_argument (slice_get args k)
 
 abbrev pub plain_in : List Argument → ℕ → Option (List ℕ)
-plain_in args k = option_and_then plain_of (slice_get args k)
+plain_in args k = option_and_then plain_argument (slice_get args k)
 
 -- the micro-op that is the argument at place k, and what it touches
 abbrev pub op_in : Case → List Argument → ℕ → Option MicroOp

@@ -15,9 +15,9 @@ use Rattle.pc_syntax.specs.declared.closed_term.ClosedArg.{ClosedArg}
 use Rattle.pc_syntax.specs.declared.closed_term.ClosedArg.TheVariants.{Slot, Core, Plain}
 use Rattle.pc_syntax.specs.declared.closed_term.ClosedNode.{ClosedNode}
 use Rattle.pc_syntax.specs.declared.closed_term.ClosedEdge.{ClosedEdge}
-use Rattle.pc_syntax.specs.Predicates.{pred_named, takes_of}
+use Rattle.pc_syntax.specs.Predicates.{pred_with_name, takes_of}
 use Rattle.pc_syntax.specs.Written.{Written, not_, and_, or_, implies_, forall_, exists_, static_, nodes_, edges_, expand_, bind_}
-use Rattle.pc_syntax.specs.Truth.{stage_of}
+use Rattle.pc_syntax.specs.Stages.{stage_number_of}
 use Rattle.pc_syntax.specs.Closed.{PlainClosed, closed_not, closed_and, closed_or, closed_implies, closed_forall, closed_exists, closed_static, closed_nodes, closed_edges, closed_bind}
 use Rattle.pc_syntax.specs.Scope.{Scope, binding_of, quantified_in, bound_in}
 use Rattle.pc_syntax.specs.NameFaults.{name_fault}
@@ -55,7 +55,7 @@ closing_of_node stages scope t =
     record {
       op = slot_of scope t.op;
       core = option_map (closing_of_value scope) t.core;
-      stage = unwrap_or (stage_of stages t.stage.name) 0;
+      stage = unwrap_or (stage_number_of stages t.stage.name) 0;
     }
 
 abbrev pub closing_of_edge : List StageItem → Scope → EdgeTerm → ClosedEdge
@@ -71,9 +71,11 @@ closing_of stages scope (not_ p) = closed_not (closing_of stages scope p)
 closing_of stages scope (and_ p q) = closed_and (closing_of stages scope p) (closing_of stages scope q)
 closing_of stages scope (or_ p q) = closed_or (closing_of stages scope p) (closing_of stages scope q)
 closing_of stages scope (implies_ p q) = closed_implies (closing_of stages scope p) (closing_of stages scope q)
-closing_of stages scope (forall_ at sort name p) = closed_forall sort (closing_of stages (quantified_in scope name sort) p)
-closing_of stages scope (exists_ at sort name p) = closed_exists sort (closing_of stages (quantified_in scope name sort) p)
-closing_of stages scope (static_ pred args) = closing_of_static scope (unwrap_or (pred_named pred.name) True) args
+closing_of stages scope (forall_ at sort name p) =
+    closed_forall sort (closing_of stages (quantified_in scope name sort) p)
+closing_of stages scope (exists_ at sort name p) =
+    closed_exists sort (closing_of stages (quantified_in scope name sort) p)
+closing_of stages scope (static_ pred args) = closing_of_static scope (unwrap_or (pred_with_name pred.name) True) args
 closing_of stages scope (nodes_ ts) = closed_nodes (map (closing_of_node stages scope) ts)
 closing_of stages scope (edges_ ts) = closed_edges (map (closing_of_edge stages scope) ts)
 closing_of stages scope (expand_ at name args) = closed_static False []

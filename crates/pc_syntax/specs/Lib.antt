@@ -1,6 +1,7 @@
 pub mod Written
 pub mod Arguments
 pub mod Predicates
+pub mod Stages
 pub mod Truth
 pub mod Observable
 pub mod Fault

@@ -10,27 +10,27 @@ use Rattle.pc_syntax.specs.Written.{Written, not_, and_, or_, implies_, forall_,
 use Rattle.pc_syntax.specs.Observable.{macros_in_order}
 use Rattle.pc_syntax.specs.Fault.{Fault}
 
--- the first macro of this name in the list
-abbrev pub macro_called : List MacroAt → List ℕ → Option MacroAt
-macro_called [] name = None
-macro_called (m ∷ ms) name = if same_name m.name.name name then Some m else macro_called ms name
+-- the first macro with this name
+abbrev pub macro_with_name : List MacroAt → List ℕ → Option MacroAt
+macro_with_name [] name = None
+macro_with_name (m ∷ ms) name = if same_name m.name.name name then Some m else macro_with_name ms name
 
--- the first word of this name
-abbrev pub word_called : List Word → List ℕ → Option Word
-word_called [] name = None
-word_called (w ∷ ws) name = if same_name w.name name then Some w else word_called ws name
+-- the first word with this name
+abbrev pub word_with_name : List Word → List ℕ → Option Word
+word_with_name [] name = None
+word_with_name (w ∷ ws) name = if same_name w.name name then Some w else word_with_name ws name
 
 -- an earlier macro has the name
 abbrev pub macro_again : List MacroAt → Word → Option Fault
 macro_again earlier name =
-    option_map (λ m. (MacroAgain m.name.at name.at, name.at)) (macro_called earlier name.name)
+    option_map (λ m. (MacroAgain m.name.at name.at, name.at)) (macro_with_name earlier name.name)
 
 -- the first parameter whose name is that of an earlier one
 abbrev pub parameters_fault : List Word → List Word → Option Fault
 parameters_fault earlier [] = None
 parameters_fault earlier (w ∷ ws) =
     option_or
-    (option_map (λ e. (ParameterAgain e.at w.at, w.at)) (word_called earlier w.name))
+    (option_map (λ e. (ParameterAgain e.at w.at, w.at)) (word_with_name earlier w.name))
     (parameters_fault (earlier ++ w ∷ []) ws)
 
 -- another number of arguments than parameters
@@ -43,7 +43,7 @@ count_fault name args m =
 -- the fault of an expansion, where these macros may be named
 abbrev pub call_fault : List MacroAt → Word → List Arg → Option Fault
 call_fault ms name args =
-    elim (macro_called ms name.name) [ None ↦ Some (MacroUnknown, name.at) | Some m ↦ count_fault name args m ]
+    elim (macro_with_name ms name.name) [ None ↦ Some (MacroUnknown, name.at) | Some m ↦ count_fault name args m ]
 
 -- the first fault of the expansions in a formula, where these macros may be named
 abbrev pub body_fault : List MacroAt → Written → Option Fault

@@ -17,10 +17,10 @@ use Rattle.pc_syntax.specs.declared.term.EdgeTerm.{EdgeTerm}
 use Rattle.pc_syntax.specs.declared.model.StageItem.{StageItem}
 use Rattle.pc_syntax.specs.declared.pred.Takes.{Takes}
 use Rattle.pc_syntax.specs.declared.pred.Takes.TheVariants.{Op as takes_op, Core as takes_core, Plain as takes_plain}
-use Rattle.pc_syntax.specs.Predicates.{takes_of, pred_named}
+use Rattle.pc_syntax.specs.Predicates.{takes_of, pred_with_name}
 use Rattle.pc_syntax.specs.Written.{Written, not_, and_, or_, implies_, forall_, exists_, static_, nodes_, edges_, expand_, bind_, MacroAt, WrittenModel}
 use Rattle.pc_syntax.specs.Observable.{axioms_of, macros_of}
-use Rattle.pc_syntax.specs.Truth.{stage_of}
+use Rattle.pc_syntax.specs.Stages.{stage_number_of}
 use Rattle.pc_syntax.specs.Expansion.{parameter_names}
 use Rattle.pc_syntax.specs.Scope.{Scope, binding_of, quantified_in, bound_in}
 use Rattle.pc_syntax.specs.Fault.{Fault, first_fault}
@@ -62,14 +62,14 @@ arity_fault pred args takes =
 -- a predicate's name, then the number of its arguments, then the arguments
 abbrev pub static_fault : Scope → Word → List Arg → Option Fault
 static_fault scope pred args =
-    elim (pred_named pred.name) [
+    elim (pred_with_name pred.name) [
       | None ↦ Some (PredicateUnknown, pred.at)
       | Some p ↦ option_or (arity_fault pred args (takes_of p)) (arguments_fault scope (takes_of p) args)
     ]
 
 -- no stage has the name
 abbrev pub stage_name_fault : List StageItem → Word → Option Fault
-stage_name_fault stages w = elim (stage_of stages w.name) [ None ↦ Some (StageUnknown, w.at) | Some n ↦ None ]
+stage_name_fault stages w = elim (stage_number_of stages w.name) [ None ↦ Some (StageUnknown, w.at) | Some n ↦ None ]
 
 abbrev pub location_fault : Scope → Option Arg → Option Fault
 location_fault scope None = None

@@ -1,12 +1,12 @@
 -- The static predicates: one row each, with its name and what it asks of the case alone.
 use Rattle.std.specs.Prelude.{ℕ, Bool, true, false, List, [], ◌∷◌, Option, Some, None, codes, ◌==◌, ◌&&◌, nat_lt}
 use Rattle.std.specs.List.{list_any, find}
-use Rattle.pc_common.specs.Case.{PageAt, Address, page, Value, Touch, Kind, read, write, fence, MicroOp, Case}
+use Rattle.pc_common.specs.Case.{Address, page, entry_of, Value, number, entry, Touch, Kind, read, write, fence, MicroOp, Case}
 use Rattle.pc_common.specs.Names.{same_name}
 use Rattle.pc_common.specs.Addresses.{same_page, same_address, same_value, stated_at, initial_at}
 use Rattle.pc_common.specs.Dependencies.{depends_by}
 use Rattle.pc_syntax.specs.declared.pred.Pred.{Pred}
-use Rattle.pc_syntax.specs.declared.pred.Pred.TheVariants.{True, False, IsAnyRead, IsAnyWrite, IsAnyFence, AccessType, OnCore, SameCore, SameThread, SameMicroop, SameInstruction, SameIntra, ProgramOrder, SameVirtualAddress, SamePhysicalAddress, SameVirtualTag, SamePhysicalTag, SameIndex, SameData, DataFromInitialStateAtPA, DataFromFinalStateAtPA, HasDependency}
+use Rattle.pc_syntax.specs.declared.pred.Pred.TheVariants.{True, False, IsAnyRead, IsAnyWrite, IsAnyFence, AccessType, OnCore, SameCore, SameThread, SameMicroop, SameInstruction, SameIntra, ProgramOrder, SameVirtualAddress, SamePhysicalAddress, SameVirtualTag, SamePhysicalTag, SameIndex, SameData, DataFromInitialStateAtPA, DataFromFinalStateAtPA, HasDependency, EntryOf, MapsTagOf, MarkedAccessed, MarkedDirty}
 use Rattle.pc_syntax.specs.declared.pred.TheConstants.Pred.{ALL}
 use Rattle.pc_syntax.specs.declared.pred.Takes.{Takes}
 use Rattle.pc_syntax.specs.declared.pred.Takes.TheVariants.{Op, Core, Plain}
@@ -52,8 +52,32 @@ is_fence fence = true
 abbrev pub is_before : MicroOp → MicroOp → Bool
 is_before a b = (a.core == b.core) && (a.thread == b.thread) && nat_lt a.g b.g
 
-abbrev pub page_of : Address → PageAt
-page_of (page p) = p
+-- both are pages, of one tag
+abbrev pub same_tag : Address → Address → Bool
+same_tag (page p) (page q) = p.tag == q.tag
+same_tag (page p) (entry_of t) = false
+same_tag (entry_of s) (page q) = false
+same_tag (entry_of s) (entry_of t) = false
+
+-- the address is that of this virtual tag's entry
+abbrev pub is_entry_of : Address → ℕ → Bool
+is_entry_of (page p) t = false
+is_entry_of (entry_of s) t = s == t
+
+-- the value is an entry that maps to the tag of this page
+abbrev pub maps_to : Value → Address → Bool
+maps_to (number n) a = false
+maps_to (entry e) (page p) = e.tag == p.tag
+maps_to (entry e) (entry_of t) = false
+
+-- the value is an entry with the mark set
+abbrev pub is_accessed : Value → Bool
+is_accessed (number n) = false
+is_accessed (entry e) = e.accessed == 1
+
+abbrev pub is_dirty : Value → Bool
+is_dirty (number n) = false
+is_dirty (entry e) = e.dirty == 1
 
 -- a value is stated, and is this one
 abbrev pub is_stated : Option Value → Value → Bool
@@ -77,7 +101,7 @@ row_of ProgramOrder = row (codes "ProgramOrder") (of_ops is_before)
 row_of SameVirtualAddress = row (codes "SameVirtualAddress") (of_touches (λ s t. same_page s.va t.va))
 row_of SamePhysicalAddress = row (codes "SamePhysicalAddress") (of_touches (λ s t. same_address s.pa t.pa))
 row_of SameVirtualTag = row (codes "SameVirtualTag") (of_touches (λ s t. s.va.tag == t.va.tag))
-row_of SamePhysicalTag = row (codes "SamePhysicalTag") (of_touches (λ s t. (page_of s.pa).tag == (page_of t.pa).tag))
+row_of SamePhysicalTag = row (codes "SamePhysicalTag") (of_touches (λ s t. same_tag s.pa t.pa))
 row_of SameIndex = row (codes "SameIndex") (of_touches (λ s t. s.va.index == t.va.index))
 row_of SameData = row (codes "SameData") (of_touches (λ s t. same_value s.value t.value))
 row_of DataFromInitialStateAtPA =
@@ -85,6 +109,10 @@ row_of DataFromInitialStateAtPA =
 row_of DataFromFinalStateAtPA =
     row (codes "DataFromFinalStateAtPA") (of_touch (λ c t. is_stated (stated_at c.final t.pa) t.value))
 row_of HasDependency = row (codes "HasDependency") (of_plain_places (λ c kind i j. depends_by c.dependencies kind i j))
+row_of EntryOf = row (codes "EntryOf") (of_touches (λ s t. is_entry_of s.pa t.va.tag))
+row_of MapsTagOf = row (codes "MapsTagOf") (of_touches (λ s t. maps_to s.value t.pa))
+row_of MarkedAccessed = row (codes "MarkedAccessed") (of_touch (λ c t. is_accessed t.value))
+row_of MarkedDirty = row (codes "MarkedDirty") (of_touch (λ c t. is_dirty t.value))
 
 -- all predicates, as the code lists them: `Pred::name` ensures that none is left out
 unfoldable pub all_preds : List Pred
@@ -94,8 +122,8 @@ abbrev pub pred_name : Pred → List ℕ
 pred_name p = (row_of p).name
 
 -- the predicate of this name, if there is one
-abbrev pub pred_named : List ℕ → Option Pred
-pred_named name = find (λ p. same_name (pred_name p) name) all_preds
+abbrev pub pred_with_name : List ℕ → Option Pred
+pred_with_name name = find (λ p. same_name (pred_name p) name) all_preds
 
 abbrev pub taken_by : Rule → List Takes
 taken_by (constant b) = []

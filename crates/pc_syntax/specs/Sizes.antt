@@ -12,36 +12,36 @@ use Rattle.pc_syntax.specs.Fault.{Fault}
 
 -- 1 for each connective, quantifier and predicate, 1 plus the number of its members for a list of
 -- atoms, and 1 plus the size of its body for an expansion
-abbrev pub size_of : List MacroAt → Written → ℕ
-size_of ms (not_ p) = 1 + size_of ms p
-size_of ms (and_ p q) = 1 + (size_of ms p + size_of ms q)
-size_of ms (or_ p q) = 1 + (size_of ms p + size_of ms q)
-size_of ms (implies_ p q) = 1 + (size_of ms p + size_of ms q)
-size_of ms (forall_ at sort name p) = 1 + size_of ms p
-size_of ms (exists_ at sort name p) = 1 + size_of ms p
-size_of ms (static_ pred args) = 1
-size_of ms (nodes_ ts) = 1 + length ts
-size_of ms (edges_ ts) = 1 + length ts
-size_of ms (bind_ at names args p) = 1 + size_of ms p
-size_of [] (expand_ at name args) = 1
-size_of (m ∷ ms) (expand_ at name args) =
-    if same_name m.name.name name.name then 1 + size_of ms m.body else size_of ms (expand_ at name args)
+abbrev pub expanded_size : List MacroAt → Written → ℕ
+expanded_size ms (not_ p) = 1 + expanded_size ms p
+expanded_size ms (and_ p q) = 1 + (expanded_size ms p + expanded_size ms q)
+expanded_size ms (or_ p q) = 1 + (expanded_size ms p + expanded_size ms q)
+expanded_size ms (implies_ p q) = 1 + (expanded_size ms p + expanded_size ms q)
+expanded_size ms (forall_ at sort name p) = 1 + expanded_size ms p
+expanded_size ms (exists_ at sort name p) = 1 + expanded_size ms p
+expanded_size ms (static_ pred args) = 1
+expanded_size ms (nodes_ ts) = 1 + length ts
+expanded_size ms (edges_ ts) = 1 + length ts
+expanded_size ms (bind_ at names args p) = 1 + expanded_size ms p
+expanded_size [] (expand_ at name args) = 1
+expanded_size (m ∷ ms) (expand_ at name args) =
+    if same_name m.name.name name.name then 1 + expanded_size ms m.body else expanded_size ms (expand_ at name args)
 
 -- the greatest height of an atom: how many connectives, quantifiers and expansions are above it
-abbrev pub height_of : List MacroAt → Written → ℕ
-height_of ms (not_ p) = 1 + height_of ms p
-height_of ms (and_ p q) = 1 + max (height_of ms p) (height_of ms q)
-height_of ms (or_ p q) = 1 + max (height_of ms p) (height_of ms q)
-height_of ms (implies_ p q) = 1 + max (height_of ms p) (height_of ms q)
-height_of ms (forall_ at sort name p) = 1 + height_of ms p
-height_of ms (exists_ at sort name p) = 1 + height_of ms p
-height_of ms (static_ pred args) = 0
-height_of ms (nodes_ ts) = 0
-height_of ms (edges_ ts) = 0
-height_of ms (bind_ at names args p) = 1 + height_of ms p
-height_of [] (expand_ at name args) = 0
-height_of (m ∷ ms) (expand_ at name args) =
-    if same_name m.name.name name.name then 1 + height_of ms m.body else height_of ms (expand_ at name args)
+abbrev pub expanded_height : List MacroAt → Written → ℕ
+expanded_height ms (not_ p) = 1 + expanded_height ms p
+expanded_height ms (and_ p q) = 1 + max (expanded_height ms p) (expanded_height ms q)
+expanded_height ms (or_ p q) = 1 + max (expanded_height ms p) (expanded_height ms q)
+expanded_height ms (implies_ p q) = 1 + max (expanded_height ms p) (expanded_height ms q)
+expanded_height ms (forall_ at sort name p) = 1 + expanded_height ms p
+expanded_height ms (exists_ at sort name p) = 1 + expanded_height ms p
+expanded_height ms (static_ pred args) = 0
+expanded_height ms (nodes_ ts) = 0
+expanded_height ms (edges_ ts) = 0
+expanded_height ms (bind_ at names args p) = 1 + expanded_height ms p
+expanded_height [] (expand_ at name args) = 0
+expanded_height (m ∷ ms) (expand_ at name args) =
+    if same_name m.name.name name.name then 1 + expanded_height ms m.body else expanded_height ms (expand_ at name args)
 
 -- an atom of this height is too deep
 abbrev pub depth_fault : Place → ℕ → Option Fault
@@ -56,8 +56,8 @@ abbrev pub sizes_fault : List MacroAt → ℕ → List WrittenItem → Option Fa
 sizes_fault ms total [] = None
 sizes_fault ms total (macro_ m ∷ items) = sizes_fault ms total items
 sizes_fault ms total (axiom_ at body ∷ items) =
-    let now = total + size_of ms body in
-    option_or (depth_fault at (height_of ms body)) (option_or (total_fault at now) (sizes_fault ms now items))
+    let now = total + expanded_size ms body in
+    option_or (depth_fault at (expanded_height ms body)) (option_or (total_fault at now) (sizes_fault ms now items))
 
 -- the first size fault of a model
 abbrev pub first_size_fault : WrittenModel → Option Fault

@@ -1,22 +1,12 @@
 -- The first fault of a model's stages. In a stage its number is judged, then its name.
-use Rattle.std.specs.Prelude.{ℕ, List, [], ◌∷◌, ◌++◌, Option, Some, None, nat_lt, ◌==◌, if◌then◌else◌, option_map}
+use Rattle.std.specs.Prelude.{List, [], ◌∷◌, ◌++◌, Option, Some, None, nat_lt, if◌then◌else◌, option_map}
 use Rattle.std.specs.Option.{option_or}
 use Rattle.pc_common.specs.declared.fault.FaultKind.TheVariants.{StageNumber, StageAgain}
 use Rattle.pc_syntax.specs.declared.limits.TheConstants.{MAX_STAGE}
 use Rattle.pc_syntax.specs.declared.model.StageItem.{StageItem}
-use Rattle.pc_common.specs.Names.{same_name}
 use Rattle.pc_syntax.specs.Written.{WrittenModel}
+use Rattle.pc_syntax.specs.Stages.{stage_with_number, stage_with_name}
 use Rattle.pc_syntax.specs.Fault.{Fault}
-
--- the first stage of this number
-abbrev pub stage_numbered : List StageItem → ℕ → Option StageItem
-stage_numbered [] n = None
-stage_numbered (s ∷ ss) n = if s.number == n then Some s else stage_numbered ss n
-
--- the first stage of this name
-abbrev pub stage_called : List StageItem → List ℕ → Option StageItem
-stage_called [] name = None
-stage_called (s ∷ ss) name = if same_name s.name.name name then Some s else stage_called ss name
 
 -- the number is over the greatest
 abbrev pub number_fault : StageItem → Option Fault
@@ -25,12 +15,12 @@ number_fault s = if nat_lt MAX_STAGE s.number then Some (StageNumber s.number, s
 -- an earlier stage has the number
 abbrev pub number_again : List StageItem → StageItem → Option Fault
 number_again earlier s =
-    option_map (λ e. (StageAgain e.number_at s.number_at, s.number_at)) (stage_numbered earlier s.number)
+    option_map (λ e. (StageAgain e.number_at s.number_at, s.number_at)) (stage_with_number earlier s.number)
 
 -- an earlier stage has the name
 abbrev pub name_again : List StageItem → StageItem → Option Fault
 name_again earlier s =
-    option_map (λ e. (StageAgain e.name.at s.name.at, s.name.at)) (stage_called earlier s.name.name)
+    option_map (λ e. (StageAgain e.name.at s.name.at, s.name.at)) (stage_with_name earlier s.name.name)
 
 -- the first fault of a stage, after the earlier ones
 abbrev pub stage_fault : List StageItem → StageItem → Option Fault

@@ -14,8 +14,9 @@ use Rattle.pc_syntax.specs.declared.pred.Pred.{Pred}
 use Rattle.pc_syntax.specs.declared.pred.Takes.{Takes}
 use Rattle.pc_syntax.specs.declared.pred.Takes.TheVariants.{Op as takes_op, Core as takes_core, Plain as takes_plain}
 use Rattle.pc_syntax.specs.Written.{Written, not_, and_, or_, implies_, forall_, exists_, static_, nodes_, edges_, expand_, bind_, MacroAt}
+use Rattle.pc_syntax.specs.Stages.{stage_number_of}
 use Rattle.pc_syntax.specs.Arguments.{Argument, op_at, core_at, plain_name}
-use Rattle.pc_syntax.specs.Predicates.{takes_of, pred_named, predicate_holds}
+use Rattle.pc_syntax.specs.Predicates.{takes_of, pred_with_name, predicate_holds}
 
 -- what a name stands for: a micro-op by its place in test order, or a core
 pub data Meaning : Type 0 where
@@ -49,10 +50,6 @@ bound_to env (n ∷ ns) [] = []
 bound_to env (n ∷ ns) (a ∷ as_) =
     elim (value_of_arg env a) [ None ↦ bound_to env ns as_ | Some v ↦ (n, v) ∷ bound_to env ns as_ ]
 
-abbrev pub stage_of : List StageItem → List ℕ → Option ℕ
-stage_of [] name = None
-stage_of (s ∷ ss) name = if same_name s.name.name name then Some s.number else stage_of ss name
-
 abbrev pub op_of : Option Meaning → Option ℕ
 op_of (Some (an_op i)) = Some i
 op_of _ = None
@@ -81,7 +78,7 @@ core_there c env (Some i) core = own_core c env i core
 abbrev pub node_of : List StageItem → Case → Environment → NodeTerm → Option Node
 node_of stages c env t =
     let op = op_of (value_of env t.op.name) in
-    node_at op (core_there c env op t.core) (stage_of stages t.stage.name)
+    node_at op (core_there c env op t.core) (stage_number_of stages t.stage.name)
 
 abbrev pub node_holds : World Node → Option Node → Bool
 node_holds w None = false
@@ -114,7 +111,7 @@ pred_holds c env args (Some p) =
 
 -- a predicate by its name, at the values of its arguments
 abbrev pub static_holds : Case → Environment → List ℕ → List Arg → Bool
-static_holds c env name args = pred_holds c env args (pred_named name)
+static_holds c env name args = pred_holds c env args (pred_with_name name)
 
 -- 0, 1, .. below n
 abbrev pub below : ℕ → List ℕ

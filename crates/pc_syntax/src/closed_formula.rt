@@ -2,7 +2,7 @@ ghost use Rattle.std.specs.Prelude.{◌≡◌, IfOk};
 ghost use Rattle.pc_syntax.specs.Closed.{plain_closed, closed_not, closed_and, closed_or, closed_implies, closed_forall, closed_exists, closed_bind};
 
 use super::boxed::boxes;
-use super::closed_term::{ClosedArgs, ClosedEdges, ClosedNodes};
+use super::closed_term::{ClosedArgs, ClosedEdges, ClosedNodes, copy_args, copy_edges, copy_nodes};
 use super::pred::Pred;
 use super::term::Sort;
 use pc_common::Memory;
@@ -113,4 +113,71 @@ impl ClosedFormula {
         let body = Box::new(alloc, body)?;
         Ok(ClosedFormula::Bind { args, body })
     }
+
+    /// The same formula once more, in memory of its own but for the bytes of names. It nests at most two
+    /// calls for each level, where the drop nests one.
+    #[cycle(copy)]
+    pub fn copy(&self, alloc: Global) -> Result<ClosedFormula, Memory>
+        ensures { IfOk result (λ f. plain_closed f ≡ plain_closed self.now) }
+    {
+        match self {
+            ClosedFormula::Not(body) => ClosedFormula::negation(alloc, body.copy(alloc)?),
+            ClosedFormula::And(left, right) => {
+                let (left, right) = copy_both(alloc, left, right)?;
+                ClosedFormula::conjunction(alloc, left, right)
+            }
+            ClosedFormula::Or(left, right) => {
+                let (left, right) = copy_both(alloc, left, right)?;
+                ClosedFormula::disjunction(alloc, left, right)
+            }
+            ClosedFormula::Implies(left, right) => {
+                let (left, right) = copy_both(alloc, left, right)?;
+                ClosedFormula::implication(alloc, left, right)
+            }
+            ClosedFormula::Forall { sort, body } => {
+                ClosedFormula::forall(alloc, *sort, body.copy(alloc)?)
+            }
+            ClosedFormula::Exists { sort, body } => {
+                ClosedFormula::exists(alloc, *sort, body.copy(alloc)?)
+            }
+            ClosedFormula::Static { pred, args } => Ok(ClosedFormula::Static {
+                pred: *pred,
+                args: copy_args(alloc, args)?,
+            }),
+            ClosedFormula::Nodes(nodes) => Ok(ClosedFormula::Nodes(copy_nodes(alloc, nodes)?)),
+            ClosedFormula::Edges(edges) => Ok(ClosedFormula::Edges(copy_edges(alloc, edges)?)),
+            ClosedFormula::Bind { args, body } => {
+                let (args, body) = copy_bound(alloc, args, body)?;
+                ClosedFormula::bind(alloc, args, body)
+            }
+        }
+    }
+}
+
+/// A copy of each of two formulas.
+#[cycle(copy)]
+fn copy_both(
+    alloc: Global,
+    left: &ClosedFormula,
+    right: &ClosedFormula,
+) -> Result<(ClosedFormula, ClosedFormula), Memory>
+    ensures left { IfOk result (λ both. plain_closed both.0 ≡ plain_closed left.now) }
+    ensures right { IfOk result (λ both. plain_closed both.1 ≡ plain_closed right.now) }
+{
+    let left = left.copy(alloc)?;
+    Ok((left, right.copy(alloc)?))
+}
+
+/// A copy of a binding's arguments and of its body.
+#[cycle(copy)]
+fn copy_bound(
+    alloc: Global,
+    args: &ClosedArgs,
+    body: &ClosedFormula,
+) -> Result<(ClosedArgs, ClosedFormula), Memory>
+    ensures args { IfOk result (λ bound. bound.0 ≡ args.now) }
+    ensures body { IfOk result (λ bound. plain_closed bound.1 ≡ plain_closed body.now) }
+{
+    let args = copy_args(alloc, args)?;
+    Ok((args, body.copy(alloc)?))
 }

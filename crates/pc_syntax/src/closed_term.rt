@@ -1,5 +1,8 @@
+ghost use Rattle.std.specs.Prelude.{◌≡◌, IfOk};
+
 use super::term::Name;
-use pc_common::Listed;
+use pc_common::{Listed, Memory};
+use std::alloc::Global;
 
 /// An argument with its names resolved.
 #[derive(Drop)]
@@ -14,6 +17,30 @@ pub enum ClosedArg {
 
 pub type ClosedArgs = Listed<ClosedArg>;
 
+impl ClosedArg {
+    /// The same argument once more. Takes no memory.
+    pub fn copy(&self) -> Result<ClosedArg, Memory>
+        ensures { IfOk result (λ copy. copy ≡ self.now) }
+    {
+        match self {
+            ClosedArg::Slot(slot) => Ok(ClosedArg::Slot(*slot)),
+            ClosedArg::Core(core) => Ok(ClosedArg::Core(*core)),
+            ClosedArg::Plain(name) => Ok(ClosedArg::Plain(name.share()?)),
+        }
+    }
+}
+
+/// The same arguments in a list of their own.
+pub(crate) fn copy_args(alloc: Global, args: &ClosedArgs) -> Result<ClosedArgs, Memory>
+    ensures { IfOk result (λ copies. copies ≡ args.now) }
+{
+    let mut copies = Listed::new(alloc);
+    for arg in args.as_slice() {
+        copies.push(arg.copy()?)?;
+    }
+    Ok(copies)
+}
+
 /// A node with its names resolved: a micro-op's slot, on its own core where no core is given, and
 /// the stage's number.
 #[derive(Drop)]
@@ -25,6 +52,34 @@ pub struct ClosedNode {
 
 pub type ClosedNodes = Listed<ClosedNode>;
 
+impl ClosedNode {
+    /// The same node once more. Takes no memory.
+    pub fn copy(&self) -> Result<ClosedNode, Memory>
+        ensures { IfOk result (λ copy. copy ≡ self.now) }
+    {
+        let core = match &self.core {
+            None => None,
+            Some(core) => Some(core.copy()?),
+        };
+        Ok(ClosedNode {
+            op: self.op,
+            core,
+            stage: self.stage,
+        })
+    }
+}
+
+/// The same nodes in a list of their own.
+pub(crate) fn copy_nodes(alloc: Global, nodes: &ClosedNodes) -> Result<ClosedNodes, Memory>
+    ensures { IfOk result (λ copies. copies ≡ nodes.now) }
+{
+    let mut copies = Listed::new(alloc);
+    for node in nodes.as_slice() {
+        copies.push(node.copy()?)?;
+    }
+    Ok(copies)
+}
+
 /// An edge with its names resolved: its first node happens before its second.
 #[derive(Drop)]
 pub struct ClosedEdge {
@@ -33,3 +88,27 @@ pub struct ClosedEdge {
 }
 
 pub type ClosedEdges = Listed<ClosedEdge>;
+
+impl ClosedEdge {
+    /// The same edge once more. Takes no memory.
+    pub fn copy(&self) -> Result<ClosedEdge, Memory>
+        ensures { IfOk result (λ copy. copy ≡ self.now) }
+    {
+        let from = self.from.copy()?;
+        Ok(ClosedEdge {
+            from,
+            to: self.to.copy()?,
+        })
+    }
+}
+
+/// The same edges in a list of their own.
+pub(crate) fn copy_edges(alloc: Global, edges: &ClosedEdges) -> Result<ClosedEdges, Memory>
+    ensures { IfOk result (λ copies. copies ≡ edges.now) }
+{
+    let mut copies = Listed::new(alloc);
+    for edge in edges.as_slice() {
+        copies.push(edge.copy()?)?;
+    }
+    Ok(copies)
+}

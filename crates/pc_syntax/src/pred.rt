@@ -1,7 +1,7 @@
 ghost use Rattle.std.specs.Prelude.{◌≡◌, ◌<◌, Some, length, slice_get};
 ghost use Rattle.std.specs.List.{find};
 ghost use Rattle.pc_common.specs.Names.{same_name};
-ghost use Rattle.pc_syntax.specs.Predicates.{pred_name, pred_named, takes_of};
+ghost use Rattle.pc_syntax.specs.Predicates.{pred_name, pred_with_name, takes_of};
 
 /// The static predicates, named as models spell them.
 #[derive(Clone, Copy, Debug, PartialEq, Eq)]
@@ -28,6 +28,10 @@ pub enum Pred {
     DataFromInitialStateAtPA,
     DataFromFinalStateAtPA,
     HasDependency,
+    EntryOf,
+    MapsTagOf,
+    MarkedAccessed,
+    MarkedDirty,
 }
 
 /// What a predicate takes at a place: a micro-op, a core, or a name that isn't looked up.
@@ -56,7 +60,7 @@ impl Row {
 
 impl Pred {
     /// All predicates, in the order of their declaration.
-    const ALL: [Pred; 22] = [
+    const ALL: [Pred; 26] = [
         Pred::True,
         Pred::False,
         Pred::IsAnyRead,
@@ -79,13 +83,17 @@ impl Pred {
         Pred::DataFromInitialStateAtPA,
         Pred::DataFromFinalStateAtPA,
         Pred::HasDependency,
+        Pred::EntryOf,
+        Pred::MapsTagOf,
+        Pred::MarkedAccessed,
+        Pred::MarkedDirty,
     ];
 
     /// The predicate's row. It is found by its name: so none is left out of `ALL`, and no two have one name.
     #[tactic(auto, unfolding(crate::specs::Predicates::all_preds))]
     fn row(self) -> Row
         ensures name { result.name.now ≡ pred_name self }
-        ensures found { pred_named (pred_name self) ≡ Some self }
+        ensures found { pred_with_name (pred_name self) ≡ Some self }
         ensures takes { result.takes.now ≡ takes_of self }
     {
         use Takes::{Core, Op, Plain};
@@ -112,13 +120,17 @@ impl Pred {
             Pred::DataFromInitialStateAtPA => Row::new(b"DataFromInitialStateAtPA", &[Op]),
             Pred::DataFromFinalStateAtPA => Row::new(b"DataFromFinalStateAtPA", &[Op]),
             Pred::HasDependency => Row::new(b"HasDependency", &[Plain, Op, Op]),
+            Pred::EntryOf => Row::new(b"EntryOf", &[Op, Op]),
+            Pred::MapsTagOf => Row::new(b"MapsTagOf", &[Op, Op]),
+            Pred::MarkedAccessed => Row::new(b"MarkedAccessed", &[Op]),
+            Pred::MarkedDirty => Row::new(b"MarkedDirty", &[Op]),
         }
     }
 
     /// The name, as models spell it. No other predicate has it.
     pub fn name(self) -> &'static [u8]
         ensures value { result.now ≡ pred_name self }
-        ensures found { pred_named result.now ≡ Some self }
+        ensures found { pred_with_name result.now ≡ Some self }
     {
         self.row().name
     }
@@ -126,7 +138,7 @@ impl Pred {
     /// The predicate that models spell so, if there is one.
     #[tactic(auto, unfolding(crate::specs::Predicates::all_preds))]
     pub fn of_name(name: &[u8]) -> Option<Pred>
-        ensures { result ≡ pred_named name.now }
+        ensures { result ≡ pred_with_name name.now }
     {
         first_named(&Pred::ALL, name)
     }

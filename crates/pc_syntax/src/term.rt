@@ -15,7 +15,7 @@ pub enum Sort {
 }
 
 /// A name where the text has it.
-#[derive(Drop)]
+#[derive(Clone, Drop)]
 pub struct Word {
     pub name: Name,
     pub at: Place,
@@ -36,7 +36,7 @@ impl Word {
 pub type Words = Shared<Word>;
 
 /// An argument: a variable or a plain name, or a number.
-#[derive(Drop)]
+#[derive(Clone, Drop)]
 pub enum Arg {
     Word(Word),
     Number(u64, Place),
@@ -45,7 +45,7 @@ pub enum Arg {
 pub type Args = Shared<Arg>;
 
 /// A node as written: a micro-op at a stage, on its own core where no core is given.
-#[derive(Drop)]
+#[derive(Clone, Drop)]
 pub struct NodeTerm {
     pub op: Word,
     pub core: Option<Arg>,
@@ -55,7 +55,7 @@ pub struct NodeTerm {
 pub type NodeTerms = Shared<NodeTerm>;
 
 /// An edge as written: its first node happens before its second.
-#[derive(Drop)]
+#[derive(Clone, Drop)]
 pub struct EdgeTerm {
     pub from: NodeTerm,
     pub to: NodeTerm,

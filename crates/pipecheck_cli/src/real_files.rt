@@ -43,19 +43,16 @@ impl<R: rt::Files> RealFiles<R> {
 }
 
 impl<R: rt::Files> Files for RealFiles<R> {
-    ghost told = { λ files. false };
+    ghost view = { λ files. record {
+      modelled = false;
+      holds = λ name. None;
+      left = [];
+      started = is_some files.started;
+      faults = files.faults;
+      only_missing_fail = false;
+    } };
 
-    ghost holds = { λ files name. None };
-
-    ghost left = { λ files. [] };
-
-    ghost started = { λ files. is_some files.started };
-
-    ghost faults = { λ files. files.faults };
-
-    ghost calm = { λ files. false };
-
-    ghost calm_told = { λ files calm. calm };
+    ghost failing_modelled = { λ files failing. failing };
 
     fn start(&mut self, name: &str) -> Result<(), Failed>
         ensures starts { is_some self.new.started ≡ is_ok result }

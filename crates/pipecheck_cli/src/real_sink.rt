@@ -34,11 +34,7 @@ impl<W: Write> RealSink<W> {
 }
 
 impl<W: Write> Sink for RealSink<W> {
-    ghost told = { λ sink. false };
-
-    ghost taken = { λ sink. [] };
-
-    ghost faults = { λ sink. sink.faults };
+    ghost view = { λ sink. record { modelled = false; taken = []; faults = sink.faults } };
 
     /// Flushes what it took of the piece. Fails where the writer or its flush fails, or takes
     /// nothing of a piece that is not empty.

@@ -1,114 +1,75 @@
--- Words are one command at most, on one model and one test.
-use Rattle.std.proofs.Common.{◌≡◌, ◌≤◌, ℕ, zero, suc, List, [], ◌∷◌, Option, Some, None, length, refl, sym, ◌∙◌, ap, arith}
+-- Words are one command at most: the first word tells which, and the others are its arguments.
+use Rattle.std.proofs.Common.{◌≡◌, ◌≤◌, ◌<◌, ℕ, zero, suc, ◌⊎◌, inl, inr, Bool, true, false, cond, List, [], ◌∷◌, refl, sym, ◌∙◌, ap, arith, nat_eq}
 use Rattle.std.specs.Prelude.{codes}
+use Rattle.std.specs.Fmt.{decimal}
+use Rattle.std.specs.Cmp.Lexicographic.{pointwise, same_text, bytes_decides}
+use Rattle.std.proofs.lemmas.Bool.{cases_order}
 use Rattle.std.proofs.lemmas.Fmt.{decimal_injective}
-use Rattle.pipecheck_run.specs.Command.{Inputs, Command, check, verify, gen, IsCommand, IsNoCommand, inputs_of, IsOn, IsIdle, IsWithin}
+use Rattle.pc_ground.specs.declared.version.Version.TheVariants.{One, Two}
+use Rattle.command_base.specs.Inputs.{Inputs}
+use Rattle.pipecheck_run.specs.Command.{Command, check, verify, gen, words_of, IsWithin, IsCommand, IsNoCommand}
 
 name_at : ℕ → List (List ℕ) → List ℕ
 name_at k [] = []
 name_at zero (x ∷ xs) = x
 name_at (suc k) (x ∷ xs) = name_at k xs
 
--- each command that reads a model and a test names them in its second and third word
+-- each command that reads two files names them in its second and third word
 inputs_at : List (List ℕ) → Inputs
 inputs_at words = record { model = name_at 1 words; test = name_at 2 words }
 
-behind_three : List (List ℕ) → List (List ℕ)
-behind_three [] = []
-behind_three (x ∷ []) = []
-behind_three (x ∷ y ∷ []) = []
-behind_three (x ∷ y ∷ z ∷ more) = more
+-- the greatest number up to this one that the text is in decimal
+number_in : ℕ → List ℕ → ℕ
+number_in zero text = zero
+number_in (suc k) text = cond (pointwise nat_eq text (decimal (suc k))) (suc k) (number_in k text)
 
-command_by : Inputs → List (List ℕ) → Command
-command_by i [] = check i
-command_by i (certificate ∷ more) = verify i certificate
+number_found : (k n : ℕ) → k ≤ 16 → 1 ≤ n → n ≤ k → number_in k (decimal n) ≡ n
+unfolding number_in
+number_found zero n few some small = absurd (omega arith)
+number_found (suc k) n few some small =
+    go (pointwise nat_eq (decimal n) (decimal (suc k))) refl (λ below. number_found k n (omega arith) some below)
+  where
+    below : ((n ≡ suc k) → ⊥) → (n ≡ suc k) ⊎ ((n < suc k) ⊎ (suc k < n)) → n ≤ k
+    below other (inl same) = absurd (other same)
+    below other (inr (inl less)) = omega (arith, less)
+    below other (inr (inr more)) = absurd (omega (arith, more, small))
 
-command_at : List (List ℕ) → Command
-command_at words = command_by (inputs_at words) (behind_three words)
+    differ : pointwise nat_eq (decimal n) (decimal (suc k)) ≡ false → (n ≡ suc k) → ⊥
+    differ e same = (let yes = (bytes_decides (decimal n) (decimal (suc k))).1 (ap decimal same) in cc)
 
-check_at : (words : List (List ℕ)) (i : Inputs) → IsCommand words (check i) → check i ≡ command_at words
-unfolding name_at inputs_at behind_three command_by command_at
-check_at words i is = ap command_at (sym is)
+    go : (b : Bool) → pointwise nat_eq (decimal n) (decimal (suc k)) ≡ b → (n ≤ k → number_in k (decimal n) ≡ n)
+        → cond b (suc k) (number_in k (decimal n)) ≡ n
+    go true e rest = sym (decimal_injective n (suc k) (omega (arith, few, small)) (omega (arith, few))
+        (same_text (decimal n) (decimal (suc k)) (sym e)))
+    go false e rest = rest (below (differ e) (cases_order n (suc k)))
 
-verify_at : (words : List (List ℕ)) (i : Inputs) (certificate : List ℕ) → IsCommand words (verify i certificate) → verify i certificate ≡ command_at words
-unfolding name_at inputs_at behind_three command_by command_at
-verify_at words i certificate is = ap command_at (sym is)
+-- the command that the first word tells
+command_by : List (List ℕ) → Command
+command_by words =
+    cond (pointwise nat_eq (name_at 0 words) (codes "check")) (check One (inputs_at words))
+    (cond (pointwise nat_eq (name_at 0 words) (codes "check2")) (check Two (inputs_at words))
+    (cond (pointwise nat_eq (name_at 0 words) (codes "verify")) (verify (inputs_at words) (name_at 3 words))
+    (gen (number_in 16 (name_at 1 words)))))
 
-one_number : (words : List (List ℕ)) (n k : ℕ) → IsCommand words (gen n) → IsCommand words (gen k) → n ≡ k
-unfolding name_at
-one_number words n k x y =
-    let small = x.1 in
-    let other = y.1 in
-    decimal_injective n k (omega arith) (omega arith) (ap (name_at 1) (sym x.2 ∙ y.2))
-
--- the words of `gen` are fewer
-gen_apart : (words : List (List ℕ)) (n : ℕ) → IsCommand words (gen n) → 3 ≤ length words → ⊥
-gen_apart words n is many = let two = ap length is.2 in omega (arith, two, many)
+spelt : (c : Command) → IsWithin c → command_by (words_of c) ≡ c
+unfolding name_at inputs_at command_by
+spelt (check One i) within = refl
+spelt (check Two i) within = refl
+spelt (verify i certificate) within = refl
+spelt (gen n) within = ap gen (let some = within.0 in number_found 16 n (omega arith) (omega arith) within.1)
 
 pub one_command : (words : List (List ℕ)) (c d : Command) → IsCommand words c → IsCommand words d → c ≡ d
-one_command words (check i) (check j) x y = check_at words i x ∙ sym (check_at words j y)
-one_command words (check i) (verify j b) x y = check_at words i x ∙ sym (verify_at words j b y)
-one_command words (check i) (gen k) x y = absurd (gen_apart words k y (let e = ap length x in omega (arith, e)))
-one_command words (verify i a) (check j) x y = verify_at words i a x ∙ sym (check_at words j y)
-one_command words (verify i a) (verify j b) x y = verify_at words i a x ∙ sym (verify_at words j b y)
-one_command words (verify i a) (gen k) x y = absurd (gen_apart words k y (let e = ap length x in omega (arith, e)))
-one_command words (gen n) (check j) x y = absurd (gen_apart words n x (let e = ap length y in omega (arith, e)))
-one_command words (gen n) (verify j b) x y = absurd (gen_apart words n x (let e = ap length y in omega (arith, e)))
-one_command words (gen n) (gen k) x y = ap gen (one_number words n k x y)
+one_command words c d x y = sym (spelt c x.1) ∙ ap command_by (sym x.0 ∙ y.0) ∙ spelt d y.1
 
-some_or : Inputs → Option Inputs → Inputs
-some_or d None = d
-some_or d (Some i) = i
-
-pub one_inputs : {words : List (List ℕ)} {i j : Inputs} → IsOn words i → IsOn words j → i ≡ j
-unfolding some_or
-one_inputs {words} {i} x y = ap (some_or i) (sym x.reads ∙ ap inputs_of (one_command words x.command y.command x.is y.is) ∙ y.reads)
-
-pub on_check : (words : List (List ℕ)) (i : Inputs) → IsCommand words (check i) → IsOn words i
-on_check words i is = record { command = check i; is = is; reads = refl }
-
-pub on_verify : (words : List (List ℕ)) (i : Inputs) (certificate : List ℕ) → IsCommand words (verify i certificate) → IsOn words i
-on_verify words i certificate is = record { command = verify i certificate; is = is; reads = refl }
-
--- `gen` reads no files
-pub off_gen : {words : List (List ℕ)} {n : ℕ} {i : Inputs} → IsCommand words (gen n) → IsOn words i → ⊥
-off_gen {words} {n} {i} is on = differ (ap inputs_of (one_command words (gen n) on.command is on.is) ∙ on.reads)
-  where
-    differ : None ≡ Some i → ⊥
-    differ e = cc
-
-pub within_of : (words : List (List ℕ)) (command : Command) → IsCommand words command → IsWithin command
-within_of words (check i) is = tt
-within_of words (verify i certificate) is = tt
-within_of words (gen n) is = (is.0, is.1)
-
--- a command that reads no files names none
-pub no_inputs : (words : List (List ℕ)) (command : Command) → IsCommand words command → IsIdle words → inputs_of command ≡ None
-no_inputs words (check i) is idle = absurd (idle i (on_check words i is))
-no_inputs words (verify i certificate) is idle = absurd (idle i (on_verify words i certificate is))
-no_inputs words (gen n) is idle = refl
-
--- no words are both commands
-pub one_form : {words : List (List ℕ)} {i j : Inputs} {certificate : List ℕ} → IsCommand words (check i) → IsCommand words (verify j certificate) → ⊥
-one_form {words} {i} {j} {certificate} x y = differ (one_command words (check i) (verify j certificate) x y)
-  where
-    differ : check i ≡ verify j certificate → ⊥
-    differ e = cc
+pub within_of : (words : List (List ℕ)) (c : Command) → IsCommand words c → IsWithin c
+within_of words c is = is.1
 
 -- words of no form
 pub no_form : (words : List (List ℕ)) → ((i : Inputs) → words ≡ codes "check" ∷ i.model ∷ i.test ∷ [] → ⊥)
+    → ((i : Inputs) → words ≡ codes "check2" ∷ i.model ∷ i.test ∷ [] → ⊥)
     → ((i : Inputs) (third : List ℕ) → words ≡ codes "verify" ∷ i.model ∷ i.test ∷ third ∷ [] → ⊥)
     → ((n : ℕ) → IsCommand words (gen n) → ⊥) → IsNoCommand words
-no_form words no_check no_verify no_gen (check i) is = no_check i is
-no_form words no_check no_verify no_gen (verify i certificate) is = no_verify i certificate is
-no_form words no_check no_verify no_gen (gen n) is = no_gen n is
-
-third_of : List ℕ → Command → List ℕ
-third_of d (check i) = d
-third_of d (verify i certificate) = certificate
-third_of d (gen n) = d
-
--- no words name two certificates
-pub one_certificate : (words : List (List ℕ)) (i j : Inputs) (a b : List ℕ) → IsCommand words (verify i a) → IsCommand words (verify j b) → a ≡ b
-unfolding third_of
-one_certificate words i j a b x y = ap (third_of a) (one_command words (verify i a) (verify j b) x y)
+no_form words no_check no_check2 no_verify no_gen (check One i) is = no_check i is.0
+no_form words no_check no_check2 no_verify no_gen (check Two i) is = no_check2 i is.0
+no_form words no_check no_check2 no_verify no_gen (verify i certificate) is = no_verify i certificate is.0
+no_form words no_check no_check2 no_verify no_gen (gen n) is = no_gen n is

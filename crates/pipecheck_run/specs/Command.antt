@@ -1,46 +1,59 @@
 -- A command, and which words are one.
-use Rattle.std.specs.Prelude.{◌≡◌, ◌≤◌, ⊤, ℕ, List, [], ◌∷◌, Option, Some, None, codes}
+use Rattle.std.specs.Prelude.{◌≡◌, ◌≤◌, ⊤, ℕ, List, [], ◌∷◌, Bool, Option, Some, None, IsTrue, codes}
 use Rattle.std.specs.Fmt.{decimal}
-
--- the names of a model and of a test
-pub record Inputs : Type 0 where
-  pub model : List ℕ
-  pub test : List ℕ
+use Rattle.pc_ground.specs.declared.version.Version.{Version}
+use Rattle.pc_ground.specs.declared.version.Version.TheVariants.{One, Two}
+use Rattle.command_base.specs.Inputs.{Inputs, plain_inputs}
+use Rattle.pipecheck_run.specs.declared.command.Command.{Command as CodeCommand}
+use Rattle.pipecheck_run.specs.declared.command.Command.TheVariants.{Check, Verify, Gen}
 
 pub data Command : Type 0 where
-  check : Inputs → Command
+  -- with refutations of this version
+  check : Version → Inputs → Command
   -- with the name of a certificate
   verify : Inputs → List ℕ → Command
-  -- a number of cores, 2 to 16
+  -- a number of cores
   gen : ℕ → Command
 
--- the words of each command
+-- without pointers
+abbrev pub plain_command : CodeCommand → Command
+plain_command (Check version i) = check version (plain_inputs i)
+plain_command (Verify i certificate) = verify (plain_inputs i) certificate.now
+plain_command (Gen n) = gen n
+
+-- the words by which a command is spelt; no two commands have one first word
+abbrev pub words_of : Command → List (List ℕ)
+words_of (check One i) = codes "check" ∷ i.model ∷ i.test ∷ []
+words_of (check Two i) = codes "check2" ∷ i.model ∷ i.test ∷ []
+words_of (verify i certificate) = codes "verify" ∷ i.model ∷ i.test ∷ certificate ∷ []
+words_of (gen n) = codes "gen" ∷ decimal n ∷ []
+
+-- the command is within its limits
+abbrev pub IsWithin : Command → Type 0
+IsWithin (check version i) = ⊤
+IsWithin (verify i certificate) = ⊤
+IsWithin (gen n) = (2 ≤ n) × (n ≤ 16)
+
 abbrev pub IsCommand : List (List ℕ) → Command → Type 0
-IsCommand words (check i) = words ≡ codes "check" ∷ i.model ∷ i.test ∷ []
-IsCommand words (verify i certificate) = words ≡ codes "verify" ∷ i.model ∷ i.test ∷ certificate ∷ []
-IsCommand words (gen n) = (2 ≤ n) × (n ≤ 16) × (words ≡ codes "gen" ∷ decimal n ∷ [])
+IsCommand words c = (words ≡ words_of c) × IsWithin c
 
 abbrev pub IsNoCommand : List (List ℕ) → Type 0
-IsNoCommand words = (command : Command) → IsCommand words command → ⊥
+IsNoCommand words = (c : Command) → IsCommand words c → ⊥
 
--- the model and the test that a command reads, where it reads two
+-- the model and the second file that a command reads, where it reads two
 abbrev pub inputs_of : Command → Option Inputs
-inputs_of (check i) = Some i
+inputs_of (check version i) = Some i
 inputs_of (verify i certificate) = Some i
 inputs_of (gen n) = None
 
--- the words are a command that reads this model and this test
-pub record IsOn (words : List (List ℕ)) (i : Inputs) : Type 0 where
-  pub command : Command
-  pub is : IsCommand words command
-  pub reads : inputs_of command ≡ Some i
+-- the command reads files only if clauses say what they hold
+abbrev pub IsKnownTo : Command → Bool → Type 0
+IsKnownTo c told = (i : Inputs) → inputs_of c ≡ Some i → IsTrue told
+
+-- so with the command that the words are; words that are none read no file
+abbrev pub IsKnown : List (List ℕ) → Bool → Type 0
+IsKnown words told = (c : Command) → IsCommand words c → IsKnownTo c told
 
 -- the words are no command that reads files
 abbrev pub IsIdle : List (List ℕ) → Type 0
-IsIdle words = (i : Inputs) → IsOn words i → ⊥
-
--- the number of cores that a command names is one of 2 to 16
-abbrev pub IsWithin : Command → Type 0
-IsWithin (check i) = ⊤
-IsWithin (verify i certificate) = ⊤
-IsWithin (gen n) = (2 ≤ n) × (n ≤ 16)
+IsIdle words = (c : Command) → IsCommand words c → inputs_of c ≡ None

@@ -1,13 +1,6 @@
-pub mod Words
 pub mod Command
-pub mod Inputs
-pub mod Certificates
-pub mod check
-pub mod verify
-pub mod ring
-pub mod Output
+pub mod Answers
 pub mod Headline
-pub mod Laws
-pub mod Parsed
-pub mod Answered
+pub mod AnswerTexts
 pub mod Decides
+pub mod Laws

@@ -1,22 +1,17 @@
 ghost use Rattle.std.specs.Prelude.{◌≡◌, ◌∷◌, [], ℕ, List, map, MatchOption, codes};
 ghost use Rattle.std.specs.String.{string_bytes};
-ghost use Rattle.pipecheck_run.specs.Command.{Inputs as Names, IsCommand, IsNoCommand};
-ghost use Rattle.pipecheck_run.specs.Parsed.{said};
+ghost use Rattle.command_base.specs.Inputs.{Inputs as Names};
+ghost use Rattle.pipecheck_run.specs.Command.{plain_command, IsCommand, IsNoCommand};
 
-use super::ring::cores_behind;
-
-/// The model and the test of a command, by their names.
-#[derive(Clone, Copy)]
-pub(crate) struct Inputs<'a> {
-    pub(crate) model: &'a str,
-    pub(crate) test: &'a str,
-}
+use super::cores::cores_behind;
+use command_base::Inputs;
+use pc_ground::Version;
 
 /// A command by its words, without options.
 #[derive(Clone, Copy)]
 pub(crate) enum Command<'a> {
-    /// `check MODEL TEST`
-    Check(Inputs<'a>),
+    /// `check MODEL TEST`, or `check2 MODEL TEST` for refutations of version 2
+    Check(Version, Inputs<'a>),
     /// `verify MODEL TEST CERT`
     Verify {
         inputs: Inputs<'a>,
@@ -65,10 +60,13 @@ fn three_behind<'a>(word: &str, words: &'a [String]) -> Option<(Inputs<'a>, &'a 
 
 /// The command that the words are, if they are one.
 pub(crate) fn parse<'a>(words: &'a [String]) -> Option<Command<'a>>
-    ensures { MatchOption result (IsNoCommand (map string_bytes words.now)) (λ c. IsCommand (map string_bytes words.now) (said c)) }
+    ensures { MatchOption result (IsNoCommand (map string_bytes words.now)) (λ c. IsCommand (map string_bytes words.now) (plain_command c)) }
 {
     if let Some(inputs) = inputs_behind("check", words) {
-        return Some(Command::Check(inputs));
+        return Some(Command::Check(Version::One, inputs));
+    }
+    if let Some(inputs) = inputs_behind("check2", words) {
+        return Some(Command::Check(Version::Two, inputs));
     }
     if let Some((inputs, certificate)) = three_behind("verify", words) {
         return Some(Command::Verify {

@@ -1,25 +1,19 @@
 //! The top call: from the words of a command and the bytes of its files to the bytes of the answer.
 //!
-//! Each command has a module of its own: `check` searches for a certificate of the test on the model, and `verify` judges
-//! one that a third file holds. What both do with the model and the test stands in `inputs`. `ring` is the command `gen`,
-//! which searches in texts of its own.
+//! `parse` takes the words, `answer_to` hands a command to the crate of its own, and `tell` writes the text of what that
+//! returned. A command's crate says what it reads and what it returns; here are the words, and a line for each command
+//! in each table.
 #![tactic(auto)]
 
 mod answer;
-mod check;
 mod command;
-mod inputs;
+mod cores;
 mod laws;
-mod line;
-mod refusal;
-mod ring;
 mod top;
-mod verify;
-mod words;
 
-pub use laws::{
-    case_or_first_fault, no_first_fault, one_first_fault, one_model_and_case, written_is_verified,
-};
+pub use command_base::{case_or_first_fault, no_first_fault, one_first_fault, one_model_and_case};
+pub use gen_command::gen_texts;
+pub use laws::{one_command, written_is_verified};
 pub use pc_front::{FrontEnd, ModelFront, front, read_model};
 pub use pc_ground::{Axioms, Stage, Stages};
 pub use top::run;

@@ -4,42 +4,95 @@ ghost use Rattle.pc_common.specs.Faults.{Rose};
 ghost use Rattle.pc_common.specs.Reads.{Reads};
 ghost use Rattle.pc_common.specs.Pieces.{IsCutShort};
 ghost use Rattle.pc_common.specs.declared.status.Status.TheVariants.{Usage as SUsage, ReadFault as SReadFault, WriteFault as SWriteFault, Memory as SMemory};
-ghost use Rattle.pipecheck_run.specs.Command.{IsNoCommand, IsIdle, IsWithin, inputs_of};
-ghost use Rattle.pipecheck_run.specs.Parsed.{said};
-ghost use Rattle.pipecheck_run.specs.Output.{Answers, usage_text};
-ghost use Rattle.pipecheck_run.specs.Headline.{IsTrueOf, IsDue, Comes};
-ghost use Rattle.pipecheck_run.specs.Answered.{answer_text, answer_status, CanBeWritten};
-ghost use Rattle.pipecheck_run.specs.Decides.{AnswersTo, Decides};
+ghost use Rattle.command_base.specs.Inputs.{plain_inputs};
+ghost use Rattle.gen_command.specs.GenAnswers.{IsGenOutcome};
+ghost use Rattle.pipecheck_run.specs.Command.{plain_command, check as check_of, verify as verify_of, IsNoCommand, IsIdle, IsKnown, IsWithin, inputs_of};
+ghost use Rattle.pipecheck_run.specs.Answers.{Answers, usage_text, WordsLack};
+ghost use Rattle.pipecheck_run.specs.Headline.{IsTrueOf, IsDue};
+ghost use Rattle.pipecheck_run.specs.AnswerTexts.{answer_text, answer_status, CanBeWritten};
+ghost use Rattle.pipecheck_run.specs.Decides.{IsCommandOutcome, IsWordsOutcome};
 
 use super::answer::{Answer, status, write_answer};
-use super::check::check;
 use super::command::{Command, parse};
-use super::ring::generate;
-use super::verify::verify;
+use check_command::check;
+use command_base::{Ending, Inputs, TestFile};
+use gen_command::generate;
 use pc_common::{Failed, Files, Sink, Status};
+use pc_ground::Version;
 use std::alloc::Global;
+use verify_command::verify;
+
+/// The answer to `check MODEL TEST` or, in version 2, to `check2 MODEL TEST`.
+fn check_answer<F: Files>(
+    alloc: Global,
+    version: Version,
+    inputs: Inputs<'_>,
+    files: &mut F,
+) -> Answer
+    ensures outcome { IsCommandOutcome F.view (check_of version (plain_inputs inputs.entry)) files.old files.new
+        (answer_status result) (answer_text result) }
+    ensures writable { CanBeWritten result }
+{
+    match check::<TestFile, F>(alloc, inputs, version, files) {
+        Ok(verdict) => Answer::Checked(verdict),
+        Err(ending) => Answer::Ended(ending),
+    }
+}
+
+/// The answer to `verify MODEL TEST CERT`.
+fn verify_answer<F: Files>(
+    alloc: Global,
+    inputs: Inputs<'_>,
+    certificate: &str,
+    files: &mut F,
+) -> Answer
+    ensures outcome { IsCommandOutcome F.view (verify_of (plain_inputs inputs.entry) certificate.now)
+        files.old files.new (answer_status result) (answer_text result) }
+    ensures writable { CanBeWritten result }
+{
+    match verify::<TestFile, F>(alloc, inputs, certificate, files) {
+        Ok(checked) => Answer::Verified(checked),
+        Err(ending) => Answer::Ended(ending),
+    }
+}
+
+/// The answer to `gen N`, which touches no file.
+fn gen_answer(alloc: Global, n: u8) -> Answer
+    requires { 2 ≤ n × n ≤ 16 }
+    ensures outcome { IsGenOutcome n (answer_status result) (answer_text result) }
+    ensures writable { CanBeWritten result }
+{
+    match generate(alloc, n) {
+        Ok(report) => Answer::Generated(report),
+        Err(ending) => Answer::Ended(ending),
+    }
+}
 
 /// The answer to a command. No file is touched by one that reads none.
 fn answer_to<F: Files>(alloc: Global, command: Command<'_>, files: &mut F) -> Answer
-    requires { IsWithin (said command) }
-    ensures answers { AnswersTo F.told F.holds F.calm F.faults (said command.entry) files.old files.new result }
-    ensures idle { inputs_of (said command.entry) ≡ None → files.new ≡ files.old }
+    requires { IsWithin (plain_command command) }
+    ensures outcome { IsCommandOutcome F.view (plain_command command.entry) files.old files.new
+        (answer_status result) (answer_text result) }
+    ensures writable { CanBeWritten result }
+    ensures idle { inputs_of (plain_command command.entry) ≡ None → (files.new ≡ files.old) × (answer_status result ≢ SReadFault) }
 {
     match command {
-        Command::Check(inputs) => check(alloc, inputs, files),
+        Command::Check(version, inputs) => check_answer(alloc, version, inputs, files),
         Command::Verify {
             inputs,
             certificate,
-        } => verify(alloc, inputs, certificate, files),
-        Command::Gen(n) => generate(alloc, n),
+        } => verify_answer(alloc, inputs, certificate, files),
+        Command::Gen(n) => gen_answer(alloc, n),
     }
 }
 
 /// Decides the answer to the words.
 fn decide<F: Files>(alloc: Global, words: &[String], files: &mut F) -> Answer
     ensures usage { IsNoCommand (map string_bytes words.now) → answer_status result ≡ SUsage }
-    ensures decides { Decides F.told F.holds F.calm F.faults (map string_bytes words.now) files.old files.new result }
-    ensures idle { IsIdle (map string_bytes words.now) → files.new ≡ files.old }
+    ensures outcome { IsWordsOutcome F.view (map string_bytes words.now) files.old files.new
+        (answer_status result) (answer_text result) }
+    ensures writable { CanBeWritten result }
+    ensures idle { IsIdle (map string_bytes words.now) → (files.new ≡ files.old) × (answer_status result ≢ SReadFault) }
 {
     match parse(words) {
         None => Answer::Usage,
@@ -47,23 +100,23 @@ fn decide<F: Files>(alloc: Global, words: &[String], files: &mut F) -> Answer
     }
 }
 
-/// Writes the text of an answer, where it has one, and answers the status.
+/// Writes the text of an answer, where it has one, and returns the status.
 fn tell<K: Sink>(out: &mut K, answer: &Answer) -> Status
     requires { CanBeWritten answer.now }
-    ensures same_told { K.told out.new ≡ K.told out.old }
-    ensures count { K.faults out.old ≤ K.faults out.new }
+    ensures same_modelled { (K.view out.new).modelled ≡ (K.view out.old).modelled }
+    ensures count { (K.view out.old).faults ≤ (K.view out.new).faults }
     ensures kept { (result ≡ answer_status answer.now) ⊎ (result ≡ SWriteFault) }
-    ensures cause { result ≡ SWriteFault → Rose (K.faults out.old) (K.faults out.new) }
+    ensures cause { result ≡ SWriteFault → Rose (K.view out.old).faults (K.view out.new).faults }
     ensures silent { (answer_status answer.now ≡ SReadFault) ⊎ (answer_status answer.now ≡ SMemory)
         → (result ≡ answer_status answer.now) × (out.new ≡ out.old) }
-    ensures whole { IsTrue (K.told out.old) → result ≢ SReadFault → result ≢ SMemory → result ≢ SWriteFault
-        → K.taken out.new ≡ K.taken out.old ++ answer_text answer.now }
-    ensures short { IsTrue (K.told out.old) → result ≡ SWriteFault
-        → IsCutShort (K.taken out.old) (answer_text answer.now) (K.taken out.new) }
+    ensures whole { IsTrue (K.view out.old).modelled → result ≢ SReadFault → result ≢ SMemory → result ≢ SWriteFault
+        → (K.view out.new).taken ≡ (K.view out.old).taken ++ answer_text answer.now }
+    ensures short { IsTrue (K.view out.old).modelled → result ≡ SWriteFault
+        → IsCutShort (K.view out.old).taken (answer_text answer.now) (K.view out.new).taken }
 {
     match answer {
-        Answer::ReadFault => Status::ReadFault,
-        Answer::Memory => Status::Memory,
+        Answer::Ended(Ending::ReadFault) => Status::ReadFault,
+        Answer::Ended(Ending::Memory) => Status::Memory,
         _ => match write_answer(out, answer) {
             Ok(()) => status(answer),
             Err(Failed) => Status::WriteFault,
@@ -73,51 +126,54 @@ fn tell<K: Sink>(out: &mut K, answer: &Answer) -> Status
 
 /// Answers a command. `check MODEL TEST` reads the two named files, at most 1,048,576 bytes each,
 /// decides whether the outcome of the test is observable on the model, and writes the verdict with
-/// its certificate, or the first fault of the files. `verify MODEL TEST CERT` reads the first two so,
+/// its certificate, or the first fault of the files. `check2 MODEL TEST` does the same with refutations of
+/// version 2, whose splits keep that their left side failed. `verify MODEL TEST CERT` reads the first two so,
 /// and where they have no fault the third, to its end or to one byte past 67,108,864: it writes the
 /// verdict whose certificate the third is, or the line at which it is refused, without a search. `gen N`,
 /// with N from 2 to 16 in decimal, makes the two texts of the ring of N cores, searches as `check` does,
 /// and writes N, the verdict, and how many nodes, splits and leaves there are, or the first fault of the
 /// two texts. Other words are no command, and that is written.
 ///
-/// The words are those behind the program's name. Nothing is written before the answer is known, and
+/// The words are those after the program's name. Nothing is written before the answer is known, and
 /// nothing at all with `ReadFault` or `Memory`. With `WriteFault` the first bytes of the answer's text
 /// went out.
 ///
-/// - `idle`: after `gen`, and after words that are no command, the files are as they were.
+/// Clauses on what is answered apply if the command reads no file, or the files' contents are known.
+///
+/// - `idle`: `gen`, and words that are no command, leave the files as they are, and never end with `ReadFault`.
 /// - `usage` to `usage_text`: `Usage` comes exactly on words that are no command, whatever the memory.
-/// - `read_cause` to `read_due`: `ReadFault` comes only where a call of the files failed, and over
-///   calm files exactly where a name that is not held is come to: the model's, then the test's, and
+/// - `read_cause` to `read_due`: `ReadFault` comes only where a call of the files failed. Where only missing names
+///   fail it comes exactly where a name that is not held is come to: the model's, then the test's, and
 ///   of `verify`, where these two have no fault, the third.
 /// - `write_cause`: `WriteFault` comes only where a call of the sink failed.
 /// - `quiet`, `answers`, `short`: what was written.
 /// - `headline`, `due`: the verdict is true of the bytes of the two files, whatever a third holds, and it
-///   comes: from `check` by the outcome, from `verify` by what the third file is. From `gen` `Done` comes,
+///   comes: from `check` and `check2` by the outcome, from `verify` by what the third file is. From `gen` `Done` comes,
 ///   or `Refused` where its two texts have a fault.
 pub fn run<F: Files, K: Sink>(alloc: Global, words: &[String], files: &mut F, out: &mut K) -> Status
-    ensures files { Reads F.told F.holds F.calm F.faults files.old files.new }
-    ensures idle { IsIdle (map string_bytes words.now) → files.new ≡ files.old }
-    ensures sink_told { K.told out.new ≡ K.told out.old }
-    ensures sink_count { K.faults out.old ≤ K.faults out.new }
+    ensures files { Reads F.view files.old files.new }
+    ensures idle { IsIdle (map string_bytes words.now) → (files.new ≡ files.old) × (result ≢ SReadFault) }
+    ensures sink_modelled { (K.view out.new).modelled ≡ (K.view out.old).modelled }
+    ensures sink_count { (K.view out.old).faults ≤ (K.view out.new).faults }
     ensures usage { result ≡ SUsage → IsNoCommand (map string_bytes words.now) }
     ensures usage_due { IsNoCommand (map string_bytes words.now) → (result ≡ SUsage) ⊎ (result ≡ SWriteFault) }
-    ensures usage_text { IsTrue (K.told out.old) → result ≡ SUsage → K.taken out.new ≡ K.taken out.old ++ usage_text }
-    ensures read_cause { result ≡ SReadFault → Rose (F.faults files.old) (F.faults files.new) }
-    ensures read_calm { IsTrue (F.calm files.old) → result ≡ SReadFault → Comes (map string_bytes words.now) (F.holds files.old) }
-    ensures read_due { IsTrue (F.calm files.old) → Comes (map string_bytes words.now) (F.holds files.old)
+    ensures usage_text { IsTrue (K.view out.old).modelled → result ≡ SUsage → (K.view out.new).taken ≡ (K.view out.old).taken ++ usage_text }
+    ensures read_cause { result ≡ SReadFault → Rose (F.view files.old).faults (F.view files.new).faults }
+    ensures read_calm { IsTrue (F.view files.old).only_missing_fail → result ≡ SReadFault → WordsLack (map string_bytes words.now) ((F.view files.old).holds) }
+    ensures read_due { IsTrue (F.view files.old).only_missing_fail → WordsLack (map string_bytes words.now) ((F.view files.old).holds)
         → (result ≡ SReadFault) ⊎ (result ≡ SMemory) }
-    ensures write_cause { result ≡ SWriteFault → Rose (K.faults out.old) (K.faults out.new) }
+    ensures write_cause { result ≡ SWriteFault → Rose (K.view out.old).faults (K.view out.new).faults }
     ensures quiet { (result ≡ SReadFault) ⊎ (result ≡ SMemory) → out.new ≡ out.old }
-    ensures answers { IsTrue (F.told files.old) → result ≢ SReadFault → result ≢ SMemory → result ≢ SWriteFault
-        → (text : List ℕ) × Answers (map string_bytes words.now) (F.holds files.old) result text
-        × (IsTrue (K.told out.old) → K.taken out.new ≡ K.taken out.old ++ text) }
-    ensures short { IsTrue (F.told files.old) → result ≡ SWriteFault
-        → (status : Status) × (text : List ℕ) × Answers (map string_bytes words.now) (F.holds files.old) status text
-        × (IsTrue (K.told out.old) → IsCutShort (K.taken out.old) text (K.taken out.new)) }
-    ensures headline { IsTrue (F.told files.old) → IsTrueOf (map string_bytes words.now) (F.holds files.old) result }
-    ensures due { IsTrue (F.told files.old) → (Rose (F.faults files.old) (F.faults files.new) → ⊥)
-        → (Rose (K.faults out.old) (K.faults out.new) → ⊥) → result ≢ SMemory
-        → IsDue (map string_bytes words.now) (F.holds files.old) result }
+    ensures answers { IsKnown (map string_bytes words.now) (F.view files.old).modelled → result ≢ SReadFault → result ≢ SMemory → result ≢ SWriteFault
+        → (text : List ℕ) × Answers (map string_bytes words.now) ((F.view files.old).holds) result text
+        × (IsTrue (K.view out.old).modelled → (K.view out.new).taken ≡ (K.view out.old).taken ++ text) }
+    ensures short { IsKnown (map string_bytes words.now) (F.view files.old).modelled → result ≡ SWriteFault
+        → (status : Status) × (text : List ℕ) × Answers (map string_bytes words.now) ((F.view files.old).holds) status text
+        × (IsTrue (K.view out.old).modelled → IsCutShort (K.view out.old).taken text (K.view out.new).taken) }
+    ensures headline { IsKnown (map string_bytes words.now) (F.view files.old).modelled
+        → IsTrueOf (map string_bytes words.now) ((F.view files.old).holds) result }
+    ensures due { IsKnown (map string_bytes words.now) (F.view files.old).modelled → result ≢ SReadFault → result ≢ SMemory → result ≢ SWriteFault
+        → IsDue (map string_bytes words.now) ((F.view files.old).holds) result }
 {
     let answer = decide(alloc, words, files);
     let status = tell(out, &answer);

@@ -1,7 +1,7 @@
 //! Test files to cases, and what a case answers.
 use litmus_reader::{CaseFault, read_case};
-use pc_case::{Access, Case, Expect, OpId, Ops, Page};
-use pc_common::{FaultKind, Place};
+use pc_case::{Access, Address, Case, Expect, OpId, Ops};
+use pc_common::{FaultKind, Place, Value};
 use std::test::Fail;
 
 /// A refused text, and its first fault.
@@ -62,14 +62,20 @@ const FAULTS: &[Refused] = &[
     (
         b"Litmus \"d\".\nInit (PA 0 0) 1.\nInit (PA 0 0) 2.",
         CaseFault::Content(
-            FaultKind::AgainInitial { first: 1, again: 2 },
+            FaultKind::AgainInitial {
+                first: Value::Number(1),
+                again: Value::Number(2),
+            },
             Place { offset: 29 },
         ),
     ),
     (
         b"Litmus \"d\".\nFinal (PA 0 0) 1.\nFinal (PA 0 0) 1.",
         CaseFault::Content(
-            FaultKind::AgainFinal { first: 1, again: 1 },
+            FaultKind::AgainFinal {
+                first: Value::Number(1),
+                again: Value::Number(1),
+            },
             Place { offset: 30 },
         ),
     ),
@@ -87,6 +93,51 @@ const FAULTS: &[Refused] = &[
     (
         b"Litmus \"d\".\nMicroop 0 0 0 0 (Fence).\nMicroop 0 64 0 0 (Fence).",
         CaseFault::Content(FaultKind::CoreNumber { number: 64 }, Place { offset: 47 }),
+    ),
+    // entries stand in the second format alone
+    (
+        b"Litmus \"w\".\nMicroop 0 0 0 0 (Read (VA 3 0) (Entry 3) (Maps 7 1 0)).\n",
+        CaseFault::Syntax(Place { offset: 44 }),
+    ),
+    (
+        b"Litmus \"w\".\nInit (Entry 3) (Maps 7 1 0).\n",
+        CaseFault::Syntax(Place { offset: 18 }),
+    ),
+    // a mark over 1, the accessed one first
+    (
+        b"Litmus2 \"w\".\nMicroop 0 0 0 0 (Read (VA 3 0) (Entry 3) (Maps 7 2 0)).\n",
+        CaseFault::Content(FaultKind::MarkValue { mark: 2 }, Place { offset: 62 }),
+    ),
+    (
+        b"Litmus2 \"w\".\nMicroop 0 0 0 0 (Read (VA 3 0) (Entry 3) (Maps 7 2 3)).\n",
+        CaseFault::Content(FaultKind::MarkValue { mark: 2 }, Place { offset: 62 }),
+    ),
+    (
+        b"Litmus2 \"w\".\nMicroop 0 0 0 0 (Read (VA 3 0) (Entry 3) (Maps 7 1 3)).\n",
+        CaseFault::Content(FaultKind::MarkValue { mark: 3 }, Place { offset: 64 }),
+    ),
+    // it is the last that is judged of a line
+    (
+        b"Litmus2 \"w\".\nMicroop 0 64 0 0 (Read (VA 3 0) (Entry 3) (Maps 7 2 0)).\n",
+        CaseFault::Content(FaultKind::CoreNumber { number: 64 }, Place { offset: 23 }),
+    ),
+    (
+        b"Litmus2 \"d\".\nInit (Entry 3) (Maps 7 0 0).\nInit (Entry 3) (Maps 7 5 0).",
+        CaseFault::Content(
+            FaultKind::AgainInitial {
+                first: Value::Entry {
+                    tag: 7,
+                    accessed: 0,
+                    dirty: 0,
+                },
+                again: Value::Entry {
+                    tag: 7,
+                    accessed: 5,
+                    dirty: 0,
+                },
+            },
+            Place { offset: 42 },
+        ),
     ),
     // a fault of syntax is named before one of content
     (
@@ -117,7 +168,7 @@ fn the_65th_micro_op_is_one_too_many(rt: HostRuntime) -> Result<(), Fail> {
     Ok(())
 }
 
-const MIXED: &[u8] = b"Litmus \"h\".
+const MIXED: &[u8] = b"Litmus2 \"h\".
 Forbidden. Init (PA 7 7) 3.
 Microop 0 0 0 0 (Write Locked (VA 1 2) (PA 1 2) (Data 5)).
 Microop 0 0 0 1 (Read (VA 1 3) (PA 1 2) (Data 0)).
@@ -125,14 +176,38 @@ Init (PA 2 1) 7. Final (PA 2 1) 9.
 Microop 1 2 9 0 (Fence Full).
 Relationship addr 0 0 -> 1 0.
 Relationship data 0 1 -> 0 1.
+Init (Entry 4) (Maps 9 1 0). Final (Entry 4) (Maps 9 1 1).
 Final (PA 1 2) 5.";
 
+const fn entry(tag: u64, accessed: u64, dirty: u64) -> Value {
+    Value::Entry {
+        tag,
+        accessed,
+        dirty,
+    }
+}
+
 /// An address, its initial value, and its final value where one is stated.
-const VALUES: &[(Page, u64, Option<u64>)] = &[
-    (Page { tag: 7, index: 7 }, 3, None),
-    (Page { tag: 1, index: 2 }, 0, Some(5)),
-    (Page { tag: 2, index: 1 }, 7, Some(9)),
-    (Page { tag: 2, index: 7 }, 0, None),
+const VALUES: &[(Address, Value, Option<Value>)] = &[
+    (Address::Page { tag: 7, index: 7 }, Value::Number(3), None),
+    (
+        Address::Page { tag: 1, index: 2 },
+        Value::Number(0),
+        Some(Value::Number(5)),
+    ),
+    (
+        Address::Page { tag: 2, index: 1 },
+        Value::Number(7),
+        Some(Value::Number(9)),
+    ),
+    (Address::Page { tag: 2, index: 7 }, Value::Number(0), None),
+    // an entry that no line states maps to its own tag, with neither mark
+    (Address::Entry { tag: 2 }, entry(2, 0, 0), None),
+    (
+        Address::Entry { tag: 4 },
+        entry(9, 1, 0),
+        Some(entry(9, 1, 1)),
+    ),
 ];
 
 /// A kind and two places, and whether a dependency of that kind goes from the first to the second.

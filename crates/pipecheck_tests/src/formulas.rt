@@ -122,7 +122,7 @@ const ALL_SHOWN: &str =
 
 fn word(alloc: Global, text: &[u8]) -> Result<Word, Memory> {
     Ok(Word {
-        name: Shared::new(Listed::from_vec(text.to_vec(alloc)?))?,
+        name: Shared::of(Listed::from_vec(text.to_vec(alloc)?))?,
         at: Place { offset: 7 },
     })
 }
@@ -132,9 +132,9 @@ fn bound(alloc: Global, body: Formula) -> Result<Formula, Memory> {
     let at = Place { offset: 7 };
     let first = word(alloc, b"a")?;
     let second = word(alloc, b"b")?;
-    let names = Shared::new(Listed::from_vec(vec![in alloc; first.name, second.name]?))?;
+    let names = Shared::of(Listed::from_vec(vec![in alloc; first.name, second.name]?))?;
     let core = Arg::Word(word(alloc, b"c")?);
-    let args = Shared::new(Listed::from_vec(vec![in alloc; core, Arg::Number(4, at)]?))?;
+    let args = Shared::of(Listed::from_vec(vec![in alloc; core, Arg::Number(4, at)]?))?;
     Formula::bind(alloc, at, names, args, body)
 }
 

@@ -9,8 +9,6 @@ mod brackets;
 #[cfg(test)]
 mod cases;
 #[cfg(test)]
-mod checking;
-#[cfg(test)]
 mod formulas;
 #[cfg(test)]
 mod macros;
@@ -36,5 +34,3 @@ mod shown_closed;
 mod texts;
 #[cfg(test)]
 mod trees;
-#[cfg(test)]
-mod verdicts;

@@ -14,32 +14,46 @@ use std::test::Fail;
 
 /// A locked write of 5, a read of 0 in the same instruction, and a full fence after them, which depends
 /// on the write. The one stated value is 5 at the end, at the page that the write and the read touch.
-const CASE: &[u8] = b"Litmus \"h\".
+/// Then a read on another core; a read of an entry on another thread; and a write of the page that the
+/// entry maps to, and a write of the entry, on another core and thread.
+const CASE: &[u8] = b"Litmus2 \"h\".
 Microop 0 0 0 0 (Write Locked (VA 1 2) (PA 1 2) (Data 5)).
 Microop 0 0 0 1 (Read (VA 1 3) (PA 1 2) (Data 0)).
 Microop 1 0 0 0 (Fence Full).
+Microop 2 1 0 0 (Read (VA 1 2) (PA 1 2) (Data 5)).
+Microop 3 0 1 0 (Read (VA 3 0) (Entry 3) (Maps 7 1 0)).
+Microop 4 1 1 0 (Write (VA 3 0) (PA 7 0) (Data 1)).
+Microop 5 1 1 0 (Write (VA 7 0) (Entry 3) (Maps 7 0 1)).
 Relationship addr 0 0 -> 1 0.
 Final (PA 1 2) 5.
 ";
 
-/// A micro-op of the case: the write, the read or the fence.
+/// A micro-op of the case, in its order.
 #[derive(Clone, Copy)]
 enum Letter {
     A,
     B,
     C,
+    D,
+    E,
+    F,
+    G,
 }
 
-use Letter::{A, B, C};
+use Letter::{A, B, C, D, E, F, G};
 
 impl Letter {
     fn place(self) -> u8
-        ensures { result < 3 }
+        ensures { result < 7 }
     {
         match self {
             A => 0,
             B => 1,
             C => 2,
+            D => 3,
+            E => 4,
+            F => 5,
+            G => 6,
         }
     }
 }
@@ -54,7 +68,7 @@ fn slots(i: u8, j: u8) -> Env
 }
 
 fn of_one(alloc: Global, case: &Case, pred: Pred, i: Letter) -> Result<bool, Memory>
-    requires three { length case.now.ops ≡ 3 }
+    requires seven { length case.now.ops ≡ 7 }
     requires takes { takes_of pred ≡ takes_op ∷ [] }
 {
     let args = Listed::from_vec(vec![in alloc; ClosedArg::Slot(0)]?);
@@ -63,7 +77,7 @@ fn of_one(alloc: Global, case: &Case, pred: Pred, i: Letter) -> Result<bool, Mem
 }
 
 fn of_two(alloc: Global, case: &Case, pred: Pred, i: Letter, j: Letter) -> Result<bool, Memory>
-    requires three { length case.now.ops ≡ 3 }
+    requires seven { length case.now.ops ≡ 7 }
     requires takes { takes_of pred ≡ takes_op ∷ takes_op ∷ [] }
 {
     let args = Listed::from_vec(vec![in alloc; ClosedArg::Slot(0), ClosedArg::Slot(1)]?);
@@ -77,7 +91,7 @@ fn of_none(alloc: Global, case: &Case, pred: Pred) -> bool
 }
 
 fn on_core(alloc: Global, case: &Case, core: u8, i: Letter) -> Result<bool, Memory>
-    requires three { length case.now.ops ≡ 3 }
+    requires seven { length case.now.ops ≡ 7 }
     requires core { core < 64 }
 {
     let args = Listed::from_vec(vec![in alloc; ClosedArg::Core(core), ClosedArg::Slot(0)]?);
@@ -86,18 +100,18 @@ fn on_core(alloc: Global, case: &Case, core: u8, i: Letter) -> Result<bool, Memo
 }
 
 fn of_type(alloc: Global, case: &Case, name: &[u8], i: Letter) -> Result<bool, Memory>
-    requires { length case.now.ops ≡ 3 }
+    requires { length case.now.ops ≡ 7 }
 {
-    let name = ClosedArg::Plain(Shared::new(Listed::from_vec(name.to_vec(alloc)?))?);
+    let name = ClosedArg::Plain(Shared::of(Listed::from_vec(name.to_vec(alloc)?))?);
     let args = Listed::from_vec(vec![in alloc; name, ClosedArg::Slot(0)]?);
     let place = i.place();
     Ok(holds(case, Pred::AccessType, &args, &slots(place, place)))
 }
 
 fn of_kind(alloc: Global, case: &Case, kind: &[u8], i: Letter, j: Letter) -> Result<bool, Memory>
-    requires { length case.now.ops ≡ 3 }
+    requires { length case.now.ops ≡ 7 }
 {
-    let kind = ClosedArg::Plain(Shared::new(Listed::from_vec(kind.to_vec(alloc)?))?);
+    let kind = ClosedArg::Plain(Shared::of(Listed::from_vec(kind.to_vec(alloc)?))?);
     let args = Listed::from_vec(vec![in alloc; kind, ClosedArg::Slot(0), ClosedArg::Slot(1)]?);
     Ok(holds(
         case,
@@ -116,7 +130,7 @@ fn ask(
     name: &[u8],
     ops: &[Letter],
 ) -> Result<Option<bool>, Memory>
-    requires { length case.now.ops ≡ 3 }
+    requires { length case.now.ops ≡ 7 }
 {
     Ok(match (pred, ops) {
         (Pred::True | Pred::False, []) => Some(of_none(alloc, case, pred)),
@@ -128,7 +142,9 @@ fn ask(
             | Pred::IsAnyWrite
             | Pred::IsAnyFence
             | Pred::DataFromInitialStateAtPA
-            | Pred::DataFromFinalStateAtPA,
+            | Pred::DataFromFinalStateAtPA
+            | Pred::MarkedAccessed
+            | Pred::MarkedDirty,
             [i],
         ) => Some(of_one(alloc, case, pred, *i)?),
         (
@@ -143,7 +159,9 @@ fn ask(
             | Pred::SameVirtualTag
             | Pred::SamePhysicalTag
             | Pred::SameIndex
-            | Pred::SameData,
+            | Pred::SameData
+            | Pred::EntryOf
+            | Pred::MapsTagOf,
             [i, j],
         ) => Some(of_two(alloc, case, pred, *i, *j)?),
         _ => None,
@@ -166,8 +184,14 @@ const ROWS: &[(Pred, &'static [u8], &'static [Letter], bool)] = &[
     (Pred::AccessType, b"Locked", &[B], false),
     (Pred::OnCore, b"0", &[A], true),
     (Pred::OnCore, b"1", &[A], false),
+    (Pred::OnCore, b"1", &[D], true),
+    (Pred::OnCore, b"0", &[D], false),
     (Pred::SameCore, b"", &[A, C], true),
+    (Pred::SameCore, b"", &[A, E], true),
+    (Pred::SameCore, b"", &[A, D], false),
     (Pred::SameThread, b"", &[A, C], true),
+    (Pred::SameThread, b"", &[A, D], true),
+    (Pred::SameThread, b"", &[A, E], false),
     (Pred::SameMicroop, b"", &[B, B], true),
     (Pred::SameMicroop, b"", &[A, B], false),
     (Pred::SameInstruction, b"", &[A, B], true),
@@ -177,33 +201,61 @@ const ROWS: &[(Pred, &'static [u8], &'static [Letter], bool)] = &[
     (Pred::ProgramOrder, b"", &[A, C], true),
     (Pred::ProgramOrder, b"", &[A, B], false),
     (Pred::ProgramOrder, b"", &[C, A], false),
-    (Pred::SameVirtualAddress, b"", &[A, A], true),
+    (Pred::ProgramOrder, b"", &[F, G], true),
+    (Pred::ProgramOrder, b"", &[A, D], false),
+    (Pred::ProgramOrder, b"", &[A, E], false),
+    (Pred::SameVirtualAddress, b"", &[A, D], true),
     (Pred::SameVirtualAddress, b"", &[A, B], false),
+    (Pred::SameVirtualAddress, b"", &[C, C], false),
     (Pred::SamePhysicalAddress, b"", &[A, B], true),
     (Pred::SamePhysicalAddress, b"", &[A, C], false),
+    (Pred::SamePhysicalAddress, b"", &[E, G], true),
+    (Pred::SamePhysicalAddress, b"", &[E, F], false),
     (Pred::SameVirtualTag, b"", &[A, B], true),
     (Pred::SameVirtualTag, b"", &[C, C], false),
     (Pred::SamePhysicalTag, b"", &[A, B], true),
     (Pred::SamePhysicalTag, b"", &[C, C], false),
+    (Pred::SamePhysicalTag, b"", &[E, G], false),
     (Pred::SameIndex, b"", &[B, B], true),
     (Pred::SameIndex, b"", &[A, B], false),
+    (Pred::SameIndex, b"", &[C, C], false),
     (Pred::SameData, b"", &[B, B], true),
     (Pred::SameData, b"", &[A, B], false),
     (Pred::SameData, b"", &[C, C], false),
+    (Pred::SameData, b"", &[E, E], true),
+    (Pred::SameData, b"", &[E, G], false),
+    (Pred::SameData, b"", &[E, F], false),
     (Pred::DataFromInitialStateAtPA, b"", &[B], true),
     (Pred::DataFromInitialStateAtPA, b"", &[A], false),
     (Pred::DataFromInitialStateAtPA, b"", &[C], false),
+    (Pred::DataFromInitialStateAtPA, b"", &[E], false),
     (Pred::DataFromFinalStateAtPA, b"", &[A], true),
     (Pred::DataFromFinalStateAtPA, b"", &[B], false),
     (Pred::DataFromFinalStateAtPA, b"", &[C], false),
     (Pred::HasDependency, b"addr", &[A, C], true),
     (Pred::HasDependency, b"addr", &[C, A], false),
     (Pred::HasDependency, b"data", &[A, C], false),
+    (Pred::EntryOf, b"", &[E, F], true),
+    (Pred::EntryOf, b"", &[G, F], true),
+    (Pred::EntryOf, b"", &[F, E], false),
+    (Pred::EntryOf, b"", &[E, A], false),
+    (Pred::EntryOf, b"", &[E, C], false),
+    (Pred::MapsTagOf, b"", &[E, F], true),
+    (Pred::MapsTagOf, b"", &[E, A], false),
+    (Pred::MapsTagOf, b"", &[E, G], false),
+    (Pred::MapsTagOf, b"", &[A, F], false),
+    (Pred::MarkedAccessed, b"", &[E], true),
+    (Pred::MarkedAccessed, b"", &[G], false),
+    (Pred::MarkedAccessed, b"", &[A], false),
+    (Pred::MarkedAccessed, b"", &[C], false),
+    (Pred::MarkedDirty, b"", &[G], true),
+    (Pred::MarkedDirty, b"", &[E], false),
+    (Pred::MarkedDirty, b"", &[C], false),
 ];
 
 /// The first row whose answer is another, and that answer.
 fn first_wrong(alloc: Global, case: &Case) -> Result<Option<(Pred, Option<bool>)>, Memory> {
-    if case.ops() != 3 {
+    if case.ops() != 7 {
         return Err(Memory);
     }
     for (pred, name, ops, want) in ROWS {

@@ -1,5 +1,5 @@
+mod Items
 mod LineWords
 mod NodeWalk
-mod Putting
-mod StepReading
+mod StepLines
 mod StepWalk

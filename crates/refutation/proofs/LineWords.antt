@@ -10,7 +10,7 @@ use Rattle.pc_ground.specs.NodeWords.{Lacks}
 use Rattle.pc_ground.proofs.Bools.{or_none}
 use Rattle.pc_ground.proofs.Cuts.{all_left}
 use Rattle.pc_ground.proofs.Outside.{a_space, form_lacks}
-use Rattle.refutation.specs.Words.{spaced, words}
+use Rattle.refutation.specs.Words.{words_text, words}
 
 lacks_head : (m c : ℕ) (cs : List ℕ) → Lacks m (c ∷ cs) → (c == m) ≡ false
 lacks_head m c cs h = or_left (c == m) (list_any (λ d. d == m) cs) h
@@ -31,17 +31,17 @@ pub words_more : (xs ys : List ℕ) → Lacks 32 xs → words (xs ++ 32 ∷ ys) 
 words_more [] ys h = refl
 words_more (x ∷ xs) ys h = rw (lacks_head 32 x xs h, words_more xs ys (lacks_tail 32 x xs h))
 
-pub words_spaced : (w : List ℕ) (ws : List (List ℕ)) → Lacks 32 w → All (Lacks 32) ws → words (w ++ spaced ws) ≡ w ∷ ws
+pub words_spaced : (w : List ℕ) (ws : List (List ℕ)) → Lacks 32 w → All (Lacks 32) ws → words (w ++ words_text ws) ≡ w ∷ ws
 words_spaced w [] h all = ap words (append-nil w) ∙ words_last w h
 words_spaced w (v ∷ vs) h all =
-    words_more w (v ++ spaced vs) h ∙ ap (λ r. w ∷ r) (words_spaced v vs (All-head (Lacks 32) v vs all) (All-tail (Lacks 32) v vs all))
+    words_more w (v ++ words_text vs) h ∙ ap (λ r. w ∷ r) (words_spaced v vs (All-head (Lacks 32) v vs all) (All-tail (Lacks 32) v vs all))
 
-joined : (w : List ℕ) (ws : List (List ℕ)) → join_with_byte 32 (w ∷ ws) ≡ w ++ spaced ws
+joined : (w : List ℕ) (ws : List (List ℕ)) → join_with_byte 32 (w ∷ ws) ≡ w ++ words_text ws
 joined w [] = sym (append-nil w)
 joined w (v ∷ vs) = ap (λ r. w ++ 32 ∷ r) (joined v vs)
 
 -- a line is its words, joined by one space each
-pub line_spaced : (line w : List ℕ) (ws : List (List ℕ)) → words line ≡ w ∷ ws → line ≡ w ++ spaced ws
+pub line_spaced : (line w : List ℕ) (ws : List (List ℕ)) → words line ≡ w ∷ ws → line ≡ w ++ words_text ws
 line_spaced line w ws e = sym (join_with_byte-slice_split 32 line) ∙ ap (join_with_byte 32) e ∙ joined w ws
 
 pub line_alone : (line w : List ℕ) → words line ≡ w ∷ [] → line ≡ w

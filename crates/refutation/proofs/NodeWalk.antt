@@ -9,7 +9,7 @@ use Rattle.pc_common.specs.World.{Node}
 use Rattle.pc_common.specs.Lines.{Names, node_text}
 use Rattle.pc_ground.specs.NodeForm.{IsNodeForm, IsNodeIn}
 use Rattle.pc_ground.specs.declared.line_fault.LineFault.TheVariants.{Foreign}
-use Rattle.refutation.specs.StepWords.{AreSpelled, ReadsNodes, ReadsNode}
+use Rattle.refutation.specs.StepWords.{AreSpelled, ReadsNodes, ReadsWord}
 
 -- a word that spells no node of these names
 abbrev pub IsOther : Names → List ℕ → Type 0
@@ -93,7 +93,7 @@ pub walk_done : (names : Names) (ws : List (List ℕ)) (nodes : List Node) → S
 walk_done names ws nodes h = (let own = h.own refl in (own.0, walk_all h ∙ own.1))
 
 pub walk_next : (names : Names) (ws : List (List ℕ)) (w : List ℕ) (left : List (List ℕ)) (foreign own : Bool) (nodes new : List Node)
-    → SoFar names ws (w ∷ left) foreign nodes → ReadsNode names w nodes new (Ok own) → SoFar names ws left (foreign || not own) new
+    → SoFar names ws (w ∷ left) foreign nodes → ReadsWord names w nodes new (Ok own) → SoFar names ws left (foreign || not own) new
 walk_next names ws w left true true nodes new h (a, inside, form, is, e) =
     let P : List Node → Type 0 = λ ns. SoFar names ws left true ns in subst P (sym e) (walk_own names ws w left true nodes a h form inside is)
 walk_next names ws w left false true nodes new h (a, inside, form, is, e) =

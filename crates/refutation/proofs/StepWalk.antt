@@ -1,40 +1,49 @@
 -- What reading the words behind the first one makes of a line.
-use Rattle.std.proofs.Common.{◌≡◌, ℕ, ◌≤◌, List, [], ◌∷◌, length, refl, sym, ◌∙◌, ap, arith, subst, ◌==◌, true, false, Option, Some, None, Ok, Err, Bor, is_err}
+use Rattle.std.proofs.Common.{◌≡◌, ◌≢◌, ℕ, ◌≤◌, Bool, drop, ◌++◌, List, [], ◌∷◌, length, refl, sym, ◌∙◌, ap, arith, subst, ◌==◌, true, false, Option, Some, None, Ok, Err, Bor, is_err}
 use Rattle.std.specs.Prelude.{All, Result, OnErr, codes, is_some}
 use Rattle.std.specs.Option.{option_map_or}
 use Rattle.std.specs.Result.{IsErrAnd}
 use Rattle.std.proofs.lemmas.List.Elements.{All-nil, All-cons, All-head}
 use Rattle.std.proofs.lemmas.List.Splits.{length-slice_split}
 use Rattle.pc_common.specs.World.{Node}
-use Rattle.pc_common.specs.Lines.{Names}
+use Rattle.pc_common.specs.Lines.{Names, sign_text}
 use Rattle.pc_ground.specs.Decimals.{IsDecimal}
 use Rattle.pc_ground.specs.NodeForm.{IsNodeForm, IsNodeIn, AreReadable}
-use Rattle.pc_ground.specs.Refutes.{Step as PlainStep, split, cycle, path, absent, false_step}
-use Rattle.pc_ground.proofs.Cuts.{decimal_lacks}
+use Rattle.pc_common.specs.Steps.{cycle, path, absent, false_step, Step as PlainStep, split, close}
 use Rattle.pc_ground.specs.declared.line_fault.LineFault.{LineFault}
 use Rattle.pc_ground.specs.declared.line_fault.LineFault.TheVariants.{Malformed, Foreign}
 use Rattle.refutation.specs.Steps.{IsStepIn}
 use Rattle.refutation.specs.Words.{words, spaces}
-use Rattle.refutation.specs.StepWords.{step_words, AreOfForm, of_split, of_cycle, of_path, of_absence, of_falsity, AreSpelled, ReadsNodes, ReadsWords}
+use Rattle.refutation.specs.StepWords.{words_of_step, AreOfForm, of_split, of_cycle, of_path, of_absence, of_falsity, AreSpelled, ReadsNodes, ReadsWords}
 use Rattle.refutation.specs.Reading.{head_of, nodes_of, IsLineOf, ReadsStep}
 use Rattle.refutation.specs.declared.step_head.StepHead.{StepHead}
 use Rattle.refutation.specs.declared.step_head.StepHead.TheVariants.{Split, Cycle, Path, Absent}
 use Rattle.refutation.proofs.LineWords.{words_last, line_alone}
-use Rattle.refutation.proofs.StepReading.{behind, first_text, initial, words_of_line, line_of_words, form_of_line, line_of_form, same_step, step_formed}
+use Rattle.refutation.proofs.StepLines.{behind, first_text, initial, signed_lacks, no_sign, words_of_line, line_of_words, form_of_line, line_of_form, same_step, step_formed}
 
-pub split_read : (names : Names) (digits : List ℕ) (p : ℕ) → IsDecimal digits p → ReadsWords names (codes "split" ∷ words digits) [] (Ok (Split p))
-split_read names digits p d =
-    let are : words digits ≡ digits ∷ [] = words_last digits (decimal_lacks 32 digits refl (p, d)) in
-    (split p, record { has_nodes = tt; small = d.0; inside = tt; are = ap (λ ws. codes "split" ∷ ws) (are ∙ ap (λ w. w ∷ []) d.1) }, refl, refl)
+pub split_read : (names : Names) (text : List ℕ) (negated : Bool) (digits : List ℕ) (p : ℕ) → text ≡ sign_text negated ++ digits → IsDecimal digits p
+    → ReadsWords names (codes "split" ∷ words text) [] (Ok (Split negated p))
+split_read names text negated digits p is d =
+    let are : words text ≡ (sign_text negated ++ digits) ∷ [] = ap words is ∙ words_last (sign_text negated ++ digits) (signed_lacks negated digits p d) in
+    (split negated p, record { has_line = d.0; inside = tt; are = ap (λ ws. codes "split" ∷ ws) (are ∙ ap (λ w. (sign_text negated ++ w) ∷ []) d.1) }, refl, refl)
 
-pub split_none : (digits : List ℕ) → ((p : ℕ) → IsDecimal digits p → ⊥) → AreOfForm (codes "split" ∷ words digits) → ⊥
-split_none digits none (of_split ds p d e) =
-    let is : digits ≡ ds = line_alone digits ds (ap behind e) in
-    none p (let P : List ℕ → Type 0 = λ xs. IsDecimal xs p in subst P (sym is) d)
-split_none digits none (of_cycle a more all e) = let d = ap initial e in omega (arith, d)
-split_none digits none (of_path a b more all e) = let d = ap initial e in omega (arith, d)
-split_none digits none (of_absence a f e) = let d = ap initial e in omega (arith, d)
-split_none digits none (of_falsity e) = let d = ap initial e in omega (arith, d)
+-- what is behind the sign is all that can be a decimal
+behind_sign : (text : List ℕ) (negated : Bool) (digits : List ℕ) → text ≡ sign_text negated ++ digits → (negated ≡ false → (rest : List ℕ) → text ≢ codes "~" ++ rest)
+    → (m : Bool) (ds : List ℕ) (p : ℕ) → IsDecimal ds p → text ≡ sign_text m ++ ds → ds ≡ digits
+behind_sign text true digits is plain true ds p d e = ap (λ xs. drop 1 xs) (sym e ∙ is)
+behind_sign text true digits is plain false ds p d e = absurd (no_sign ds digits p d (sym e ∙ is))
+behind_sign text false digits is plain true ds p d e = absurd (plain refl ds e)
+behind_sign text false digits is plain false ds p d e = sym e ∙ is
+
+pub split_none : (text : List ℕ) (negated : Bool) (digits : List ℕ) → text ≡ sign_text negated ++ digits → (negated ≡ false → (rest : List ℕ) → text ≢ codes "~" ++ rest)
+    → ((p : ℕ) → IsDecimal digits p → ⊥) → AreOfForm (codes "split" ∷ words text) → ⊥
+split_none text negated digits is plain none (of_split m ds p d e) =
+    let same : ds ≡ digits = behind_sign text negated digits is plain m ds p d (line_alone text (sign_text m ++ ds) (ap behind e)) in
+    none p (let P : List ℕ → Type 0 = λ xs. IsDecimal xs p in subst P same d)
+split_none text negated digits is plain none (of_cycle a more all e) = let d = ap initial e in omega (arith, d)
+split_none text negated digits is plain none (of_path a b more all e) = let d = ap initial e in omega (arith, d)
+split_none text negated digits is plain none (of_absence a f e) = let d = ap initial e in omega (arith, d)
+split_none text negated digits is plain none (of_falsity e) = let d = ap initial e in omega (arith, d)
 
 pub some_words : (line : List ℕ) → words line ≡ [] → ⊥
 some_words line e = let n = length-slice_split (λ c. c == 32) line in let m = ap length e in omega (arith, n, m)
@@ -62,35 +71,35 @@ all_moved : (ws vs : List (List ℕ)) → ws ≡ vs → All IsNodeForm vs → Al
 all_moved ws vs e all = let P : List (List ℕ) → Type 0 = λ xs. All IsNodeForm xs in subst P (sym e) all
 
 no_cycle : (ws : List (List ℕ)) → (All IsNodeForm ws → ⊥) → AreOfForm (codes "cycle" ∷ ws) → ⊥
-no_cycle ws none (of_split ds p d e) = let d = ap initial e in omega (arith, d)
+no_cycle ws none (of_split m ds p d e) = let d = ap initial e in omega (arith, d)
 no_cycle ws none (of_cycle a more all e) = none (all_moved ws (a ∷ more) (ap behind e) all)
 no_cycle ws none (of_path a b more all e) = let d = ap initial e in omega (arith, d)
 no_cycle ws none (of_absence a f e) = let d = ap initial e in omega (arith, d)
 no_cycle ws none (of_falsity e) = let d = ap initial e in omega (arith, d)
 
 no_path : (ws : List (List ℕ)) → (All IsNodeForm ws → ⊥) → AreOfForm (codes "path" ∷ ws) → ⊥
-no_path ws none (of_split ds p d e) = let d = ap initial e in omega (arith, d)
+no_path ws none (of_split m ds p d e) = let d = ap initial e in omega (arith, d)
 no_path ws none (of_cycle a more all e) = let d = ap initial e in omega (arith, d)
 no_path ws none (of_path a b more all e) = none (all_moved ws (a ∷ b ∷ more) (ap behind e) all)
 no_path ws none (of_absence a f e) = let d = ap initial e in omega (arith, d)
 no_path ws none (of_falsity e) = let d = ap initial e in omega (arith, d)
 
 no_absent : (ws : List (List ℕ)) → (All IsNodeForm ws → ⊥) → AreOfForm (codes "absent" ∷ ws) → ⊥
-no_absent ws none (of_split ds p d e) = let d = ap initial e in omega (arith, d)
+no_absent ws none (of_split m ds p d e) = let d = ap initial e in omega (arith, d)
 no_absent ws none (of_cycle a more all e) = let d = ap initial e in omega (arith, d)
 no_absent ws none (of_path a b more all e) = let d = ap initial e in omega (arith, d)
 no_absent ws none (of_absence a f e) = none (all_moved ws (a ∷ []) (ap behind e) (All-cons IsNodeForm a [] f (All-nil IsNodeForm)))
 no_absent ws none (of_falsity e) = let d = ap initial e in omega (arith, d)
 
 pub absent_alone : (ws : List (List ℕ)) → HasTwo ws → AreOfForm (codes "absent" ∷ ws) → ⊥
-absent_alone ws two (of_split ds p d e) = let d = ap initial e in omega (arith, d)
+absent_alone ws two (of_split m ds p d e) = let d = ap initial e in omega (arith, d)
 absent_alone ws two (of_cycle a more all e) = let d = ap initial e in omega (arith, d)
 absent_alone ws two (of_path a b more all e) = let d = ap initial e in omega (arith, d)
 absent_alone ws (w, v, more, is) (of_absence a f e) = let n = ap length is in let m = ap length (ap behind e) in omega (arith, n, m)
 absent_alone ws two (of_falsity e) = let d = ap initial e in omega (arith, d)
 
 pub path_alone : (ws : List (List ℕ)) (w : List ℕ) → ws ≡ w ∷ [] → AreOfForm (codes "path" ∷ ws) → ⊥
-path_alone ws w one (of_split ds p d e) = let d = ap initial e in omega (arith, d)
+path_alone ws w one (of_split m ds p d e) = let d = ap initial e in omega (arith, d)
 path_alone ws w one (of_cycle a more all e) = let d = ap initial e in omega (arith, d)
 path_alone ws w one (of_path a b more all e) = let n = ap length one in let m = ap length (ap behind e) in omega (arith, n, m)
 path_alone ws w one (of_absence a f e) = let d = ap initial e in omega (arith, d)
@@ -98,7 +107,7 @@ path_alone ws w one (of_falsity e) = let d = ap initial e in omega (arith, d)
 
 pub no_word : (word : List ℕ) (ws : List (List ℕ)) → (ws ≡ [] → ⊥) → (word ≡ codes "split" → ⊥) → (word ≡ codes "cycle" → ⊥) → (word ≡ codes "path" → ⊥)
     → (word ≡ codes "absent" → ⊥) → AreOfForm (word ∷ ws) → ⊥
-no_word word ws some ns nc np na (of_split ds p d e) = ns (ap first_text e)
+no_word word ws some ns nc np na (of_split m ds p d e) = ns (ap first_text e)
 no_word word ws some ns nc np na (of_cycle a more all e) = nc (ap first_text e)
 no_word word ws some ns nc np na (of_path a b more all e) = np (ap first_text e)
 no_word word ws some ns nc np na (of_absence a f e) = na (ap first_text e)
@@ -106,28 +115,28 @@ no_word word ws some ns nc np na (of_falsity e) = some (ap behind e)
 
 -- no step is of these words
 other_cycle : (names : Names) (ws : List (List ℕ)) → ((others : List Node) → AreSpelled names ws others → ⊥)
-    → (s : PlainStep Node) → IsStepIn names s → codes "cycle" ∷ ws ≡ step_words names s → ⊥
-other_cycle names ws none (split p) inside e = let d = ap initial e in omega (arith, d)
-other_cycle names ws none (cycle nodes) inside e = none nodes (inside, ap behind e)
-other_cycle names ws none (path nodes) inside e = let d = ap initial e in omega (arith, d)
-other_cycle names ws none (absent a) inside e = let d = ap initial e in omega (arith, d)
-other_cycle names ws none false_step inside e = let d = ap initial e in omega (arith, d)
+    → (s : PlainStep Node) → IsStepIn names s → codes "cycle" ∷ ws ≡ words_of_step names s → ⊥
+other_cycle names ws none (split m p) inside e = let d = ap initial e in omega (arith, d)
+other_cycle names ws none (close (cycle nodes)) inside e = none nodes (inside, ap behind e)
+other_cycle names ws none (close (path nodes)) inside e = let d = ap initial e in omega (arith, d)
+other_cycle names ws none (close (absent a)) inside e = let d = ap initial e in omega (arith, d)
+other_cycle names ws none (close false_step) inside e = let d = ap initial e in omega (arith, d)
 
 other_path : (names : Names) (ws : List (List ℕ)) → ((others : List Node) → AreSpelled names ws others → ⊥)
-    → (s : PlainStep Node) → IsStepIn names s → codes "path" ∷ ws ≡ step_words names s → ⊥
-other_path names ws none (split p) inside e = let d = ap initial e in omega (arith, d)
-other_path names ws none (cycle nodes) inside e = let d = ap initial e in omega (arith, d)
-other_path names ws none (path nodes) inside e = none nodes (inside, ap behind e)
-other_path names ws none (absent a) inside e = let d = ap initial e in omega (arith, d)
-other_path names ws none false_step inside e = let d = ap initial e in omega (arith, d)
+    → (s : PlainStep Node) → IsStepIn names s → codes "path" ∷ ws ≡ words_of_step names s → ⊥
+other_path names ws none (split m p) inside e = let d = ap initial e in omega (arith, d)
+other_path names ws none (close (cycle nodes)) inside e = let d = ap initial e in omega (arith, d)
+other_path names ws none (close (path nodes)) inside e = none nodes (inside, ap behind e)
+other_path names ws none (close (absent a)) inside e = let d = ap initial e in omega (arith, d)
+other_path names ws none (close false_step) inside e = let d = ap initial e in omega (arith, d)
 
 other_absent : (names : Names) (ws : List (List ℕ)) → ((others : List Node) → AreSpelled names ws others → ⊥)
-    → (s : PlainStep Node) → IsStepIn names s → codes "absent" ∷ ws ≡ step_words names s → ⊥
-other_absent names ws none (split p) inside e = let d = ap initial e in omega (arith, d)
-other_absent names ws none (cycle nodes) inside e = let d = ap initial e in omega (arith, d)
-other_absent names ws none (path nodes) inside e = let d = ap initial e in omega (arith, d)
-other_absent names ws none (absent a) inside e = none (a ∷ []) (All-cons (IsNodeIn names) a [] inside (All-nil (IsNodeIn names)), ap behind e)
-other_absent names ws none false_step inside e = let d = ap initial e in omega (arith, d)
+    → (s : PlainStep Node) → IsStepIn names s → codes "absent" ∷ ws ≡ words_of_step names s → ⊥
+other_absent names ws none (split m p) inside e = let d = ap initial e in omega (arith, d)
+other_absent names ws none (close (cycle nodes)) inside e = let d = ap initial e in omega (arith, d)
+other_absent names ws none (close (path nodes)) inside e = let d = ap initial e in omega (arith, d)
+other_absent names ws none (close (absent a)) inside e = none (a ∷ []) (All-cons (IsNodeIn names) a [] inside (All-nil (IsNodeIn names)), ap behind e)
+other_absent names ws none (close false_step) inside e = let d = ap initial e in omega (arith, d)
 
 cycle_formed : (ws : List (List ℕ)) → (ws ≡ [] → ⊥) → All IsNodeForm ws → AreOfForm (codes "cycle" ∷ ws)
 cycle_formed [] some all = absurd (some refl)
@@ -158,20 +167,20 @@ pub cycle_read : (names : Names) (ws : List (List ℕ)) (nodes : List Node) → 
     → ReadsWords names (codes "cycle" ∷ ws) nodes (Ok Cycle)
 cycle_read names ws [] some h = absurd (some h.1)
 cycle_read names ws (a ∷ more) some h =
-    (cycle (a ∷ more), record { has_nodes = tt; small = tt; inside = h.0; are = ap (λ r. codes "cycle" ∷ r) h.1 }, refl, refl)
+    (close (cycle (a ∷ more)), record { has_line = tt; inside = h.0; are = ap (λ r. codes "cycle" ∷ r) h.1 }, refl, refl)
 
 pub path_read : (names : Names) (ws : List (List ℕ)) (nodes : List Node) → HasTwo ws → AreSpelled names ws nodes
     → ReadsWords names (codes "path" ∷ ws) nodes (Ok Path)
 path_read names ws [] (w, v, more, is) h = let n = ap length is in let m = ap length h.1 in absurd (omega (arith, n, m))
 path_read names ws (a ∷ []) (w, v, more, is) h = let n = ap length is in let m = ap length h.1 in absurd (omega (arith, n, m))
 path_read names ws (a ∷ b ∷ more) two h =
-    (path (a ∷ b ∷ more), record { has_nodes = tt; small = tt; inside = h.0; are = ap (λ r. codes "path" ∷ r) h.1 }, refl, refl)
+    (close (path (a ∷ b ∷ more)), record { has_line = tt; inside = h.0; are = ap (λ r. codes "path" ∷ r) h.1 }, refl, refl)
 
 pub absent_read : (names : Names) (ws : List (List ℕ)) (w : List ℕ) (nodes : List Node) → ws ≡ w ∷ [] → AreSpelled names ws nodes
     → ReadsWords names (codes "absent" ∷ ws) nodes (Ok Absent)
 absent_read names ws w [] one h = let n = ap length one in let m = ap length h.1 in absurd (omega (arith, n, m))
 absent_read names ws w (a ∷ []) one h =
-    (absent a, record { has_nodes = tt; small = tt; inside = All-head (IsNodeIn names) a [] h.0; are = ap (λ r. codes "absent" ∷ r) h.1 }, refl, refl)
+    (close (absent a), record { has_line = tt; inside = All-head (IsNodeIn names) a [] h.0; are = ap (λ r. codes "absent" ∷ r) h.1 }, refl, refl)
 absent_read names ws w (a ∷ b ∷ more) one h = let n = ap length one in let m = ap length h.1 in absurd (omega (arith, n, m))
 
 -- what reading the words of a line makes of the line

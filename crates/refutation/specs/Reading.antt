@@ -1,54 +1,53 @@
 -- Which texts are step lines, by form and of the nodes of a test and a model, and what reading one answers.
-use Rattle.std.specs.Prelude.{ℕ, ◌≡◌, ◌≤◌, List, [], ◌∷◌, ◌++◌, Result, Ok, Err, All, codes}
+use Rattle.std.specs.Prelude.{ℕ, ◌≡◌, Bool, List, [], ◌∷◌, ◌++◌, Result, Ok, Err, All, codes}
 use Rattle.pc_common.specs.World.{Node}
-use Rattle.pc_common.specs.Lines.{Names, line_words}
+use Rattle.pc_common.specs.Steps.{Leaf, cycle, path, absent, false_step, Step as PlainStep, split, close}
+use Rattle.pc_common.specs.Lines.{Names, step_words, sign_text}
 use Rattle.pc_ground.specs.Decimals.{IsDecimal}
 use Rattle.pc_ground.specs.NodeForm.{IsNodeForm}
-use Rattle.pc_ground.specs.Refutes.{Step as PlainStep, split, cycle, path, absent, false_step}
 use Rattle.pc_ground.specs.declared.line_fault.LineFault.{LineFault}
 use Rattle.pc_ground.specs.declared.line_fault.LineFault.TheVariants.{Malformed, Foreign}
-use Rattle.refutation.specs.Steps.{step_line, IsStepIn, HasItsNodes}
-use Rattle.refutation.specs.Words.{spaced}
+use Rattle.refutation.specs.Steps.{IsStepIn, HasLine}
+use Rattle.refutation.specs.Words.{words_text}
 use Rattle.refutation.specs.declared.step_head.StepHead.{StepHead}
 use Rattle.refutation.specs.declared.step_head.StepHead.TheVariants.{Split, Cycle, Path, Absent, False}
 
+abbrev pub leaf_head : Leaf Node → StepHead
+leaf_head (cycle nodes) = Cycle
+leaf_head (path nodes) = Path
+leaf_head (absent a) = Absent
+leaf_head false_step = False
+
 -- what the step says, its nodes aside
 abbrev pub head_of : PlainStep Node → StepHead
-head_of (split p) = Split p
-head_of (cycle nodes) = Cycle
-head_of (path nodes) = Path
-head_of (absent a) = Absent
-head_of false_step = False
+head_of (split negated p) = Split negated p
+head_of (close l) = leaf_head l
+
+abbrev pub leaf_nodes : Leaf Node → List Node
+leaf_nodes (cycle nodes) = nodes
+leaf_nodes (path nodes) = nodes
+leaf_nodes (absent a) = a ∷ []
+leaf_nodes false_step = []
 
 -- the nodes of the step, in the order of its line
 abbrev pub nodes_of : PlainStep Node → List Node
-nodes_of (split p) = []
-nodes_of (cycle nodes) = nodes
-nodes_of (path nodes) = nodes
-nodes_of (absent a) = a ∷ []
-nodes_of false_step = []
+nodes_of (split negated p) = []
+nodes_of (close l) = leaf_nodes l
 
--- where it is a split, its position has at most 64 bits
-abbrev pub HasSmallPosition : PlainStep Node → Type 0
-HasSmallPosition (split p) = p ≤ 18446744073709551615
-HasSmallPosition (cycle nodes) = Unit {0}
-HasSmallPosition (path nodes) = Unit {0}
-HasSmallPosition (absent a) = Unit {0}
-HasSmallPosition false_step = Unit {0}
-
--- the line, without its LF, is that of this step, which has all that its line asks for and names nodes of these names
+-- the line, without its LF, is that of this step, whose nodes are these names'
 pub record IsLineOf (names : Names) (line : List ℕ) (s : PlainStep Node) : Type 0 where
-  pub has_nodes : HasItsNodes s
-  pub small : HasSmallPosition s
+  pub has_line : HasLine s
   pub inside : IsStepIn names s
-  pub is : line ≡ line_words names (step_line s)
+  pub is : line ≡ step_words names s
 
 -- the line has the form of a step line, whatever its nodes name
 pub data IsStepForm (line : List ℕ) : Type 0 where
-  a_split : (digits : List ℕ) (p : ℕ) → IsDecimal digits p → line ≡ codes "split " ++ digits → IsStepForm line
-  a_cycle : (a : List ℕ) (more : List (List ℕ)) → IsNodeForm a → All IsNodeForm more → line ≡ codes "cycle" ++ spaced (a ∷ more) → IsStepForm line
-  a_path : (a b : List ℕ) (more : List (List ℕ)) → IsNodeForm a → IsNodeForm b → All IsNodeForm more → line ≡ codes "path" ++ spaced (a ∷ b ∷ more)
+  a_split : (negated : Bool) (digits : List ℕ) (p : ℕ) → IsDecimal digits p → line ≡ codes "split " ++ sign_text negated ++ digits
       → IsStepForm line
+  a_cycle : (a : List ℕ) (more : List (List ℕ)) → IsNodeForm a → All IsNodeForm more → line ≡ codes "cycle" ++ words_text (a ∷ more)
+      → IsStepForm line
+  a_path : (a b : List ℕ) (more : List (List ℕ)) → IsNodeForm a → IsNodeForm b → All IsNodeForm more
+      → line ≡ codes "path" ++ words_text (a ∷ b ∷ more) → IsStepForm line
   an_absence : (a : List ℕ) → IsNodeForm a → line ≡ codes "absent " ++ a → IsStepForm line
   a_falsity : line ≡ codes "false" → IsStepForm line
 

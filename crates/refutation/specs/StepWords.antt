@@ -2,34 +2,37 @@
 use Rattle.std.specs.Prelude.{ℕ, ◌≡◌, Bool, true, false, List, [], ◌∷◌, ◌++◌, Result, Ok, Err, All, map, codes}
 use Rattle.std.specs.Fmt.{decimal}
 use Rattle.pc_common.specs.World.{Node}
-use Rattle.pc_common.specs.Lines.{Names, node_text}
+use Rattle.pc_common.specs.Steps.{Leaf, cycle, path, absent, false_step, Step as PlainStep, split, close}
+use Rattle.pc_common.specs.Lines.{Names, node_text, sign_text}
 use Rattle.pc_ground.specs.Decimals.{IsDecimal}
 use Rattle.pc_ground.specs.NodeForm.{IsNodeForm, IsNodeIn}
-use Rattle.pc_ground.specs.Refutes.{Step as PlainStep, split, cycle, path, absent, false_step}
 use Rattle.pc_ground.specs.declared.line_fault.LineFault.{LineFault}
 use Rattle.pc_ground.specs.declared.line_fault.LineFault.TheVariants.{Malformed, Foreign}
-use Rattle.refutation.specs.Steps.{IsStepIn, HasItsNodes}
-use Rattle.refutation.specs.Reading.{head_of, nodes_of, HasSmallPosition}
+use Rattle.refutation.specs.Steps.{IsStepIn, HasLine}
+use Rattle.refutation.specs.Reading.{head_of, nodes_of}
 use Rattle.refutation.specs.declared.step_head.StepHead.{StepHead}
 
--- the words of a step's line
-abbrev pub step_words : Names → PlainStep Node → List (List ℕ)
-step_words names (split p) = codes "split" ∷ decimal p ∷ []
-step_words names (cycle nodes) = codes "cycle" ∷ map (node_text names) nodes
-step_words names (path nodes) = codes "path" ∷ map (node_text names) nodes
-step_words names (absent a) = codes "absent" ∷ node_text names a ∷ []
-step_words names false_step = codes "false" ∷ []
+abbrev pub words_of_leaf : Names → Leaf Node → List (List ℕ)
+words_of_leaf names (cycle nodes) = codes "cycle" ∷ map (node_text names) nodes
+words_of_leaf names (path nodes) = codes "path" ∷ map (node_text names) nodes
+words_of_leaf names (absent a) = codes "absent" ∷ node_text names a ∷ []
+words_of_leaf names false_step = codes "false" ∷ []
 
--- these are the words of this step's line, which has all that its line asks for and names nodes of these names
+-- the words of a step's line
+abbrev pub words_of_step : Names → PlainStep Node → List (List ℕ)
+words_of_step names (split negated p) = codes "split" ∷ (sign_text negated ++ decimal p) ∷ []
+words_of_step names (close l) = words_of_leaf names l
+
+-- these are the words of this step's line, and its nodes are these names'
 pub record AreWordsOf (names : Names) (ws : List (List ℕ)) (s : PlainStep Node) : Type 0 where
-  pub has_nodes : HasItsNodes s
-  pub small : HasSmallPosition s
+  pub has_line : HasLine s
   pub inside : IsStepIn names s
-  pub are : ws ≡ step_words names s
+  pub are : ws ≡ words_of_step names s
 
 -- the words of a line that has the form of a step line
 pub data AreOfForm (ws : List (List ℕ)) : Type 0 where
-  of_split : (digits : List ℕ) (p : ℕ) → IsDecimal digits p → ws ≡ codes "split" ∷ digits ∷ [] → AreOfForm ws
+  of_split : (negated : Bool) (digits : List ℕ) (p : ℕ) → IsDecimal digits p → ws ≡ codes "split" ∷ (sign_text negated ++ digits) ∷ []
+      → AreOfForm ws
   of_cycle : (a : List ℕ) (more : List (List ℕ)) → All IsNodeForm (a ∷ more) → ws ≡ codes "cycle" ∷ a ∷ more → AreOfForm ws
   of_path : (a b : List ℕ) (more : List (List ℕ)) → All IsNodeForm (a ∷ b ∷ more) → ws ≡ codes "path" ∷ a ∷ b ∷ more → AreOfForm ws
   of_absence : (a : List ℕ) → IsNodeForm a → ws ≡ codes "absent" ∷ a ∷ [] → AreOfForm ws
@@ -52,7 +55,7 @@ ReadsWords names ws nodes (Err Malformed) = AreOfForm ws → ⊥
 ReadsWords names ws nodes (Err Foreign) = AreOfForm ws × ((s : PlainStep Node) → AreWordsOf names ws s → ⊥)
 
 -- reading a word as a node answers whether it is one of these names, and then puts it behind the nodes
-abbrev pub ReadsNode : Names → List ℕ → List Node → List Node → Result Bool LineFault → Type 0
-ReadsNode names word old new (Ok true) = (a : Node) × IsNodeIn names a × IsNodeForm word × (word ≡ node_text names a) × (new ≡ old ++ a ∷ [])
-ReadsNode names word old new (Ok false) = IsNodeForm word × ((a : Node) → IsNodeIn names a → word ≡ node_text names a → ⊥) × (new ≡ old)
-ReadsNode names word old new (Err fault) = (fault ≡ Malformed) × (IsNodeForm word → ⊥)
+abbrev pub ReadsWord : Names → List ℕ → List Node → List Node → Result Bool LineFault → Type 0
+ReadsWord names word old new (Ok true) = (a : Node) × IsNodeIn names a × IsNodeForm word × (word ≡ node_text names a) × (new ≡ old ++ a ∷ [])
+ReadsWord names word old new (Ok false) = IsNodeForm word × ((a : Node) → IsNodeIn names a → word ≡ node_text names a → ⊥) × (new ≡ old)
+ReadsWord names word old new (Err fault) = (fault ≡ Malformed) × (IsNodeForm word → ⊥)

@@ -3,8 +3,8 @@ use Rattle.std.specs.Prelude.{ℕ, List, ◌++◌, ◌==◌, codes}
 use Rattle.std.specs.List.{flat_map, slice_split, count_by}
 
 -- each word after a space
-abbrev pub spaced : List (List ℕ) → List ℕ
-spaced ws = flat_map (λ w. codes " " ++ w) ws
+abbrev pub words_text : List (List ℕ) → List ℕ
+words_text ws = flat_map (λ w. codes " " ++ w) ws
 
 -- how many bytes of the line are spaces
 abbrev pub spaces : List ℕ → ℕ

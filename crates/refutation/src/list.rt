@@ -1,6 +1,6 @@
 ghost use Rattle.std.specs.Prelude.{◌≡◌, ◌<◌, ◌+◌, ◌^◌, ◌++◌, [], ◌∷◌, List, length, map, slice_get, Some, is_ok, if◌then◌else◌};
 ghost use Rattle.pc_common.specs.World.{Node as PlainNode};
-ghost use Rattle.pc_ground.specs.Refutes.{Step as PlainStep, split};
+ghost use Rattle.pc_common.specs.Steps.{Step as PlainStep, split};
 ghost use Rattle.refutation.specs.Steps.{plain_step, IsLeaf, open_branches};
 
 use super::step::Step;
@@ -30,13 +30,13 @@ impl Refutation {
         }
     }
 
-    /// Splits the first open branch at the asserted Or at `position`: one branch more is open. Where memory is refused, nothing
-    /// changes.
-    pub fn push_split(&mut self, position: u64) -> Result<(), Memory>
+    /// Splits the first open branch at the asserted Or at `position` of the tree, or, where `negated`, of its
+    /// negation: one branch more is open. Where memory is refused, nothing changes.
+    pub fn push_split(&mut self, negated: bool, position: u64) -> Result<(), Memory>
         requires { 0 < open_branches self.old }
-        ensures { self.new ≡ (if is_ok result then self.old ++ split position ∷ [] else self.old) }
+        ensures { self.new ≡ (if is_ok result then self.old ++ split negated position ∷ [] else self.old) }
     {
-        self.steps.push(Step::Split(position))
+        self.steps.push(Step::Split { negated, position })
     }
 
     /// Closes the first open branch by a leaf. Where memory is refused, nothing changes.

@@ -1,6 +1,6 @@
 ghost use Rattle.std.specs.Prelude.{◌≡◌, ◌<◌, ◌≤◌, [], length};
 ghost use Rattle.refutation.specs.Words.{words};
-ghost use Rattle.refutation.specs.StepWords.{ReadsNode, ReadsNodes};
+ghost use Rattle.refutation.specs.StepWords.{ReadsWord, ReadsNodes};
 
 use super::node_row::NodeRow;
 use super::words::first_word;
@@ -10,7 +10,7 @@ use pc_ground::{LineFault, NodeText};
 /// the form of a node and is none, the answer is false.
 fn read_node(names: &NodeText<'_>, word: &[u8], row: &mut NodeRow) -> Result<bool, LineFault>
     requires { length row.old.nodes < row.old.spare }
-    ensures read { ReadsNode names.now word.now row.old.nodes row.new.nodes result }
+    ensures read { ReadsWord names.now word.now row.old.nodes row.new.nodes result }
     ensures spare { row.new.spare ≡ row.old.spare }
 {
     match names.read(word) {

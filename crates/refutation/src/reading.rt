@@ -1,8 +1,7 @@
-ghost use Rattle.std.specs.Prelude.{◌≡◌, ◌≤◌, ◌∷◌, [], Ok, OnErr, codes, length};
-ghost use Rattle.pc_common.specs.Lines.{Names};
-ghost use Rattle.pc_ground.specs.NodeForm.{AreReadable};
+ghost use Rattle.std.specs.Prelude.{◌≡◌, ◌≢◌, ◌≤◌, ◌∷◌, [], ◌++◌, ℕ, List, false, Ok, OnErr, codes, length};
+ghost use Rattle.pc_common.specs.Lines.{Names, sign_text};
 ghost use Rattle.pc_common.specs.World.{Node};
-ghost use Rattle.pc_ground.specs.Refutes.{Step as PlainStep};
+ghost use Rattle.pc_common.specs.Steps.{Step as PlainStep};
 ghost use Rattle.refutation.specs.Reading.{head_of, nodes_of, IsLineOf, ReadsStep};
 ghost use Rattle.refutation.specs.StepWords.{ReadsWords};
 ghost use Rattle.refutation.specs.Words.{spaces, words};
@@ -24,12 +23,24 @@ fn read_alone(word: &[u8]) -> Result<StepHead, LineFault>
     }
 }
 
-/// Reads what stands behind the word `split`.
-fn read_split(digits: &[u8]) -> Result<StepHead, LineFault>
-    ensures { (names : Names) → ReadsWords names (codes "split" ∷ words digits.now) [] result }
+/// Whether the sign `~` stands in front, and what stands behind it.
+fn read_sign(text: &[u8]) -> (bool, &[u8])
+    ensures is { text.now ≡ sign_text result.0 ++ result.1.now }
+    ensures plain { result.0 ≡ false → (rest : List ℕ) → text.now ≢ codes "~" ++ rest }
 {
+    match text.strip_prefix(b"~".as_slice()) {
+        Some(digits) => (true, digits),
+        None => (false, text),
+    }
+}
+
+/// Reads what stands behind the word `split`.
+fn read_split(text: &[u8]) -> Result<StepHead, LineFault>
+    ensures { (names : Names) → ReadsWords names (codes "split" ∷ words text.now) [] result }
+{
+    let (negated, digits) = read_sign(text);
     match decimal_value(digits) {
-        Some(position) => Ok(StepHead::Split(position)),
+        Some(position) => Ok(StepHead::Split { negated, position }),
         None => Err(LineFault::Malformed),
     }
 }
@@ -124,7 +135,8 @@ pub fn read_line(
     requires room { spaces line.now ≤ row.old.spare }
     ensures read { ReadsStep names.now line.now row.new.nodes result }
     // what was written is read again as it was
-    ensures again { (s : PlainStep Node) → IsLineOf names.now line.now s → (result ≡ Ok (head_of s)) × (row.new.nodes ≡ nodes_of s) }
+    ensures again { (s : PlainStep Node) → IsLineOf names.now line.now s
+        → (result ≡ Ok (head_of s)) × (row.new.nodes ≡ nodes_of s) }
     ensures spare { row.new.spare ≡ row.old.spare }
     // no step has this line
     ensures none { OnErr result ((s : PlainStep Node) → IsLineOf names.now line.now s → ⊥) }

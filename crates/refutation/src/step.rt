@@ -6,11 +6,13 @@ pub type Nodes = Listed<NodeKey>;
 /// One step of a refutation.
 #[derive(Drop)]
 pub enum Step {
-    /// Splits the asserted Or at this position, a preorder place in the ground tree from 0.
-    Split(u64),
+    /// Splits an asserted Or at this position, a preorder place from 0 in the ground tree, or, where negated,
+    /// in the negation of it: an And of the tree is an Or there.
+    Split { negated: bool, position: u64 },
     /// Asserted edges lead from each node to the next and from the last to the first. At least one node.
     Cycle(Nodes),
-    /// Asserted edges lead from each node to the next, and the edge from the first to the last is denied. At least two nodes.
+    /// Asserted edges lead from each node to the next, and the edge from the first to the last is denied. At
+    /// least two nodes.
     Path(Nodes),
     /// The node is denied, and asserted by itself or as an end of an edge.
     Absent(NodeKey),

@@ -1,8 +1,8 @@
 /// What a step line says, its nodes aside.
 #[derive(Clone, Copy, Debug, PartialEq, Eq)]
 pub enum StepHead {
-    /// `split P`, with the position P.
-    Split(u64),
+    /// `split P`, or, where negated, `split ~P`, with the position P.
+    Split { negated: bool, position: u64 },
     /// `cycle NODE ..`.
     Cycle,
     /// `path NODE NODE ..`.

@@ -10,7 +10,7 @@ pass None b h = refl
 pass (Some f) b h = cc
 
 -- the fault of the first part is the first
-pub or_first : (a b told : Option Fault) → IsNoneOr a told → IsNoneOr (option_or a b) told
+pub or_first : (a b given : Option Fault) → IsNoneOr a given → IsNoneOr (option_or a b) given
 or_first a b None h = tt
 or_first None b (Some f) h = cc
 or_first (Some x) b (Some f) h = h

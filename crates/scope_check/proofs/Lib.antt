@@ -3,4 +3,4 @@ pub mod Walks
 pub mod ScopeLists
 pub mod StageWalk
 pub mod StaticLaws
-pub mod Closings
+pub mod ClosingOf

@@ -6,7 +6,7 @@ use Rattle.pc_common.specs.declared.fault.FaultKind.TheVariants.{PredicateUnknow
 use Rattle.pc_syntax.specs.declared.term.Word.{Word}
 use Rattle.pc_syntax.specs.declared.term.Arg.{Arg}
 use Rattle.pc_syntax.specs.declared.pred.Pred.{Pred}
-use Rattle.pc_syntax.specs.Predicates.{pred_named, takes_of}
+use Rattle.pc_syntax.specs.Predicates.{pred_with_name, takes_of}
 use Rattle.pc_syntax.specs.Scope.{Scope}
 use Rattle.pc_syntax.specs.Fault.{Fault}
 use Rattle.pc_syntax.specs.NameFaults.{arity_fault, arguments_fault, static_fault}
@@ -20,7 +20,7 @@ module _ (scope : Scope) (word : Word) (args : List Arg) where
         | Some p ↦ option_or (arity_fault word args (takes_of p)) (arguments_fault scope (takes_of p) args)
       ]
 
-  known : (p : Pred) → pred_named word.name ≡ Some p
+  known : (p : Pred) → pred_with_name word.name ≡ Some p
       → static_fault scope word args ≡ option_or (arity_fault word args (takes_of p)) (arguments_fault scope (takes_of p) args)
   unfolding of_pred
   known p h = ap of_pred h
@@ -32,12 +32,12 @@ module _ (scope : Scope) (word : Word) (args : List Arg) where
   arity_same : (p : Pred) → length args ≡ length (takes_of p) → arity_fault word args (takes_of p) ≡ None
   arity_same p same = grind (arith, nat_tests)
 
-  pub static_arity : (p : Pred) → pred_named word.name ≡ Some p → (length args ≡ length (takes_of p) → ⊥)
+  pub static_arity : (p : Pred) → pred_with_name word.name ≡ Some p → (length args ≡ length (takes_of p) → ⊥)
       → static_fault scope word args ≡ Some (Arity (length args) (length (takes_of p)), word.at)
   static_arity p h other =
       known p h ∙ ap (λ o. option_or o (arguments_fault scope (takes_of p) args)) (arity_other p other)
 
-  pub static_arguments : (p : Pred) → pred_named word.name ≡ Some p → length args ≡ length (takes_of p)
+  pub static_arguments : (p : Pred) → pred_with_name word.name ≡ Some p → length args ≡ length (takes_of p)
       → static_fault scope word args ≡ arguments_fault scope (takes_of p) args
   static_arguments p h same =
       known p h ∙ ap (λ o. option_or o (arguments_fault scope (takes_of p) args)) (arity_same p same)

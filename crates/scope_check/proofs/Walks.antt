@@ -44,10 +44,10 @@ module _ {X Y : Type 0} (fault : X → Option Fault) (closing : X → Y) (xs : L
         sym (append_assoc ys (y ∷ []) (map closing (drop (k + 1) xs))),
   )
 
-  pub closed_fault : (k : ℕ) (x : X) (ys : List Y) (told : Option Fault) → drop k xs ≡ x ∷ drop (k + 1) xs
-      → IsNoneOr (fault x) told → IsClosedTo k ys → IsNoneOr (first_fault fault xs) told
-  closed_fault k x ys told next is h =
-      rw (h.0, next) (or_first (fault x) (first_fault fault (drop (k + 1) xs)) told is)
+  pub closed_fault : (k : ℕ) (x : X) (ys : List Y) (given : Option Fault) → drop k xs ≡ x ∷ drop (k + 1) xs
+      → IsNoneOr (fault x) given → IsClosedTo k ys → IsNoneOr (first_fault fault xs) given
+  closed_fault k x ys given next is h =
+      rw (h.0, next) (or_first (fault x) (first_fault fault (drop (k + 1) xs)) given is)
 
   pub closed_all : (k : ℕ) (ys : List Y) → k ≡ length xs → IsClosedTo k ys
       → (first_fault fault xs ≡ None) × (ys ≡ map closing xs)
@@ -72,11 +72,11 @@ module _ (scope : Scope) (takes : List Takes) (args : List Arg) where
     rw (h.1, next_take, next, is) (sym (append_assoc ys (closing_of_arg scope t a ∷ []) (closing_of_args scope (drop (k + 1) takes) (drop (k + 1) args)))),
   )
 
-  pub arguments_stop : (k : ℕ) (t : Takes) (a : Arg) (ys : List ClosedArg) (told : Option Fault)
+  pub arguments_stop : (k : ℕ) (t : Takes) (a : Arg) (ys : List ClosedArg) (given : Option Fault)
       → drop k takes ≡ t ∷ drop (k + 1) takes → drop k args ≡ a ∷ drop (k + 1) args
-      → IsNoneOr (argument_fault scope t a) told → AreClosedTo k ys → IsNoneOr (arguments_fault scope takes args) told
-  arguments_stop k t a ys told next_take next is h =
-      rw (h.0, next_take, next) (or_first (argument_fault scope t a) (arguments_fault scope (drop (k + 1) takes) (drop (k + 1) args)) told is)
+      → IsNoneOr (argument_fault scope t a) given → AreClosedTo k ys → IsNoneOr (arguments_fault scope takes args) given
+  arguments_stop k t a ys given next_take next is h =
+      rw (h.0, next_take, next) (or_first (argument_fault scope t a) (arguments_fault scope (drop (k + 1) takes) (drop (k + 1) args)) given is)
 
   no_arguments : (ts : List Takes) → arguments_fault scope ts [] ≡ None
   no_arguments [] = refl
@@ -125,11 +125,11 @@ module _ (scope : Scope) (names : List (List ℕ)) (args : List Arg) where
             sym (ap (λ ns. ys ++ closing_of_bound scope ns (drop (k + 1) args)) there),
       )
 
-  pub bound_stop : (k : ℕ) (a : Arg) (ys : List ClosedArg) (told : Option Fault)
+  pub bound_stop : (k : ℕ) (a : Arg) (ys : List ClosedArg) (given : Option Fault)
       → drop k args ≡ a ∷ drop (k + 1) args
-      → IsNoneOr (value_fault scope a) told → AreBoundTo k ys → IsNoneOr (first_fault (value_fault scope) args) told
-  bound_stop k a ys told next is h =
-      rw (h.0, next) (or_first (value_fault scope a) (first_fault (value_fault scope) (drop (k + 1) args)) told is)
+      → IsNoneOr (value_fault scope a) given → AreBoundTo k ys → IsNoneOr (first_fault (value_fault scope) args) given
+  bound_stop k a ys given next is h =
+      rw (h.0, next) (or_first (value_fault scope a) (first_fault (value_fault scope) (drop (k + 1) args)) given is)
 
   pub bound_all : (k : ℕ) (ys : List ClosedArg) → k ≡ length args → AreBoundTo k ys
       → (first_fault (value_fault scope) args ≡ None) × (ys ≡ closing_of_bound scope names args)

@@ -15,7 +15,8 @@ use std::alloc::Global;
 
 /// The slot of a variable of the sort that is asked for.
 pub(crate) fn variable_slot(scope: &Scope<'_>, wanted: Sort, word: &Word) -> Result<u8, NameFault>
-    ensures ok { IfOk result (λ slot. (variable_fault scope.now wanted word.now ≡ None) × (slot ≡ slot_of scope.now word.now)) }
+    ensures ok { IfOk result (λ slot. (variable_fault scope.now wanted word.now ≡ None)
+        × (slot ≡ slot_of scope.now word.now)) }
     ensures err { IfErr result (Answers (variable_fault scope.now wanted word.now)) }
 {
     let Some(variable) = scope.find(word.name.as_slice()) else {
@@ -40,7 +41,8 @@ fn core_numbered(number: u64, at: Place) -> Result<ClosedArg, NameFault>
 
 /// An argument of an expansion: a variable of either sort, or a core's number.
 fn close_value(scope: &Scope<'_>, arg: &Arg) -> Result<ClosedArg, NameFault>
-    ensures ok { IfOk result (λ closed. (value_fault scope.now arg.now ≡ None) × (closed ≡ closing_of_value scope.now arg.now)) }
+    ensures ok { IfOk result (λ closed. (value_fault scope.now arg.now ≡ None)
+        × (closed ≡ closing_of_value scope.now arg.now)) }
     ensures err { IfErr result (Answers (value_fault scope.now arg.now)) }
 {
     match arg {
@@ -54,7 +56,8 @@ fn close_value(scope: &Scope<'_>, arg: &Arg) -> Result<ClosedArg, NameFault>
 
 /// An argument where a core is asked for: a variable, or a number.
 pub(crate) fn close_core(scope: &Scope<'_>, arg: &Arg) -> Result<ClosedArg, NameFault>
-    ensures ok { IfOk result (λ closed. (argument_fault scope.now takes_core arg.now ≡ None) × (closed ≡ closing_of_value scope.now arg.now)) }
+    ensures ok { IfOk result (λ closed. (argument_fault scope.now takes_core arg.now ≡ None)
+        × (closed ≡ closing_of_value scope.now arg.now)) }
     ensures err { IfErr result (Answers (argument_fault scope.now takes_core arg.now)) }
 {
     match arg {
@@ -65,7 +68,8 @@ pub(crate) fn close_core(scope: &Scope<'_>, arg: &Arg) -> Result<ClosedArg, Name
 
 /// An argument where this is taken. A plain name is shared.
 fn close_argument(scope: &Scope<'_>, takes: Takes, arg: &Arg) -> Result<ClosedArg, NameFault>
-    ensures ok { IfOk result (λ closed. (argument_fault scope.now takes arg.now ≡ None) × (closed ≡ closing_of_arg scope.now takes arg.now)) }
+    ensures ok { IfOk result (λ closed. (argument_fault scope.now takes arg.now ≡ None)
+        × (closed ≡ closing_of_arg scope.now takes arg.now)) }
     ensures err { IfErr result (Answers (argument_fault scope.now takes arg.now)) }
 {
     match (takes, arg) {
@@ -87,7 +91,8 @@ pub(crate) fn close_arguments(
 ) -> Result<ClosedArgs, NameFault>
     requires { length args.now ≡ length (takes_of pred) }
     ensures ok { let takes = takes_of pred in
-        IfOk result (λ closed. (arguments_fault scope.now takes args.now ≡ None) × (closed ≡ closing_of_args scope.now takes args.now)) }
+        IfOk result (λ closed. (arguments_fault scope.now takes args.now ≡ None)
+        × (closed ≡ closing_of_args scope.now takes args.now)) }
     ensures err { IfErr result (Answers (arguments_fault scope.now (takes_of pred) args.now)) }
 {
     let mut closed = ClosedArgs::new(alloc);

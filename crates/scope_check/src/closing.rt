@@ -28,10 +28,11 @@ use std::alloc::Global;
 /// The model has no stage fault, so its stages are at most 64 and have numbers from 0 to 63. Of the
 /// model nothing but these is read. It nests at most two calls for each connective, quantifier and binding
 /// above an atom, which in a model without faults are at most 512.
-#[tactic(auto, using(crate::proofs::Closings::closing_stages))]
+#[tactic(auto, using(crate::proofs::ClosingOf::closing_stages))]
 pub fn close(alloc: Global, model: &ModelFile, axiom: &Expanded) -> Result<Closed, NameFault>
     requires { first_stage_fault (written_model model.now) ≡ None }
-    ensures ok { IfOk result (λ closed. IsClosingOf model.now.stages [] (written «axiom».now.body) (plain_closed closed.body)) }
+    ensures ok { IfOk result
+        (λ closed. IsClosingOf model.now.stages [] (written «axiom».now.body) (plain_closed closed.body)) }
     ensures stages { IfOk result (λ closed. StagesWithin (stage_numbers model.now.stages) (plain_closed closed.body)) }
     ensures err { IfErr result (Answers (name_fault model.now.stages [] [] (written «axiom».now.body))) }
 {
@@ -147,9 +148,11 @@ fn close_quantified<'a>(
     requires stages { stages_fault [] stages.now ≡ None }
     requires expanded { IsExpanded (written body.now) }
     ensures ok { let inside = quantified_in scope.now name.now sort in
-        IfOk result (λ closed. (scope_fault at inside ≡ None) × IsClosingOf stages.now inside (written body.now) (plain_closed closed)) }
+        IfOk result (λ closed. (scope_fault at inside ≡ None)
+        × IsClosingOf stages.now inside (written body.now) (plain_closed closed)) }
     ensures err { let inside = quantified_in scope.now name.now sort in
-        IfErr result (Answers (option_or (scope_fault at inside) (name_fault stages.now [] inside (written body.now)))) }
+        IfErr result (Answers
+        (option_or (scope_fault at inside) (name_fault stages.now [] inside (written body.now)))) }
 {
     let inside = scope.quantified(at, sort, name)?;
     close_formula(alloc, stages, &inside, body)
@@ -168,8 +171,11 @@ fn close_binding<'a>(
 ) -> Result<ClosedFormula, NameFault>
     requires stages { stages_fault [] stages.now ≡ None }
     requires expanded { IsExpanded (written body.now) }
-    ensures ok { IfOk result (λ closed. IsClosingOf stages.now scope.now (bind_ at names.now args.now (written body.now)) (plain_closed closed)) }
-    ensures err { IfErr result (Answers (name_fault stages.now [] scope.now (bind_ at names.now args.now (written body.now)))) }
+    ensures ok { IfOk result
+        (λ closed. IsClosingOf stages.now scope.now (bind_ at names.now args.now (written body.now))
+        (plain_closed closed)) }
+    ensures err { IfErr result
+        (Answers (name_fault stages.now [] scope.now (bind_ at names.now args.now (written body.now)))) }
 {
     let values = close_values(alloc, scope, names, args)?;
     let inside = scope.bound(at, names, args)?;

@@ -1,7 +1,7 @@
 ghost use Rattle.std.specs.Prelude.{◌≡◌, ◌<◌, List, [], Option, IfOk, IfErr, None, map, option_map, unwrap_or};
 ghost use Rattle.pc_syntax.specs.declared.model.StageItem.{StageItem as SStageItem};
 ghost use Rattle.pc_syntax.specs.Scope.{Binding};
-ghost use Rattle.pc_syntax.specs.Truth.{stage_of};
+ghost use Rattle.pc_syntax.specs.Stages.{stage_number_of};
 ghost use Rattle.pc_syntax.specs.Fault.{Fault, first_fault};
 ghost use Rattle.pc_syntax.specs.StageFaults.{stages_fault};
 ghost use Rattle.pc_syntax.specs.NameFaults.{stage_name_fault, location_fault, node_fault, edge_fault};
@@ -19,7 +19,7 @@ use std::alloc::Global;
 
 /// The number of the first stage of this name. Without stage faults there are at most 64 to walk.
 fn number_named(stages: &[StageItem], name: &[u8]) -> Option<u64>
-    ensures { result ≡ stage_of stages.now name.now }
+    ensures { result ≡ stage_number_of stages.now name.now }
 {
     for stage in stages {
         if stage.name.name.as_slice() == name {
@@ -32,7 +32,8 @@ fn number_named(stages: &[StageItem], name: &[u8]) -> Option<u64>
 /// The number of the stage that a word names: 0 to 63.
 fn stage_number(stages: &StageItems, word: &Word) -> Result<u8, NameFault>
     requires { stages_fault [] stages.now ≡ None }
-    ensures ok { IfOk result (λ number. (stage_name_fault stages.now word.now ≡ None) × (number ≡ unwrap_or (stage_of stages.now word.now.name) 0)) }
+    ensures ok { IfOk result (λ number. (stage_name_fault stages.now word.now ≡ None)
+        × (number ≡ unwrap_or (stage_number_of stages.now word.now.name) 0)) }
     ensures err { IfErr result (Answers (stage_name_fault stages.now word.now)) }
 {
     match number_named(stages.as_slice(), word.name.as_slice()) {
@@ -43,7 +44,8 @@ fn stage_number(stages: &StageItems, word: &Word) -> Result<u8, NameFault>
 
 /// The core of a location, if it names one.
 fn close_location(scope: &Scope<'_>, core: &Option<Arg>) -> Result<Option<ClosedArg>, NameFault>
-    ensures ok { IfOk result (λ closed. (location_fault scope.now core.now ≡ None) × (closed ≡ option_map (closing_of_value scope.now) core.now)) }
+    ensures ok { IfOk result (λ closed. (location_fault scope.now core.now ≡ None)
+        × (closed ≡ option_map (closing_of_value scope.now) core.now)) }
     ensures err { IfErr result (Answers (location_fault scope.now core.now)) }
 {
     match core {
@@ -65,7 +67,8 @@ pub(crate) trait Term {
     /// It with its names resolved. An `Err` is its first fault, unless memory was refused.
     fn close(&self, stages: &StageItems, scope: &Scope<'_>) -> Result<Self::Closed, NameFault>
         requires { stages_fault [] stages.now ≡ None }
-        ensures ok { IfOk result (λ closed. (fault stages.now scope.now self.now ≡ None) × (closed ≡ closing stages.now scope.now self.now)) }
+        ensures ok { IfOk result (λ closed. (fault stages.now scope.now self.now ≡ None)
+            × (closed ≡ closing stages.now scope.now self.now)) }
         ensures err { IfErr result (Answers (fault stages.now scope.now self.now)) };
 }
 

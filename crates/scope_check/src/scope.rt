@@ -6,7 +6,7 @@ ghost use Rattle.pc_syntax.specs.declared.limits.TheConstants.{MAX_VARIABLES};
 ghost use Rattle.pc_syntax.specs.Scope.{binding_of, sort_of_arg, quantified_in, bound_in};
 ghost use Rattle.pc_syntax.specs.NameFaults.{scope_fault};
 ghost use Rattle.scope_check.specs.Bindings.{binding};
-ghost use Rattle.scope_check.specs.FirstFault.{Answers, fault_told};
+ghost use Rattle.scope_check.specs.FirstFault.{Answers, name_fault_of};
 
 use super::fault::NameFault;
 use arrayvec::ArrayVec;
@@ -95,7 +95,8 @@ impl<'a> Scope<'a> {
 
     /// Whether so many variables more may be in scope.
     fn has_room(&self, count: usize) -> bool
-        ensures { MatchBool result (length self.now + count ≤ MAX_VARIABLES) (MAX_VARIABLES < length self.now + count) }
+        ensures { MatchBool result (length self.now + count ≤ MAX_VARIABLES)
+            (MAX_VARIABLES < length self.now + count) }
     {
         count <= MAX_VARIABLES - self.len()
     }
@@ -177,7 +178,7 @@ fn first_named<'a>(variables: &[Variable<'a>], name: &[u8]) -> Option<Variable<'
 }
 
 fn too_many_variables(at: Place) -> NameFault
-    ensures { fault_told result ≡ Some (TooManyVariables MAX_VARIABLES, at) }
+    ensures { name_fault_of result ≡ Some (TooManyVariables MAX_VARIABLES, at) }
 {
     NameFault::TooManyVariables {
         at,

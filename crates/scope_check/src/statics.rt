@@ -1,6 +1,6 @@
 ghost use Rattle.std.specs.Prelude.{◌≡◌, IfOk, IfErr, None, unwrap_or};
 ghost use Rattle.pc_syntax.specs.declared.pred.Pred.TheVariants.{True};
-ghost use Rattle.pc_syntax.specs.Predicates.{pred_named};
+ghost use Rattle.pc_syntax.specs.Predicates.{pred_with_name};
 ghost use Rattle.pc_syntax.specs.NameFaults.{static_fault};
 ghost use Rattle.pc_syntax.specs.Closed.{plain_closed};
 ghost use Rattle.pc_syntax.specs.Closing.{closing_of_static};
@@ -19,8 +19,9 @@ pub(crate) fn close_static(
     word: &Word,
     args: &Args,
 ) -> Result<ClosedFormula, NameFault>
-    ensures ok { let pred = unwrap_or (pred_named word.now.name) True in
-        IfOk result (λ closed. (static_fault scope.now word.now args.now ≡ None) × (plain_closed closed ≡ closing_of_static scope.now pred args.now)) }
+    ensures ok { let pred = unwrap_or (pred_with_name word.now.name) True in
+        IfOk result (λ closed. (static_fault scope.now word.now args.now ≡ None)
+        × (plain_closed closed ≡ closing_of_static scope.now pred args.now)) }
     ensures err { IfErr result (Answers (static_fault scope.now word.now args.now)) }
 {
     let Some(pred) = Pred::of_name(word.name.as_slice()) else {

@@ -3,6 +3,7 @@ use Rattle.std.specs.Prelude.{List, Contains, IsTrue}
 use Rattle.pc_common.specs.World.{Node, World, IsWorld}
 use Rattle.pc_common.specs.Generated.{HasEnds, IsGenerated}
 use Rattle.pc_ground.specs.Tree.{Tree, tree_true}
+use Rattle.pc_ground.specs.declared.version.Version.{Version}
 use Rattle.pc_ground.specs.Refutes.{IsRefutation}
 use Rattle.graph_text.specs.Graphs.{graph_nodes, graph_edges}
 use Rattle.graph_text.specs.declared.graph.Graph.{Graph}
@@ -22,6 +23,6 @@ pub record IsWitness (nodes : List Node) (t : Tree Node) (g : Graph) : Type 0 wh
 abbrev pub IsUnsatisfied : Tree Node → Type 0
 IsUnsatisfied t = (w : World Node) → IsWorld w → IsTrue (tree_true w t) → ⊥
 
-abbrev pub IsAnswer : List Node → Tree Node → Answer → Type 0
-IsAnswer nodes t (Observable g) = IsWitness nodes t g
-IsAnswer nodes t (Unobservable r) = IsRefutation t r × IsUnsatisfied t
+abbrev pub IsAnswer : Version → List Node → Tree Node → Answer → Type 0
+IsAnswer v nodes t (Observable g) = IsWitness nodes t g
+IsAnswer v nodes t (Unobservable r) = IsRefutation v t r × IsUnsatisfied t

@@ -1,5 +1,5 @@
 pub mod Spelled
-pub mod Named
+pub mod Renamed
 pub mod Below
 pub mod Met
 pub mod Places
@@ -13,4 +13,5 @@ pub mod Shown
 pub mod Searched
 pub mod Answers
 pub mod Turns
-pub mod Found
+pub mod Statuses
+pub mod Laws

@@ -1,50 +1,52 @@
 -- The branches that a search has open, and what the search keeps of them.
 use Rattle.std.specs.Prelude.{ℕ, ◌≡◌, ◌<◌, ◌≤◌, ◌+◌, List, [], ◌∷◌, ◌++◌, Option, Some, None, length, map, take, reverse, slice_index}
 use Rattle.pc_common.specs.World.{Node}
+use Rattle.pc_common.specs.Steps.{Step}
 use Rattle.pc_ground.specs.declared.row.Row.{Row}
-use Rattle.pc_ground.specs.Tree.{Tree, size_of}
-use Rattle.pc_ground.specs.Refutes.{Step, Branch, literals_of, IsPartial}
-use Rattle.pc_ground.specs.Walks.{literals_of_kind}
+use Rattle.pc_ground.specs.Tree.{Tree}
+use Rattle.pc_ground.specs.Rows.{literals_of_kind}
+use Rattle.pc_ground.specs.declared.version.Version.{Version}
+use Rattle.pc_ground.specs.Refutes.{Branch, literals_of, IsPartial}
 use Rattle.order_graph.specs.State.{Graph}
 use Rattle.order_graph.specs.Clashes.{IsClash}
 use Rattle.order_graph.specs.declared.clash.Clash.{Clash}
 use Rattle.order_graph.specs.declared.clash.Added.{Added}
 use Rattle.order_graph.specs.declared.clash.Added.TheVariants.{Kept as was_kept, Clash as clashed}
-use Rattle.solver.specs.Named.{named}
-use Rattle.solver.specs.Places.{reached}
-use Rattle.solver.specs.declared.asserted.Asserted.{Asserted}
+use Rattle.solver.specs.Renamed.{tree_over}
+use Rattle.solver.specs.Places.{place_signed, side_positions, IsSideIn}
+use Rattle.solver.specs.declared.place.Place.{Place}
 use Rattle.solver.specs.declared.later.Later.{Later}
 
-abbrev pub positions : List Asserted → Branch
-positions xs = map (λ a. a.position) xs
+abbrev pub positions : List Place → Branch
+positions xs = map place_signed xs
 
 -- the branches that wait, the next one first: each has a first part of the branch before it, and a side
 abbrev pub waiting : {N : Type 0} → Tree N → Branch → List Later → List Branch
 waiting t ps [] = []
-waiting t ps (l ∷ ls) = (take l.count ps ++ reached t l.side) ∷ waiting t (take l.count ps) ls
+waiting t ps (l ∷ ls) = (take l.count ps ++ side_positions t l.side) ∷ waiting t (take l.count ps) ls
 
 -- a waiting branch has a first part of this branch, and a mark of that part's literals
 pub record IsLater (t : Tree ℕ) (ps : Branch) (marks : List ℕ) (l : Later) : Type 0 where
   pub count : l.count ≤ length ps
   pub live : l.mark < length marks
   pub literals : slice_index marks l.mark ≡ length (literals_of t (take l.count ps))
-  pub side : l.side < size_of t
+  pub side : IsSideIn t l.side
 
 abbrev pub AreLater : Tree ℕ → Branch → List ℕ → List Later → Type 0
 AreLater t ps marks [] = Unit {0}
 AreLater t ps marks (l ∷ ls) = IsLater t ps marks l × AreLater t (take l.count ps) (take (l.mark + 1) marks) ls
 
 -- all open branches, where the first one has these positions
-abbrev pub opens : {N : Type 0} → Tree N → Branch → List Asserted → List Later → List Branch
+abbrev pub opens : {N : Type 0} → Tree N → Branch → List Place → List Later → List Branch
 opens t ps asserted later = ps ∷ waiting t (positions asserted) (reverse later)
 
 -- what is kept between the steps; the first open branch has the asserted positions and those of `more`
-pub record IsKept (nodes : List Node) (t : Tree ℕ) (graph : Graph) (asserted : List Asserted) (later : List Later) (steps : List (Step Node)) (more : Branch) : Type 0 where
-  pub stand : graph.literals ≡ literals_of t (positions asserted)
+pub record IsState (v : Version) (nodes : List Node) (t : Tree ℕ) (graph : Graph) (asserted : List Place) (later : List Later) (steps : List (Step Node)) (more : Branch) : Type 0 where
+  pub literals : graph.literals ≡ literals_of t (positions asserted)
   pub all_nodes : graph.nodes ≡ length nodes
   pub marks : length graph.marks ≤ length steps
   pub waits : AreLater t (positions asserted) graph.marks (reverse later)
-  pub partial : IsPartial (named nodes t) steps (opens t (positions asserted ++ more) asserted later)
+  pub partial : IsPartial v (tree_over nodes t) steps (opens t (positions asserted ++ more) asserted later)
 
 -- literals were put behind those there were
 pub record IsFurther (old new : Graph) : Type 0 where
@@ -52,10 +54,10 @@ pub record IsFurther (old new : Graph) : Type 0 where
   pub same_marks : new.marks ≡ old.marks
   pub literals : take (length old.literals) new.literals ≡ old.literals
 
--- what came of asserting the side at a position: it is all asserted, or its literals clash with those before
-abbrev pub HasEntered : Tree ℕ → ℕ → List Asserted → Graph → List Asserted → Option Clash → Type 0
-HasEntered t part old graph new None = (positions new ≡ positions old ++ reached t part) × (graph.literals ≡ literals_of t (positions new))
-HasEntered t part old graph new (Some k) = IsClash (literals_of t (positions old ++ reached t part)) k
+-- what came of asserting these positions: they are all asserted, or their literals clash with those before
+abbrev pub HasAsserted : Tree ℕ → Branch → List Place → Graph → List Place → Option Clash → Type 0
+HasAsserted t more old graph new None = (positions new ≡ positions old ++ more) × (graph.literals ≡ literals_of t (positions new))
+HasAsserted t more old graph new (Some k) = IsClash (literals_of t (positions old ++ more)) k
 
 -- what came of asserting the literal of a row, if it is one's: it is the last one, or it clashes with those before
 abbrev pub HasAddedRow : Row ℕ → Graph → Graph → Added → Type 0
@@ -63,9 +65,9 @@ HasAddedRow r old new was_kept = IsFurther old new × (new.literals ≡ old.lite
 HasAddedRow r old new (clashed k) = IsFurther old new × IsClash (old.literals ++ literals_of_kind r.kind) k
 
 -- what came of asserting one row: its literal is the last one, or it clashes with those before
-abbrev pub HasEnteredRow : Row ℕ → ℕ → Graph → List Asserted → Graph → List Asserted → Option Clash → Type 0
-HasEnteredRow r p old before graph new None = (new ≡ before ++ record { position = p } ∷ []) × (graph.literals ≡ old.literals ++ literals_of_kind r.kind)
-HasEnteredRow r p old before graph new (Some k) = (new ≡ before) × IsClash (old.literals ++ literals_of_kind r.kind) k
+abbrev pub HasAssertedRow : Row ℕ → Place → Graph → List Place → Graph → List Place → Option Clash → Type 0
+HasAssertedRow r p old before graph new None = (new ≡ before ++ p ∷ []) × (graph.literals ≡ old.literals ++ literals_of_kind r.kind)
+HasAssertedRow r p old before graph new (Some k) = (new ≡ before) × IsClash (old.literals ++ literals_of_kind r.kind) k
 
 pub record IsSame (old new : Graph) : Type 0 where
   pub same_nodes : new.nodes ≡ old.nodes

@@ -1,23 +1,28 @@
 -- What a search is seen as, and what it keeps.
 use Rattle.std.specs.Prelude.{ℕ, ◌≡◌, ◌<◌, ◌≤◌, ◌^◌, List, [], ◌∷◌, Some, Contains, All, length, map}
 use Rattle.pc_common.specs.World.{Node}
+use Rattle.pc_common.specs.Steps.{Step}
+use Rattle.pc_common.specs.declared.limits.TheConstants.{MAX_NODES}
 use Rattle.pc_ground.specs.declared.node_key.NodeKey.{NodeKey}
 use Rattle.pc_ground.specs.declared.row.Row.{Row}
 use Rattle.pc_ground.specs.Keys.{key_node}
 use Rattle.pc_ground.specs.Numbers.{AreDistinct}
 use Rattle.pc_ground.specs.Tree.{Tree, never}
-use Rattle.pc_ground.specs.Refutes.{Step, Branch, subtree_at, literals_of, IsPartial}
+use Rattle.pc_ground.specs.declared.version.Version.{Version}
+use Rattle.pc_ground.specs.Refutes.{Signed, Branch, subtree_at, literals_of, IsPartial}
 use Rattle.order_graph.specs.State.{Graph}
 use Rattle.solver.specs.Spelled.{spelled, IsSpelled}
-use Rattle.solver.specs.Named.{named}
+use Rattle.solver.specs.Renamed.{tree_over}
 use Rattle.solver.specs.Below.{IsRowBelow}
-use Rattle.solver.specs.Met.{IsMet}
-use Rattle.solver.specs.Places.{IsCandidate}
-use Rattle.solver.specs.Opens.{positions, opens, IsKept}
-use Rattle.solver.specs.declared.asserted.Asserted.{Asserted}
+use Rattle.solver.specs.Met.{IsMetUnder}
+use Rattle.solver.specs.Places.{AreCandidates}
+use Rattle.solver.specs.Opens.{positions, opens, IsState}
+use Rattle.solver.specs.declared.place.Place.{Place}
 use Rattle.solver.specs.declared.later.Later.{Later}
 
 pub record Searched : Type 0 where
+  -- how its steps are read
+  pub version : Version
   -- the nodes by their numbers
   pub nodes : List Node
   -- the rows of the tree over these numbers
@@ -32,7 +37,7 @@ abbrev pub number_tree : Searched → Tree ℕ
 number_tree s = spelled s.rows
 
 abbrev pub searched_tree : Searched → Tree Node
-searched_tree s = named s.nodes (number_tree s)
+searched_tree s = tree_over s.nodes (number_tree s)
 
 pub record IsSearching (s : Searched) : Type 0 where
   -- a branch is open
@@ -40,27 +45,28 @@ pub record IsSearching (s : Searched) : Type 0 where
   pub others : List Branch
   pub branches : s.branches ≡ first ∷ others
   -- the steps with the open branches are a partial refutation
-  pub partial : IsPartial (searched_tree s) s.steps s.branches
-  -- the graph's literals are those of the first open branch, in order
+  pub partial : IsPartial s.version (searched_tree s) s.steps s.branches
+  -- the graph is over the numbers of the nodes, and its literals are those of the first open branch, in order
+  pub nodes : s.graph.nodes ≡ length s.nodes
   pub literals : s.graph.literals ≡ literals_of (number_tree s) first
   -- some position of that branch is not true in the world that they generate
-  pub place : ℕ
+  pub place : Signed
   pub part : Tree ℕ
   pub on_branch : Contains first place
-  pub at_place : subtree_at (number_tree s) place ≡ Some part
-  pub not_met : IsMet s.graph.literals part → ⊥
+  pub at_place : subtree_at (number_tree s) place.position ≡ Some part
+  pub not_met : IsMetUnder place.negated s.graph.literals part → ⊥
 
 -- what the fields of a search keep
-pub record IsSearch (keys : List NodeKey) (rows : List (Row ℕ)) (graph : Graph) (asserted : List Asserted) (later : List Later) (steps : List (Step Node)) (candidates : List ℕ) : Type 0 where
+pub record IsSearch (v : Version) (keys : List NodeKey) (rows : List (Row ℕ)) (graph : Graph) (asserted : List Place) (later : List Later) (steps : List (Step Node)) (candidates : List Place) : Type 0 where
   pub tree : IsSpelled rows
-  pub few : length keys ≤ 262144
+  pub few : length keys ≤ MAX_NODES
   pub distinct : AreDistinct (map key_node keys)
   pub below : All (IsRowBelow (length keys)) rows
   pub no_false : (p : ℕ) → subtree_at (spelled rows) p ≡ Some never → ⊥
-  pub kept : IsKept (map key_node keys) (spelled rows) graph asserted later steps []
+  pub state : IsState v (map key_node keys) (spelled rows) graph asserted later steps []
   pub some : 0 < length candidates
-  pub all : All (IsCandidate (spelled rows) (positions asserted)) candidates
-  pub small : All (λ p. p < 2 ^ 63) candidates
+  pub all : AreCandidates (spelled rows) (positions asserted) candidates
+  pub small : All (λ q. q.position < 2 ^ 63) candidates
 
-abbrev pub branches_of : List (Row ℕ) → List Asserted → List Later → List Branch
+abbrev pub branches_of : List (Row ℕ) → List Place → List Later → List Branch
 branches_of rows asserted later = opens (spelled rows) (positions asserted) asserted later

@@ -3,7 +3,7 @@ use Rattle.std.specs.Prelude.{ℕ, ◌≡◌, ◌↔◌, ◌<◌, ◌⊎◌, Lis
 use Rattle.pc_common.specs.World.{Node, Edge}
 use Rattle.pc_ground.specs.declared.literal.Literal.{Literal}
 use Rattle.pc_ground.specs.Literals.{Joins, IsPresent}
-use Rattle.solver.specs.Named.{node_at}
+use Rattle.solver.specs.Renamed.{node_at}
 
 -- the nodes are those of the present numbers below n
 abbrev pub ArePresent : List Node → List (Literal ℕ) → ℕ → List Node → Type 0
@@ -17,5 +17,5 @@ AreEdges nodes ls shown = (a b : Node) → Contains shown (a, b) ↔ ((j : ℕ) 
 abbrev pub IsPresentNoted : List Node → List (Literal ℕ) → ℕ → List Node → List Node → Type 0
 IsPresentNoted nodes ls k old new = (IsPresent ls k × (new ≡ old ++ node_at nodes k ∷ [])) ⊎ ((IsPresent ls k → ⊥) × (new ≡ old))
 
-abbrev pub named_pair : List Node → ℕ × ℕ → Edge
-named_pair nodes p = (node_at nodes p.0, node_at nodes p.1)
+abbrev pub edge_over : List Node → ℕ × ℕ → Edge
+edge_over nodes p = (node_at nodes p.0, node_at nodes p.1)

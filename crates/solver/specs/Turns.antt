@@ -1,13 +1,14 @@
 -- What a turn of a search hands out.
 use Rattle.std.specs.Prelude.{ℕ, ◌≡◌, ◌+◌, List}
 use Rattle.pc_common.specs.World.{Node}
+use Rattle.pc_common.specs.Steps.{Step}
 use Rattle.pc_ground.specs.declared.row.Row.{Row}
 use Rattle.pc_ground.specs.Tree.{Tree}
-use Rattle.pc_ground.specs.Refutes.{Step}
+use Rattle.pc_ground.specs.declared.version.Version.{Version}
 use Rattle.solver.specs.Searched.{number_tree, searched_tree, IsSearching}
 use Rattle.solver.specs.Answers.{IsAnswer}
 use Rattle.solver.specs.Weights.{weight}
-use Rattle.solver.specs.Named.{named}
+use Rattle.solver.specs.Renamed.{tree_over}
 use Rattle.solver.specs.Spelled.{spelled}
 use Rattle.solver.specs.declared.search.Turn.{Turn}
 use Rattle.solver.specs.declared.search.Turn.TheVariants.{More, Done}
@@ -17,15 +18,15 @@ abbrev pub turn_weight : Turn → ℕ
 turn_weight (More s) = 1 + weight (number_tree s) s.branches
 turn_weight (Done a) = 0
 
--- a search over these nodes and rows that goes on, or its answer
-abbrev pub IsTurn : List Node → List (Row ℕ) → Turn → Type 0
-IsTurn nodes rows (More s) = (s.nodes ≡ nodes) × (s.rows ≡ rows) × IsSearching s
-IsTurn nodes rows (Done a) = IsAnswer nodes (named nodes (spelled rows)) a
+-- a search of this version over these nodes and rows that goes on, or its answer
+abbrev pub IsTurn : Version → List Node → List (Row ℕ) → Turn → Type 0
+IsTurn v nodes rows (More s) = (s.version ≡ v) × (s.nodes ≡ nodes) × (s.rows ≡ rows) × IsSearching s
+IsTurn v nodes rows (Done a) = IsAnswer v nodes (tree_over nodes (spelled rows)) a
 
 -- the same over the tree itself
-abbrev pub IsTurnOf : List Node → Tree Node → Turn → Type 0
-IsTurnOf nodes t (More s) = (s.nodes ≡ nodes) × (searched_tree s ≡ t) × IsSearching s
-IsTurnOf nodes t (Done a) = IsAnswer nodes t a
+abbrev pub IsTurnOf : Version → List Node → Tree Node → Turn → Type 0
+IsTurnOf v nodes t (More s) = (s.version ≡ v) × (s.nodes ≡ nodes) × (searched_tree s ≡ t) × IsSearching s
+IsTurnOf v nodes t (Done a) = IsAnswer v nodes t a
 
 -- where the search goes on, its steps go on from these
 abbrev pub GoesOn : (List (Step Node) → List (Step Node) → Type 0) → List (Step Node) → Turn → Type 0

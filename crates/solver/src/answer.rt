@@ -1,11 +1,12 @@
 ghost use Rattle.std.specs.Prelude.{◌≡◌, ◌<◌, ◌≤◌, ◌+◌, ◌↔◌, ◌⊎◌, ℕ, All, Contains, IfOk, OnOk, length, map};
 ghost use Rattle.pc_common.specs.World.{Node as PlainNode};
+ghost use Rattle.pc_common.specs.declared.limits.TheConstants.{MAX_NODES};
 ghost use Rattle.pc_ground.specs.Keys.{key_node};
 ghost use Rattle.pc_ground.specs.Literals.{Joins, IsPresent};
 ghost use Rattle.graph_text.specs.Graphs.{graph_nodes, graph_edges, key_edge};
 ghost use Rattle.order_graph.specs.Ways.{IsBelow};
-ghost use Rattle.solver.specs.Named.{node_at};
-ghost use Rattle.solver.specs.Shown.{ArePresent, AreEdges, IsPresentNoted, named_pair};
+ghost use Rattle.solver.specs.Renamed.{node_at};
+ghost use Rattle.solver.specs.Shown.{ArePresent, AreEdges, IsPresentNoted, edge_over};
 
 use super::leaf::key_at;
 use graph_text::{Edges, Graph, Nodes};
@@ -33,9 +34,10 @@ fn note_present(
     nodes: &mut Nodes,
 ) -> Result<(), Memory>
     requires all { graph.now.nodes ≡ length keys.now }
-    requires few { length keys.now ≤ 262144 }
+    requires few { length keys.now ≤ MAX_NODES }
     requires inside { k < length keys.now }
-    ensures { OnOk result (IsPresentNoted (map key_node keys.now) graph.now.literals k (map key_node nodes.old) (map key_node nodes.new)) }
+    ensures { OnOk result (IsPresentNoted (map key_node keys.now) graph.now.literals k
+        (map key_node nodes.old) (map key_node nodes.new)) }
 {
     if graph.present(k as u32) {
         nodes.push(key_at(keys, k as u32))?;
@@ -46,8 +48,9 @@ fn note_present(
 /// The present nodes, by number.
 fn present_nodes(alloc: Global, keys: &[NodeKey], graph: &OrderGraph) -> Result<Nodes, Memory>
     requires all { graph.now.nodes ≡ length keys.now }
-    requires few { length keys.now ≤ 262144 }
-    ensures { IfOk result (λ nodes. ArePresent (map key_node keys.now) graph.now.literals (length keys.now) (map key_node nodes)) }
+    requires few { length keys.now ≤ MAX_NODES }
+    ensures { IfOk result (λ nodes.
+        ArePresent (map key_node keys.now) graph.now.literals (length keys.now) (map key_node nodes)) }
 {
     let mut nodes = Nodes::new(alloc);
     for k in 0..keys.len() {
@@ -58,7 +61,8 @@ fn present_nodes(alloc: Global, keys: &[NodeKey], graph: &OrderGraph) -> Result<
 
 /// Puts the pair of an asserted edge into the set.
 fn note_edge(literal: Literal<u32>, pairs: &mut IndexSet<(u32, u32)>) -> Result<(), Memory>
-    ensures { OnOk result ((j k : ℕ) → Contains pairs.new.keys (j, k) ↔ (Contains pairs.old.keys (j, k) ⊎ (literal ≡ Literal.Edge j k))) }
+    ensures { OnOk result ((j k : ℕ)
+        → Contains pairs.new.keys (j, k) ↔ (Contains pairs.old.keys (j, k) ⊎ (literal ≡ Literal.Edge j k))) }
 {
     if let Literal::Edge(a, b) = literal {
         pairs.insert((a, b))?;
@@ -81,7 +85,7 @@ fn edge_pairs(alloc: Global, graph: &OrderGraph) -> Result<IndexSet<(u32, u32)>,
 fn named_edges(alloc: Global, keys: &[NodeKey], pairs: &[(u32, u32)]) -> Result<Edges, Memory>
     requires from { All (λ p. p.0 < length keys.now) pairs.now }
     requires to { All (λ p. p.1 < length keys.now) pairs.now }
-    ensures { IfOk result (λ edges. map key_edge edges ≡ map (named_pair (map key_node keys.now)) pairs.now) }
+    ensures { IfOk result (λ edges. map key_edge edges ≡ map (edge_over (map key_node keys.now)) pairs.now) }
 {
     let mut edges = Edges::new(alloc);
     for pair in pairs {
@@ -102,9 +106,10 @@ fn shown_edges(alloc: Global, keys: &[NodeKey], graph: &OrderGraph) -> Result<Ed
 /// The graph of what is asserted: the present nodes by number, then the edges.
 pub(crate) fn graph_of(alloc: Global, keys: &[NodeKey], graph: &OrderGraph) -> Result<Graph, Memory>
     requires all { graph.now.nodes ≡ length keys.now }
-    requires few { length keys.now ≤ 262144 }
+    requires few { length keys.now ≤ MAX_NODES }
     requires below { All (IsBelow (length keys.now)) graph.now.literals }
-    ensures nodes { IfOk result (λ g. ArePresent (map key_node keys.now) graph.now.literals (length keys.now) (graph_nodes g)) }
+    ensures nodes { IfOk result (λ g.
+        ArePresent (map key_node keys.now) graph.now.literals (length keys.now) (graph_nodes g)) }
     ensures edges { IfOk result (λ g. AreEdges (map key_node keys.now) graph.now.literals (graph_edges g)) }
 {
     let nodes = present_nodes(alloc, keys, graph)?;

@@ -1,16 +1,18 @@
-ghost use Rattle.std.specs.Prelude.{◌≡◌, ◌<◌, ◌≤◌, ℕ, All, length, take, slice_index, IfOk};
+ghost use Rattle.std.specs.Prelude.{◌≡◌, ◌<◌, ◌≤◌, ℕ, not, All, length, take, slice_index, IfOk};
 ghost use Rattle.pc_ground.specs.Tree.{size_of};
 ghost use Rattle.pc_ground.specs.Refutes.{literals_of};
 ghost use Rattle.order_graph.specs.State.{IsCut};
 ghost use Rattle.solver.specs.Spelled.{spelled, IsSpelled};
 ghost use Rattle.solver.specs.Below.{IsRowBelow};
-ghost use Rattle.solver.specs.Opens.{positions, IsFurther, HasEntered, HasAddedRow, HasEnteredRow};
+ghost use Rattle.solver.specs.Places.{asserted_at, denied_positions, side_positions, IsDeniedIn, IsSideIn};
+ghost use Rattle.solver.specs.Opens.{positions, IsFurther, HasAsserted, HasAddedRow, HasAssertedRow};
 
-use super::asserted::Asserted;
+use super::place::Place;
 use super::rows::row_at;
+use super::side::Side;
 use order_graph::{Added, Clash, Mark, OrderGraph};
 use pc_common::Memory;
-use pc_ground::{Literal, Row, RowKind};
+use pc_ground::{Row, RowKind};
 use std::sync::ledger::Ledger;
 use undo_trail::Steps;
 
@@ -29,47 +31,55 @@ fn add_row<L: Ledger>(
     }
 }
 
-/// Asserts the literal of a row, if it is one's, and then its position.
+/// Asserts the literal of a row, if it is one's, and then its place.
 fn enter_row<L: Ledger>(
     row: Row<u32>,
-    position: usize,
+    place: Place,
     graph: &mut OrderGraph,
-    asserted: &mut Vec<Asserted>,
+    asserted: &mut Vec<Place>,
     steps: &mut Steps<L>,
 ) -> Result<Option<Clash>, Memory>
     requires below { IsRowBelow graph.old.nodes row }
     ensures further { IfOk result (λ _. IsFurther graph.old graph.new) }
-    ensures entered { IfOk result (λ found. HasEnteredRow row position graph.old asserted.old.items graph.new asserted.new.items found) }
+    ensures entered { IfOk result (λ found.
+        HasAssertedRow row place graph.old asserted.old.items graph.new asserted.new.items found) }
 {
     if let Added::Clash(clash) = add_row(row, graph, steps)? {
         return Ok(Some(clash));
     }
-    asserted.push(Asserted { position })?;
+    asserted.push(place)?;
     Ok(None)
 }
 
-/// Asserts what the side at `part` asserts, in preorder, up to the first clash. The walk is a loop, which
-/// goes past the whole of an Or.
-pub(crate) fn enter_side<L: Ledger>(
+/// Asserts what the part at `root` asserts under this sign, in preorder, up to the first clash. The walk is
+/// a loop, which goes past the whole of an Or.
+fn enter_part<L: Ledger>(
     rows: &[Row<u32>],
-    part: usize,
+    negated: bool,
+    root: usize,
     graph: &mut OrderGraph,
-    asserted: &mut Vec<Asserted>,
+    asserted: &mut Vec<Place>,
     steps: &mut Steps<L>,
 ) -> Result<Option<Clash>, Memory>
     requires tree { IsSpelled rows.now }
-    requires part { part < size_of (spelled rows.now) }
+    requires root { root < size_of (spelled rows.now) }
     requires below { All (IsRowBelow graph.old.nodes) rows.now }
     requires literals { graph.old.literals ≡ literals_of (spelled rows.now) (positions asserted.old.items) }
     ensures further { IfOk result (λ _. IsFurther graph.old graph.new) }
     ensures kept { IfOk result (λ _. take (length asserted.old.items) asserted.new.items ≡ asserted.old.items) }
-    ensures entered { IfOk result (λ found. HasEntered (spelled rows.now) part asserted.old.items graph.new asserted.new.items found) }
+    ensures entered { IfOk result (λ found. HasAsserted (spelled rows.now)
+        (asserted_at (spelled rows.now) negated root)
+        asserted.old.items graph.new asserted.new.items found) }
 {
-    let end = part + row_at(rows, part).skip;
-    let mut at = part;
+    let end = root + row_at(rows, root).skip;
+    let mut at = root;
     while at < end {
-        let row = row_at(rows, at);
-        if let Some(clash) = enter_row(row, at, graph, asserted, steps)? {
+        let row = row_at(rows, at).turned(negated);
+        let place = Place {
+            negated,
+            position: at,
+        };
+        if let Some(clash) = enter_row(row, place, graph, asserted, steps)? {
             return Ok(Some(clash));
         }
         at += row.stride();
@@ -77,12 +87,60 @@ pub(crate) fn enter_side<L: Ledger>(
     Ok(None)
 }
 
+/// Asserts that the left side is false, where this side says so.
+fn enter_denied<L: Ledger>(
+    rows: &[Row<u32>],
+    side: Side,
+    graph: &mut OrderGraph,
+    asserted: &mut Vec<Place>,
+    steps: &mut Steps<L>,
+) -> Result<Option<Clash>, Memory>
+    requires tree { IsSpelled rows.now }
+    requires denied { IsDeniedIn (spelled rows.now) side.denied }
+    requires below { All (IsRowBelow graph.old.nodes) rows.now }
+    requires literals { graph.old.literals ≡ literals_of (spelled rows.now) (positions asserted.old.items) }
+    ensures further { IfOk result (λ _. IsFurther graph.old graph.new) }
+    ensures kept { IfOk result (λ _. take (length asserted.old.items) asserted.new.items ≡ asserted.old.items) }
+    ensures entered { IfOk result (λ found. HasAsserted (spelled rows.now)
+        (denied_positions (spelled rows.now) side.negated side.denied)
+        asserted.old.items graph.new asserted.new.items found) }
+{
+    match side.denied {
+        Some(left) => enter_part(rows, !side.negated, left, graph, asserted, steps),
+        None => Ok(None),
+    }
+}
+
+/// Asserts what the side asserts, up to the first clash: first that the left side is false, where it says
+/// so, then its own part.
+pub(crate) fn enter_side<L: Ledger>(
+    rows: &[Row<u32>],
+    side: Side,
+    graph: &mut OrderGraph,
+    asserted: &mut Vec<Place>,
+    steps: &mut Steps<L>,
+) -> Result<Option<Clash>, Memory>
+    requires tree { IsSpelled rows.now }
+    requires side { IsSideIn (spelled rows.now) side }
+    requires below { All (IsRowBelow graph.old.nodes) rows.now }
+    requires literals { graph.old.literals ≡ literals_of (spelled rows.now) (positions asserted.old.items) }
+    ensures further { IfOk result (λ _. IsFurther graph.old graph.new) }
+    ensures kept { IfOk result (λ _. take (length asserted.old.items) asserted.new.items ≡ asserted.old.items) }
+    ensures entered { IfOk result (λ found. HasAsserted (spelled rows.now) (side_positions (spelled rows.now) side)
+        asserted.old.items graph.new asserted.new.items found) }
+{
+    if let Some(clash) = enter_denied(rows, side, graph, asserted, steps)? {
+        return Ok(Some(clash));
+    }
+    enter_part(rows, side.negated, side.root, graph, asserted, steps)
+}
+
 /// Goes back to the first `count` asserted positions and to the literals at `mark`.
 pub(crate) fn go_back<L: Ledger>(
     count: usize,
     mark: Mark,
     graph: &mut OrderGraph,
-    asserted: &mut Vec<Asserted>,
+    asserted: &mut Vec<Place>,
     steps: &mut Steps<L>,
 )
     requires live { mark < length graph.old.marks }

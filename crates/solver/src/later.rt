@@ -1,3 +1,4 @@
+use super::side::Side;
 use order_graph::Mark;
 
 /// A branch that waits: the right side of a split, which begins with what the first open branch had before.
@@ -7,6 +8,6 @@ pub(crate) struct Later {
     pub(crate) count: usize,
     /// The graph's mark for their literals.
     pub(crate) mark: Mark,
-    /// Where the right side's root stands.
-    pub(crate) side: usize,
+    /// What the right side asserts.
+    pub(crate) side: Side,
 }

@@ -2,7 +2,7 @@ ghost use Rattle.std.specs.Prelude.{◌≡◌, ◌<◌, ◌≤◌, ◌^◌, ◌+
 ghost use Rattle.pc_ground.specs.Keys.{key_node};
 ghost use Rattle.order_graph.specs.declared.clash.Clash.{Clash as AnyClash};
 ghost use Rattle.refutation.specs.Steps.{plain_step, IsLeaf, open_branches};
-ghost use Rattle.solver.specs.Named.{node_at};
+ghost use Rattle.solver.specs.Renamed.{node_at};
 ghost use Rattle.solver.specs.Leaves.{clash_step, IsClashBelow};
 
 use order_graph::{Clash, Numbers};

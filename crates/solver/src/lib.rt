@@ -7,13 +7,15 @@
 //! or split, all of the tree is true in the world that the literals generate. No call nests as deep as the
 //! tree, and no table is copied for a branch.
 //!
+//! In version 2 a right side asserts first that the left one is false: its positions under a sign, which are
+//! positions of the tree's negation. In version 1 no position has a sign, and no flags are made for one.
+//!
 //! `solve` runs a `Search` from its first turn to its last. Between two turns the steps so far with the
 //! open branches are a partial refutation, and the graph's literals are those of the first open branch.
 #![tactic(auto)]
 
 mod advance;
 mod answer;
-mod asserted;
 mod candidates;
 mod choose;
 mod descend;
@@ -21,13 +23,17 @@ mod enter;
 mod find;
 mod flags;
 mod later;
+mod laws;
 mod leaf;
 mod numbers;
+mod place;
 mod rows;
 mod search;
+mod side;
 mod solving;
 mod truths;
 
 pub use answer::Answer;
+pub use laws::consistent_literals_have_a_world;
 pub use search::{Search, Turn};
 pub use solving::solve;

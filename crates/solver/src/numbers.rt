@@ -3,7 +3,7 @@ ghost use Rattle.pc_common.specs.World.{Node as PlainNode};
 ghost use Rattle.pc_ground.specs.declared.row.Row.{Row as PlainRow};
 ghost use Rattle.pc_ground.specs.Keys.{key_node, renamed, renamed_row, renamed_kind, literal_node, row_node};
 ghost use Rattle.order_graph.specs.Ways.{IsBelow};
-ghost use Rattle.solver.specs.Named.{node_at, named_rows};
+ghost use Rattle.solver.specs.Renamed.{node_at, rows_over};
 ghost use Rattle.solver.specs.Below.{IsRowBelow};
 ghost use Rattle.solver.specs.Known.{IsKnown, IsLiteralKnown, IsRowKnown};
 
@@ -63,7 +63,7 @@ pub(crate) fn number_rows(
     numbering: &Numbering,
 ) -> Result<Vec<Row<u32>>, Memory>
     requires known { (p : ℕ) (r : PlainRow PlainNode) → slice_get tree.now p ≡ Some r → IsRowKnown numbering.now r }
-    ensures is { IfOk result (λ rows. named_rows numbering.now rows.items ≡ tree.now) }
+    ensures is { IfOk result (λ rows. rows_over numbering.now rows.items ≡ tree.now) }
     ensures below { IfOk result (λ rows. All (IsRowBelow (length numbering.now)) rows.items) }
 {
     let mut rows = Vec::new(alloc);

@@ -1,5 +1,6 @@
 ghost use Rattle.std.specs.Prelude.{◌≡◌, ◌<◌, ◌≤◌, ◌+◌, ◌^◌, ℕ, [], ◌∷◌, All, IfOk, Some, length, map};
 ghost use Rattle.pc_common.specs.World.{Node as PlainNode};
+ghost use Rattle.pc_common.specs.declared.limits.TheConstants.{MAX_NODES};
 ghost use Rattle.pc_ground.specs.Keys.{key_node};
 ghost use Rattle.pc_ground.specs.Tree.{Tree, never};
 ghost use Rattle.pc_ground.specs.Rows.{rows_of};
@@ -7,25 +8,26 @@ ghost use Rattle.pc_ground.specs.Folded.{IsFolded};
 ghost use Rattle.pc_ground.specs.Numbers.{numbered, AreDistinct};
 ghost use Rattle.pc_ground.specs.Refutes.{subtree_at, IsPartial};
 ghost use Rattle.solver.specs.Spelled.{spelled, IsSpelled};
-ghost use Rattle.solver.specs.Named.{named};
+ghost use Rattle.solver.specs.Renamed.{tree_over};
 ghost use Rattle.solver.specs.Below.{IsRowBelow};
-ghost use Rattle.solver.specs.Opens.{positions, IsKept};
+ghost use Rattle.solver.specs.Opens.{positions, IsState};
 ghost use Rattle.solver.specs.Weights.{weight};
 ghost use Rattle.solver.specs.Descents.{HasMore};
 ghost use Rattle.solver.specs.Searched.{IsSearching, branches_of};
-ghost use Rattle.solver.specs.Found.{IsFound, found_weight};
+ghost use Rattle.solver.specs.Statuses.{IsStatus, status_weight};
 ghost use Rattle.solver.specs.Turns.{IsTurn, IsTurnOf, GoesOn, turn_weight};
 
 use super::advance::advance;
 use super::answer::Answer;
-use super::asserted::Asserted;
-use super::find::{Found, find};
+use super::find::{SearchStatus, find};
 use super::later::Later;
 use super::numbers::{keys_by_number, number_rows};
+use super::place::Place;
 use super::rows::row_at;
+use super::side::Side;
 use order_graph::OrderGraph;
 use pc_common::Memory;
-use pc_ground::{Flat, NodeKey, Numbering, Row, RowKind};
+use pc_ground::{Flat, NodeKey, Numbering, Row, RowKind, Version};
 use refutation::{Refutation, Step};
 use std::alloc::Global;
 use std::marker::Model;
@@ -36,13 +38,14 @@ use undo_trail::Steps;
 #[derive(Drop)]
 pub struct Search {
     alloc: Global,
+    version: Version,
     keys: Vec<NodeKey>,
     rows: Vec<Row<u32>>,
     graph: OrderGraph,
-    asserted: Vec<Asserted>,
+    asserted: Vec<Place>,
     later: Vec<Later>,
     refutation: Refutation,
-    candidates: Vec<usize>,
+    candidates: Vec<Place>,
 }
 
 impl Model for Search {
@@ -52,9 +55,17 @@ impl Model for Search {
 
     ghost Value = { Searched };
 
-    ghost view = { λ s. record { nodes = map key_node s.keys.items; rows = s.rows.items; graph = s.graph; steps = s.refutation; branches = branches_of s.rows.items s.asserted.items s.later.items } };
+    ghost view = { λ s. record {
+      version = s.version;
+      nodes = map key_node s.keys.items;
+      rows = s.rows.items;
+      graph = s.graph;
+      steps = s.refutation;
+      branches = branches_of s.rows.items s.asserted.items s.later.items;
+    } };
 
-    ghost invariant = { λ s. IsSearch s.keys.items s.rows.items s.graph s.asserted.items s.later.items s.refutation s.candidates.items };
+    ghost invariant = { λ s. IsSearch s.version s.keys.items s.rows.items s.graph s.asserted.items s.later.items
+        s.refutation s.candidates.items };
 }
 
 /// What a turn hands out.
@@ -68,28 +79,31 @@ pub enum Turn {
 /// Hands out what was found.
 fn settle(
     alloc: Global,
+    version: Version,
     keys: Vec<NodeKey>,
     rows: Vec<Row<u32>>,
     graph: OrderGraph,
-    asserted: Vec<Asserted>,
+    asserted: Vec<Place>,
     later: Vec<Later>,
     refutation: Refutation,
-    found: Found,
+    status: SearchStatus,
 ) -> Turn
     requires tree { IsSpelled rows.items }
-    requires few { length keys.items ≤ 262144 }
+    requires few { length keys.items ≤ MAX_NODES }
     requires distinct { AreDistinct (map key_node keys.items) }
     requires below { All (IsRowBelow (length keys.items)) rows.items }
-    requires found { IsFound (map key_node keys.items) rows.items graph asserted.items later.items refutation found }
-    ensures turn { IsTurn (map key_node keys.items) rows.items result }
-    ensures weight { turn_weight result ≡ found_weight rows.items asserted.items later.items found }
+    requires status { IsStatus version (map key_node keys.items) rows.items graph asserted.items later.items refutation
+        status }
+    ensures turn { IsTurn version (map key_node keys.items) rows.items result }
+    ensures weight { turn_weight result ≡ status_weight rows.items asserted.items later.items status }
     ensures steps { GoesOn (λ old new. new ≡ old) refutation result }
 {
-    match found {
-        Found::Closed => Turn::Done(Answer::Unobservable(refutation)),
-        Found::Whole(shown) => Turn::Done(Answer::Observable(shown)),
-        Found::Open(candidates) => Turn::More(Search {
+    match status {
+        SearchStatus::Refuted => Turn::Done(Answer::Unobservable(refutation)),
+        SearchStatus::Satisfied(shown) => Turn::Done(Answer::Observable(shown)),
+        SearchStatus::Undecided(candidates) => Turn::More(Search {
             alloc,
+            version,
             keys,
             rows,
             graph,
@@ -106,14 +120,15 @@ fn find_first<L: Ledger>(
     alloc: Global,
     keys: &[NodeKey],
     rows: &[Row<u32>],
+    version: Version,
     graph: &mut OrderGraph,
-    asserted: &mut Vec<Asserted>,
+    asserted: &mut Vec<Place>,
     later: &mut Vec<Later>,
     refutation: &mut Refutation,
     steps: &mut Steps<L>,
-) -> Result<Found, Memory>
+) -> Result<SearchStatus, Memory>
     requires tree { IsSpelled rows.now }
-    requires few { length keys.now ≤ 262144 }
+    requires few { length keys.now ≤ MAX_NODES }
     requires distinct { AreDistinct (map key_node keys.now) }
     requires below { All (IsRowBelow (length keys.now)) rows.now }
     requires folded { IsFolded (spelled rows.now) }
@@ -123,15 +138,21 @@ fn find_first<L: Ledger>(
     requires asserted { asserted.old.items ≡ [] }
     requires later { later.old.items ≡ [] }
     requires steps { refutation.old ≡ [] }
-    ensures { IfOk result (IsFound (map key_node keys.now) rows.now graph.new asserted.new.items later.new.items refutation.new) }
+    ensures { IfOk result (IsStatus version (map key_node keys.now) rows.now graph.new asserted.new.items
+        later.new.items refutation.new) }
 {
     let root = row_at(rows, 0);
     if let RowKind::False = root.kind {
         refutation.close_leaf(Step::False)?;
-        return Ok(Found::Closed);
+        return Ok(SearchStatus::Refuted);
     }
+    let whole = Side {
+        negated: false,
+        root: 0,
+        denied: None,
+    };
     find(
-        alloc, keys, rows, 0, graph, asserted, later, refutation, steps,
+        alloc, keys, rows, version, whole, graph, asserted, later, refutation, steps,
     )
 }
 
@@ -140,12 +161,13 @@ fn start<L: Ledger>(
     alloc: Global,
     keys: Vec<NodeKey>,
     rows: Vec<Row<u32>>,
+    version: Version,
     mut graph: OrderGraph,
     mut refutation: Refutation,
     steps: &mut Steps<L>,
 ) -> Result<Turn, Memory>
     requires tree { IsSpelled rows.items }
-    requires few { length keys.items ≤ 262144 }
+    requires few { length keys.items ≤ MAX_NODES }
     requires distinct { AreDistinct (map key_node keys.items) }
     requires below { All (IsRowBelow (length keys.items)) rows.items }
     requires folded { IsFolded (spelled rows.items) }
@@ -153,42 +175,55 @@ fn start<L: Ledger>(
     requires literals { graph.literals ≡ [] }
     requires marks { graph.marks ≡ [] }
     requires steps { refutation ≡ [] }
-    ensures { IfOk result (IsTurn (map key_node keys.items) rows.items) }
+    ensures { IfOk result (IsTurn version (map key_node keys.items) rows.items) }
 {
     let mut asserted = Vec::new(alloc);
     let mut later = Vec::new(alloc);
-    let found = find_first(
+    let status = find_first(
         alloc,
         &keys,
         &rows,
+        version,
         &mut graph,
         &mut asserted,
         &mut later,
         &mut refutation,
         steps,
     )?;
-    Ok(settle(alloc, keys, rows, graph, asserted, later, refutation, found))
+    Ok(settle(
+        alloc, version, keys, rows, graph, asserted, later, refutation, status,
+    ))
 }
 
 impl Search {
-    /// Begins the search over this tree, whose nodes the numbering lists. A constant stands in the tree only
-    /// where it is the whole tree.
+    /// Begins the search of this version over this tree, whose nodes the numbering lists. A constant stands
+    /// in the tree only where it is the whole tree.
     pub fn begin<L: Ledger>(
         alloc: Global,
         tree: &Flat,
         numbering: &Numbering,
+        version: Version,
         steps: &mut Steps<L>,
     ) -> Result<Turn, Memory>
         requires numbered { (t : Tree PlainNode) → tree.now ≡ rows_of t → numbering.now ≡ numbered t }
         requires folded { (t : Tree PlainNode) → tree.now ≡ rows_of t → IsFolded t }
-        ensures { IfOk result (λ turn. (t : Tree PlainNode) → tree.now ≡ rows_of t → IsTurnOf numbering.now t turn) }
+        ensures { IfOk result (λ turn.
+            (t : Tree PlainNode) → tree.now ≡ rows_of t → IsTurnOf version numbering.now t turn) }
     {
         let _positions = tree.len();
         let count = numbering.len();
         let keys = keys_by_number(alloc, numbering)?;
         let rows = number_rows(alloc, tree, numbering)?;
         let graph = OrderGraph::new(alloc, count)?;
-        let turn = start(alloc, keys, rows, graph, Refutation::new(alloc), steps)?;
+        let turn = start(
+            alloc,
+            keys,
+            rows,
+            version,
+            graph,
+            Refutation::new(alloc),
+            steps,
+        )?;
         Ok(turn)
     }
 
@@ -211,12 +246,13 @@ impl Search {
     /// Splits one Or, and closes branches until one is open or none is left. Where memory is refused,
     /// nothing is left of the search.
     pub fn turn<L: Ledger>(self, steps: &mut Steps<L>) -> Result<Turn, Memory>
-        ensures turn { IfOk result (IsTurn self.nodes self.rows) }
+        ensures turn { IfOk result (IsTurn self.version self.nodes self.rows) }
         ensures weight { IfOk result (λ turn. turn_weight turn < 1 + weight (spelled self.rows) self.branches) }
         ensures steps { IfOk result (GoesOn HasMore self.steps) }
     {
         let Search {
             alloc,
+            version,
             keys,
             rows,
             mut graph,
@@ -225,10 +261,11 @@ impl Search {
             mut refutation,
             candidates,
         } = self;
-        let found = advance(
+        let status = advance(
             alloc,
             &keys,
             &rows,
+            version,
             &candidates,
             &mut graph,
             &mut asserted,
@@ -236,6 +273,8 @@ impl Search {
             &mut refutation,
             steps,
         )?;
-        Ok(settle(alloc, keys, rows, graph, asserted, later, refutation, found))
+        Ok(settle(
+            alloc, version, keys, rows, graph, asserted, later, refutation, status,
+        ))
     }
 }

@@ -9,27 +9,28 @@ ghost use Rattle.solver.specs.Answers.{IsAnswer};
 use super::answer::Answer;
 use super::search::{Search, Turn};
 use pc_common::Memory;
-use pc_ground::{Flat, Numbering};
+use pc_ground::{Flat, Numbering, Version};
 use std::alloc::Global;
 use std::sync::ledger::Ledger;
 use undo_trail::Steps;
 
-/// Whether some world satisfies the tree: a graph that generates one, or a refutation.
+/// Whether some world satisfies the tree: a graph that generates one, or a refutation of this version.
 ///
 /// The numbering lists the tree's nodes, and a constant stands in the tree only where it is the whole tree.
-/// Answers Memory only where memory is refused; each turn takes time in proportion to the tree's positions,
-/// and the number of turns has no such bound.
+/// Returns `Memory` where memory is refused. How many turns the search takes has no bound but the tree's.
 pub fn solve<L: Ledger>(
     alloc: Global,
     tree: &Flat,
     numbering: &Numbering,
+    version: Version,
     steps: &mut Steps<L>,
 ) -> Result<Answer, Memory>
     requires numbered { (t : Tree PlainNode) → tree.now ≡ rows_of t → numbering.now ≡ numbered t }
     requires folded { (t : Tree PlainNode) → tree.now ≡ rows_of t → IsFolded t }
-    ensures { IfOk result (λ answer. (t : Tree PlainNode) → tree.now ≡ rows_of t → IsAnswer numbering.now t answer) }
+    ensures { IfOk result (λ answer.
+        (t : Tree PlainNode) → tree.now ≡ rows_of t → IsAnswer version numbering.now t answer) }
 {
-    let mut turn = Search::begin(alloc, tree, numbering, steps)?;
+    let mut turn = Search::begin(alloc, tree, numbering, version, steps)?;
     loop {
         match turn {
             Turn::Done(answer) => return Ok(answer),

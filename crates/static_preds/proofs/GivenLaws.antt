@@ -9,7 +9,7 @@ use Rattle.pc_syntax.specs.declared.pred.Takes.{Takes}
 use Rattle.pc_syntax.specs.declared.pred.Takes.TheVariants.{Op as takes_op}
 use Rattle.pc_syntax.specs.declared.closed_term.ClosedArg.{ClosedArg}
 use Rattle.pc_syntax.specs.declared.closed_term.ClosedArg.TheVariants.{Slot}
-use Rattle.pc_syntax.specs.Arguments.{Argument, op_at, core_at, plain_name, place_of, place_in}
+use Rattle.pc_syntax.specs.Arguments.{Argument, op_at, core_at, plain_name, place_argument, place_in}
 use Rattle.pc_syntax.specs.IsClosed.{IsBound, FitsArg, FitArgs}
 use Rattle.pc_syntax.specs.Truth.{Meaning, an_op, a_core, op_of}
 use Rattle.pc_syntax.specs.Closed.{argument_at, value_at}
@@ -34,7 +34,7 @@ slot_given scope ts args k slot d h taken is =
     let at = fits_at scope ts args k takes_op d h taken in
     (at.0 ∙ ap Some is, subst (λ (a : ClosedArg). FitsArg scope takes_op a) is at.1)
 
-place_of_meaning : (m : Meaning) → place_of (argument_at m) ≡ op_of (Some m)
+place_of_meaning : (m : Meaning) → place_argument (argument_at m) ≡ op_of (Some m)
 place_of_meaning (an_op i) = refl
 place_of_meaning (a_core k) = refl
 
@@ -42,7 +42,7 @@ place_of_meaning (a_core k) = refl
 pub place_is : (slots : List Bound) (args : List ClosedArg) (k slot i : ℕ) → slice_get args k ≡ Some (Slot slot)
     → op_of (Some (value_at (meanings slots) slot)) ≡ Some i → place_in (values_of slots args) k ≡ Some i
 place_is slots args k slot i arg is =
-    ap (option_and_then place_of) (slice_get-map (value_of slots) args k ∙ ap (option_map (value_of slots)) arg)
+    ap (option_and_then place_argument) (slice_get-map (value_of slots) args k ∙ ap (option_map (value_of slots)) arg)
     ∙ place_of_meaning (value_at (meanings slots) slot) ∙ is
 
 pub place_below : (n : ℕ) (values : List Argument) (k i : ℕ) → AreOpsBelow n values → place_in values k ≡ Some i → i < n

@@ -4,7 +4,7 @@ use Rattle.std.specs.List.{range_with_len}
 use Rattle.std.proofs.lemmas.List.{map-append}
 use Rattle.std.proofs.lemmas.List.FromFn.{length-map-range_with_len}
 use Rattle.pc_common.specs.Case.{MicroOp, Case, cores_of}
-use Rattle.pc_case.specs.Kept.{IsKept}
+use Rattle.pc_case.specs.MicroOps.{AreMicroOps}
 use Rattle.pc_syntax.specs.declared.term.Sort.{Sort}
 use Rattle.pc_syntax.specs.declared.term.Sort.TheVariants.{Microop, Core}
 use Rattle.pc_syntax.specs.Truth.{an_op, a_core, range_of}
@@ -57,5 +57,5 @@ most [] below = omega arith
 most (o ∷ os) below = omega (arith, below 0 o refl, most os (λ k p h. below (suc k) p h))
 
 -- no core of a case is above 63
-pub few_cores : (os : List MicroOp) → IsKept os → cores_of os ≤ 64
+pub few_cores : (os : List MicroOp) → AreMicroOps os → cores_of os ≤ 64
 few_cores os kept = most os kept.cores

@@ -1,8 +1,8 @@
 -- What slots and the arguments of a predicate stand for, where the slots stand for these micro-ops and cores.
 use Rattle.std.specs.Prelude.{ℕ, ◌<◌, List, [], ◌∷◌, map}
-use Rattle.pc_common.specs.Case.{Touch, number}
+use Rattle.pc_common.specs.Case.{Touch}
 use Rattle.pc_case.specs.declared.op.Memop.{Memop}
-use Rattle.pc_case.specs.Plain.{page_at, address_at}
+use Rattle.pc_case.specs.Plain.{touch_at}
 use Rattle.pc_syntax.specs.declared.term.Sort.{Sort}
 use Rattle.pc_syntax.specs.declared.term.Sort.TheVariants.{Microop, Core as core_sort}
 use Rattle.pc_syntax.specs.declared.bound.Bound.{Bound}
@@ -38,9 +38,6 @@ AreOpsBelow n (op_at i ∷ rest) = (i < n) × AreOpsBelow n rest
 AreOpsBelow n (core_at k ∷ rest) = AreOpsBelow n rest
 AreOpsBelow n (plain_name t ∷ rest) = AreOpsBelow n rest
 
--- what a read or a write touches, and what two do
-abbrev pub touch_at : Memop → Touch
-touch_at m = record { va = page_at m.va; pa = address_at m.pa; value = number m.value }
-
+-- what two accesses touch
 abbrev pub touches_at : Memop × Memop → Touch × Touch
 touches_at m = (touch_at m.0, touch_at m.1)

@@ -1,11 +1,11 @@
 ghost use Rattle.std.specs.Prelude.{◌≡◌, ◌<◌, Some, length, slice_get};
 ghost use Rattle.std.specs.Option.{option_zip, option_map};
-ghost use Rattle.pc_case.specs.Plain.{micro_op};
+ghost use Rattle.pc_case.specs.Plain.{micro_op, touch_at};
 ghost use Rattle.pc_syntax.specs.declared.pred.Takes.TheVariants.{Op as takes_op, Core as takes_core, Plain as takes_plain};
 ghost use Rattle.pc_syntax.specs.Arguments.{place_in, core_in, plain_in, op_in, touch_in};
 ghost use Rattle.pc_syntax.specs.Predicates.{takes_of};
 ghost use Rattle.static_preds.specs.Given.{IsGiven};
-ghost use Rattle.static_preds.specs.Values.{values_of, touch_at, touches_at};
+ghost use Rattle.static_preds.specs.Values.{values_of, touches_at};
 
 use super::slots::{core_in_slot, op_in_slot};
 use pc_case::{Case, Memop, Op};

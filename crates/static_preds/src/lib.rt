@@ -9,6 +9,7 @@
 //! memory or refuses.
 #![tactic(auto)]
 
+mod entry;
 mod given;
 mod node;
 mod range;

@@ -6,6 +6,7 @@ ghost use Rattle.pc_syntax.specs.IsClosed.{FitArgs};
 ghost use Rattle.pc_syntax.specs.Predicates.{takes_of, predicate_holds, is_before as is_before_of};
 ghost use Rattle.static_preds.specs.Values.{values_of, scope_of, AreOpsBelow};
 
+use super::entry::{is_accessed, is_dirty, is_entry_of, maps_to, same_tag};
 use super::given::Given;
 use pc_case::{Access, Case, Op, TypeNames};
 use pc_syntax::{ClosedArgs, Env, Pred};
@@ -44,7 +45,7 @@ pub fn holds(case: &Case, pred: Pred, args: &ClosedArgs, env: &Env) -> bool
         Pred::SameVirtualAddress => given.touches().is_some_and(|(a, b)| a.va == b.va),
         Pred::SamePhysicalAddress => given.touches().is_some_and(|(a, b)| a.pa == b.pa),
         Pred::SameVirtualTag => given.touches().is_some_and(|(a, b)| a.va.tag == b.va.tag),
-        Pred::SamePhysicalTag => given.touches().is_some_and(|(a, b)| a.pa.tag == b.pa.tag),
+        Pred::SamePhysicalTag => given.touches().is_some_and(|(a, b)| same_tag(a.pa, b.pa)),
         Pred::SameIndex => given
             .touches()
             .is_some_and(|(a, b)| a.va.index == b.va.index),
@@ -60,6 +61,12 @@ pub fn holds(case: &Case, pred: Pred, args: &ClosedArgs, env: &Env) -> bool
                 .is_some_and(|a| case.final_of(a.pa) == Some(a.value))
         }
         Pred::HasDependency => case.depends(given.plain(0), given.place(1), given.place(2)),
+        Pred::EntryOf => given
+            .touches()
+            .is_some_and(|(a, b)| is_entry_of(a.pa, b.va.tag)),
+        Pred::MapsTagOf => given.touches().is_some_and(|(a, b)| maps_to(a.value, b.pa)),
+        Pred::MarkedAccessed => given.touch(0).is_some_and(|a| is_accessed(a.value)),
+        Pred::MarkedDirty => given.touch(0).is_some_and(|a| is_dirty(a.value)),
     }
 }
 

@@ -1,7 +1,7 @@
-pub mod Sets
-pub mod Knowing
-pub mod Sides
-pub mod Rights
-pub mod Leaving
-pub mod Running
-pub mod Opening
+pub mod FactSet
+pub mod BranchFacts
+pub mod SideFacts
+pub mod OrRows
+pub mod Closes
+pub mod Runs
+pub mod Steps

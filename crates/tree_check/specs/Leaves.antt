@@ -1,34 +1,34 @@
--- The step of a leaf, and what the facts of a branch say of each kind of leaf.
+-- A leaf of the code, and what the facts of a branch say of each kind of leaf.
 use Rattle.std.specs.Prelude.{◌≡◌, List, [], ◌∷◌, ◌++◌, Contains, map}
 use Rattle.pc_common.specs.World.{Node}
 use Rattle.pc_common.specs.Chain.{Leads}
+use Rattle.pc_common.specs.Steps.{Leaf as PlainLeaf, cycle, path, absent, false_step}
 use Rattle.pc_ground.specs.Keys.{key_node}
-use Rattle.pc_ground.specs.Refutes.{Step, cycle, path, absent, false_step}
-use Rattle.tree_check.specs.Facts.{Known, denied, missing, present, Knows}
+use Rattle.tree_check.specs.Facts.{PlainFact, no_edge, no_node, present, HasEdge}
 use Rattle.tree_check.specs.declared.leaf.Leaf.{Leaf}
 use Rattle.tree_check.specs.declared.leaf.Leaf.TheVariants.{Cycle, Path, Absent, False}
 
--- the step that a leaf of the code is, its keys being plain nodes
-abbrev pub leaf_step : Leaf → Step Node
-leaf_step (Cycle nodes) = cycle (map key_node nodes.now)
-leaf_step (Path nodes) = path (map key_node nodes.now)
-leaf_step (Absent node) = absent (key_node node)
-leaf_step False = false_step
+-- a leaf of the code, with its keys as plain nodes
+abbrev pub plain_leaf : Leaf → PlainLeaf Node
+plain_leaf (Cycle nodes) = cycle (map key_node nodes.now)
+plain_leaf (Path nodes) = path (map key_node nodes.now)
+plain_leaf (Absent node) = absent (key_node node)
+plain_leaf False = false_step
 
 -- each node has an edge to the next one, and the last to the first
-abbrev pub IsCycle : List Known → List Node → Type 0
+abbrev pub IsCycle : List PlainFact → List Node → Type 0
 IsCycle facts [] = ⊥
-IsCycle facts (a ∷ via) = Leads (Knows facts) a via a
+IsCycle facts (a ∷ via) = Leads (HasEdge facts) a via a
 
 -- each node has an edge to the next one, and the pair of the first and the last is denied
-pub record IsPath (facts : List Known) (nodes : List Node) : Type 0 where
+pub record IsPath (facts : List PlainFact) (nodes : List Node) : Type 0 where
   pub first : Node
   pub via : List Node
   pub last : Node
   pub all : nodes ≡ first ∷ (via ++ last ∷ [])
-  pub leads : Leads (Knows facts) first via last
-  pub apart : Contains facts (denied first last)
+  pub leads : Leads (HasEdge facts) first via last
+  pub apart : Contains facts (no_edge first last)
 
 -- the node is denied and present
-abbrev pub IsAbsent : List Known → Node → Type 0
-IsAbsent facts a = Contains facts (missing a) × Contains facts (present a)
+abbrev pub IsAbsent : List PlainFact → Node → Type 0
+IsAbsent facts a = Contains facts (no_node a) × Contains facts (present a)

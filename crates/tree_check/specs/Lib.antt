@@ -1,4 +1,5 @@
 pub mod Facts
-pub mod Opened
+pub mod Sides
+pub mod OpenBranches
 pub mod Leaves
 pub mod Laws

@@ -1,10 +1,13 @@
-ghost use Rattle.std.specs.Prelude.{◌≡◌, ◌↔◌, ◌∷◌, [], List, IsTrue, IfOk, OnOk};
+ghost use Rattle.std.specs.Prelude.{◌≡◌, false, ◌↔◌, ◌∷◌, [], List, IsTrue, IfOk, OnOk};
 ghost use Rattle.pc_common.specs.World.{Node};
+ghost use Rattle.pc_common.specs.Steps.{split as split_step, close as close_step};
 ghost use Rattle.pc_ground.specs.Tree.{Tree};
 ghost use Rattle.pc_ground.specs.Rows.{rows_of};
-ghost use Rattle.pc_ground.specs.Refutes.{Branch, asserted, split as split_step};
-ghost use Rattle.tree_check.specs.Leaves.{leaf_step};
-ghost use Rattle.tree_check.specs.Opened.{Stands, HasStepped};
+ghost use Rattle.pc_ground.specs.declared.version.Version.{Version as AnyVersion};
+ghost use Rattle.pc_ground.specs.declared.version.Version.TheVariants.{One, Two};
+ghost use Rattle.pc_ground.specs.Refutes.{Branch, all_signed, asserted};
+ghost use Rattle.tree_check.specs.Leaves.{plain_leaf};
+ghost use Rattle.tree_check.specs.OpenBranches.{Stands, HasStepped};
 
 use super::children::children;
 use super::closing::closes;
@@ -13,14 +16,16 @@ use super::facts::Facts;
 use super::later::Later;
 use super::leaf::Leaf;
 use super::root::show_size;
+use super::side::Side;
 use pc_common::Memory;
-use pc_ground::Flat;
+use pc_ground::{Flat, Version};
 use std::alloc::Global;
 use std::marker::Model;
 
 /// The branches that the steps of a refutation so far leave open.
 #[derive(Drop)]
 pub struct Branches<'a> {
+    version: Version,
     tree: &'a Flat,
     /// What is known on the first branch.
     facts: Facts,
@@ -30,25 +35,28 @@ pub struct Branches<'a> {
 }
 
 impl<'a> Model for Branches<'a> {
-    ghost use Rattle.std.specs.Prelude.{◌<◌, All, length};
-    ghost use Rattle.tree_check.specs.Opened.{Opened, opened};
+    ghost use Rattle.std.specs.Prelude.{All, length};
+    ghost use Rattle.tree_check.specs.Sides.{IsInside};
+    ghost use Rattle.tree_check.specs.OpenBranches.{OpenBranches, open_branches};
 
-    ghost Value = { Opened };
+    ghost Value = { OpenBranches };
 
-    ghost view = { λ s. opened s.tree.now s.facts s.later.items s.is_open };
+    ghost view = { λ s. open_branches s.version s.tree.now s.facts s.later.items s.is_open };
 
-    ghost invariant = { λ s. All (λ l. l.root < length s.tree.now) s.later.items };
+    ghost invariant = { λ s. All (λ l. IsInside (length s.tree.now) l.side) s.later.items };
 }
 
 impl<'a> Branches<'a> {
-    /// The one branch of no step: what the root of the tree asserts.
+    /// The one branch of no step: what the root of the tree asserts. Steps are read as those of version 1.
     pub fn new(alloc: Global, tree: &'a Flat) -> Result<Branches<'a>, Memory>
-        ensures { IfOk result (λ branches. (t : Tree Node) → tree.now ≡ rows_of t → Stands branches t (asserted t 0 ∷ [])) }
+        ensures { IfOk result (λ branches. (t : Tree Node) → tree.now ≡ rows_of t
+            → Stands branches One t (all_signed false (asserted t 0) ∷ [])) }
     {
         show_size(tree);
         let mut facts = Facts::new(alloc);
-        enter_side(tree, 0, &mut facts)?;
+        enter_side(tree, Side::left(false, 0), &mut facts)?;
         Ok(Branches {
+            version: Version::One,
             tree,
             facts,
             later: Vec::new(alloc),
@@ -56,23 +64,34 @@ impl<'a> Branches<'a> {
         })
     }
 
-    /// Puts the two sides of the Or at `position` in the first branch's place, the left one first. False
-    /// where no branch is open, or no Or is asserted there on the first one. After false, or where memory
-    /// is refused, nothing is said of the branches.
-    pub fn split(&mut self, position: u64) -> Result<bool, Memory>
-        ensures { IfOk result (λ good. (t : Tree Node) (opens : List Branch) → Stands self.old t opens → HasStepped t (split_step position) opens self.new good) }
+    /// Reads the steps from here on as those of version 2. The branches stay the same. Takes no memory.
+    pub fn begin_two(&mut self)
+        ensures { (v : AnyVersion) (t : Tree Node) (opens : List Branch) → Stands self.old v t opens
+            → Stands self.new Two t opens }
+    {
+        self.version = Version::Two;
+    }
+
+    /// Puts the two sides of the Or at `position` in the first branch's place, the left one first. With `negated`
+    /// the position is one under the sign `~`, and an And of the tree is meant. False where no branch is open, or
+    /// no Or is asserted there on the first one. After false, or where memory is refused, nothing is said of the
+    /// branches.
+    pub fn split(&mut self, negated: bool, position: u64) -> Result<bool, Memory>
+        ensures { IfOk result (λ good. (v : AnyVersion) (t : Tree Node) (opens : List Branch)
+            → Stands self.old v t opens → HasStepped v t (split_step negated position) opens self.new good) }
     {
         if !self.is_open {
             return Ok(false);
         }
-        let Some((left, right)) = children(self.tree, &self.facts, position as usize) else {
+        let sides = children(self.tree, &self.facts, negated, position as usize);
+        let Some((left, right)) = sides else {
             return Ok(false);
         };
         self.later.push(Later {
             facts: self.facts.len(),
-            root: right,
+            side: Side::right(self.version, negated, left, right),
         })?;
-        enter_side(self.tree, left, &mut self.facts)?;
+        enter_side(self.tree, Side::left(negated, left), &mut self.facts)?;
         Ok(true)
     }
 
@@ -80,7 +99,8 @@ impl<'a> Branches<'a> {
     /// is open, or the leaf does not close the first one. After false, or where memory is refused, nothing
     /// is said of the branches.
     pub fn close(&mut self, leaf: Leaf<'_>) -> Result<bool, Memory>
-        ensures { IfOk result (λ good. (t : Tree Node) (opens : List Branch) → Stands self.old t opens → HasStepped t (leaf_step leaf.entry) opens self.new good) }
+        ensures { IfOk result (λ good. (v : AnyVersion) (t : Tree Node) (opens : List Branch)
+            → Stands self.old v t opens → HasStepped v t (close_step (plain_leaf leaf.entry)) opens self.new good) }
     {
         if !self.is_open {
             return Ok(false);
@@ -94,14 +114,16 @@ impl<'a> Branches<'a> {
 
     /// Whether no branch is open. Takes no memory.
     pub fn is_closed(&self) -> bool
-        ensures { (t : Tree Node) (opens : List Branch) → Stands self.now t opens → IsTrue result ↔ (opens ≡ []) }
+        ensures { (v : AnyVersion) (t : Tree Node) (opens : List Branch) → Stands self.now v t opens
+            → IsTrue result ↔ (opens ≡ []) }
     {
         !self.is_open
     }
 
     /// Leaves the first branch, and enters the next one that waits.
     fn open_next(&mut self) -> Result<(), Memory>
-        ensures { OnOk result ((t : Tree Node) (ps : Branch) (opens : List Branch) → Stands self.old t (ps ∷ opens) → Stands self.new t opens) }
+        ensures { OnOk result ((v : AnyVersion) (t : Tree Node) (ps : Branch) (opens : List Branch)
+            → Stands self.old v t (ps ∷ opens) → Stands self.new v t opens) }
     {
         match self.later.pop() {
             None => {
@@ -110,7 +132,7 @@ impl<'a> Branches<'a> {
             }
             Some(next) => {
                 self.facts.truncate(next.facts);
-                enter_side(self.tree, next.root, &mut self.facts)
+                enter_side(self.tree, next.side, &mut self.facts)
             }
         }
     }

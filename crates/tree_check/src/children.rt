@@ -4,26 +4,32 @@ ghost use Rattle.pc_ground.specs.Tree.{Tree};
 ghost use Rattle.pc_ground.specs.Rows.{rows_of};
 ghost use Rattle.pc_ground.specs.Refutes.{Branch, IsSplit};
 ghost use Rattle.tree_check.specs.Facts.{HasFacts};
-ghost use Rattle.tree_check.specs.Opened.{AreSides};
+ghost use Rattle.tree_check.specs.OpenBranches.{AreSides};
 
 use super::fact::Fact;
 use super::facts::Facts;
 use pc_ground::{Flat, RowKind};
 
-/// Where the children of the Or at `position` stand, the left one first; None where no Or is asserted there.
-/// One look-up; takes no memory.
-pub(crate) fn children(tree: &Flat, facts: &Facts, position: usize) -> Option<(usize, usize)>
+/// Where the children of the Or at `position` stand, the left one first; None where no Or is asserted there. Under
+/// the sign `~` an And of the tree is an Or. One look-up; takes no memory.
+pub(crate) fn children(
+    tree: &Flat,
+    facts: &Facts,
+    negated: bool,
+    position: usize,
+) -> Option<(usize, usize)>
     ensures inside { IfSome result (λ r. (r.0 < length tree.now) × (r.1 < length tree.now)) }
     ensures sides { (t : Tree Node) (ps : Branch) → tree.now ≡ rows_of t → HasFacts t facts.now ps
-        → MatchOption result ((a b : Tree Node) → IsSplit t ps position a b → ⊥) (λ r. AreSides t ps position r.0 r.1) }
+        → MatchOption result ((a b : Tree Node) → IsSplit t ps negated position a b → ⊥)
+        (λ r. AreSides t ps negated position r.0 r.1) }
 {
     if position >= tree.len() {
         return None;
     }
-    if !facts.has(Fact::At(position)) {
+    if !facts.has(Fact::At(negated, position)) {
         return None;
     }
-    match tree.row(position).kind {
+    match tree.row(position).turned(negated).kind {
         RowKind::Or => {
             let left = position + 1;
             let right = left + tree.row(left).skip;

@@ -5,8 +5,8 @@ ghost use Rattle.pc_ground.specs.Keys.{key_node};
 ghost use Rattle.pc_ground.specs.Tree.{Tree};
 ghost use Rattle.pc_ground.specs.Rows.{rows_of};
 ghost use Rattle.pc_ground.specs.Refutes.{Branch, Closes, literals_of};
-ghost use Rattle.tree_check.specs.Facts.{Knows, HasFacts};
-ghost use Rattle.tree_check.specs.Leaves.{leaf_step, IsCycle, IsPath, IsAbsent};
+ghost use Rattle.tree_check.specs.Facts.{HasEdge, HasFacts};
+ghost use Rattle.tree_check.specs.Leaves.{plain_leaf, IsCycle, IsPath, IsAbsent};
 
 use super::fact::Fact;
 use super::facts::Facts;
@@ -16,7 +16,7 @@ use pc_ground::{Flat, NodeKey};
 
 /// Whether edges lead from a node over the listed ones to another. A look-up for each edge.
 fn are_joined(facts: &Facts, from: NodeKey, via: &[NodeKey], to: NodeKey) -> bool
-    ensures { IsTrue result ↔ Leads (Knows facts.now) (key_node from) (map key_node via.now) (key_node to) }
+    ensures { IsTrue result ↔ Leads (HasEdge facts.now) (key_node from) (map key_node via.now) (key_node to) }
 {
     let mut at = from;
     for next in via {
@@ -59,7 +59,8 @@ fn is_absent(facts: &Facts, node: NodeKey) -> bool
 
 /// Whether the leaf closes the branch of these facts. A look-up for each node or edge; takes no memory.
 pub(crate) fn closes(tree: &Flat, facts: &Facts, leaf: Leaf<'_>) -> bool
-    ensures { (t : Tree Node) (ps : Branch) → tree.now ≡ rows_of t → HasFacts t facts.now ps → IsTrue result ↔ Closes t (literals_of t ps) (leaf_step leaf.entry) }
+    ensures { (t : Tree Node) (ps : Branch) → tree.now ≡ rows_of t → HasFacts t facts.now ps
+        → IsTrue result ↔ Closes t (literals_of t ps) (plain_leaf leaf.entry) }
 {
     match leaf {
         Leaf::Cycle(nodes) => is_cycle(facts, nodes),

@@ -1,15 +1,17 @@
-ghost use Rattle.std.specs.Prelude.{◌≡◌, ◌<◌, ℕ, Some, OnOk, length, take};
+ghost use Rattle.std.specs.Prelude.{◌≡◌, ◌<◌, ◌++◌, OnOk, length, take};
 ghost use Rattle.pc_common.specs.World.{Node};
 ghost use Rattle.pc_ground.specs.Keys.{literal_node, row_node};
 ghost use Rattle.pc_ground.specs.Tree.{Tree};
 ghost use Rattle.pc_ground.specs.Rows.{rows_of};
-ghost use Rattle.pc_ground.specs.Refutes.{Branch, subtree_at, with_side};
-ghost use Rattle.tree_check.specs.Facts.{facts_of_literal, facts_of_kind, HasAdded, reached};
-ghost use Rattle.tree_check.specs.Opened.{IsBranch};
+ghost use Rattle.pc_ground.specs.Refutes.{signed, Branch};
+ghost use Rattle.tree_check.specs.Facts.{facts_of_literal, facts_of_kind, facts_on, HasAdded};
+ghost use Rattle.tree_check.specs.Sides.{positions_at, with_denied, with_all, IsInside};
+ghost use Rattle.tree_check.specs.OpenBranches.{IsBranch};
 
 use super::fact::Fact;
 use super::facts::Facts;
 use super::root::show_size;
+use super::side::Side;
 use pc_common::Memory;
 use pc_ground::{Flat, Literal, NodeKey, Row, RowKind};
 
@@ -31,47 +33,79 @@ fn add_literal(facts: &mut Facts, literal: Literal<NodeKey>) -> Result<(), Memor
 
 /// Adds what is known of an asserted position: what its literal says, and where it has none, that it is
 /// asserted.
-fn add_row(facts: &mut Facts, position: usize, row: Row<NodeKey>) -> Result<(), Memory>
-    ensures { OnOk result (HasAdded facts.old (facts_of_kind position (row_node row).kind) facts.new) }
+fn add_row(
+    facts: &mut Facts,
+    negated: bool,
+    position: usize,
+    row: Row<NodeKey>,
+) -> Result<(), Memory>
+    ensures { OnOk result (HasAdded facts.old
+        (facts_of_kind (signed negated position) (row_node row).kind) facts.new) }
 {
     match row.kind {
         RowKind::Lit(literal) => add_literal(facts, literal),
-        _ => facts.add(Fact::At(position)),
+        _ => facts.add(Fact::At(negated, position)),
     }
 }
 
-/// Adds all that the side at `root` asserts. The walk is a loop, which goes past the whole of an Or.
-fn add_side(tree: &Flat, root: usize, facts: &mut Facts) -> Result<(), Memory>
+/// Adds all that the part at `root` asserts, of the tree or of its negation. The walk is a loop, which goes past
+/// the whole of an Or.
+fn add_part(tree: &Flat, negated: bool, root: usize, facts: &mut Facts) -> Result<(), Memory>
     requires { root < length tree.now }
-    ensures kept { OnOk result (take (length facts.old) facts.new ≡ facts.old) }
-    ensures added { OnOk result ((t : Tree Node) → tree.now ≡ rows_of t → HasAdded facts.old (reached t root) facts.new) }
+    ensures first { OnOk result (take (length facts.old) facts.new ≡ facts.old) }
+    ensures added { OnOk result ((t : Tree Node) → tree.now ≡ rows_of t
+        → HasAdded facts.old (facts_on t (positions_at t negated root)) facts.new) }
 {
     show_size(tree);
     let end = root + tree.row(root).skip;
     let mut at = root;
     while at < end {
-        let row = tree.row(at);
-        add_row(facts, at, row)?;
+        let row = tree.row(at).turned(negated);
+        add_row(facts, negated, at, row)?;
         at += row.stride();
     }
     Ok(())
 }
 
-/// Asserts the side at `root` on a branch. A literal adds what it says. Where any other root is asserted already,
-/// all that its side asserts is, so nothing is walked.
-pub(crate) fn enter_side(tree: &Flat, root: usize, facts: &mut Facts) -> Result<(), Memory>
+/// Asserts the part at `root` on a branch. A literal adds what it says. Where any other root is asserted already,
+/// all that its part asserts is, so nothing is walked.
+fn enter_part(tree: &Flat, negated: bool, root: usize, facts: &mut Facts) -> Result<(), Memory>
     requires { root < length tree.now }
-    ensures kept { OnOk result (take (length facts.old) facts.new ≡ facts.old) }
-    ensures entered { OnOk result ((t : Tree Node) (ps : Branch) (s : Tree Node) → tree.now ≡ rows_of t → subtree_at t root ≡ Some s
-        → IsBranch t facts.old ps → IsBranch t facts.new (with_side ps s root)) }
+    ensures first { OnOk result (take (length facts.old) facts.new ≡ facts.old) }
+    ensures entered { OnOk result ((t : Tree Node) (ps : Branch) → tree.now ≡ rows_of t → IsBranch t facts.old ps
+        → IsBranch t facts.new (ps ++ positions_at t negated root)) }
 {
-    match tree.row(root).kind {
+    match tree.row(root).turned(negated).kind {
         RowKind::Lit(literal) => add_literal(facts, literal),
         _ => {
-            if facts.has(Fact::At(root)) {
+            if facts.has(Fact::At(negated, root)) {
                 return Ok(());
             }
-            add_side(tree, root, facts)
+            add_part(tree, negated, root, facts)
         }
     }
+}
+
+/// Asserts the negation of the side that was refuted before, where there is one.
+fn enter_denied(tree: &Flat, side: Side, facts: &mut Facts) -> Result<(), Memory>
+    requires { IsInside (length tree.now) side }
+    ensures first { OnOk result (take (length facts.old) facts.new ≡ facts.old) }
+    ensures entered { OnOk result ((t : Tree Node) (ps : Branch) → tree.now ≡ rows_of t → IsBranch t facts.old ps
+        → IsBranch t facts.new (with_denied t ps side.negated side.denied)) }
+{
+    match side.denied {
+        None => Ok(()),
+        Some(root) => enter_part(tree, !side.negated, root, facts),
+    }
+}
+
+/// Asserts a side on a branch, with the negation of the side that was refuted before it.
+pub(crate) fn enter_side(tree: &Flat, side: Side, facts: &mut Facts) -> Result<(), Memory>
+    requires { IsInside (length tree.now) side }
+    ensures first { OnOk result (take (length facts.old) facts.new ≡ facts.old) }
+    ensures entered { OnOk result ((t : Tree Node) (ps : Branch) → tree.now ≡ rows_of t → IsBranch t facts.old ps
+        → IsBranch t facts.new (with_all t ps side)) }
+{
+    enter_denied(tree, side, facts)?;
+    enter_part(tree, side.negated, side.root, facts)
 }

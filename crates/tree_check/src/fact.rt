@@ -3,8 +3,8 @@ use pc_ground::NodeKey;
 /// What is known on a branch: which positions without a literal are asserted, and what literals say.
 #[derive(Clone, Copy, PartialEq, Eq, Hash)]
 pub(crate) enum Fact {
-    /// The position is asserted, and has no literal.
-    At(usize),
+    /// The position is asserted, under the sign `~` where the flag is set, and has no literal.
+    At(bool, usize),
     /// The first node happens before the second.
     Edge(NodeKey, NodeKey),
     /// It is denied that the first node happens before the second.

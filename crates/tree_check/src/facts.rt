@@ -1,5 +1,5 @@
 ghost use Rattle.std.specs.Prelude.{◌≡◌, ◌↔◌, [], ◌∷◌, IsTrue, OnOk, Contains, length, take};
-ghost use Rattle.tree_check.specs.Facts.{known, HasAdded};
+ghost use Rattle.tree_check.specs.Facts.{plain_fact, HasAdded};
 
 use super::fact::Fact;
 use indexmap::IndexSet;
@@ -15,11 +15,11 @@ pub(crate) struct Facts {
 
 impl Model for Facts {
     ghost use Rattle.std.specs.Prelude.{List, map};
-    ghost use Rattle.tree_check.specs.Facts.{Known, known};
+    ghost use Rattle.tree_check.specs.Facts.{PlainFact, plain_fact};
 
-    ghost Value = { List Known };
+    ghost Value = { List PlainFact };
 
-    ghost view = { λ s. map known s.set.keys };
+    ghost view = { λ s. map plain_fact s.set.keys };
 }
 
 impl Facts {
@@ -41,14 +41,14 @@ impl Facts {
 
     /// Whether this is one of the facts. One look-up; takes no memory.
     pub(crate) fn has(&self, fact: Fact) -> bool
-        ensures { IsTrue result ↔ Contains self.now (known fact) }
+        ensures { IsTrue result ↔ Contains self.now (plain_fact fact) }
     {
         self.set.contains(&fact)
     }
 
-    /// Adds a fact behind the others, where it is none of them.
+    /// Adds a fact after the others, if it is none of them.
     pub(crate) fn add(&mut self, fact: Fact) -> Result<(), Memory>
-        ensures { OnOk result (HasAdded self.old (known fact ∷ []) self.new) }
+        ensures { OnOk result (HasAdded self.old (plain_fact fact ∷ []) self.new) }
     {
         self.set.insert(fact)?;
         Ok(())

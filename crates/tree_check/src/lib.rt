@@ -4,6 +4,9 @@
 //! Or in the first branch's place, or closes that branch by a leaf; the answer says whether the step's
 //! condition holds there. It stands on the definition of a refutation and on nothing of the search.
 //!
+//! Refutations of version 1 and of version 2 are followed by one set of functions: a position under the sign
+//! `~` is a position of the negated tree, whose rows are the tree's, turned one by one as they are read.
+//!
 //! Its memory is that of the tree, and one entry for each branch that waits, however many steps there are.
 #![tactic(auto)]
 
@@ -17,6 +20,7 @@ mod later;
 mod laws;
 mod leaf;
 mod root;
+mod side;
 
 pub use branches::Branches;
 pub use laws::{one_list_is_left, runs_are_joined};

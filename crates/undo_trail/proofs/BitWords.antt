@@ -107,3 +107,8 @@ has_joined t u words dst src joined others q d dh =
           let no : q ≢ dst = elim apart [ inl less ↦ (λ e. absurd (omega arith)) | inr more ↦ (λ e. absurd (omega arith)) ] in
           rw (ne_eqb q dst no) (ap (λ x. bit_in x (d % 64)) (others (q * words + d / 64) out))
     ]
+
+-- a word that is 0 has none of its columns
+pub column-clear : (ws : List ℕ) (c : ℕ) → get_or ws (c / 64) 0 ≡ 0 → column ws c ≡ false
+unfolding column
+column-clear ws c zero_there = rw zero_there (rw bit_at-zero refl)

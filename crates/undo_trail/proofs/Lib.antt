@@ -1,7 +1,7 @@
 pub mod OnResults
 pub mod ExtendsLaws
-pub mod Backwards
-pub mod Growing
+pub mod Back
+pub mod Grows
 pub mod BitWords
-pub mod Meets
-pub mod Row
+pub mod MeetsWords
+pub mod OrInto

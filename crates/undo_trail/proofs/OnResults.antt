@@ -1,10 +1,8 @@
--- A fact for `Ok` leads to another.
-use Rattle.std.proofs.Common.{Result, Ok, Err, OnOk}
+-- What a result that can't be an error is.
+use Rattle.std.proofs.Common.{◌≡◌, ◌≤◌, ◌<◌, ℕ, Result, Ok, Err, OnErr, is_ok, if◌then◌else◌, arith}
 
-pub on_ok : {T E P Q : Type 0} (r : Result T E) → OnOk r P → (P → Q) → OnOk r Q
-on_ok (Ok x) p f = f p
-on_ok (Err e) p f = tt
-
-pub on_ok_both : {T E P Q R : Type 0} (r : Result T E) → OnOk r P → OnOk r Q → (P → Q → R) → OnOk r R
-on_ok_both (Ok x) p q f = f p q
-on_ok_both (Err e) p q f = tt
+-- a push into a list with room
+pub pushed : {T E X : Type 0} (r : Result T E) (len capacity : ℕ) (xs ys zs : X) → len < capacity → OnErr r (capacity ≤ len)
+    → zs ≡ (if is_ok r then xs else ys) → zs ≡ xs
+pushed (Ok x) len capacity xs ys zs room full e = e
+pushed (Err x) len capacity xs ys zs room full e = absurd (omega arith)

@@ -1,3 +1,3 @@
 pub mod Bits
-pub mod Kept
+pub mod BitTable
 pub mod Trail

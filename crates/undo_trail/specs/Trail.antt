@@ -1,7 +1,7 @@
 -- A trail of changes: what each changed word held before, oldest first.
 use Rattle.std.specs.Prelude.{ℕ, List, [], ◌∷◌, ◌≡◌, ◌≢◌, ◌<◌, length, replicate, slice_set, slice_index, All}
 use Rattle.undo_trail.specs.declared.trail.Change.{Change}
-use Rattle.undo_trail.specs.Kept.{Kept, Extends}
+use Rattle.undo_trail.specs.BitTable.{BitTable, Extends}
 
 -- a table with the changes taken back, newest first
 abbrev pub back : List Change → List ℕ → List ℕ
@@ -18,8 +18,8 @@ abbrev pub IsChanging : List Change → List ℕ → Type 0
 IsChanging [] t = Unit {0}
 IsChanging (c ∷ cs) t = (c.old ≢ slice_index (back cs t) c.place) × IsChanging cs t
 
-abbrev pub kept : ℕ → ℕ → List Change → List ℕ → Kept
-kept rows words trail t = record { rows = rows; words = words; past = past trail t; now = t }
+abbrev pub table_of : ℕ → ℕ → ℕ → List Change → List ℕ → BitTable
+table_of rows words room trail t = record { rows = rows; words = words; past = past trail t; now = t; room = room }
 
 -- what the trail of a table of so many words keeps
 pub record IsTrail (size : ℕ) (trail : List Change) (t : List ℕ) : Type 0 where
@@ -32,4 +32,4 @@ pub record IsTrail (size : ℕ) (trail : List Change) (t : List ℕ) : Type 0 wh
 pub record Grows (old : List Change) (t : List ℕ) (new : List Change) (u : List ℕ) (n : ℕ) : Type 0 where
   pub same_size : length u ≡ length t
   pub keeps : (size : ℕ) → IsTrail size old t → IsTrail size new u
-  pub extends : (rows words : ℕ) → Extends (kept rows words old t) (kept rows words new u) n
+  pub extends : (rows words room left : ℕ) → Extends (table_of rows words room old t) (table_of rows words left new u) n

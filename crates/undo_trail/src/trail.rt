@@ -1,8 +1,7 @@
-ghost use Rattle.std.specs.Prelude.{◌≡◌, ◌≢◌, ◌<◌, ◌≤◌, ◌+◌, ◌-◌, ◌⊎◌, ℕ, length, drop, vec_len, vec_capacity, slice_index, slice_set, bit_or, All, OnOk, OnErr, IfOk, MatchBool};
+ghost use Rattle.std.specs.Prelude.{◌≡◌, ◌≢◌, ◌<◌, ◌≤◌, ◌+◌, ◌-◌, ◌⊎◌, ℕ, length, drop, vec_len, vec_capacity, slice_index, slice_set, bit_or, All, MatchBool};
 ghost use Rattle.undo_trail.specs.Trail.{back, Grows};
 
 use super::steps::Steps;
-use pc_common::Memory;
 use std::sync::ledger::Ledger;
 
 /// A word that was changed: its place in the table and what it held.
@@ -12,56 +11,52 @@ pub struct Change {
     pub old: u64,
 }
 
-/// Makes `word` stand at `place`, with the change behind the trail. Answers whether another word stood there.
-pub fn put(
-    table: &mut [u64],
-    trail: &mut Vec<Change>,
-    place: usize,
-    word: u64,
-) -> Result<bool, Memory>
-    requires { place < length table.old }
-    ensures set { OnOk result (table.new ≡ slice_set table.old place word) }
-    ensures grows { OnOk result (Grows trail.old.items table.old trail.new.items table.new 1) }
-    ensures changed { IfOk result (λ b. MatchBool b (table.new ≢ table.old) ((table.new ≡ table.old) × (trail.new.items ≡ trail.old.items))) }
-    ensures err { OnErr result ((table.new ≡ table.old) × (trail.new.items ≡ trail.old.items)) }
-    ensures room { vec_capacity trail.old ≤ vec_capacity trail.new }
+/// Makes `word` stand at `place`, with the change behind the trail, which has room for it. Answers whether
+/// another word stood there.
+pub fn put(table: &mut [u64], trail: &mut Vec<Change>, place: usize, word: u64) -> bool
+    requires inside { place < length table.old }
+    requires room { vec_len trail.old < vec_capacity trail.old }
+    ensures set { table.new ≡ slice_set table.old place word }
+    ensures grows { Grows trail.old.items table.old trail.new.items table.new 1 }
+    ensures changed { MatchBool result (table.new ≢ table.old) ((table.new ≡ table.old) × (trail.new.items ≡ trail.old.items)) }
+    ensures capacity { vec_capacity trail.old ≤ vec_capacity trail.new }
     ensures len { vec_len trail.new ≤ vec_len trail.old + 1 }
-    ensures full { OnErr result (vec_capacity trail.old ≤ vec_len trail.old) }
 {
     let old = table[place];
     if old == word {
-        return Ok(false);
+        return false;
     }
-    trail.push(Change { place, old })?;
+    trail.push(Change { place, old }).unwrap();
     table[place] = word;
-    Ok(true)
+    true
 }
 
-/// Puts the bits of the `words` words at `from` into those at `to`. The trail's room for all of them is
-/// taken first. Answers whether a word changed.
+/// Puts the bits of the `words` words at `from` into those at `to`. The trail has room for all of them.
+/// Answers whether a word changed.
 pub fn or_into(
     table: &mut [u64],
     trail: &mut Vec<Change>,
     to: usize,
     from: usize,
     words: usize,
-) -> Result<bool, Memory>
+) -> bool
     requires to_in { to + words ≤ length table.old }
     requires from_in { from + words ≤ length table.old }
     requires apart { (from ≡ to) ⊎ ((from + words ≤ to) ⊎ (to + words ≤ from)) }
-    ensures joined { OnOk result ((k : ℕ) → k < words → slice_index table.new (to + k) ≡ bit_or (slice_index table.old (to + k)) (slice_index table.old (from + k))) }
-    ensures others { OnOk result ((p : ℕ) → (p < to) ⊎ (to + words ≤ p) → slice_index table.new p ≡ slice_index table.old p) }
-    ensures grows { OnOk result (Grows trail.old.items table.old trail.new.items table.new words) }
-    ensures changed { IfOk result (λ b. MatchBool b (table.new ≢ table.old) ((table.new ≡ table.old) × (trail.new.items ≡ trail.old.items))) }
-    ensures err { OnErr result ((table.new ≡ table.old) × (trail.new.items ≡ trail.old.items)) }
+    requires room { words ≤ vec_capacity trail.old - vec_len trail.old }
+    ensures joined { (k : ℕ) → k < words → slice_index table.new (to + k) ≡ bit_or (slice_index table.old (to + k)) (slice_index table.old (from + k)) }
+    ensures others { (p : ℕ) → (p < to) ⊎ (to + words ≤ p) → slice_index table.new p ≡ slice_index table.old p }
+    ensures grows { Grows trail.old.items table.old trail.new.items table.new words }
+    ensures changed { MatchBool result (table.new ≢ table.old) ((table.new ≡ table.old) × (trail.new.items ≡ trail.old.items)) }
+    ensures capacity { vec_capacity trail.old ≤ vec_capacity trail.new }
+    ensures len { vec_len trail.new ≤ vec_len trail.old + words }
 {
-    trail.reserve(words)?;
     let mut changed = false;
     for k in 0..words {
         let word = table[to + k] | table[from + k];
-        changed |= put(table, trail, to + k, word)?;
+        changed |= put(table, trail, to + k, word);
     }
-    Ok(changed)
+    changed
 }
 
 /// Puts back the words that the changes from `keep` on took away, the newest first.
@@ -69,7 +64,7 @@ pub fn restore<L: Ledger>(table: &mut [u64], trail: &[Change], keep: usize, step
     requires live { keep ≤ length trail.now }
     requires inside { All (λ c. c.place < length table.old) trail.now }
     ensures table { table.new ≡ back (drop keep trail.now) table.old }
-    ensures steps { steps.new ≡ steps.old + (length trail.now - keep) }
+    ensures cost { steps.new ≡ steps.old + (length trail.now - keep) }
 {
     let mut at = trail.len();
     while at > keep {

@@ -1,7 +1,7 @@
 mod Names
 mod Digits
 pub mod Pieces
-pub mod Spelling
+pub mod SpellsLaws
 pub mod Order
 pub mod Totality
 mod Spans

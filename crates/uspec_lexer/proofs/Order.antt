@@ -5,7 +5,7 @@ use Rattle.std.specs.Prelude.{⊤, slice_get, slice_range}
 use Rattle.std.proofs.lemmas.List.{length-take-le}
 use Rattle.uspec_lexer.specs.Token.{Token}
 use Rattle.uspec_lexer.specs.Piece.{Form, blank, comment, token, IsPiece}
-use Rattle.uspec_lexer.specs.Spells.{Piece, Joined, told, tokens_of, Spells}
+use Rattle.uspec_lexer.specs.Spells.{Piece, Joined, tokens_of_piece, tokens_of, Spells}
 use Rattle.uspec_lexer.specs.Laws.{IsTokenOf}
 use Rattle.uspec_lexer.proofs.Pieces.{piece-rises, piece-within}
 
@@ -23,7 +23,7 @@ length-slice_range bytes a b le within =
     let fits : b - a ≤ length (drop a bytes) = omega (arith, length-drop a bytes) in
     omega (arith, length-take-le (b - a) (drop a bytes) fits)
 
-told_first : (bytes : List ℕ) (form : Form) (a b : ℕ) (ts : List Token) → IsPiece bytes form a b → AreTokensFrom bytes b ts → AreTokensFrom bytes a (told bytes form a b ++ ts)
+told_first : (bytes : List ℕ) (form : Form) (a b : ℕ) (ts : List Token) → IsPiece bytes form a b → AreTokensFrom bytes b ts → AreTokensFrom bytes a (tokens_of_piece bytes form a b ++ ts)
 told_first bytes blank a b ts p from = from_earlier bytes a b ts (omega (arith, piece-rises bytes blank a b p)) from
 told_first bytes comment a b ts p from = from_earlier bytes a b ts (omega (arith, piece-rises bytes comment a b p)) from
 told_first bytes (token kind) a b ts p from =
@@ -72,7 +72,7 @@ pub token-within : {bytes : List ℕ} {t : Token} → IsTokenOf bytes t → (0 <
 token-within {bytes} {t} is =
     (omega (arith, piece-rises bytes (token t.kind) t.at (t.at + length t.piece) is.stands), piece-within bytes (token t.kind) t.at (t.at + length t.piece) is.stands)
 
-told_few : (bytes : List ℕ) (form : Form) (a b : ℕ) → length (told bytes form a b) ≤ 1
+told_few : (bytes : List ℕ) (form : Form) (a b : ℕ) → length (tokens_of_piece bytes form a b) ≤ 1
 told_few bytes blank a b = omega arith
 told_few bytes comment a b = omega arith
 told_few bytes (token kind) a b = omega arith
@@ -80,7 +80,7 @@ told_few bytes (token kind) a b = omega arith
 tokens_of-few : (bytes : List ℕ) (a z : ℕ) (ps : List Piece) → Joined bytes a ps z → a + length (tokens_of bytes a ps) ≤ z
 tokens_of-few bytes a z [] e = omega arith
 tokens_of-few bytes a z (p ∷ ps) j =
-    omega (arith, length-append (told bytes p.form a p.end) (tokens_of bytes p.end ps), told_few bytes p.form a p.end, piece-rises bytes p.form a p.end j.0, tokens_of-few bytes p.end z ps j.1)
+    omega (arith, length-append (tokens_of_piece bytes p.form a p.end) (tokens_of bytes p.end ps), told_few bytes p.form a p.end, piece-rises bytes p.form a p.end j.0, tokens_of-few bytes p.end z ps j.1)
 
 -- there are no more tokens than bytes
 pub spells-length : {bytes : List ℕ} {ts : List Token} → Spells bytes ts → length ts ≤ length bytes

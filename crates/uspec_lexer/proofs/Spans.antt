@@ -5,14 +5,14 @@ use Rattle.std.proofs.lemmas.List.{append-nil, map-append}
 use Rattle.std.proofs.lemmas.List.Elements.{All-push}
 use Rattle.uspec_lexer.specs.Token.{Token as PlainToken}
 use Rattle.uspec_lexer.specs.Span.{token_at, kind_of, IsWithin}
-use Rattle.uspec_lexer.specs.Scan.{plain_form, kept_of}
-use Rattle.uspec_lexer.specs.Spells.{told, SpellsBetween}
+use Rattle.uspec_lexer.specs.Scan.{plain_form, spans_of_form}
+use Rattle.uspec_lexer.specs.Spells.{tokens_of_piece, SpellsBetween}
 use Rattle.uspec_lexer.specs.Piece.{IsPiece}
 use Rattle.uspec_lexer.specs.declared.scan.Form.{Form}
 use Rattle.uspec_lexer.specs.declared.scan.Form.TheVariants.{Blank, Comment, Token}
 use Rattle.uspec_lexer.specs.declared.list.Span.{Span}
 use Rattle.uspec_lexer.proofs.Pieces.{piece-rises, piece-within}
-use Rattle.uspec_lexer.proofs.Spelling.{spells-push}
+use Rattle.uspec_lexer.proofs.SpellsLaws.{spells-push}
 
 pub record LexedTo (bytes : List ℕ) (a : ℕ) (spans : List Span) : Type 0 where
   pub within : a ≤ length bytes
@@ -20,34 +20,34 @@ pub record LexedTo (bytes : List ℕ) (a : ℕ) (spans : List Span) : Type 0 whe
   pub spans_within : All (IsWithin bytes) spans
   pub spelled : SpellsBetween bytes 0 a (map (token_at bytes) spans)
 
-kept-told : (bytes : List ℕ) (form : Form) (a b : ℕ) → a ≤ b → map (token_at bytes) (kept_of form a b) ≡ told bytes (plain_form form) a b
-kept-told bytes Blank a b le = refl
-kept-told bytes Comment a b le = refl
-kept-told bytes (Token kind) a b le =
+spans_of_piece-tokens_of_piece : (bytes : List ℕ) (form : Form) (a b : ℕ) → a ≤ b → map (token_at bytes) (spans_of_form form a b) ≡ tokens_of_piece bytes (plain_form form) a b
+spans_of_piece-tokens_of_piece bytes Blank a b le = refl
+spans_of_piece-tokens_of_piece bytes Comment a b le = refl
+spans_of_piece-tokens_of_piece bytes (Token kind) a b le =
     let whole : a + (b - a) ≡ b = omega arith in
     let at_end : ℕ → List PlainToken = λ e. record { kind = kind_of kind; at = a; piece = slice_range bytes a e } ∷ [] in
     ap at_end whole
 
-kept-few : (form : Form) (a b : ℕ) → length (kept_of form a b) ≤ 1
-kept-few Blank a b = omega arith
-kept-few Comment a b = omega arith
-kept-few (Token kind) a b = omega arith
+spans_of_piece-few : (form : Form) (a b : ℕ) → length (spans_of_form form a b) ≤ 1
+spans_of_piece-few Blank a b = omega arith
+spans_of_piece-few Comment a b = omega arith
+spans_of_piece-few (Token kind) a b = omega arith
 
-kept-within : (bytes : List ℕ) (form : Form) (spans : List Span) (a b : ℕ) → a ≤ b → b ≤ length bytes → All (IsWithin bytes) spans → All (IsWithin bytes) (spans ++ kept_of form a b)
-kept-within bytes Blank spans a b le within all = subst (All (IsWithin bytes)) (sym (append-nil spans)) all
-kept-within bytes Comment spans a b le within all = subst (All (IsWithin bytes)) (sym (append-nil spans)) all
-kept-within bytes (Token kind) spans a b le within all = All-push (IsWithin bytes) spans _ all (omega arith)
+spans_of_piece-within : (bytes : List ℕ) (form : Form) (spans : List Span) (a b : ℕ) → a ≤ b → b ≤ length bytes → All (IsWithin bytes) spans → All (IsWithin bytes) (spans ++ spans_of_form form a b)
+spans_of_piece-within bytes Blank spans a b le within all = subst (All (IsWithin bytes)) (sym (append-nil spans)) all
+spans_of_piece-within bytes Comment spans a b le within all = subst (All (IsWithin bytes)) (sym (append-nil spans)) all
+spans_of_piece-within bytes (Token kind) spans a b le within all = All-push (IsWithin bytes) spans _ all (omega arith)
 
 -- the piece at a place takes the loop to its end
-pub lexed_to-next : (bytes : List ℕ) (form : Form) (a b : ℕ) (spans spans' : List Span) → LexedTo bytes a spans → IsPiece bytes (plain_form form) a b → spans' ≡ spans ++ kept_of form a b → LexedTo bytes b spans'
+pub lexed_to-next : (bytes : List ℕ) (form : Form) (a b : ℕ) (spans spans' : List Span) → LexedTo bytes a spans → IsPiece bytes (plain_form form) a b → spans' ≡ spans ++ spans_of_form form a b → LexedTo bytes b spans'
 lexed_to-next bytes form a b spans spans' before p new =
     let rises : a ≤ b = omega (arith, piece-rises bytes (plain_form form) a b p) in
     let within = piece-within bytes (plain_form form) a b p in
-    let same : map (token_at bytes) spans ++ told bytes (plain_form form) a b ≡ map (token_at bytes) (spans ++ kept_of form a b) =
-    ap (λ ts. map (token_at bytes) spans ++ ts) (sym (kept-told bytes form a b rises)) ∙ sym (map-append (token_at bytes) spans (kept_of form a b)) in
+    let same : map (token_at bytes) spans ++ tokens_of_piece bytes (plain_form form) a b ≡ map (token_at bytes) (spans ++ spans_of_form form a b) =
+    ap (λ ts. map (token_at bytes) spans ++ ts) (sym (spans_of_piece-tokens_of_piece bytes form a b rises)) ∙ sym (map-append (token_at bytes) spans (spans_of_form form a b)) in
     subst (LexedTo bytes b) (sym new) (record {
       within = within;
-      few = omega (arith, before.few, piece-rises bytes (plain_form form) a b p, length-append spans (kept_of form a b), kept-few form a b);
-      spans_within = kept-within bytes form spans a b rises within before.spans_within;
+      few = omega (arith, before.few, piece-rises bytes (plain_form form) a b p, length-append spans (spans_of_form form a b), spans_of_piece-few form a b);
+      spans_within = spans_of_piece-within bytes form spans a b rises within before.spans_within;
       spelled = subst (SpellsBetween bytes 0 b) same (spells-push bytes 0 a b (plain_form form) (map (token_at bytes) spans) before.spelled p);
     })

@@ -8,7 +8,7 @@ use Rattle.uspec_lexer.specs.Piece.{Form, blank, comment, token, IsRun, OpensLin
 use Rattle.uspec_lexer.specs.Spells.{Piece, Joined, tokens_of, Spells, IsLexicalFault}
 use Rattle.uspec_lexer.proofs.Names.{letter_named}
 use Rattle.uspec_lexer.proofs.Pieces.{no_form, only_number, only_text, only_block, run-unique, piece-rises, piece-within, inside_text}
-use Rattle.uspec_lexer.proofs.Spelling.{joined-push}
+use Rattle.uspec_lexer.proofs.SpellsLaws.{joined-push}
 
 abbrev Decided : Type 0 → Type 0
 Decided P = P ⊎ (¬ P)

@@ -26,10 +26,10 @@ IsPieceAt bytes a None = NoPiece bytes a
 IsPieceAt bytes a (Some p) = IsPiece bytes (plain_form p.form) a p.end
 
 -- the span that is kept of a piece from a to b: that of a token
-abbrev pub kept_of : Form → ℕ → ℕ → List Span
-kept_of Blank a b = []
-kept_of Comment a b = []
-kept_of (Token kind) a b = record { kind = kind; at = a; len = b - a } ∷ []
+abbrev pub spans_of_form : Form → ℕ → ℕ → List Span
+spans_of_form Blank a b = []
+spans_of_form Comment a b = []
+spans_of_form (Token kind) a b = record { kind = kind; at = a; len = b - a } ∷ []
 
-abbrev pub kept : ℕ → Piece → List Span
-kept a p = kept_of p.form a p.end
+abbrev pub spans_of_piece : ℕ → Piece → List Span
+spans_of_piece a p = spans_of_form p.form a p.end

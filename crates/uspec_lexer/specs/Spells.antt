@@ -14,15 +14,15 @@ Joined bytes a [] z = a ≡ z
 Joined bytes a (p ∷ ps) z = IsPiece bytes p.form a p.end × Joined bytes p.end ps z
 
 -- the token that a piece from a to b is, if it is one
-abbrev pub told : List ℕ → Form → ℕ → ℕ → List Token
-told bytes blank a b = []
-told bytes comment a b = []
-told bytes (token kind) a b = record { kind = kind; at = a; piece = slice_range bytes a b } ∷ []
+abbrev pub tokens_of_piece : List ℕ → Form → ℕ → ℕ → List Token
+tokens_of_piece bytes blank a b = []
+tokens_of_piece bytes comment a b = []
+tokens_of_piece bytes (token kind) a b = record { kind = kind; at = a; piece = slice_range bytes a b } ∷ []
 
 -- the tokens among pieces of which the first begins at a
 abbrev pub tokens_of : List ℕ → ℕ → List Piece → List Token
 tokens_of bytes a [] = []
-tokens_of bytes a (p ∷ ps) = told bytes p.form a p.end ++ tokens_of bytes p.end ps
+tokens_of bytes a (p ∷ ps) = tokens_of_piece bytes p.form a p.end ++ tokens_of bytes p.end ps
 
 -- from a to z stand pieces whose tokens are these
 pub record SpellsBetween (bytes : List ℕ) (a z : ℕ) (ts : List Token) : Type 0 where

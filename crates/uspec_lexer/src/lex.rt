@@ -1,6 +1,6 @@
 ghost use Rattle.std.specs.Prelude.{◌≡◌, ◌^◌, ◌<◌, ◌≤◌, ◌++◌, length, IfOk, IfErr, OnOk};
 ghost use Rattle.uspec_lexer.specs.Spells.{Spells};
-ghost use Rattle.uspec_lexer.specs.Scan.{kept};
+ghost use Rattle.uspec_lexer.specs.Scan.{spans_of_piece};
 ghost use Rattle.uspec_lexer.specs.Fault.{IsRefusal};
 
 use super::fault::LexFault;
@@ -34,7 +34,7 @@ pub fn tokens<'a>(alloc: Global, bytes: &'a [u8]) -> Result<Tokens<'a>, LexFault
 fn keep(spans: &mut Vec<Span>, at: usize, piece: Piece) -> Result<(), Memory>
     requires rises { at ≤ piece.end }
     requires few { piece.end < 2 ^ 32 }
-    ensures { OnOk result (spans.new.items ≡ spans.old.items ++ kept at piece) }
+    ensures { OnOk result (spans.new.items ≡ spans.old.items ++ spans_of_piece at piece) }
 {
     if let Form::Token(kind) = piece.form {
         spans.push(Span {

@@ -57,7 +57,8 @@ fn opens_block(bytes: &[u8], at: usize) -> bool
 #[tactic(auto, using(crate::proofs::Digits::digits_so_far))]
 fn value_of(digits: &[u8]) -> Option<u64>
     requires { EachIndex digits.now (λ k. IsDigit (slice_index digits.now k)) }
-    ensures { MatchOption result (18446744073709551615 < number_value digits.now) (λ value. value ≡ number_value digits.now) }
+    ensures { MatchOption result (18446744073709551615 < number_value digits.now)
+        (λ value. value ≡ number_value digits.now) }
 {
     let mut value: u64 = 0;
     for digit in digits {

@@ -9,7 +9,9 @@ use Rattle.pc_syntax.specs.declared.term.NodeTerm.{NodeTerm}
 use Rattle.pc_syntax.specs.declared.term.EdgeTerm.{EdgeTerm}
 use Rattle.pc_syntax.specs.Written.{Written, edges_, nodes_, axiom_, macro_}
 use Rattle.uspec_parser.specs.Terminals.{Lexeme, plain, placed, quoted}
-use Rattle.uspec_parser.specs.Operands.{Connective, conjoins, disjoins, implies, Operands, joined, grouped}
+use Rattle.uspec_parser.specs.declared.operands.Connective.{Connective}
+use Rattle.uspec_parser.specs.declared.operands.Connective.TheVariants.{And as conjoins, Or as disjoins, Implies as implies}
+use Rattle.uspec_parser.specs.Operands.{Operands, chain, formula_of}
 use Rattle.uspec_parser.specs.Syntax.{spelled_arg, spelled_node, Labels, unlabelled, labelled, coloured, spelled_labels, Edge, spelled_edge, Listing, empty, some, spelled_others, spelled_elements, elements, one_edge, one_node, edge_list, node_list, expand, predicate, spelled_atom, meant_atom, Quantifier, spelled_sort, spelled_connective, Formula, last, last_wide, more, Wide, binding, negated_wide, spelled_formula, spelled_operand, spelled_wide, meant_operands, meant_operand, meant_wide, quantified}
 use Rattle.uspec_parser.specs.Syntax.{Atom as AtomText, Operand as OperandText, spelled_quantifier_word, Item as ItemText, stage as stage_text, axiom_item, macro, spelled_model, stages_of, items_of}
 use Rattle.uspec_parser.specs.Syntax.Operand.{atom as u_atom, bracketed as u_bracketed, negated as u_negated}
@@ -124,7 +126,7 @@ connective_ends disjoins = refl
 connective_ends implies = refl
 
 tail_of_row : (op : Connective) (xs rest : List Lexeme) (w : Written) (l : Operands) → connective (next xs) ≡ Some op → Row (behind xs) l rest
-    → Tail xs w (joined w op l) rest
+    → Tail xs w (chain w op l) rest
 tail_of_row op xs rest w l e (Row.row a t) = Tail.goes_on op e a t
 
 sort_is : (s : Sort) → sort_by (spelled_sort s) ≡ s
@@ -134,13 +136,13 @@ sort_is core = refl
 binding_of : (q : Quantifier) (xs rest : List Lexeme) (l : Operands) → Row xs l rest
     → (u : Bool) → u ≡ q.universal
     → Operand (placed (spelled_quantifier_word u) q.at ∷ plain (spelled_sort q.sort) ∷ quoted q.bound ∷ plain Comma ∷ xs)
-    (quantified q.universal q.at q.sort q.bound.name (grouped l)) rest
+    (quantified q.universal q.at q.sort q.bound.name (formula_of l)) rest
 binding_of q xs rest l body true e =
-    let same : quantified true q.at (sort_by (spelled_sort q.sort)) q.bound.name (grouped l) ≡ quantified q.universal q.at q.sort q.bound.name (grouped l) =
+    let same : quantified true q.at (sort_by (spelled_sort q.sort)) q.bound.name (formula_of l) ≡ quantified q.universal q.at q.sort q.bound.name (formula_of l) =
     let s = sort_is q.sort in cc in
     subst (λ (w : Written). Operand (placed Forall q.at ∷ plain (spelled_sort q.sort) ∷ quoted q.bound ∷ plain Comma ∷ xs) w rest) same (Operand.bound true refl body)
 binding_of q xs rest l body false e =
-    let same : quantified false q.at (sort_by (spelled_sort q.sort)) q.bound.name (grouped l) ≡ quantified q.universal q.at q.sort q.bound.name (grouped l) =
+    let same : quantified false q.at (sort_by (spelled_sort q.sort)) q.bound.name (formula_of l) ≡ quantified q.universal q.at q.sort q.bound.name (formula_of l) =
     let s = sort_is q.sort in cc in
     subst (λ (w : Written). Operand (placed Exists q.at ∷ plain (spelled_sort q.sort) ∷ quoted q.bound ∷ plain Comma ∷ xs) w rest) same (Operand.bound false refl body)
 
@@ -162,7 +164,7 @@ mutual
   row_of (last_wide w) rest h = Row.row (wide_of w rest h) (Tail.ends h.1)
   row_of (more u op f) rest h =
       let after = plain (spelled_connective op) ∷ (spelled_formula f ++ rest) in
-      subst (λ (xs : List Lexeme). Row xs (joined (meant_operand u) op (meant_operands f)) rest)
+      subst (λ (xs : List Lexeme). Row xs (chain (meant_operand u) op (meant_operands f)) rest)
       (sym (append_assoc (spelled_operand u) (plain (spelled_connective op) ∷ spelled_formula f) rest))
       (Row.row (operand_of u after (connective_ends op))
       (tail_of_row op after rest (meant_operand u) (meant_operands f) (connective_is op) (row_of f rest h)))
@@ -181,11 +183,11 @@ items_made (axiom_item at label f ∷ is) =
     let rest = plain Dot ∷ spelled_model is in
     let row = subst (λ (xs : List Lexeme). Row xs (meant_operands f) rest) (sym (append_assoc (spelled_formula f) (plain Dot ∷ []) (spelled_model is)))
     (row_of f rest (refl, refl)) in
-    Items.goes_on {ss = []} {others = stages_of is} {is = axiom_ at (grouped (meant_operands f)) ∷ []} {more = items_of is} (Item.axiom_line refl row) (items_made is)
+    Items.goes_on {ss = []} {others = stages_of is} {is = axiom_ at (formula_of (meant_operands f)) ∷ []} {more = items_of is} (Item.axiom_line refl row) (items_made is)
 items_made (macro name parameters f ∷ is) =
     let rest = plain Dot ∷ spelled_model is in
     let form = macro_form (map quoted parameters) (spelled_formula f) (spelled_model is) (plain Colon) (plain Dot) in
     let between = plain Colon ∷ (spelled_formula f ++ rest) in
     let words = subst (λ (xs : List Lexeme). Parameters xs parameters between) (sym form) (parameters_of parameters between refl) in
-    Items.goes_on {ss = []} {others = stages_of is} {is = macro_ (record { name = name; parameters = parameters; body = grouped (meant_operands f) }) ∷ []}
+    Items.goes_on {ss = []} {others = stages_of is} {is = macro_ (record { name = name; parameters = parameters; body = formula_of (meant_operands f) }) ∷ []}
     {more = items_of is} (Item.macro refl words (row_of f rest (refl, refl))) (items_made is)

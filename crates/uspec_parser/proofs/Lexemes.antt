@@ -1,15 +1,15 @@
 -- The lexemes that are left, by the place of the next token.
 use Rattle.std.proofs.Common.{◌≡◌, ℕ, zero, suc, ◌<◌, ◌≤◌, List, [], ◌∷◌, Some, length, map, drop, slice_get, slice_index_or, refl, sym, ap, arith}
 use Rattle.uspec_lexer.specs.Token.{Token}
-use Rattle.uspec_parser.specs.Terminals.{terminal, terminal_of, kept, lexeme}
+use Rattle.uspec_parser.specs.Terminals.{terminal, terminal_of, lexeme_by, lexeme}
 use Rattle.uspec_parser.specs.Descent.{next, behind}
 use Rattle.uspec_parser.specs.declared.terminal.Terminal.{Terminal}
 use Rattle.uspec_parser.specs.declared.terminal.Terminal.TheVariants.{Name}
 
--- what is kept of a token tells its terminal
-pub terminal-kept : (t : Terminal) (token : Token) → terminal (kept t token) ≡ t
-terminal-kept Name token = refl
-terminal-kept _ token = refl
+-- the lexeme by a terminal has it
+pub terminal-lexeme_by : (t : Terminal) (token : Token) → terminal (lexeme_by t token) ≡ t
+terminal-lexeme_by Name token = refl
+terminal-lexeme_by _ token = refl
 
 pub left_suc : (ts : List Token) (at : ℕ) (t : Token) → slice_get ts at ≡ Some t
     → drop at (map lexeme ts) ≡ lexeme t ∷ drop (suc at) (map lexeme ts)
@@ -34,5 +34,5 @@ behind_none ts at h = let e = left_none ts at h in cc
 pub next_left : (ts : List Token) (at : ℕ) (d : Terminal) → at < length ts
     → slice_index_or (map terminal_of ts) at d ≡ next (drop at (map lexeme ts))
 next_left [] at d h = absurd (omega arith)
-next_left (x ∷ ts) zero d h = sym (terminal-kept (terminal_of x) x)
+next_left (x ∷ ts) zero d h = sym (terminal-lexeme_by (terminal_of x) x)
 next_left (x ∷ ts) (suc at) d h = next_left ts at d (omega arith)

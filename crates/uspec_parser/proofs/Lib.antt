@@ -1,10 +1,10 @@
-pub mod Told
-pub mod Spelled
-pub mod Reading
+pub mod Payloads
+pub mod DerivedIsMarked
+pub mod MarkedIsDerived
 pub mod Lexemes
 pub mod Shorter
 pub mod Pushed
-pub mod Grouping
+pub mod GroupedBefore
 pub mod Steps
 pub mod OneTree
 pub mod Complete

@@ -5,7 +5,7 @@ use Rattle.pc_syntax.specs.declared.term.Word.{Word}
 use Rattle.pc_syntax.specs.declared.model.StageItem.{StageItem}
 use Rattle.pc_syntax.specs.Written.{Written, not_, edges_, nodes_, static_, expand_, WrittenItem, axiom_}
 use Rattle.uspec_parser.specs.Terminals.{Lexeme}
-use Rattle.uspec_parser.specs.Operands.{Operands, joined, grouped}
+use Rattle.uspec_parser.specs.Operands.{Operands, chain, formula_of}
 use Rattle.uspec_parser.specs.Syntax.{quantified}
 use Rattle.uspec_parser.specs.Descent.{next, behind, word, place, sort_by, argument, Arguments, Elements, Atom, Operand, Row, Tail, Parameters, begins_item, macro_item, Item, Items}
 use Rattle.uspec_parser.specs.declared.terminal.Terminal.{Terminal}
@@ -38,14 +38,14 @@ one_atom _ xs w v r s a b = let (p, q) = one_arguments a.1 b.1 in (a.2 ∙ ap (s
 mutual
   pub one_operand : {xs r s : List Lexeme} {w v : Written} → Operand xs w r → Operand xs v s → (w ≡ v) × (r ≡ s)
   one_operand (Operand.negated e u) (Operand.negated f o) = let (p, q) = one_operand u o in (ap not_ p, q)
-  one_operand (Operand.bracketed e u) (Operand.bracketed f o) = let (p, q) = one_row u o in (ap grouped p, ap behind q)
+  one_operand (Operand.bracketed e u) (Operand.bracketed f o) = let (p, q) = one_row u o in (ap formula_of p, ap behind q)
   one_operand {xs} (Operand.bound {l = l} u e a) (Operand.bound o f b) =
       let (p, q) = one_row a b in
       let same : u ≡ o = cc in
       let at = place xs in
       let sort = sort_by (next (behind xs)) in
       let name = (word (behind (behind xs))).name in
-      (ap (λ (w : Bool). quantified w at sort name (grouped l)) same ∙ ap (λ (m : Operands). quantified o at sort name (grouped m)) p, q)
+      (ap (λ (w : Bool). quantified w at sort name (formula_of l)) same ∙ ap (λ (m : Operands). quantified o at sort name (formula_of m)) p, q)
   one_operand {xs} {r} {s} {w} {v} (Operand.atom e a) (Operand.atom f b) = one_atom (next xs) xs w v r s a b
   one_operand (Operand.negated e u) (Operand.bracketed f o) = absurd (cc)
   one_operand (Operand.negated e u) (Operand.bound o f b) = absurd (cc)
@@ -73,7 +73,7 @@ mutual
       let (p, q) = one_operand a b in
       let rest = one_tail t (subst (λ (x : Written). Tail y x m s) (sym p) (subst (λ (x : List Lexeme). Tail x n m s) (sym q) u)) in
       let same : op ≡ o = cc in
-      let all : joined w op l ≡ joined w o m = let tail = rest.0 in cc in
+      let all : chain w op l ≡ chain w o m = let tail = rest.0 in cc in
       (all, rest.1)
 
 one_parameters : {xs r s : List Lexeme} {a b : List Word} → Parameters xs a r → Parameters xs b s → (a ≡ b) × (r ≡ s)
@@ -95,7 +95,7 @@ one_item (Item.stage e) (Item.macro f p r) = absurd (cc)
 one_item (Item.axiom_line e r) (Item.stage f) = absurd (cc)
 one_item {xs} (Item.axiom_line e r) (Item.axiom_line f s) =
     let (l, left) = one_row r s in
-    (refl, ap (λ (m : Operands). axiom_ (place xs) (grouped m) ∷ []) l, ap behind left)
+    (refl, ap (λ (m : Operands). axiom_ (place xs) (formula_of m) ∷ []) l, ap behind left)
 one_item (Item.axiom_line e r) (Item.macro f p s) = absurd (cc)
 one_item (Item.macro e p r) (Item.stage f) = absurd (cc)
 one_item (Item.macro e p r) (Item.axiom_line f s) = absurd (cc)

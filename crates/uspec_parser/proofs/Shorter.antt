@@ -4,7 +4,8 @@ use Rattle.pc_syntax.specs.declared.term.Arg.{Arg}
 use Rattle.pc_syntax.specs.declared.term.Word.{Word}
 use Rattle.pc_syntax.specs.declared.model.StageItem.{StageItem}
 use Rattle.pc_syntax.specs.Written.{Written, WrittenItem}
-use Rattle.uspec_parser.specs.Operands.{Connective, Operands}
+use Rattle.uspec_parser.specs.declared.operands.Connective.{Connective}
+use Rattle.uspec_parser.specs.Operands.{Operands}
 use Rattle.uspec_parser.specs.Terminals.{Lexeme}
 use Rattle.uspec_parser.specs.Descent.{next, behind, begins_argument, behind_location_by, behind_node, behind_label_by, behind_label, behind_edge, behind_semicolon_by, behind_semicolon, Arguments, Elements, node, edge, Atom, Start, no_opener, start, connective, Operand, Row, Tail, is_quoted, Parameters, begins_item, Item}
 use Rattle.uspec_parser.specs.declared.terminal.Terminal.{Terminal}

@@ -5,7 +5,7 @@ use Rattle.std.specs.Str.{bytes_eq}
 use Rattle.pc_syntax.specs.declared.model.StageItem.{StageItem}
 use Rattle.pc_syntax.specs.Written.{WrittenModel}
 use Rattle.uspec_lexer.specs.Token.{Token, Kind, name, number, text, symbol}
-use Rattle.uspec_parser.specs.Terminals.{Lexeme, plain, placed, name_, quoted, number_, word_terminal, symbol_terminal, text_terminal, terminal_of_kind, terminal_of, content, is_name, kept, lexeme}
+use Rattle.uspec_parser.specs.Terminals.{Lexeme, plain, placed, name_, quoted, number_, word_terminal, symbol_terminal, text_terminal, terminal_of_kind, terminal_of, content, is_name, lexeme_by, lexeme}
 use Rattle.uspec_lexer.specs.Bytes.{is_name as is_spelled_as_name}
 use Rattle.uspec_parser.specs.declared.terminal.Terminal.{Terminal}
 use Rattle.uspec_parser.specs.declared.terminal.Terminal.TheVariants.{StageName, Axiom, DefineMacro, ExpandMacro, Forall, Exists, Microop, Core, OneEdge, EdgeList, OneNode, NodeList, Name, Number, Quoted, Text, Open, Close, OpenBracket, CloseBracket, Comma, Semicolon, Colon, Dot, Not, And, Or, Implies, Arrow}
@@ -118,40 +118,40 @@ number_only (number n) p h = (n, refl)
 number_only text p h = let n = text_numberless p in let yes = ap is_number h in absurd (cc)
 number_only symbol p h = let n = (symbol_never p).no_number in let yes = ap is_number h in absurd (cc)
 
-fine_kept : (t : Terminal) (x : Token) → (is_quoted t ≡ true → IsTrue (is_spelled_as_name (content x.piece))) → IsFine (kept t x)
-fine_kept Quoted x h = h refl
-fine_kept Name x h = tt
-fine_kept Number x h = tt
-fine_kept Forall x h = tt
-fine_kept Exists x h = tt
-fine_kept ExpandMacro x h = tt
-fine_kept Axiom x h = tt
-fine_kept StageName x h = tt
-fine_kept DefineMacro x h = tt
-fine_kept Microop x h = tt
-fine_kept Core x h = tt
-fine_kept OneEdge x h = tt
-fine_kept EdgeList x h = tt
-fine_kept OneNode x h = tt
-fine_kept NodeList x h = tt
-fine_kept Text x h = tt
-fine_kept Open x h = tt
-fine_kept Close x h = tt
-fine_kept OpenBracket x h = tt
-fine_kept CloseBracket x h = tt
-fine_kept Comma x h = tt
-fine_kept Semicolon x h = tt
-fine_kept Colon x h = tt
-fine_kept Dot x h = tt
-fine_kept Not x h = tt
-fine_kept And x h = tt
-fine_kept Or x h = tt
-fine_kept Implies x h = tt
-fine_kept Arrow x h = tt
+fine_lexeme : (t : Terminal) (x : Token) → (is_quoted t ≡ true → IsTrue (is_spelled_as_name (content x.piece))) → IsFine (lexeme_by t x)
+fine_lexeme Quoted x h = h refl
+fine_lexeme Name x h = tt
+fine_lexeme Number x h = tt
+fine_lexeme Forall x h = tt
+fine_lexeme Exists x h = tt
+fine_lexeme ExpandMacro x h = tt
+fine_lexeme Axiom x h = tt
+fine_lexeme StageName x h = tt
+fine_lexeme DefineMacro x h = tt
+fine_lexeme Microop x h = tt
+fine_lexeme Core x h = tt
+fine_lexeme OneEdge x h = tt
+fine_lexeme EdgeList x h = tt
+fine_lexeme OneNode x h = tt
+fine_lexeme NodeList x h = tt
+fine_lexeme Text x h = tt
+fine_lexeme Open x h = tt
+fine_lexeme Close x h = tt
+fine_lexeme OpenBracket x h = tt
+fine_lexeme CloseBracket x h = tt
+fine_lexeme Comma x h = tt
+fine_lexeme Semicolon x h = tt
+fine_lexeme Colon x h = tt
+fine_lexeme Dot x h = tt
+fine_lexeme Not x h = tt
+fine_lexeme And x h = tt
+fine_lexeme Or x h = tt
+fine_lexeme Implies x h = tt
+fine_lexeme Arrow x h = tt
 
 fine_tokens : (ts : List Token) → Each IsFine (map lexeme ts)
 fine_tokens [] = tt
-fine_tokens (t ∷ ts) = (fine_kept (terminal_of t) t (quoted_only t.kind t.piece), fine_tokens ts)
+fine_tokens (t ∷ ts) = (fine_lexeme (terminal_of t) t (quoted_only t.kind t.piece), fine_tokens ts)
 
 fine_stages : (is : List Item) → Each IsFine (spelled_model is) → Each (λ s. IsTrue (is_spelled_as_name s.name.name)) (stages_of is)
 fine_stages [] h = tt

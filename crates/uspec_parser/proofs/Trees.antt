@@ -10,7 +10,7 @@ use Rattle.pc_syntax.specs.declared.model.StageItem.{StageItem}
 use Rattle.pc_syntax.specs.Written.{Written, WrittenItem, WrittenModel}
 use Rattle.uspec_lexer.specs.Token.{Token}
 use Rattle.uspec_parser.specs.Terminals.{Lexeme, terminal, terminal_of, lexeme}
-use Rattle.uspec_parser.specs.Operands.{Operands, grouped}
+use Rattle.uspec_parser.specs.Operands.{Operands, formula_of}
 use Rattle.uspec_parser.specs.Syntax.{Formula, spelled_formula, meant_operands, meant_formula, DerivesFormula, Item, spelled_model, stages_of, items_of, meant_model, DerivesModel}
 use Rattle.uspec_parser.specs.Marks.{IsMarkedFormula, IsMarkedModel, marks_model, marks_outer}
 use Rattle.uspec_parser.specs.Levels.{level_of}
@@ -20,17 +20,17 @@ use Rattle.uspec_parser.specs.Descent.{Row, Items}
 use Rattle.uspec_parser.specs.declared.terminal.Terminal.{Terminal}
 use Rattle.uspec_parser.specs.declared.fault.ParseFault.{ParseFault}
 use Rattle.uspec_parser.specs.declared.phrase.Phrase.TheVariants.{Operand as OperandPhrase, Items as ItemsPhrase}
-use Rattle.uspec_parser.proofs.Lexemes.{terminal-kept}
-use Rattle.uspec_parser.proofs.Told.{told_tokens}
-use Rattle.uspec_parser.proofs.Spelled.{formula_read, model_read}
-use Rattle.uspec_parser.proofs.Reading.{formula_derived, model_derived}
+use Rattle.uspec_parser.proofs.Lexemes.{terminal-lexeme_by}
+use Rattle.uspec_parser.proofs.Payloads.{payloads_of_tokens}
+use Rattle.uspec_parser.proofs.DerivedIsMarked.{formula_read, model_read}
+use Rattle.uspec_parser.proofs.MarkedIsDerived.{formula_derived, model_derived}
 use Rattle.uspec_parser.proofs.Complete.{row_of, items_made}
 use Rattle.uspec_parser.proofs.OneTree.{one_row, one_items}
 use Rattle.uspec_parser.proofs.Steps.{RowOf}
 
 pub terminals-lexemes : (ts : List Token) → map terminal (map lexeme ts) ≡ terminals ts
 terminals-lexemes [] = refl
-terminals-lexemes (t ∷ ts) = let head = terminal-kept (terminal_of t) t in let rest = terminals-lexemes ts in cc
+terminals-lexemes (t ∷ ts) = let head = terminal-lexeme_by (terminal_of t) t in let rest = terminals-lexemes ts in cc
 
 -- a formula's text makes one row
 formula_row : (f : Formula) (l : Operands) (rest : List Lexeme) → Row (spelled_formula f) l rest → l ≡ meant_operands f
@@ -41,17 +41,17 @@ pub formula_tree : (ts : List Token) (w : Written) (rest : List Lexeme) → IsAc
     → RowOf (map lexeme ts) w rest → DerivesFormula ts w
 formula_tree ts w rest ((marks, marked), none) (l, built, same) =
     let reads = formula_derived (terminals ts) marks marked in
-    let (f, text, _) = formula_read (map lexeme ts) marks (told_tokens ts)
+    let (f, text, _) = formula_read (map lexeme ts) marks (payloads_of_tokens ts)
     (subst (λ (cs : List Terminal). Derives rules (OperandPhrase (level_of 0) 0) cs marks) (sym (terminals-lexemes ts)) reads) in
     let one = formula_row f l rest (subst (λ (xs : List Lexeme). Row xs l rest) text built) in
-    (f, text, same ∙ ap grouped one)
+    (f, text, same ∙ ap formula_of one)
 
 -- no tokens have two trees
 pub one_formula : (ts : List Token) (w v : Written) → DerivesFormula ts w → DerivesFormula ts v → w ≡ v
 one_formula ts w v (f, e, p) (g, q, r) =
     let first = subst (λ (xs : List Lexeme). Row xs (meant_operands f) []) (append-nil (spelled_formula f)) (row_of f [] (refl, refl)) in
     let both = subst (λ (xs : List Lexeme). Row xs (meant_operands f) []) (sym e ∙ q) first in
-    p ∙ ap grouped (formula_row g (meant_operands f) [] both) ∙ sym r
+    p ∙ ap formula_of (formula_row g (meant_operands f) [] both) ∙ sym r
 
 -- the answer as a refusal
 pub refused : (Marked : List Terminal → List Bool → Type 0) (cs : List Terminal) (fault : Fault) → IsAnswer Marked cs (Some fault)
@@ -80,7 +80,7 @@ pub model_tree : (ts : List Token) (m : WrittenModel) → IsAccepted IsMarkedMod
     → DerivesModel ts m
 model_tree ts m ((marks, marked), none) built =
     let reads = model_derived (terminals ts) marks marked in
-    let (is, text, _) = model_read (map lexeme ts) marks (told_tokens ts)
+    let (is, text, _) = model_read (map lexeme ts) marks (payloads_of_tokens ts)
     (subst (λ (cs : List Terminal). Derives rules ItemsPhrase cs marks) (sym (terminals-lexemes ts)) reads) in
     (is, text, model_items is m.stages m.items (subst (λ (xs : List Lexeme). Items xs m.stages m.items) text built))
 
@@ -96,7 +96,7 @@ model_text ts (m, (is, e, p)) = (marks_model is, (is, sym (terminals-lexemes ts)
 pub text_model : (ts : List Token) → IsText IsMarkedModel (terminals ts) → (m : WrittenModel) × DerivesModel ts m
 text_model ts (marks, marked) =
     let reads = model_derived (terminals ts) marks marked in
-    let (is, text, _) = model_read (map lexeme ts) marks (told_tokens ts)
+    let (is, text, _) = model_read (map lexeme ts) marks (payloads_of_tokens ts)
     (subst (λ (cs : List Terminal). Derives rules ItemsPhrase cs marks) (sym (terminals-lexemes ts)) reads) in
     (meant_model is, (is, text, refl))
 
@@ -106,6 +106,6 @@ formula_text ts (w, (f, e, p)) = (marks_outer f, (f, sym (terminals-lexemes ts) 
 pub text_formula : (ts : List Token) → IsText IsMarkedFormula (terminals ts) → (w : Written) × DerivesFormula ts w
 text_formula ts (marks, marked) =
     let reads = formula_derived (terminals ts) marks marked in
-    let (f, text, _) = formula_read (map lexeme ts) marks (told_tokens ts)
+    let (f, text, _) = formula_read (map lexeme ts) marks (payloads_of_tokens ts)
     (subst (λ (cs : List Terminal). Derives rules (OperandPhrase (level_of 0) 0) cs marks) (sym (terminals-lexemes ts)) reads) in
     (meant_formula f, (f, text, refl))

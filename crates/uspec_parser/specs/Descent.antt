@@ -12,7 +12,9 @@ use Rattle.pc_syntax.specs.declared.term.EdgeTerm.{EdgeTerm}
 use Rattle.pc_syntax.specs.declared.model.StageItem.{StageItem}
 use Rattle.pc_syntax.specs.Written.{Written, not_, static_, nodes_, edges_, expand_, WrittenItem, axiom_, macro_}
 use Rattle.uspec_parser.specs.Terminals.{Lexeme, placed, name_, quoted, number_, terminal}
-use Rattle.uspec_parser.specs.Operands.{Connective, conjoins, disjoins, implies, Operands, only, joined, grouped}
+use Rattle.uspec_parser.specs.declared.operands.Connective.{Connective}
+use Rattle.uspec_parser.specs.declared.operands.Connective.TheVariants.{And as conjoins, Or as disjoins, Implies as implies}
+use Rattle.uspec_parser.specs.Operands.{Operands, only, chain, formula_of}
 use Rattle.uspec_parser.specs.Syntax.{quantified}
 use Rattle.uspec_parser.specs.declared.terminal.Terminal.{Terminal}
 use Rattle.uspec_parser.specs.declared.terminal.Terminal.TheVariants.{StageName, Axiom, DefineMacro, ExpandMacro, Forall, Exists, Core, OneEdge, EdgeList, OneNode, NodeList, Name, Number, Quoted, Open, Comma, Semicolon, Not, And, Or, Implies, Arrow}
@@ -78,7 +80,8 @@ begins_argument _ = false
 -- arguments up to the first lexeme that is none
 pub data Arguments : List Lexeme → List Arg → List Lexeme → Type 0 where
   ends : {xs : List Lexeme} → begins_argument (next xs) ≡ false → Arguments xs [] xs
-  goes_on : {xs rest : List Lexeme} {args : List Arg} → begins_argument (next xs) ≡ true → Arguments (behind xs) args rest
+  goes_on : {xs rest : List Lexeme} {args : List Arg} → begins_argument (next xs) ≡ true
+      → Arguments (behind xs) args rest
       → Arguments xs (argument xs ∷ args) rest
 
 abbrev pub core_by : Terminal → List Lexeme → Option Arg
@@ -96,7 +99,11 @@ behind_location_by _ xs = behind xs
 abbrev pub node : List Lexeme → NodeTerm
 node xs =
     let location = behind (behind (behind xs)) in
-    record { op = word (behind xs); core = core_by (next location) location; stage = stage_by (next location) location }
+    record {
+      op = word (behind xs);
+      core = core_by (next location) location;
+      stage = stage_by (next location) location;
+    }
 
 abbrev pub behind_node : List Lexeme → List Lexeme
 behind_node xs = let location = behind (behind (behind xs)) in behind (behind_location_by (next location) location)
@@ -122,17 +129,21 @@ abbrev pub behind_semicolon : List Lexeme → List Lexeme
 behind_semicolon xs = behind_semicolon_by (next xs) xs
 
 -- elements up to the first lexeme that begins none
-pub data Elements {X : Type 0} (one : List Lexeme → X) (behind_one : List Lexeme → List Lexeme) : List Lexeme → List X → List Lexeme → Type 0 where
+pub data Elements {X : Type 0} (one : List Lexeme → X) (behind_one : List Lexeme → List Lexeme) : List Lexeme → List X
+    → List Lexeme → Type 0 where
   ends : {xs : List Lexeme} → next xs ≢ Open → Elements one behind_one xs [] (behind xs)
   goes_on : {xs rest : List Lexeme} {es : List X} → next xs ≡ Open
-      → Elements one behind_one (behind_semicolon (behind_one xs)) es rest → Elements one behind_one xs (one xs ∷ es) rest
+      → Elements one behind_one (behind_semicolon (behind_one xs)) es rest
+      → Elements one behind_one xs (one xs ∷ es) rest
 
 -- an atom, by its first terminal
 abbrev pub Atom : Terminal → List Lexeme → Written → List Lexeme → Type 0
 Atom OneEdge xs w rest = (w ≡ edges_ (edge (behind xs) ∷ [])) × (rest ≡ behind_edge (behind xs))
 Atom OneNode xs w rest = (w ≡ nodes_ (node (behind xs) ∷ [])) × (rest ≡ behind_node (behind xs))
-Atom EdgeList xs w rest = (es : List EdgeTerm) × Elements edge behind_edge (behind (behind xs)) es rest × (w ≡ edges_ es)
-Atom NodeList xs w rest = (ns : List NodeTerm) × Elements node behind_node (behind (behind xs)) ns rest × (w ≡ nodes_ ns)
+Atom EdgeList xs w rest = (es : List EdgeTerm) × Elements edge behind_edge (behind (behind xs)) es rest
+    × (w ≡ edges_ es)
+Atom NodeList xs w rest = (ns : List NodeTerm) × Elements node behind_node (behind (behind xs)) ns rest
+    × (w ≡ nodes_ ns)
 Atom ExpandMacro xs w rest =
     (args : List Arg) × Arguments (behind (behind xs)) args rest × (w ≡ expand_ (place xs) (word (behind xs)) args)
 Atom _ xs w rest = (args : List Arg) × Arguments (behind xs) args rest × (w ≡ static_ (word xs) args)
@@ -168,21 +179,25 @@ mutual
     negated : {xs rest : List Lexeme} {w : Written} → start (next xs) ≡ negation → Operand (behind xs) w rest
         → Operand xs (not_ w) rest
     bracketed : {xs rest : List Lexeme} {l : Operands} → start (next xs) ≡ bracket → Row (behind xs) l rest
-        → Operand xs (grouped l) (behind rest)
+        → Operand xs (formula_of l) (behind rest)
     bound : {xs rest : List Lexeme} {l : Operands} (universal : Bool) → start (next xs) ≡ quantifier universal
         → Row (behind (behind (behind (behind xs)))) l rest
-        → Operand xs (quantified universal (place xs) (sort_by (next (behind xs))) (word (behind (behind xs))).name (grouped l)) rest
-    atom : {xs rest : List Lexeme} {w : Written} → start (next xs) ≡ no_opener → Atom (next xs) xs w rest → Operand xs w rest
+        → Operand xs (quantified universal (place xs) (sort_by (next (behind xs))) (word (behind (behind xs))).name
+        (formula_of l)) rest
+    atom : {xs rest : List Lexeme} {w : Written} → start (next xs) ≡ no_opener → Atom (next xs) xs w rest
+        → Operand xs w rest
 
   -- a list of operands
   pub data Row : List Lexeme → Operands → List Lexeme → Type 0 where
-    row : {xs between rest : List Lexeme} {w : Written} {l : Operands} → Operand xs w between → Tail between w l rest → Row xs l rest
+    row : {xs between rest : List Lexeme} {w : Written} {l : Operands} → Operand xs w between → Tail between w l rest
+        → Row xs l rest
 
   -- the list from its operand `w` on, behind which the lexemes begin
   pub data Tail : List Lexeme → Written → Operands → List Lexeme → Type 0 where
     ends : {xs : List Lexeme} {w : Written} → connective (next xs) ≡ None → Tail xs w (only w) xs
-    goes_on : {xs between rest : List Lexeme} {w v : Written} {l : Operands} (op : Connective) → connective (next xs) ≡ Some op
-        → Operand (behind xs) v between → Tail between v l rest → Tail xs w (joined w op l) rest
+    goes_on : {xs between rest : List Lexeme} {w v : Written} {l : Operands} (op : Connective)
+        → connective (next xs) ≡ Some op → Operand (behind xs) v between → Tail between v l rest
+        → Tail xs w (chain w op l) rest
 
 abbrev pub is_quoted : Terminal → Bool
 is_quoted Quoted = true
@@ -201,21 +216,25 @@ begins_item DefineMacro = true
 begins_item _ = false
 
 abbrev pub stage_item : List Lexeme → StageItem
-stage_item xs = record { number = number (behind xs); number_at = number_place (behind xs); name = word (behind (behind xs)) }
+stage_item xs =
+    record { number = number (behind xs); number_at = number_place (behind xs); name = word (behind (behind xs)) }
 
 abbrev pub macro_item : List Lexeme → List Word → Operands → WrittenItem
-macro_item xs ws l = macro_ (record { name = word (behind xs); parameters = ws; body = grouped l })
+macro_item xs ws l = macro_ (record { name = word (behind xs); parameters = ws; body = formula_of l })
 
 -- what one item adds to the stages, and what to the axioms and macros
 pub data Item : List Lexeme → List StageItem → List WrittenItem → List Lexeme → Type 0 where
-  stage : {xs : List Lexeme} → next xs ≡ StageName → Item xs (stage_item xs ∷ []) [] (behind (behind (behind (behind xs))))
+  stage : {xs : List Lexeme} → next xs ≡ StageName
+      → Item xs (stage_item xs ∷ []) [] (behind (behind (behind (behind xs))))
   axiom_line : {xs rest : List Lexeme} {l : Operands} → next xs ≡ Axiom → Row (behind (behind (behind xs))) l rest
-      → Item xs [] (axiom_ (place xs) (grouped l) ∷ []) (behind rest)
+      → Item xs [] (axiom_ (place xs) (formula_of l) ∷ []) (behind rest)
   macro : {xs between rest : List Lexeme} {ws : List Word} {l : Operands} → next xs ≡ DefineMacro
-      → Parameters (behind (behind xs)) ws between → Row (behind between) l rest → Item xs [] (macro_item xs ws l ∷ []) (behind rest)
+      → Parameters (behind (behind xs)) ws between → Row (behind between) l rest
+      → Item xs [] (macro_item xs ws l ∷ []) (behind rest)
 
 -- items up to the first lexeme that begins none
 pub data Items : List Lexeme → List StageItem → List WrittenItem → Type 0 where
   ends : {xs : List Lexeme} → begins_item (next xs) ≡ false → Items xs [] []
-  goes_on : {xs between : List Lexeme} {ss others : List StageItem} {is more : List WrittenItem} → Item xs ss is between
+  goes_on : {xs between : List Lexeme} {ss others : List StageItem} {is more : List WrittenItem}
+      → Item xs ss is between
       → Items between others more → Items xs (ss ++ others) (is ++ more)

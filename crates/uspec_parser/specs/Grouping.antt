@@ -2,30 +2,24 @@
 use Rattle.std.specs.Prelude.{List, [], ◌∷◌, Option, Some, None}
 use Rattle.pc_syntax.specs.declared.formula.Formula.{Formula}
 use Rattle.pc_syntax.specs.Written.{Written, written}
-use Rattle.uspec_parser.specs.Operands.{Connective, conjoins, disjoins, implies, Operands, joined, Grouped, before}
-use Rattle.uspec_parser.specs.declared.operands.Connective.{Connective as Word}
-use Rattle.uspec_parser.specs.declared.operands.Connective.TheVariants.{And, Or, Implies}
-use Rattle.uspec_parser.specs.declared.operands.Joined.{Joined}
+use Rattle.uspec_parser.specs.Operands.{Operands, chain, Grouped, before}
+use Rattle.uspec_parser.specs.declared.operands.Link.{Link}
 use Rattle.uspec_parser.specs.declared.operands.Grouping.{Grouping}
 
-abbrev pub joins : Word → Connective
-joins And = conjoins
-joins Or = disjoins
-joins Implies = implies
-
 -- operands with the connectives behind them, and a list
-abbrev pub operands_before : List Joined → Operands → Operands
+abbrev pub operands_before : List Link → Operands → Operands
 operands_before [] l = l
-operands_before (j ∷ js) l = joined (written j.operand) (joins j.connective) (operands_before js l)
+operands_before (j ∷ js) l = chain (written j.operand) j.connective (operands_before js l)
 
 abbrev pub written_option : Option Formula → Option Written
 written_option None = None
 written_option (Some f) = Some (written f)
 
 abbrev pub written_grouping : Grouping → Grouped
-written_grouping g = record { now = written g.now; disjoined = written_option g.disjoined; implied = written_option g.implied }
+written_grouping g =
+    record { now = written g.now; disjoined = written_option g.disjoined; implied = written_option g.implied }
 
 -- operands with the connectives behind them, before a list that is grouped already
-abbrev pub grouped_before : List Joined → Grouped → Grouped
+abbrev pub grouped_before : List Link → Grouped → Grouped
 grouped_before [] g = g
-grouped_before (j ∷ js) g = before (written j.operand) (joins j.connective) (grouped_before js g)
+grouped_before (j ∷ js) g = before (written j.operand) j.connective (grouped_before js g)

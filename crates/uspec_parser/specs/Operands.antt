@@ -2,25 +2,22 @@
 -- lists on both sides are split likewise.
 use Rattle.std.specs.Prelude.{◌≢◌, Option, Some, None}
 use Rattle.pc_syntax.specs.Written.{Written, and_, or_, implies_}
-
-pub data Connective : Type 0 where
-  conjoins : Connective
-  disjoins : Connective
-  implies : Connective
+use Rattle.uspec_parser.specs.declared.operands.Connective.{Connective}
+use Rattle.uspec_parser.specs.declared.operands.Connective.TheVariants.{And as conjoins, Or as disjoins, Implies as implies}
 
 pub data Operands : Type 0 where
   only : Written → Operands
-  joined : Written → Connective → Operands → Operands
+  chain : Written → Connective → Operands → Operands
 
 -- one list, a connective, and another list behind it
 abbrev pub beside : Operands → Connective → Operands → Operands
-beside (only a) op r = joined a op r
-beside (joined a first l) op r = joined a first (beside l op r)
+beside (only a) op r = chain a op r
+beside (chain a first l) op r = chain a first (beside l op r)
 
 -- none of the list's connectives is this one
 abbrev pub Lacks : Connective → Operands → Type 0
 Lacks op (only a) = Unit {0}
-Lacks op (joined a first l) = (first ≢ op) × Lacks op l
+Lacks op (chain a first l) = (first ≢ op) × Lacks op l
 
 pub data IsSplit : Operands → Written → Type 0 where
   single : {a : Written} → IsSplit (only a) a
@@ -28,8 +25,9 @@ pub data IsSplit : Operands → Written → Type 0 where
       → IsSplit (beside l implies r) (implies_ a b)
   at_disjoins : {l r : Operands} {a b : Written} → Lacks implies (beside l disjoins r) → Lacks disjoins l
       → IsSplit l a → IsSplit r b → IsSplit (beside l disjoins r) (or_ a b)
-  at_conjoins : {l r : Operands} {a b : Written} → Lacks implies (beside l conjoins r) → Lacks disjoins (beside l conjoins r)
-      → Lacks conjoins l → IsSplit l a → IsSplit r b → IsSplit (beside l conjoins r) (and_ a b)
+  at_conjoins : {l r : Operands} {a b : Written} → Lacks implies (beside l conjoins r)
+      → Lacks disjoins (beside l conjoins r) → Lacks conjoins l
+      → IsSplit l a → IsSplit r b → IsSplit (beside l conjoins r) (and_ a b)
 
 -- What the split makes of a list, from its last operand on: the conjunction that goes on, the disjunction behind it, and
 -- what the `=>` before these implies.
@@ -60,7 +58,7 @@ before a implies g = record { now = a; disjoined = None; implied = Some (whole g
 
 abbrev pub group : Operands → Grouped
 group (only a) = record { now = a; disjoined = None; implied = None }
-group (joined a op l) = before a op (group l)
+group (chain a op l) = before a op (group l)
 
-abbrev pub grouped : Operands → Written
-grouped l = whole (group l)
+abbrev pub formula_of : Operands → Written
+formula_of l = whole (group l)

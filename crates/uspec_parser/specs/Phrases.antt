@@ -18,7 +18,8 @@ use Rattle.uspec_parser.specs.Levels.{is_deep, level_of, behind_implies, behind_
 abbrev pub behind : Phrase → Terminal → Option (List (Symbol Terminal Phrase))
 behind Items StageName = Some (Class Number ∷ Class Quoted ∷ Class Dot ∷ Part Items ∷ [])
 behind Items Axiom = Some (Part Label ∷ Class Colon ∷ Part (Operand (level_of 0) 0) ∷ Class Dot ∷ Part Items ∷ [])
-behind Items DefineMacro = Some (Class Quoted ∷ Part Parameters ∷ Class Colon ∷ Part (Operand (level_of 0) 0) ∷ Class Dot ∷ Part Items ∷ [])
+behind Items DefineMacro =
+    Some (Class Quoted ∷ Part Parameters ∷ Class Colon ∷ Part (Operand (level_of 0) 0) ∷ Class Dot ∷ Part Items ∷ [])
 behind Parameters Quoted = Some (Part Parameters ∷ [])
 behind Label Quoted = Some []
 behind Label Text = Some []
@@ -30,8 +31,10 @@ behind (Operand l n) ExpandMacro = Some (Class Name ∷ Part Arguments ∷ Part 
 behind (Operand l n) Name = Some (Part Arguments ∷ Part (More l) ∷ [])
 behind (Operand l n) Open = Some (Part (Operand (level_of (n + 1)) (n + 1)) ∷ Class Close ∷ Part (More l) ∷ [])
 behind (Operand l n) Not = Some (Part (Operand l (n + 1)) ∷ [])
-behind (Operand l n) Forall = Some (Part SortWord ∷ Class Quoted ∷ Class Comma ∷ Part (Operand (level_of (n + 1)) (n + 1)) ∷ [])
-behind (Operand l n) Exists = Some (Part SortWord ∷ Class Quoted ∷ Class Comma ∷ Part (Operand (level_of (n + 1)) (n + 1)) ∷ [])
+behind (Operand l n) Forall =
+    Some (Part SortWord ∷ Class Quoted ∷ Class Comma ∷ Part (Operand (level_of (n + 1)) (n + 1)) ∷ [])
+behind (Operand l n) Exists =
+    Some (Part SortWord ∷ Class Quoted ∷ Class Comma ∷ Part (Operand (level_of (n + 1)) (n + 1)) ∷ [])
 behind (More l) And = Some (Part (Operand (behind_and l) (l.at_and + 1)) ∷ [])
 behind (More l) Or = Some (Part (Operand (behind_or l) (l.at_or + 1)) ∷ [])
 behind (More l) Implies = Some (Part (Operand (behind_implies l) (l.at_implies + 1)) ∷ [])
@@ -106,9 +109,15 @@ follow Arguments Dot = true
 follow Arguments _ = false
 follow _ _ = true
 
+-- All terminals. A new one goes last, here and in the table of places below, so that no place moves;
+-- `terminal_at` then asks for its row.
 abbrev pub terminals : List Terminal
-terminals = StageName ∷ Axiom ∷ DefineMacro ∷ ExpandMacro ∷ Forall ∷ Exists ∷ Microop ∷ Core ∷ OneEdge ∷ EdgeList ∷ OneNode ∷ NodeList ∷ Name ∷ Number ∷ Quoted ∷ Text ∷ Open ∷ Close ∷ OpenBracket ∷ CloseBracket ∷ Comma ∷ Semicolon ∷ Colon ∷ Dot ∷ Not ∷ And ∷ Or ∷ Implies ∷ Arrow ∷ []
+terminals =
+    StageName ∷ Axiom ∷ DefineMacro ∷ ExpandMacro ∷ Forall ∷ Exists ∷ Microop ∷ Core ∷ OneEdge ∷ EdgeList ∷ OneNode ∷ NodeList
+    ∷ Name ∷ Number ∷ Quoted ∷ Text ∷ Open ∷ Close ∷ OpenBracket ∷ CloseBracket ∷ Comma ∷ Semicolon ∷ Colon
+    ∷ Dot ∷ Not ∷ And ∷ Or ∷ Implies ∷ Arrow ∷ []
 
+-- the place of a terminal among all
 abbrev pub place : Terminal → ℕ
 place StageName = 0
 place Axiom = 1
@@ -140,36 +149,36 @@ place Or = 26
 place Implies = 27
 place Arrow = 28
 
-pub listed : (t : Terminal) → slice_get terminals (place t) ≡ Some t
-listed StageName = refl
-listed Axiom = refl
-listed DefineMacro = refl
-listed ExpandMacro = refl
-listed Forall = refl
-listed Exists = refl
-listed Microop = refl
-listed Core = refl
-listed OneEdge = refl
-listed EdgeList = refl
-listed OneNode = refl
-listed NodeList = refl
-listed Name = refl
-listed Number = refl
-listed Quoted = refl
-listed Text = refl
-listed Open = refl
-listed Close = refl
-listed OpenBracket = refl
-listed CloseBracket = refl
-listed Comma = refl
-listed Semicolon = refl
-listed Colon = refl
-listed Dot = refl
-listed Not = refl
-listed And = refl
-listed Or = refl
-listed Implies = refl
-listed Arrow = refl
+pub terminal_at : (t : Terminal) → slice_get terminals (place t) ≡ Some t
+terminal_at StageName = refl
+terminal_at Axiom = refl
+terminal_at DefineMacro = refl
+terminal_at ExpandMacro = refl
+terminal_at Forall = refl
+terminal_at Exists = refl
+terminal_at Microop = refl
+terminal_at Core = refl
+terminal_at OneEdge = refl
+terminal_at EdgeList = refl
+terminal_at OneNode = refl
+terminal_at NodeList = refl
+terminal_at Name = refl
+terminal_at Number = refl
+terminal_at Quoted = refl
+terminal_at Text = refl
+terminal_at Open = refl
+terminal_at Close = refl
+terminal_at OpenBracket = refl
+terminal_at CloseBracket = refl
+terminal_at Comma = refl
+terminal_at Semicolon = refl
+terminal_at Colon = refl
+terminal_at Dot = refl
+terminal_at Not = refl
+terminal_at And = refl
+terminal_at Or = refl
+terminal_at Implies = refl
+terminal_at Arrow = refl
 
 predictable_phrase : (n : Phrase) → is_predictable_part rules follow terminals n ≡ true
 predictable_phrase Items = refl
@@ -191,7 +200,7 @@ predictable_phrase Edges = refl
 predictable_phrase MoreEdges = refl
 
 pub is_predictable : IsPredictable rules follow
-is_predictable = predictable_by rules follow terminals place listed predictable_phrase
+is_predictable = predictable_by rules follow terminals place terminal_at predictable_phrase
 
 -- a terminal with which a text of the phrase begins, and a rank above those of the phrases behind it
 abbrev first : Phrase → Terminal

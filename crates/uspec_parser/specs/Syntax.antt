@@ -13,7 +13,9 @@ use Rattle.pc_syntax.specs.declared.model.StageItem.{StageItem}
 use Rattle.pc_syntax.specs.Written.{Written, not_, forall_, exists_, static_, nodes_, edges_, expand_, WrittenItem, axiom_, macro_, WrittenModel}
 use Rattle.uspec_lexer.specs.Token.{Token}
 use Rattle.uspec_parser.specs.Terminals.{Lexeme, plain, placed, name_, quoted, number_, lexeme}
-use Rattle.uspec_parser.specs.Operands.{Connective, conjoins, disjoins, implies, Operands, only, joined, grouped}
+use Rattle.uspec_parser.specs.declared.operands.Connective.{Connective}
+use Rattle.uspec_parser.specs.declared.operands.Connective.TheVariants.{And as conjoins, Or as disjoins, Implies as implies}
+use Rattle.uspec_parser.specs.Operands.{Operands, only, chain, formula_of}
 use Rattle.uspec_parser.specs.declared.terminal.Terminal.{Terminal}
 use Rattle.uspec_parser.specs.declared.terminal.Terminal.TheVariants.{StageName, Axiom, DefineMacro, ExpandMacro, Forall, Exists, Microop, Core, OneEdge, EdgeList, OneNode, NodeList, Text, Open, Close, OpenBracket, CloseBracket, Comma, Semicolon, Colon, Dot, Not, And, Or, Implies}
 
@@ -58,7 +60,8 @@ pub record Edge : Type 0 where
 
 abbrev pub spelled_edge : Edge → List Lexeme
 spelled_edge e =
-    plain Open ∷ (spelled_node e.term.from ++ plain Comma ∷ (spelled_node e.term.to ++ (spelled_labels e.labels ++ plain Close ∷ [])))
+    plain Open ∷ (spelled_node e.term.from ++ plain Comma ∷
+    (spelled_node e.term.to ++ (spelled_labels e.labels ++ plain Close ∷ [])))
 
 -- list = "[" "]" | "[" x (";" x)* [";"] "]"
 pub data Listing (X : Type 0) : Type 0 where
@@ -173,19 +176,19 @@ abbrev mutual
   pub meant_operands : Formula → Operands
   meant_operands (last u) = only (meant_operand u)
   meant_operands (last_wide w) = only (meant_wide w)
-  meant_operands (more u op f) = joined (meant_operand u) op (meant_operands f)
+  meant_operands (more u op f) = chain (meant_operand u) op (meant_operands f)
 
   pub meant_operand : Operand → Written
   meant_operand (atom a) = meant_atom a
-  meant_operand (bracketed f) = grouped (meant_operands f)
+  meant_operand (bracketed f) = formula_of (meant_operands f)
   meant_operand (negated u) = not_ (meant_operand u)
 
   pub meant_wide : Wide → Written
-  meant_wide (binding q f) = quantified q.universal q.at q.sort q.bound.name (grouped (meant_operands f))
+  meant_wide (binding q f) = quantified q.universal q.at q.sort q.bound.name (formula_of (meant_operands f))
   meant_wide (negated_wide w) = not_ (meant_wide w)
 
 abbrev pub meant_formula : Formula → Written
-meant_formula f = grouped (meant_operands f)
+meant_formula f = formula_of (meant_operands f)
 
 -- item = StageName NUMBER NTEXT "."
 --      | Axiom TEXT ":" f "."

@@ -54,7 +54,7 @@ abbrev pub is_name : Terminal → Bool
 is_name Name = true
 is_name _ = false
 
--- a text tells a name where its content is one that is not reserved
+-- a text is a quoted name where its content is one that is not reserved
 unfoldable pub text_terminal : List ℕ → Terminal
 text_terminal piece =
     if is_spelled_as_name (content piece) && is_name (word_terminal (content piece)) then Quoted else Text
@@ -94,19 +94,19 @@ abbrev pub value : Kind → ℕ
 value (number n) = n
 value _ = 0
 
--- what is kept of a token that is this terminal
-abbrev pub kept : Terminal → Token → Lexeme
-kept Name t = name_ (record { name = t.piece; at = place_of t })
-kept Quoted t = quoted (record { name = content t.piece; at = place_of t })
-kept Number t = number_ (value t.kind) (place_of t)
-kept Forall t = placed Forall (place_of t)
-kept Exists t = placed Exists (place_of t)
-kept ExpandMacro t = placed ExpandMacro (place_of t)
-kept Axiom t = placed Axiom (place_of t)
-kept other t = plain other
+-- the lexeme of a token that is this terminal
+abbrev pub lexeme_by : Terminal → Token → Lexeme
+lexeme_by Name t = name_ (record { name = t.piece; at = place_of t })
+lexeme_by Quoted t = quoted (record { name = content t.piece; at = place_of t })
+lexeme_by Number t = number_ (value t.kind) (place_of t)
+lexeme_by Forall t = placed Forall (place_of t)
+lexeme_by Exists t = placed Exists (place_of t)
+lexeme_by ExpandMacro t = placed ExpandMacro (place_of t)
+lexeme_by Axiom t = placed Axiom (place_of t)
+lexeme_by other t = plain other
 
 abbrev pub lexeme : Token → Lexeme
-lexeme t = kept (terminal_of t) t
+lexeme t = lexeme_by (terminal_of t) t
 
 -- of these terminals the tree keeps the place
 abbrev pub is_placed : Terminal → Bool

@@ -1,11 +1,11 @@
 ghost use Rattle.std.specs.Prelude.{◌≡◌, IsTrue, IfOk, OnOk};
 ghost use Rattle.pc_syntax.specs.Written.{written};
 ghost use Rattle.uspec_parser.specs.Terminals.{is_placed};
-ghost use Rattle.uspec_parser.specs.Operands.{Operands, grouped as grouped_spec};
+ghost use Rattle.uspec_parser.specs.Operands.{Operands, formula_of as formula_spec};
 ghost use Rattle.uspec_parser.specs.Descent.{next, behind, place, word, sort_by, Atom, Operand, Row};
 
 use super::cursor::Cursor;
-use super::operands::{Joined, connective_of, grouped};
+use super::operands::{Link, connective_of, formula_of};
 use super::terminal::Terminal;
 use pc_common::{Listed, Memory, Place, Shared};
 use pc_syntax::{Formula, Name, Sort};
@@ -36,7 +36,7 @@ impl Cursor<'_> {
         let edge = self.edge(alloc)?;
         let mut edges = Listed::new(alloc);
         edges.push(edge)?;
-        Ok(Formula::Edges(Shared::new(edges)?))
+        Ok(Formula::Edges(Shared::of(edges)?))
     }
 
     fn one_node(&mut self, alloc: Global) -> Result<Formula, Memory>
@@ -46,7 +46,7 @@ impl Cursor<'_> {
         let node = self.node(alloc)?;
         let mut nodes = Listed::new(alloc);
         nodes.push(node)?;
-        Ok(Formula::Nodes(Shared::new(nodes)?))
+        Ok(Formula::Nodes(Shared::of(nodes)?))
     }
 
     fn edge_list(&mut self, alloc: Global) -> Result<Formula, Memory>
@@ -163,7 +163,8 @@ impl Cursor<'_> {
           sort = sort_by (next (behind self.old));
           name = (word (behind (behind self.old))).name;
         }) }
-        ensures body { IfOk result (λ q. (l : Operands) × Row (behind (behind (behind (behind self.old)))) l self.new × (written q.1 ≡ grouped_spec l)) }
+        ensures body { IfOk result (λ q. (l : Operands) × Row (behind (behind (behind (behind self.old)))) l self.new
+            × (written q.1 ≡ formula_spec l)) }
     {
         let head = self.head(alloc)?;
         Ok((head, self.formula(alloc)?))
@@ -172,18 +173,18 @@ impl Cursor<'_> {
     /// Reads a list of operands and groups it. Calls nest as deep as openers do, and no deeper.
     #[cycle(formula)]
     pub(crate) fn formula(&mut self, alloc: Global) -> Result<Formula, Memory>
-        ensures { IfOk result (λ f. (l : Operands) × Row self.old l self.new × (written f ≡ grouped_spec l)) }
+        ensures { IfOk result (λ f. (l : Operands) × Row self.old l self.new × (written f ≡ formula_spec l)) }
     {
         let mut operands = Vec::new(alloc);
         let mut last = self.operand(alloc)?;
         while let Some(connective) = connective_of(self.next()) {
             self.skip();
-            operands.push(Joined {
+            operands.push(Link {
                 operand: last,
                 connective,
             })?;
             last = self.operand(alloc)?;
         }
-        grouped(alloc, operands, last)
+        formula_of(alloc, operands, last)
     }
 }

@@ -3,7 +3,7 @@ ghost use Rattle.pc_syntax.specs.declared.model.StageItem.{StageItem as PlainSta
 ghost use Rattle.pc_syntax.specs.declared.term.Word.{Word};
 ghost use Rattle.pc_syntax.specs.Written.{WrittenItem, written_item, axiom_};
 ghost use Rattle.uspec_parser.specs.Terminals.{Lexeme, is_placed};
-ghost use Rattle.uspec_parser.specs.Operands.{Operands, grouped as grouped_spec};
+ghost use Rattle.uspec_parser.specs.Operands.{Operands, formula_of as formula_spec};
 ghost use Rattle.uspec_parser.specs.Descent.{next, behind, place, is_quoted, Parameters, begins_item, stage_item, macro_item, Row, Item as ItemLine, Items as ItemLines};
 
 use super::cursor::Cursor;
@@ -28,7 +28,7 @@ impl Cursor<'_> {
             words.push(self.word(alloc)?)?;
             self.skip();
         }
-        Shared::new(words)
+        Shared::of(words)
     }
 
     fn stage(&mut self, alloc: Global) -> Result<StageItem, Memory>
@@ -50,8 +50,9 @@ impl Cursor<'_> {
 
     fn axiom(&mut self, alloc: Global) -> Result<Item, Memory>
         requires { IsTrue (is_placed (next self.old)) }
-        ensures { IfOk result (λ i. (l : Operands) × (rest : List Lexeme) × Row (behind (behind (behind self.old))) l rest
-            × (written_item i ≡ axiom_ (place self.old) (grouped_spec l)) × (self.new ≡ behind rest)) }
+        ensures { IfOk result (λ i. (l : Operands) × (rest : List Lexeme)
+            × Row (behind (behind (behind self.old))) l rest
+            × (written_item i ≡ axiom_ (place self.old) (formula_spec l)) × (self.new ≡ behind rest)) }
     {
         let at = self.place();
         self.skip();

@@ -3,16 +3,22 @@ ghost use Rattle.std.specs.Prelude.{◌≡◌, ◌↔◌};
 ghost use Rattle.ll_grammar.specs.Texts.{IsText};
 ghost use Rattle.ll_grammar.specs.FirstFault.{HasAnswer, HasOneAnswer};
 ghost use Rattle.pc_syntax.specs.Written.{Written, WrittenModel};
-ghost use Rattle.uspec_parser.specs.Operands.{Operands, IsSplit, grouped};
+ghost use Rattle.uspec_parser.specs.Operands.{Operands, IsSplit, formula_of};
 ghost use Rattle.uspec_parser.specs.Syntax.{DerivesModel, DerivesFormula};
 ghost use Rattle.uspec_parser.specs.Marks.{IsMarkedModel, IsMarkedFormula};
 ghost use Rattle.uspec_parser.specs.Answers.{terminals};
 
+use super::level::MAX_OPENERS;
 use uspec_lexer::Tokens;
+
+/// The limit is this number.
+pub fn limits_are()
+    ensures { MAX_OPENERS ≡ 128 }
+{}
 
 /// A list of operands has one split, and grouping makes it.
 pub fn split_of_operands()
-    ensures { (l : Operands) (w : Written) → IsSplit l w ↔ (w ≡ grouped l) }
+    ensures { (l : Operands) (w : Written) → IsSplit l w ↔ (w ≡ formula_of l) }
 {}
 
 /// No tokens have two trees as a model.

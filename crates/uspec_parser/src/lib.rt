@@ -52,8 +52,8 @@ mod terms;
 
 pub use fault::ParseFault;
 pub use laws::{
-    formula_texts, model_texts, one_answer, one_formula_tree, one_model_tree, some_answer,
-    split_of_operands,
+    formula_texts, limits_are, model_texts, one_answer, one_formula_tree, one_model_tree,
+    some_answer, split_of_operands,
 };
 pub use level::MAX_OPENERS;
 pub use parse::{parse_formula, parse_model};

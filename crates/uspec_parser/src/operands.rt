@@ -1,7 +1,8 @@
 ghost use Rattle.std.specs.Prelude.{◌≡◌, IfOk, MatchOption, Some, None};
 ghost use Rattle.pc_syntax.specs.Written.{written};
-ghost use Rattle.uspec_parser.specs.Operands.{conjoins, disjoins, implies, only, or_now, implies_now, before as before_spec, whole as whole_spec, grouped as grouped_spec};
-ghost use Rattle.uspec_parser.specs.Grouping.{joins, operands_before, written_option, written_grouping};
+ghost use Rattle.uspec_parser.specs.declared.operands.Connective.TheVariants.{And as conjoins, Or as disjoins, Implies as implies};
+ghost use Rattle.uspec_parser.specs.Operands.{only, or_now, implies_now, before as before_spec, whole as whole_spec, formula_of as formula_spec};
+ghost use Rattle.uspec_parser.specs.Grouping.{operands_before, written_option, written_grouping};
 ghost use Rattle.uspec_parser.specs.Descent.{connective as connective_spec};
 
 use super::terminal::Terminal;
@@ -9,6 +10,7 @@ use pc_common::Memory;
 use pc_syntax::Formula;
 use std::alloc::Global;
 
+/// What stands between two operands.
 #[derive(Clone, Copy)]
 pub(crate) enum Connective {
     And,
@@ -18,7 +20,7 @@ pub(crate) enum Connective {
 
 /// The connective that a terminal is.
 pub(crate) fn connective_of(terminal: Terminal) -> Option<Connective>
-    ensures { MatchOption result (connective_spec terminal ≡ None) (λ op. connective_spec terminal ≡ Some (joins op)) }
+    ensures { MatchOption result (connective_spec terminal ≡ None) (λ op. connective_spec terminal ≡ Some op) }
 {
     match terminal {
         Terminal::And => Some(Connective::And),
@@ -30,7 +32,7 @@ pub(crate) fn connective_of(terminal: Terminal) -> Option<Connective>
 
 /// An operand with the connective behind it.
 #[derive(Drop)]
-pub(crate) struct Joined {
+pub(crate) struct Link {
     pub(crate) operand: Formula,
     pub(crate) connective: Connective,
 }
@@ -56,7 +58,8 @@ impl Grouping {
 
     /// The same behind an operand and a `/\`.
     fn behind_and(self, alloc: Global, operand: Formula) -> Result<Grouping, Memory>
-        ensures { IfOk result (λ g. written_grouping g ≡ before_spec (written operand) conjoins (written_grouping self)) }
+        ensures { IfOk result (λ g. written_grouping g
+            ≡ before_spec (written operand) conjoins (written_grouping self)) }
     {
         Ok(Grouping {
             now: Formula::conjunction(alloc, operand, self.now)?,
@@ -67,7 +70,8 @@ impl Grouping {
 
     /// The same behind an operand and a `\/`.
     fn behind_or(self, alloc: Global, operand: Formula) -> Result<Grouping, Memory>
-        ensures { IfOk result (λ g. written_grouping g ≡ before_spec (written operand) disjoins (written_grouping self)) }
+        ensures { IfOk result (λ g. written_grouping g
+            ≡ before_spec (written operand) disjoins (written_grouping self)) }
     {
         Ok(Grouping {
             now: operand,
@@ -78,7 +82,8 @@ impl Grouping {
 
     /// The same behind an operand and a `=>`.
     fn behind_implies(self, alloc: Global, operand: Formula) -> Result<Grouping, Memory>
-        ensures { IfOk result (λ g. written_grouping g ≡ before_spec (written operand) implies (written_grouping self)) }
+        ensures { IfOk result (λ g. written_grouping g
+            ≡ before_spec (written operand) implies (written_grouping self)) }
     {
         Ok(Grouping {
             now: operand,
@@ -88,13 +93,14 @@ impl Grouping {
     }
 
     /// The same behind an operand and its connective.
-    fn before(self, alloc: Global, joined: Joined) -> Result<Grouping, Memory>
-        ensures { IfOk result (λ g. written_grouping g ≡ before_spec (written joined.operand) (joins joined.connective) (written_grouping self)) }
+    fn before(self, alloc: Global, link: Link) -> Result<Grouping, Memory>
+        ensures { IfOk result (λ g. written_grouping g
+            ≡ before_spec (written link.operand) link.connective (written_grouping self)) }
     {
-        match joined.connective {
-            Connective::And => self.behind_and(alloc, joined.operand),
-            Connective::Or => self.behind_or(alloc, joined.operand),
-            Connective::Implies => self.behind_implies(alloc, joined.operand),
+        match link.connective {
+            Connective::And => self.behind_and(alloc, link.operand),
+            Connective::Or => self.behind_or(alloc, link.operand),
+            Connective::Implies => self.behind_implies(alloc, link.operand),
         }
     }
 }
@@ -120,12 +126,13 @@ fn implication(alloc: Global, now: Formula, implied: Option<Formula>) -> Result<
 }
 
 /// The formula of a list of operands, from its last one on. Takes time linear in their number.
-pub(crate) fn grouped(
+pub(crate) fn formula_of(
     alloc: Global,
-    operands: Vec<Joined>,
+    operands: Vec<Link>,
     last: Formula,
 ) -> Result<Formula, Memory>
-    ensures { IfOk result (λ f. written f ≡ grouped_spec (operands_before operands.items (only (written last)))) }
+    ensures { let all = operands_before operands.items (only (written last)) in
+        IfOk result (λ f. written f ≡ formula_spec all) }
 {
     let mut before = operands;
     let mut grouping = Grouping {
@@ -133,8 +140,8 @@ pub(crate) fn grouped(
         disjoined: None,
         implied: None,
     };
-    while let Some(joined) = before.pop() {
-        grouping = grouping.before(alloc, joined)?;
+    while let Some(link) = before.pop() {
+        grouping = grouping.before(alloc, link)?;
     }
     grouping.whole(alloc)
 }

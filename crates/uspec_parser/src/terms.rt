@@ -42,7 +42,7 @@ impl Cursor<'_> {
             args.push(self.argument(alloc)?)?;
             self.skip();
         }
-        Shared::new(args)
+        Shared::of(args)
     }
 
     /// Reads a node's core, if it has one, and its stage.
@@ -129,7 +129,7 @@ impl Cursor<'_> {
             self.semicolon();
         }
         self.skip();
-        Shared::new(elements)
+        Shared::of(elements)
     }
 }
 

@@ -2,10 +2,10 @@
 if exists('b:current_syntax')
   finish
 endif
-syntax keyword litmusItem Litmus Microop Relationship Init Final
+syntax keyword litmusItem Litmus Litmus2 Microop Relationship Init Final
 syntax keyword litmusExpectation Permitted Forbidden
 syntax keyword litmusAccess Read Write Fence
-syntax keyword litmusPart VA PA Data
+syntax keyword litmusPart VA PA Data Entry Maps
 syntax match litmusArrow "->"
 syntax match litmusNumber "\<\d\+\>"
 syntax region litmusText start=+"+ end=+"+ oneline

@@ -9,6 +9,7 @@ syntax keyword uspecPredicate IsAnyRead IsAnyWrite IsAnyFence AccessType OnCore 
 syntax keyword uspecPredicate SameInstruction SameIntra ProgramOrder SameVirtualAddress SamePhysicalAddress
 syntax keyword uspecPredicate SameVirtualTag SamePhysicalTag SameIndex SameData DataFromInitialStateAtPA
 syntax keyword uspecPredicate DataFromFinalStateAtPA HasDependency
+syntax keyword uspecPredicate EntryOf MapsTagOf MarkedAccessed MarkedDirty
 syntax keyword uspecConstant True False
 syntax match uspecConnective "/\\\|\\/\|=>\|\~"
 syntax match uspecNumber "\<\d\+\>"

@@ -1,19 +1,16 @@
 use Rattle.std.proofs.Common.{◌≡◌, List, true, false, Bool, sym, ◌∙◌, subst}
-use Rattle.std.specs.Prelude.{MatchBool}
+use Rattle.std.specs.Prelude.{MatchBool, codes}
 use Rattle.std.proofs.lemmas.Result.{IfOk-weaker}
 use Rattle.pc_common.specs.Lines.{Line}
 use Rattle.pc_ground.specs.NodeForm.{names_of}
-use Rattle.pc_ground.specs.Refutes.{Branch}
-use Rattle.pc_ground.specs.Tree.{Tree as GroundTree}
-use Rattle.pc_common.specs.World.{Node}
 use Rattle.graph_text.specs.OpenGraphs.{Takes, Refuses}
-use Rattle.tree_check.specs.Opened.{Stands}
+use Rattle.cert_check.specs.Certificates.{Question}
 use Rattle.cert_check.specs.Questions.{question_of}
 use Rattle.cert_check.specs.Proper.{IsAsked}
-use Rattle.cert_check.specs.Stages.{StandsAt, HasAdvanced, StepsOn, IsGraphSoFar, IsTreeSoFar}
+use Rattle.cert_check.specs.Stages.{StandsAt, HasAdvanced, IsGraphSoFar, IsTreeSoFar}
 use Rattle.cert_check.specs.declared.stage.Stage.{Stage}
 use Rattle.cert_check.specs.declared.stage.Stage.TheVariants.{Graph, Tree}
-use Rattle.cert_check.proofs.Advancing.{graph_advanced, tree_advanced, ended_stuck}
+use Rattle.cert_check.proofs.Advances.{graph_advanced, ended_stuck}
 use Rattle.cert_check.proofs.next.advance.Goals as goal
 use Rattle.cert_check.proofs.next.advance.Goals.{in-Start, in-Said+in_ok-next-in-Said, in-Graph+else-not-is_end+in_ok-next-in-Graph, in-Tree+else-not-is_end-2, in-Ended}
 
@@ -38,15 +35,13 @@ returns-then-not-is_end c =
 pub returns-then-not-is_end-2 : goal.returns-then-not-is_end-2
 returns-then-not-is_end-2 c =
     let q = question_of c.args.front.now in
-    IfOk-weaker c.take_line.result
-    (λ good. (t : GroundTree Node) (opens : List Branch) → Stands c.in-Tree.branches t opens → StepsOn c.args.names.now t opens c.args.line.now c.take_line.new.branches good)
-    (λ good. IsAsked q → c.args.names.now ≡ names_of c.args.front.now → (lines : List Line) → StandsAt q c.args.stage.now lines → HasAdvanced q lines c.args.line.now (Tree c.take_line.new.branches) good)
+    IfOk-weaker c.take-then-not-is_end-2.result
+    (λ good. (p : Question) → IsAsked p → c.args.names.now ≡ p.names → (lines : List Line) → IsTreeSoFar p c.in-Tree.tree lines → (c.args.line.now ≡ codes "end" → ⊥) → HasAdvanced p lines c.args.line.now (Tree c.take-then-not-is_end-2.new.self) good)
+    (λ good. IsAsked q → c.args.names.now ≡ names_of c.args.front.now → (lines : List Line) → StandsAt q c.args.stage.now lines → HasAdvanced q lines c.args.line.now (Tree c.take-then-not-is_end-2.new.self) good)
     (λ good h asked names lines st.
     let P : Stage → Type 0 = λ s. StandsAt q s lines in
-    let so_far : IsTreeSoFar q c.in-Tree.branches lines = subst P c.in-Tree.is st in
-    tree_advanced q asked c.args.names.now names c.in-Tree.branches c.take_line.new.branches lines c.args.line.now so_far
-    (λ e. clash (c.is_end-in-Tree.ensures.1 e) c.if-not-is_end-2.true) good (h q.tree so_far.opens so_far.stands))
-    c.take_line.ensures
+    h q asked names lines (subst P c.in-Tree.is st) (λ e. clash (c.is_end-in-Tree.ensures.1 e) c.if-not-is_end-2.true))
+    c.take-then-not-is_end-2.ensures
 
 pub returns : goal.returns
 returns c = λ asked names lines st.

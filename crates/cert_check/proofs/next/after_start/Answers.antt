@@ -1,4 +1,4 @@
-use Rattle.cert_check.proofs.Advancing.{start_goes}
+use Rattle.cert_check.proofs.Advances.{start_goes}
 use Rattle.cert_check.proofs.next.after_start.Goals as goal
 
 pub returns : goal.returns

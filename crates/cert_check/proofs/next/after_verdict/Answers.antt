@@ -6,7 +6,7 @@ use Rattle.cert_check.specs.Stages.{GoesOn}
 use Rattle.cert_check.specs.Verdicts.{plain_verdict}
 use Rattle.cert_check.specs.declared.header.Verdict.{Verdict}
 use Rattle.cert_check.specs.declared.stage.Stage.TheVariants.{Graph}
-use Rattle.cert_check.proofs.Advancing.{graph_begins, tree_begins}
+use Rattle.cert_check.proofs.Advances.{graph_begins}
 use Rattle.cert_check.proofs.next.after_verdict.Goals as goal
 
 pub returns-in-Observable : goal.returns-in-Observable
@@ -23,5 +23,4 @@ returns-in_ok-new-in-Unobservable c = λ lines are.
     let q = question_of c.args.front.now in
     let E : Verdict → Type 0 = λ v. c.args.line.now ≡ second_text (plain_verdict v) q.expectation in
     let text : c.args.line.now ≡ second_text unobservable q.expectation = subst E c.in-Unobservable.is (rw c.expect.ensures at (c.is_second.ensures.0 c.if-not-is_second.false)) in
-    tree_begins q lines c.args.line.now _ (are ∙ ap (λ v. verdict (plain_verdict v) ∷ []) c.in-Unobservable.is) text
-    (c.in_ok-new-in-Unobservable.ensures q.tree c.args.front.now.grounded)
+    c.in_ok-new-in-Unobservable.ensures lines (are ∙ ap (λ v. verdict (plain_verdict v) ∷ []) c.in-Unobservable.is) c.args.line.now text

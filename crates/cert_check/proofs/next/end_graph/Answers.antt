@@ -1,7 +1,7 @@
 use Rattle.std.proofs.Common.{refl}
 use Rattle.std.specs.Prelude.{codes}
 use Rattle.cert_check.specs.Questions.{question_of}
-use Rattle.cert_check.proofs.Advancing.{graph_end_stuck, graph_ended}
+use Rattle.cert_check.proofs.Advances.{graph_end_stuck, graph_ended}
 use Rattle.cert_check.proofs.Shown.{no_world, some_world}
 use Rattle.cert_check.proofs.next.end_graph.Goals as goal
 

@@ -6,7 +6,8 @@ use Rattle.static_preds.specs.Values.{meanings}
 use Rattle.static_preds.proofs.Ranges.{value, scope_inside}
 use Rattle.static_preds.proofs.SlotLaws.{slot_more}
 use Rattle.static_preds.proofs.SlotsBelow.{slots_below}
-use Rattle.graph_check.proofs.Walking.{all_next, all_stop, any_next, any_stop, judged}
+use Rattle.graph_check.proofs.FirstMembers.{all_next, all_stop, any_next, any_stop, judged}
+use Rattle.graph_check.proofs.GraphWorlds.{generated_at}
 use Rattle.graph_check.proofs.truth.+walk.Goals as goal
 
 pub is_true-holds-requires-clause-below : goal.is_true-holds-requires-clause-below
@@ -25,8 +26,8 @@ is_true_for_all-is_true-requires t c =
       ),
     )
 
-pub is_true_for_all-returns-then-not-is_true : goal.is_true_for_all-returns-then-not-is_true
-is_true_for_all-returns-then-not-is_true t c = λ w tells.
+pub is_true_for_all-returns-then-not-branch-clause-truth : goal.is_true_for_all-returns-then-not-branch-clause-truth
+is_true_for_all-returns-then-not-branch-clause-truth t c = λ w is_made.
     let slots = c.args.env.now.items in
     let inside = c.bind_next.new.inside.items in
     let p = plain_closed c.args.body.now in
@@ -34,9 +35,9 @@ is_true_for_all-returns-then-not-is_true t c = λ w tells.
     let range = range_of c.args.case.now c.args.sort in
     let within : k < length range = omega (arith, c.range_len-k-end.ensures.count, c.loop-k-test.true) in
     let there = value c.args.case.now c.args.sort k within in
-    let is = judged c.args.case.now w slots inside c.args.sort p k c.value_in_range.result c.is_true.result false c.value_in_range.ensures
-    c.bind_next.ensures.items (c.is_true.ensures w tells) c.if-not-is_true.true in
-    sym (c.loop-k.invariant.all w tells ∙ all_stop (λ v. closed_true c.args.case.now w (meanings slots ++ v ∷ []) p) range k
+    let is = judged c.args.case.now w slots inside c.args.sort p k c.value_in_range.result c.in_ok-is_true.field-0 false c.value_in_range.ensures
+    c.bind_next.ensures.items (c.in_ok-is_true.ensures.truth w (generated_at w c.loop-k.order c.args.order.now c.loop-k.invariant.same is_made)) c.if-not-branch.true in
+    sym (c.loop-k.invariant.all w is_made ∙ all_stop (λ v. closed_true c.args.case.now w (meanings slots ++ v ∷ []) p) range k
     (meaning_of (bound_at c.args.sort k)) there is)
 
 pub is_true_for_all-loop-k-preserved : goal.is_true_for_all-loop-k-preserved
@@ -49,11 +50,12 @@ is_true_for_all-loop-k-preserved t c =
     let within : k < length range = omega (arith, c.range_len-k-end.ensures.count, c.loop-k-test.true) in
     let there = value c.args.case.now c.args.sort k within in
     record {
+      same = c.in_ok-is_true.ensures.same ∙ c.loop-k.invariant.same;
       begins = c.bind_next.ensures.begins;
-      all = λ w tells.
-          let is = judged c.args.case.now w slots inside c.args.sort p k c.value_in_range.result c.is_true.result true c.value_in_range.ensures
-          c.bind_next.ensures.items (c.is_true.ensures w tells) c.if-not-is_true.false in
-          c.loop-k.invariant.all w tells ∙ all_next (λ v. closed_true c.args.case.now w (meanings slots ++ v ∷ []) p) range k
+      all = λ w is_made.
+          let is = judged c.args.case.now w slots inside c.args.sort p k c.value_in_range.result c.in_ok-is_true.field-0 true c.value_in_range.ensures
+          c.bind_next.ensures.items (c.in_ok-is_true.ensures.truth w (generated_at w c.loop-k.order c.args.order.now c.loop-k.invariant.same is_made)) c.if-not-branch.false in
+          c.loop-k.invariant.all w is_made ∙ all_next (λ v. closed_true c.args.case.now w (meanings slots ++ v ∷ []) p) range k
           (meaning_of (bound_at c.args.sort k)) there is;
     }
 
@@ -70,8 +72,8 @@ is_true_for_some-is_true-requires t c =
       ),
     )
 
-pub is_true_for_some-returns-then-is_true : goal.is_true_for_some-returns-then-is_true
-is_true_for_some-returns-then-is_true t c = λ w tells.
+pub is_true_for_some-returns-then-branch-clause-truth : goal.is_true_for_some-returns-then-branch-clause-truth
+is_true_for_some-returns-then-branch-clause-truth t c = λ w is_made.
     let slots = c.args.env.now.items in
     let inside = c.bind_next.new.inside.items in
     let p = plain_closed c.args.body.now in
@@ -79,9 +81,9 @@ is_true_for_some-returns-then-is_true t c = λ w tells.
     let range = range_of c.args.case.now c.args.sort in
     let within : k < length range = omega (arith, c.range_len-k-end.ensures.count, c.loop-k-test.true) in
     let there = value c.args.case.now c.args.sort k within in
-    let is = judged c.args.case.now w slots inside c.args.sort p k c.value_in_range.result c.is_true.result true c.value_in_range.ensures
-    c.bind_next.ensures.items (c.is_true.ensures w tells) c.if-is_true.true in
-    sym (c.loop-k.invariant.some w tells ∙ any_stop (λ v. closed_true c.args.case.now w (meanings slots ++ v ∷ []) p) range k
+    let is = judged c.args.case.now w slots inside c.args.sort p k c.value_in_range.result c.in_ok-is_true.field-0 true c.value_in_range.ensures
+    c.bind_next.ensures.items (c.in_ok-is_true.ensures.truth w (generated_at w c.loop-k.order c.args.order.now c.loop-k.invariant.same is_made)) c.if-branch.true in
+    sym (c.loop-k.invariant.some w is_made ∙ any_stop (λ v. closed_true c.args.case.now w (meanings slots ++ v ∷ []) p) range k
     (meaning_of (bound_at c.args.sort k)) there is)
 
 pub is_true_for_some-loop-k-preserved : goal.is_true_for_some-loop-k-preserved
@@ -94,10 +96,11 @@ is_true_for_some-loop-k-preserved t c =
     let within : k < length range = omega (arith, c.range_len-k-end.ensures.count, c.loop-k-test.true) in
     let there = value c.args.case.now c.args.sort k within in
     record {
+      same = c.in_ok-is_true.ensures.same ∙ c.loop-k.invariant.same;
       begins = c.bind_next.ensures.begins;
-      some = λ w tells.
-          let is = judged c.args.case.now w slots inside c.args.sort p k c.value_in_range.result c.is_true.result false c.value_in_range.ensures
-          c.bind_next.ensures.items (c.is_true.ensures w tells) c.if-is_true.false in
-          c.loop-k.invariant.some w tells ∙ any_next (λ v. closed_true c.args.case.now w (meanings slots ++ v ∷ []) p) range k
+      some = λ w is_made.
+          let is = judged c.args.case.now w slots inside c.args.sort p k c.value_in_range.result c.in_ok-is_true.field-0 false c.value_in_range.ensures
+          c.bind_next.ensures.items (c.in_ok-is_true.ensures.truth w (generated_at w c.loop-k.order c.args.order.now c.loop-k.invariant.same is_made)) c.if-branch.false in
+          c.loop-k.invariant.some w is_made ∙ any_next (λ v. closed_true c.args.case.now w (meanings slots ++ v ∷ []) p) range k
           (meaning_of (bound_at c.args.sort k)) there is;
     }

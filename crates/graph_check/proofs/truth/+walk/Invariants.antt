@@ -7,7 +7,7 @@ use Rattle.pc_syntax.specs.declared.closed_formula.ClosedFormula.{size-ClosedFor
 use Rattle.pc_syntax.specs.Truth.{range_of}
 use Rattle.pc_syntax.specs.Closed.{plain_closed, closed_forall, closed_exists, closed_true}
 use Rattle.static_preds.specs.Values.{meanings}
-use Rattle.graph_check.specs.Orders.{Tells}
+use Rattle.pc_common.specs.Generated.{IsGenerated}
 use Rattle.graph_check.proofs.truth.+walk.Given as goal
 
 abbrev pub decreases-is_true : goal.decreases-is_true
@@ -24,16 +24,18 @@ decreases-is_true_inside l = 2 * size-ClosedFormula l.body.now + 1
 
 abbrev pub invariant-is_true_for_all-loop-k : goal.invariant-is_true_for_all-loop-k
 invariant-is_true_for_all-loop-k l = record {
+  same : l.order ≡ l.fn.order;
   begins : take (length l.env.items) l.inside.items ≡ l.env.items;
-  all : (w : World Node) → Tells l.order.nodes l.order.reach w
+  all : (w : World Node) → IsGenerated l.fn.order.nodes l.fn.order.edges w
       → closed_true l.case w (meanings l.env.items) (closed_forall l.sort (plain_closed l.body))
       ≡ list_all (λ v. closed_true l.case w (meanings l.env.items ++ v ∷ []) (plain_closed l.body)) (drop l.k (range_of l.case l.sort));
 }
 
 abbrev pub invariant-is_true_for_some-loop-k : goal.invariant-is_true_for_some-loop-k
 invariant-is_true_for_some-loop-k l = record {
+  same : l.order ≡ l.fn.order;
   begins : take (length l.env.items) l.inside.items ≡ l.env.items;
-  some : (w : World Node) → Tells l.order.nodes l.order.reach w
+  some : (w : World Node) → IsGenerated l.fn.order.nodes l.fn.order.edges w
       → closed_true l.case w (meanings l.env.items) (closed_exists l.sort (plain_closed l.body))
       ≡ list_any (λ v. closed_true l.case w (meanings l.env.items ++ v ∷ []) (plain_closed l.body)) (drop l.k (range_of l.case l.sort));
 }

@@ -1,6 +1,6 @@
 use Rattle.static_preds.specs.Values.{scope_of}
 use Rattle.static_preds.proofs.Walked.{edge_fits}
-use Rattle.graph_check.proofs.Walking.{item_at}
+use Rattle.graph_check.proofs.FirstMembers.{item_at}
 use Rattle.graph_check.proofs.truth.has_edges.Goals as goal
 
 pub node_key-from-requires-clause-fits : goal.node_key-from-requires-clause-fits

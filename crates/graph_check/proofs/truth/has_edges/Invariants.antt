@@ -3,10 +3,13 @@ use Rattle.std.proofs.Common.{◌≡◌, drop}
 use Rattle.pc_common.specs.World.{Node, World}
 use Rattle.pc_syntax.specs.Closed.{closed_edges, closed_true}
 use Rattle.static_preds.specs.Values.{meanings}
-use Rattle.graph_check.specs.Orders.{Tells}
+use Rattle.pc_common.specs.Generated.{IsGenerated}
 use Rattle.graph_check.proofs.truth.has_edges.Given as goal
 
 abbrev pub invariant-loop-edge : goal.invariant-loop-edge
-invariant-loop-edge l = (w : World Node) → Tells l.order.nodes l.order.reach w
-    → closed_true l.case w (meanings l.env.items) (closed_edges l.edges)
-    ≡ closed_true l.case w (meanings l.env.items) (closed_edges (drop l.edge-index l.edges))
+invariant-loop-edge l = record {
+  same : l.order ≡ l.fn.order;
+  truth : (w : World Node) → IsGenerated l.fn.order.nodes l.fn.order.edges w
+      → closed_true l.case w (meanings l.env.items) (closed_edges l.edges)
+      ≡ closed_true l.case w (meanings l.env.items) (closed_edges (drop l.edge-index l.edges));
+}

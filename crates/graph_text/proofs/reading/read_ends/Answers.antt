@@ -1,4 +1,4 @@
-use Rattle.graph_text.proofs.WordReading.{ends_again, ends_read}
+use Rattle.graph_text.proofs.GraphTexts.{ends_again, ends_read}
 use Rattle.graph_text.proofs.reading.read_ends.Goals as goal
 
 pub returns-clause-read : goal.returns-clause-read

@@ -1,11 +1,11 @@
 -- The first lines were put.
 use Rattle.std.proofs.Common.{take}
 use Rattle.std.specs.List.{flat_map}
-use Rattle.pc_common.specs.Writes.{done}
+use Rattle.pc_common.specs.Writes.{success}
 use Rattle.pc_common.specs.Room.{Puts}
 use Rattle.graph_text.specs.Graphs.{edge_line_text}
 use Rattle.graph_text.proofs.writing.put_edges.Given as goal
 
 abbrev pub invariant-loop-ends : goal.invariant-loop-ends
 invariant-loop-ends g l =
-    Puts g.K.Sink.told g.K.Sink.faults g.K.Sink.taken l.initial.room l.room done (flat_map (edge_line_text l.names) (take l.ends-index l.edges))
+    Puts g.K.Sink.view l.initial.room l.room success (flat_map (edge_line_text l.names) (take l.ends-index l.edges))

@@ -5,8 +5,8 @@ use Rattle.pc_syntax.specs.declared.closed_formula.ClosedFormula.{size-ClosedFor
 use Rattle.pc_syntax.specs.Truth.{range_of}
 use Rattle.pc_syntax.specs.Closed.{plain_closed}
 use Rattle.pc_ground.specs.PlainGround.{plain_ground}
-use Rattle.grounder.specs.Members.{joined_all}
-use Rattle.grounder.specs.Said.{said_at, said_over}
+use Rattle.grounder.specs.Members.{whole_of}
+use Rattle.grounder.specs.GroundingOf.{grounding_at, grounding_over}
 use Rattle.grounder.proofs.formula.+walk.Given as goal
 
 abbrev pub decreases-ground_formula : goal.decreases-ground_formula
@@ -23,10 +23,10 @@ decreases-ground_range l = 2 * size-ClosedFormula l.body.now + 1
 
 abbrev pub invariant-ground_range-loop-k : goal.invariant-ground_range-loop-k
 invariant-ground_range-loop-k l =
-    let said_each = said_at l.case l.env.items (plain_closed l.body) in
+    let grounding_each = grounding_at l.case l.env.items (plain_closed l.body) in
     record {
       begins : take (length l.env.items) l.inside.items ≡ l.env.items;
       all :
-          said_over l.connective l.case l.env.items l.sort (plain_closed l.body)
-          ≡ joined_all l.connective (map plain_ground l.kept.items ++ map said_each (drop l.k (range_of l.case l.sort)));
+          grounding_over l.operator l.case l.env.items l.sort (plain_closed l.body)
+          ≡ whole_of l.operator (map plain_ground l.kept.items ++ map grounding_each (drop l.k (range_of l.case l.sort)));
     }

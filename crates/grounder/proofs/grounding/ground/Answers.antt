@@ -4,9 +4,9 @@ use Rattle.std.proofs.lemmas.Result.{IfOk-weaker}
 use Rattle.pc_syntax.specs.Closed.{plain_closed}
 use Rattle.pc_ground.specs.PlainGround.{ground_false, plain_ground, simplified, normal}
 use Rattle.pc_ground.specs.GroundTree.{axioms_unfolded, closed_ground_tree}
-use Rattle.grounder.specs.declared.connective.Connective.TheVariants.{And}
-use Rattle.grounder.specs.Members.{joined_all}
-use Rattle.grounder.proofs.Joining.{axioms_folded}
+use Rattle.grounder.specs.declared.operator.Operator.TheVariants.{And}
+use Rattle.grounder.specs.Members.{whole_of}
+use Rattle.grounder.proofs.WithMembers.{axioms_folded}
 use Rattle.grounder.proofs.Normal.{normal_of_simplified}
 use Rattle.grounder.proofs.grounding.ground.Goals as goal
 
@@ -24,6 +24,6 @@ returns-clause-tree c =
     let axioms = map (λ a. plain_closed a.body) c.args.axioms.now in
     let p = axioms_unfolded c.args.case.now axioms in
     let kept = map plain_ground c.loop-axiom.kept.items in
-    let all : joined_all And kept ≡ simplified p = grind (arith, common_steps, c.loop-axiom.invariant) in
-    IfOk-weaker c.join_all.result (λ g. plain_ground g ≡ joined_all And kept) (λ g. normal (plain_ground g) ≡ closed_ground_tree c.args.case.now axioms)
+    let all : whole_of And kept ≡ simplified p = grind (arith, common_steps, c.loop-axiom.invariant) in
+    IfOk-weaker c.join_all.result (λ g. plain_ground g ≡ whole_of And kept) (λ g. normal (plain_ground g) ≡ closed_ground_tree c.args.case.now axioms)
     (λ g e. normal_of_simplified (plain_ground g) p (e ∙ all)) c.join_all.ensures

@@ -2,23 +2,23 @@ use Rattle.std.proofs.Common.{ℕ, List, subst}
 use Rattle.pc_common.specs.Case.{Case}
 use Rattle.uspec_lexer.specs.Token.{Token}
 use Rattle.uspec_lexer.specs.Spells.{Spells}
-use Rattle.litmus_reader.specs.Answer.{CaseOf, IsRefusal, CaseIn, IsContentRefusal}
+use Rattle.litmus_reader.specs.Answer.{CaseOf, IsCaseFault, CaseIn, IsContentFaultIn}
 use Rattle.litmus_reader.specs.Answers.{IsSyntaxAnswer}
 use Rattle.litmus_reader.specs.declared.fault.CaseFault.{CaseFault}
 use Rattle.litmus_reader.specs.declared.fault.CaseFault.TheVariants.{Lexical, Syntax, Content, Memory}
-use Rattle.litmus_reader.proofs.KeptFacts.{if_ok, if_err}
+use Rattle.litmus_reader.proofs.BuilderFacts.{if_ok, if_err}
 use Rattle.litmus_reader.proofs.read.case_of_tokens.Goals as goal
 
 -- what the tokens say, the bytes say
 case_of : (bytes : List ℕ) (ts : List Token) → Spells bytes ts → (case : Case) → CaseIn ts case → CaseOf bytes case
 case_of bytes ts spelled case (items, test, clean, is) = record {
   items = items;
-  said = record { tokens = ts; spelled = spelled; test = test };
+  text = record { tokens = ts; spelled = spelled; test = test };
   clean = clean;
   is = is;
 }
 
-refusal_of : (bytes : List ℕ) (ts : List Token) → Spells bytes ts → (fault : CaseFault) → IsContentRefusal ts fault → IsRefusal bytes fault
+refusal_of : (bytes : List ℕ) (ts : List Token) → Spells bytes ts → (fault : CaseFault) → IsContentFaultIn ts fault → IsCaseFault bytes fault
 refusal_of bytes ts spelled (Content kind place) (items, test, here) = (items, record { tokens = ts; spelled = spelled; test = test }, here)
 refusal_of bytes ts spelled Memory here = tt
 refusal_of bytes ts spelled (Lexical place) here = absurd here

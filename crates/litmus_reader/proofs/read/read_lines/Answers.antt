@@ -1,42 +1,42 @@
 use Rattle.std.proofs.Common.{Result, IfErr, subst, sym, arith}
 use Rattle.std.proofs.lemmas.Result.{err_from_is_err_and}
-use Rattle.litmus_reader.specs.Answer.{IsContentRefusal}
-use Rattle.litmus_reader.specs.Kept.{IsLineRefusal}
+use Rattle.litmus_reader.specs.Answer.{IsContentFaultIn}
+use Rattle.litmus_reader.specs.Builder.{IsLineFault}
 use Rattle.litmus_reader.specs.declared.fault.CaseFault.{CaseFault}
-use Rattle.litmus_reader.proofs.Walk.{reached-first, reached-item, said, reached-next, refusal-of, reached-end}
+use Rattle.litmus_reader.proofs.Walk.{reached-first, reached-item, read_line, reached-next, content_fault-of, reached-end}
 use Rattle.litmus_reader.proofs.read.read_lines.Goals as goal
 
 pub loop-at-init : goal.loop-at-init
-loop-at-init c = reached-first c.args.tokens.now c.args.kept.now c.requires.test c.requires.first
+loop-at-init c = reached-first c.args.tokens.now c.args.builder.now c.requires.test c.requires.first
 
 pub item_at-requires-clause-begins : goal.item_at-requires-clause-begins
 item_at-requires-clause-begins c = reached-item c.loop-at.invariant (omega arith)
 
-pub keep-requires : goal.keep-requires
-keep-requires c =
+pub add-requires : goal.add-requires
+add-requires c =
     let r = c.loop-at.invariant in (r.before, r.keeps, r.clean)
 
-pub returns-in_err-keep-clause-err : goal.returns-in_err-keep-clause-err
-returns-in_err-keep-clause-err c =
+pub returns-in_err-add-clause-err : goal.returns-in_err-add-clause-err
+returns-in_err-add-clause-err c =
     let r = c.loop-at.invariant in
-    let s = said r (omega arith) c.in_ok-item.item c.in_ok-item.next c.in_ok-item.ensures in
-    let (fault, is, same) = err_from_is_err_and c.from_residual-in_err-keep.result c.from_residual-in_err-keep.ensures.1 in
-    subst (λ (result : Result Unit CaseFault). IfErr result (IsContentRefusal c.args.tokens.now)) (sym is)
-    (refusal-of r c.in_ok-item.item c.in_ok-item.next s fault
-    (subst (IsLineRefusal r.before c.in_ok-item.item) (sym same) (c.in_err-keep.ensures.err r.before r.keeps)))
+    let s = read_line r (omega arith) c.in_ok-item.item c.in_ok-item.next c.in_ok-item.ensures in
+    let (fault, is, same) = err_from_is_err_and c.from_residual-in_err-add.result c.from_residual-in_err-add.ensures.1 in
+    subst (λ (result : Result Unit CaseFault). IfErr result (IsContentFaultIn c.args.tokens.now)) (sym is)
+    (content_fault-of r c.in_ok-item.item c.in_ok-item.next s fault
+    (subst (IsLineFault r.before c.in_ok-item.item) (sym same) (c.in_err-add.ensures.err r.before r.keeps)))
 
 pub loop-at-smaller : goal.loop-at-smaller
 loop-at-smaller c =
     let r = c.loop-at.invariant in
-    let s = said r (omega arith) c.in_ok-item.item c.in_ok-item.next c.in_ok-item.ensures in
+    let s = read_line r (omega arith) c.in_ok-item.item c.in_ok-item.next c.in_ok-item.ensures in
     omega (arith, s.rises, s.within)
 
 pub loop-at-preserved : goal.loop-at-preserved
 loop-at-preserved c =
     let r = c.loop-at.invariant in
-    let s = said r (omega arith) c.in_ok-item.item c.in_ok-item.next c.in_ok-item.ensures in
-    let (never, keeps) = c.in_ok-keep.ensures.ok r.before r.keeps r.clean in
-    reached-next r c.in_ok-item.item c.in_ok-item.next s c.keep.new.self never keeps
+    let s = read_line r (omega arith) c.in_ok-item.item c.in_ok-item.next c.in_ok-item.ensures in
+    let (never, keeps) = c.in_ok-add.ensures.ok r.before r.keeps r.clean in
+    reached-next r c.in_ok-item.item c.in_ok-item.next s c.add.new.self never keeps
 
 pub returns-clause-ok : goal.returns-clause-ok
 returns-clause-ok c =

@@ -1,26 +1,22 @@
-use Rattle.std.proofs.Common.{arith, ◌∙◌}
-use Rattle.uspec_lexer.specs.View.{plain}
-use Rattle.litmus_reader.proofs.Lines.{access-terminal, access-names, access-room, access-action, access-said}
+use Rattle.std.proofs.Common.{◌∙◌, ℕ, subst, sym, arith}
+use Rattle.litmus_reader.specs.Syntax.{spelled_action}
+use Rattle.litmus_reader.specs.Reading.{BeginsAt}
+use Rattle.litmus_reader.proofs.Lines.{access-first, access-terminal, access-names, access-action, access-length}
 use Rattle.litmus_reader.proofs.reading.access_at.Goals as goal
-
-pub action_at-action-requires-clause-within : goal.action_at-action-requires-clause-within
-action_at-action-requires-clause-within c = λ other.
-    let (types, action, b) = c.requires.begins in
-    let word = c.from_token-word.ensures ∙ access-terminal types action b (plain c.get.result) c.get.ensures in
-    let read = c.in_ok-types.ensures.names types (access-names types action b) in
-    omega (arith, read.1, access-room types action b (λ h. other (word ∙ h)))
 
 pub action_at-action-requires-clause-begins : goal.action_at-action-requires-clause-begins
 action_at-action-requires-clause-begins c =
     let (types, action, b) = c.requires.begins in
-    let word = c.from_token-word.ensures ∙ access-terminal types action b (plain c.get.result) c.get.ensures in
+    let s = access-first types action b in
+    let word = c.terminal_at-word.ensures s.token s.at ∙ access-terminal types action b s.token s.at in
     let read = c.in_ok-types.ensures.names types (access-names types action b) in
-    access-action types action b c.from_token-word.result c.in_ok-types.next word read.1
+    (action, word, subst (λ (n : ℕ). BeginsAt c.args.tokens.now n (spelled_action action)) (sym read.1) (access-action types action b))
 
 pub returns : goal.returns
 returns c = λ types action b.
-    let word = c.from_token-word.ensures ∙ access-terminal types action b (plain c.get.result) c.get.ensures in
+    let s = access-first types action b in
+    let word = c.terminal_at-word.ensures s.token s.at ∙ access-terminal types action b s.token s.at in
     let read = c.in_ok-types.ensures.names types (access-names types action b) in
-    let said = access-said types action b c.from_token-word.result c.in_ok-types.next c.action_at-action.result word read.1
-    c.action_at-action.ensures.read c.action_at-action.ensures.write c.action_at-action.ensures.fence in
-    (read.0, said.0, said.1)
+    let said = c.action_at-action.ensures action word
+    (subst (λ (n : ℕ). BeginsAt c.args.tokens.now n (spelled_action action)) (sym read.1) (access-action types action b)) in
+    (read.0, said.0, omega (arith, said.1, read.1, access-length types action))

@@ -2,13 +2,13 @@ use Rattle.std.proofs.Common.{◌++◌, ◌∷◌, [], map, take, ap, sym, ◌�
 use Rattle.std.proofs.lemmas.List.{map_more}
 use Rattle.std.proofs.lemmas.Option.{get_or_from_slice_get, slice_get-map, slice_get_within}
 use Rattle.pc_syntax.specs.Expansion.{parameter_names}
-use Rattle.macro_expand.specs.Tables.{listed, macro_at}
+use Rattle.macro_expand.specs.Tables.{plain_macros, macro_at}
 use Rattle.macro_expand.proofs.parameter_names.names_of_macros.Goals as goal
 
 pub loop-number-preserved : goal.loop-number-preserved
 loop-number-preserved c =
     let macros = c.args.macros.now in
-    let ms = listed macros in
+    let ms = plain_macros macros in
     let k = c.loop-number.number in
     let m = macro_at c.get.result in
     let named = parameter_names m in

@@ -2,7 +2,7 @@ use Rattle.std.proofs.Common.{◌+◌, length, slice_get, ap, sym, subst, ◌∙
 use Rattle.std.proofs.lemmas.List.{length_push}
 use Rattle.std.proofs.lemmas.Option.{slice_get-map}
 use Rattle.pc_syntax.specs.Written.{written}
-use Rattle.macro_expand.specs.Tables.{before, listed, macro_at}
+use Rattle.macro_expand.specs.Tables.{before, plain_macros, macro_at}
 use Rattle.macro_expand.specs.Measures.{measure_of, AreMeasures}
 use Rattle.macro_expand.proofs.MeasureLaws.{measures_more}
 use Rattle.macro_expand.proofs.sizes.measure_macros.Goals as goal
@@ -10,7 +10,7 @@ use Rattle.macro_expand.proofs.sizes.measure_macros.Goals as goal
 pub loop-number-preserved : goal.loop-number-preserved
 loop-number-preserved c =
     let macros = c.args.macros.now in
-    let ms = listed macros in
+    let ms = plain_macros macros in
     let measures = c.loop-number.measures.items in
     let x = c.measure-measured.result in
     let here =

@@ -4,8 +4,8 @@ use Rattle.std.proofs.lemmas.List.{drop_all}
 use Rattle.pc_common.specs.World.{Node}
 use Rattle.pc_ground.specs.declared.row.Row.{Row}
 use Rattle.pc_ground.specs.Keys.{row_node}
-use Rattle.normal_form.specs.Seen.{all_seen, nodes_of_row}
-use Rattle.normal_form.proofs.Seeing.{see_more, all_seen-numbered}
+use Rattle.normal_form.specs.RowNodes.{numbering_after, nodes_of_row}
+use Rattle.normal_form.proofs.NumberingAfter.{see_more, numbering_after-numbered}
 use Rattle.normal_form.proofs.numbers.number.Goals as goal
 
 pub loop-k-preserved : goal.loop-k-preserved
@@ -16,5 +16,5 @@ loop-k-preserved c =
 pub returns : goal.returns
 returns c = λ t e.
     let all : length c.args.tree.now ≤ c.loop-k.k = omega arith in
-    ap (λ (rows : List (Row Node)). all_seen c.loop-k.numbering (flat_map nodes_of_row rows)) (sym (drop_all c.loop-k.k c.args.tree.now all))
-    ∙ c.loop-k.invariant ∙ ap (λ (rows : List (Row Node)). all_seen [] (flat_map nodes_of_row rows)) e ∙ all_seen-numbered t
+    ap (λ (rows : List (Row Node)). numbering_after c.loop-k.numbering (flat_map nodes_of_row rows)) (sym (drop_all c.loop-k.k c.args.tree.now all))
+    ∙ c.loop-k.invariant ∙ ap (λ (rows : List (Row Node)). numbering_after [] (flat_map nodes_of_row rows)) e ∙ numbering_after-numbered t

@@ -7,7 +7,7 @@ use Rattle.pc_ground.specs.declared.row.Row.{Row}
 use Rattle.pc_ground.specs.declared.ground.Ground.{size-Ground}
 use Rattle.normal_form.specs.declared.joint.Joint.{Joint}
 use Rattle.normal_form.specs.Parts.{backward, IsWritten}
-use Rattle.normal_form.specs.Spine.{before, left_tree, joined}
+use Rattle.normal_form.specs.Spine.{before, left_tree, junction_of}
 use Rattle.normal_form.proofs.Joints.{before-push}
 use Rattle.normal_form.proofs.rows.+write.Goals as goal
 
@@ -26,7 +26,7 @@ loop-joint-preserved t c =
     let new = c.join.new.rows.items in
     let left : IsWritten (first ++ backward right) (map row_node c.write.new.rows.items) c.in_ok-left.left side =
     subst (λ (rows : List (Row Node)). IsWritten rows (map row_node c.write.new.rows.items) c.in_ok-left.left side) whole.2.1 c.in_ok-left.ensures in
-    let written : IsWritten first (map row_node new) c.in_ok-part-2.part (joined joint.connective side right) =
+    let written : IsWritten first (map row_node new) c.in_ok-part-2.part (junction_of joint.junction side right) =
     c.in_ok-part-2.ensures first side right start whole.2.0 left in
     record {
       start = c.loop-joint.invariant.start;
@@ -34,7 +34,7 @@ loop-joint-preserved t c =
       smaller = (All-pop (λ (j : Joint). size-Ground j.left.now < size-Ground c.args.ground.now) _ c.pop.new.self.items (Some joint)
           c.in-Some.ensures.items c.loop-joint.invariant.smaller).0;
       right = (
-        joined joint.connective side right,
+        junction_of joint.junction side right,
         sym (before-push c.pop.new.self.items joint right) ∙ ap (λ (js : List Joint). before js right) (sym c.in-Some.ensures.items) ∙ whole.1,
         written,
       );

@@ -5,19 +5,19 @@ use Rattle.pc_ground.specs.Tree.{Tree, size_of}
 use Rattle.pc_ground.specs.Keys.{row_node, key_node, renamed_kind}
 use Rattle.pc_ground.specs.declared.row.Row.{Row}
 use Rattle.pc_ground.specs.declared.row.RowKind.{RowKind}
-use Rattle.normal_form.specs.declared.joint.Connective.{Connective}
-use Rattle.normal_form.specs.declared.joint.Connective.TheVariants.{And, Or}
+use Rattle.normal_form.specs.declared.joint.Junction.{Junction}
+use Rattle.normal_form.specs.declared.joint.Junction.TheVariants.{And, Or}
 use Rattle.normal_form.specs.declared.part.Part.TheVariants.{Rows}
 use Rattle.normal_form.specs.Parts.{backward, part_of}
 use Rattle.normal_form.specs.Spine.{row_kind}
-use Rattle.normal_form.proofs.Folding.{part_of-joined, push_root, length-backward}
+use Rattle.normal_form.proofs.JunctionOf.{part_of-junction, push_root, length-backward}
 use Rattle.normal_form.proofs.rows.join.Goals as goal
 
 same_row : {N : Type 0} (k l : RowKind N) (m n : ℕ) → k ≡ l → m ≡ n
     → (let r : Row N = record { kind = k; skip = m } in r) ≡ record { kind = l; skip = n }
 same_row k l m n e f = cc
 
-kind_node : (c : Connective) → renamed_kind key_node (row_kind c) ≡ row_kind c
+kind_node : (c : Junction) → renamed_kind key_node (row_kind c) ≡ row_kind c
 kind_node And = refl
 kind_node Or = refl
 
@@ -32,9 +32,9 @@ returns-in_ok-push-in-Rows-Rows c = λ first a b start right written.
     let f : Rows ≡ part_of b = sym c.in-Rows-Rows.is-1 ∙ right in
     let old = c.args.rows.now.items in
     let len : c.len.result ≡ length (map row_node old) = omega (arith, length-map old row_node) in (
-      part_of-joined c.args.connective a b e f,
+      part_of-junction c.args.junction a b e f,
       ap (map row_node) c.in_ok-push-in-Rows-Rows.ensures.items ∙ map_push row_node old _
-          ∙ push_root c.args.connective first (map row_node old) a b _ e f written.1
-          (same_row _ _ _ _ (ap (renamed_kind key_node) c.kind.ensures ∙ kind_node c.args.connective)
+          ∙ push_root c.args.junction first (map row_node old) a b _ e f written.1
+          (same_row _ _ _ _ (ap (renamed_kind key_node) c.kind.ensures ∙ kind_node c.args.junction)
           (skip_is c.len.result c.args.start first (map row_node old) a b e f start written.1 len)),
     )

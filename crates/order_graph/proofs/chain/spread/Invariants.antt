@@ -1,9 +1,9 @@
-use Rattle.std.proofs.Common.{length}
-use Rattle.order_graph.specs.Levels.{far_count, Reached}
+use Rattle.std.proofs.Common.{◌-◌, length}
+use Rattle.order_graph.specs.Levels.{IsSearched}
 use Rattle.order_graph.proofs.chain.spread.Given as goal
 
-abbrev pub invariant-loop-level : goal.invariant-loop-level
-invariant-loop-level l = Reached l.edges l.target (length l.initial.levels) l.level l.levels
+abbrev pub invariant-loop-done : goal.invariant-loop-done
+invariant-loop-done l = IsSearched l.edges l.target (length l.initial.levels) l.done l.levels l.nexts l.queue.items
 
-abbrev pub decreases-loop-level : goal.decreases-loop-level
-decreases-loop-level l = far_count l.levels
+abbrev pub decreases-loop-done : goal.decreases-loop-done
+decreases-loop-done l = length l.initial.levels - l.done

@@ -1,20 +1,19 @@
-use Rattle.std.proofs.Common.{◌-◌, length, get_or, arith}
-use Rattle.order_graph.proofs.EdgeWays.{way_more, has_next, next_is, end_in}
+use Rattle.std.proofs.Common.{get_or, refl, arith}
+use Rattle.order_graph.specs.Levels.{IsNext}
+use Rattle.order_graph.proofs.EdgeWays.{way_more, next_step}
 use Rattle.order_graph.proofs.chain.walk.Goals as goal
-
-pub unwrap-next-requires : goal.unwrap-next-requires
-unwrap-next-requires c =
-    has_next c.args.edges.now c.args.to c.args.levels.now c.loop-at.at c.nearer.result c.requires.grounded
-    c.loop-at.invariant.at_in c.loop-at.invariant.near c.loop-at-test.true c.nearer.ensures
 
 pub loop-at-preserved : goal.loop-at-preserved
 loop-at-preserved c =
-    let edges = c.args.edges.now in
     let levels = c.args.levels.now in
-    let next = next_is edges levels c.loop-at.at (get_or levels c.loop-at.at 0 - 1) c.nearer.result c.unwrap-next.result c.nearer.ensures c.unwrap-next.ensures in
-    let more = way_more edges c.args.from c.loop-at.way.items c.loop-at.at c.unwrap-next.result c.loop-at.invariant.way next.0 in
+    let nexts = c.args.nexts.now in
+    let at = c.loop-at.at in
+    let kept = c.loop-at.invariant in
+    let positive = c.loop-at-test.true in
+    let step = next_step c.args.to levels nexts at c.requires.next kept.at_in kept.near positive in
     record {
-      way = rw c.in_ok-push.ensures.items more;
-      at_in = end_in edges (length levels) c.loop-at.at c.unwrap-next.result c.requires.inside next.0;
-      near = λ f. (let h = next.1 in let fits = c.type_inv.levels c.loop-at.at in let positive = c.loop-at-test.true in absurd (omega arith));
+      way = rw c.in_ok-push.ensures.items
+          (way_more (IsNext levels nexts) c.args.from c.loop-at.way.items at (get_or nexts at 0) kept.way (kept.at_in, kept.near, (λ z. absurd (omega arith)), refl));
+      at_in = step.0;
+      near = λ f. (let level = step.1 in let fits = c.type_inv.levels at in absurd (omega arith));
     }

@@ -1,11 +1,11 @@
 use Rattle.std.proofs.Common.{◌≢◌, ◌<◌, length, get_or}
-use Rattle.order_graph.specs.Edges.{IsEdgeWay}
-use Rattle.order_graph.specs.Levels.{far}
+use Rattle.order_graph.specs.Ways.{IsWay}
+use Rattle.order_graph.specs.Levels.{IsNext, far}
 use Rattle.order_graph.proofs.chain.walk.Given as goal
 
 abbrev pub invariant-loop-at : goal.invariant-loop-at
 invariant-loop-at l = record {
-  way : IsEdgeWay l.edges l.from l.way.items l.at;
+  way : IsWay (IsNext l.levels l.nexts) l.from l.way.items l.at;
   at_in : l.at < length l.levels;
   near : get_or l.levels l.at 0 ≢ far;
 }

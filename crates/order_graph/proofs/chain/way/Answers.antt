@@ -2,7 +2,8 @@ use Rattle.std.proofs.Common.{◌≡◌, ◌∙◌, filter_map}
 use Rattle.pc_ground.specs.Literals.{Joins}
 use Rattle.order_graph.specs.Edges.{IsEdge, IsEdgeWay, edge_of}
 use Rattle.order_graph.specs.Ways.{IsWay}
-use Rattle.order_graph.proofs.Chains.{follows_map, way_map}
+use Rattle.pc_common.proofs.Chains.{reach_more}
+use Rattle.order_graph.proofs.Chains.{way_map}
 use Rattle.order_graph.proofs.EdgeLists.{listed, asserted, edges_inside}
 use Rattle.order_graph.proofs.Results.{if_ok}
 use Rattle.order_graph.proofs.chain.way.Goals as goal
@@ -15,7 +16,7 @@ pub shortest_way-requires-clause-there : goal.shortest_way-requires-clause-there
 shortest_way-requires-clause-there c =
     let ls = c.args.literals.now in
     rw (c.deref.ensures.value, c.in_ok-edges.ensures)
-    (c.requires.there.0, follows_map (Joins ls) (IsEdge (filter_map edge_of ls)) (asserted ls) c.args.from c.requires.there.0 c.args.to c.requires.there.1)
+    (reach_more (Joins ls) (IsEdge (filter_map edge_of ls)) (asserted ls) c.args.from c.args.to c.requires.there)
 
 pub returns : goal.returns
 returns c =

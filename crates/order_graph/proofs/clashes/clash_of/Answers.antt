@@ -1,9 +1,9 @@
 use Rattle.std.specs.Prelude.{Contains}
 use Rattle.pc_ground.specs.Literals.{IsPresent, IsConsistent}
 use Rattle.pc_ground.specs.declared.literal.Literal.TheVariants.{Node, NoNode}
-use Rattle.order_graph.proofs.Clashing.{node_clash, no_node_clash}
-use Rattle.order_graph.proofs.Pushed.{more}
-use Rattle.order_graph.proofs.Telling.{node_told, no_node_told, absence_told}
+use Rattle.order_graph.proofs.IsClash.{node_clash, no_node_clash}
+use Rattle.order_graph.proofs.OneMore.{more}
+use Rattle.order_graph.proofs.ClashOf.{node_told, no_node_told, absence_told}
 use Rattle.order_graph.proofs.clashes.clash_of.Goals as goal
 
 pub returns-in-Node : goal.returns-in-Node
@@ -13,7 +13,7 @@ returns-in-Node c =
     let a_in = rw c.in-Node.is at c.requires.below in
     rw c.in-Node.is
     (absence_told (Contains ls (NoNode a)) (IsConsistent (more ls (Node a))) c.is_missing.result (more ls (Node a)) a c.absence.result c.absence.ensures
-    (rw c.is_missing.ensures (node_told c.args.nodes c.args.table.now ls a c.requires.stands a_in)) (node_clash ls a))
+    (rw c.is_missing.ensures (node_told c.args.nodes c.args.table.now ls a c.requires.represents a_in)) (node_clash ls a))
 
 pub returns-in-NoNode : goal.returns-in-NoNode
 returns-in-NoNode c =
@@ -22,4 +22,4 @@ returns-in-NoNode c =
     let a_in = rw c.in-NoNode.is at c.requires.below in
     rw c.in-NoNode.is
     (absence_told (IsPresent ls a) (IsConsistent (more ls (NoNode a))) c.is_present.result (more ls (NoNode a)) a c.absence-in-NoNode.result c.absence-in-NoNode.ensures
-    (rw c.is_present.ensures (no_node_told c.args.nodes c.args.table.now ls a c.requires.stands a_in)) (no_node_clash ls a))
+    (rw c.is_present.ensures (no_node_told c.args.nodes c.args.table.now ls a c.requires.represents a_in)) (no_node_clash ls a))

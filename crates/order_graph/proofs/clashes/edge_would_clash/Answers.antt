@@ -1,12 +1,20 @@
 use Rattle.std.proofs.Common.{sym, ◌∙◌, arith}
 use Rattle.pc_ground.specs.declared.literal.Literal.TheVariants.{Edge}
 use Rattle.order_graph.specs.declared.clash.Clash.TheVariants.{Absent}
-use Rattle.order_graph.proofs.Clashing.{start_clash, end_clash, clashes_refute}
-use Rattle.order_graph.proofs.Pushed.{more}
-use Rattle.order_graph.proofs.Standing.{leads_reach}
-use Rattle.order_graph.proofs.Telling.{back_refutes, pairs_told}
+use Rattle.order_graph.proofs.IsClash.{start_clash, end_clash, clashes_refute}
+use Rattle.order_graph.proofs.OneMore.{more}
+use Rattle.order_graph.proofs.Represents.{leads_reach}
+use Rattle.order_graph.proofs.TakesEdge.{known_consistent}
+use Rattle.order_graph.proofs.ClashOf.{back_refutes, pairs_told}
 use Rattle.order_graph.proofs.clashes.edge_would_clash.Goals as goal
 use Rattle.order_graph.proofs.clashes.edge_would_clash.Goals.{then-is_missing-via-then-is_missing, then-is_missing-via-else-is_missing+then-is_missing-2, then-is_missing-via-else-is_missing+else-is_missing-2+then-leads_to}
+
+pub returns-then-reaches : goal.returns-then-reaches
+returns-then-reaches c = λ ls s.
+    let wide = c.requires.sized.1 in
+    let b_in = c.requires.b_in in
+    known_consistent ls c.args.a c.args.b s.consistent
+    ((s.reach c.args.a c.args.b c.requires.a_in (omega arith)).0 (sym c.reaches.ensures ∙ c.if-reaches.true))
 
 pub returns-then-is_missing : goal.returns-then-is_missing
 returns-then-is_missing c = λ ls s.

@@ -12,25 +12,10 @@ pub returns-clause-counts : goal.returns-clause-counts
 returns-clause-counts g c = c.in_ok-push-3.ensures.items ∙ ap (λ ns. ns ++ 0 ∷ []) c.in_ok-reserve-3.ensures.items
 
 pub returns-clause-entered : goal.returns-clause-entered
-returns-clause-entered g c = c.in_ok-enter_whole.ensures.entered
+returns-clause-entered g c = c.in_ok-enter.ensures.entered
 
 pub returns-clause-trail : goal.returns-clause-trail
-returns-clause-trail g c = c.in_ok-enter_whole.ensures.trail
+returns-clause-trail g c = c.in_ok-enter.ensures.trail
 
 pub returns-clause-cost : goal.returns-clause-cost
-returns-clause-cost g c = c.in_ok-enter_whole.ensures.cost
-
-pub returns-clause-most : goal.returns-clause-most
-returns-clause-most g c = c.enter_whole.ensures.most
-
-pub returns-in_err-enter_whole-clause-most : goal.returns-in_err-enter_whole-clause-most
-returns-in_err-enter_whole-clause-most g c = c.enter_whole.ensures.most
-
-pub returns-in_err-push-clause-most : goal.returns-in_err-push-clause-most
-returns-in_err-push-clause-most g c = c.enter_whole.ensures.most
-
-pub returns-in_err-push-2-clause-most : goal.returns-in_err-push-2-clause-most
-returns-in_err-push-2-clause-most g c = c.enter_whole.ensures.most
-
-pub returns-in_err-push-3-clause-most : goal.returns-in_err-push-3-clause-most
-returns-in_err-push-3-clause-most g c = c.enter_whole.ensures.most
+returns-clause-cost g c = c.enter.ensures.cost

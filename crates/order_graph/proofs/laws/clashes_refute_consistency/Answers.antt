@@ -1,4 +1,4 @@
-use Rattle.order_graph.proofs.Clashing.{clashes_refute}
+use Rattle.order_graph.proofs.IsClash.{clashes_refute}
 use Rattle.order_graph.proofs.laws.clashes_refute_consistency.Goals as goal
 
 pub returns : goal.returns

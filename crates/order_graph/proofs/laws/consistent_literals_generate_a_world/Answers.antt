@@ -1,4 +1,4 @@
-use Rattle.order_graph.proofs.Generated.{consistent_generate}
+use Rattle.order_graph.proofs.GeneratesWorld.{consistent_generate}
 use Rattle.order_graph.proofs.laws.consistent_literals_generate_a_world.Goals as goal
 
 pub returns : goal.returns

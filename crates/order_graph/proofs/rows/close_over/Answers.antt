@@ -1,38 +1,69 @@
-use Rattle.std.proofs.Common.{◌∙◌, sym, arith}
-use Rattle.order_graph.proofs.Closing.{closing_first, closing_passed, closing_joined}
+use Rattle.std.proofs.Common.{◌≡◌, ◌∙◌, ◌+◌, ◌-◌, ◌≤◌, ℕ, Bool, true, false, if◌then◌else◌, sym, ap, arith}
+use Rattle.undo_trail.specs.BitTable.{BitTable}
+use Rattle.order_graph.specs.Rows.{row_words, words_gained}
+use Rattle.order_graph.proofs.CloseOver.{closing_passed, closing_joined, words_passed, words_joined, words_rise}
 use Rattle.order_graph.proofs.rows.close_over.Goals as goal
-use Rattle.order_graph.proofs.rows.close_over.Goals.{then-leads_to+in_ok-join_row, else-leads_to}
+use Rattle.order_graph.proofs.rows.close_over.Goals.{then-gains, else-gains}
 
-pub loop-x-init : goal.loop-x-init
-loop-x-init g c = record {
-  closing = closing_first c.args.table.now c.args.a c.args.b;
-  cost = omega arith;
-}
+low_words : (v : BitTable) (is_sink : Bool) → row_words v is_sink ≤ v.words + 1
+low_words v true = omega arith
+low_words v false = omega arith
+
+same_row : (v w : BitTable) (is_sink : Bool) → w.words ≡ v.words → row_words w is_sink ≡ row_words v is_sink
+same_row v w is_sink e = ap (λ (n : ℕ). if is_sink then 1 else n + 1) e
+
+pub join_row-requires-clause-room : goal.join_row-requires-clause-room
+join_row-requires-clause-room g c =
+    let v = c.args.table.now in
+    let w = c.loop-x.table in
+    let k = c.loop-x.x in
+    let closing = c.loop-x.invariant.closing in
+    let each = row_words v c.args.is_sink in
+    let (rows, wide, few) = c.requires.sized in
+    let below = c.loop-x-test.true in
+    let a_in = c.requires.a_in in
+    let b_in = c.requires.b_in in
+    let same = same_row v w c.args.is_sink closing.extends.same_words in
+    let next = words_joined v w c.args.a c.args.b each k closing (omega arith) (omega arith) (omega arith) (sym c.gains.ensures ∙ c.if-gains.true) in
+    let rise = words_rise v c.args.a c.args.b each (k + 1) (c.args.nodes - (k + 1)) in
+    let all : (k + 1) + (c.args.nodes - (k + 1)) ≡ c.args.nodes = omega arith in
+    let whole = ap (words_gained v c.args.a c.args.b each) all in
+    let before = c.loop-x.invariant.room in
+    let room = c.requires.room in
+    omega arith
 
 pub loop-x-preserved : goal.loop-x-preserved
 loop-x-preserved g c =
-    let over = c.loop-x.invariant.closing in
-    let (rows, columns, few) = c.requires.sized in
+    let v = c.args.table.now in
+    let w = c.loop-x.table in
+    let k = c.loop-x.x in
+    let closing = c.loop-x.invariant.closing in
+    let each = row_words v c.args.is_sink in
+    let (rows, wide, few) = c.requires.sized in
     let below = c.loop-x-test.true in
-    elim c.if-leads_to.branch [
-      | then-leads_to+in_ok-join_row w ↦ record {
-        closing =
-            rw w.table-is
-            (closing_joined c.args.table.now c.loop-x.table w.join_row.new.table c.args.a c.args.b c.loop-x.x over (omega arith) (omega (arith, c.requires.a_in))
-            (omega (arith, c.requires.b_in)) c.requires.no_cycle (sym c.leads_to.ensures ∙ w.if-leads_to.true) w.in_ok-join_row.ensures.joined w.join_row.ensures.trail);
-        cost = (let steps = w.steps-is ∙ w.tick.ensures in omega (arith, c.loop-x.invariant.cost));
-      }
-      | else-leads_to w ↦ record {
-        closing =
-            rw w.table-is
-            (closing_passed c.args.table.now c.loop-x.table c.args.a c.args.b c.loop-x.x over (omega arith) (omega (arith, c.requires.a_in))
-            (sym c.leads_to.ensures ∙ w.if-leads_to.false));
-        cost = (let steps = w.steps-is in omega (arith, c.loop-x.invariant.cost));
-      }
+    let a_in = c.requires.a_in in
+    let b_in = c.requires.b_in in
+    let before = c.loop-x.invariant.room in
+    let taken = c.loop-x.invariant.cost in
+    let same = same_row v w c.args.is_sink closing.extends.same_words in
+    elim c.if-gains.branch [
+      | then-gains j ↦
+          let gain = sym c.gains.ensures ∙ j.if-gains.true in
+          let next = words_joined v w c.args.a c.args.b each k closing (omega arith) (omega arith) (omega arith) gain in
+          let low = low_words v c.args.is_sink in
+          record {
+            closing = rw j.table-is
+                (closing_joined c.args.nodes v w j.join_row.new.table c.args.a c.args.b k (row_words w c.args.is_sink) closing c.requires.sized below a_in b_in c.requires.takes
+                gain j.join_row.ensures.joined (omega arith) j.join_row.ensures.trail);
+            room = (let left = j.join_row.ensures.room in let table = ap (λ (u : BitTable). u.room) j.table-is in omega arith);
+            cost = (let steps = j.steps-is ∙ j.tick.ensures in omega arith);
+          }
+      | else-gains j ↦
+          let none = sym c.gains.ensures ∙ j.if-gains.false in
+          let next = words_passed v w c.args.a c.args.b each k closing (omega arith) (omega arith) (omega arith) none in
+          record {
+            closing = rw j.table-is (closing_passed c.args.nodes v w c.args.a c.args.b k closing c.requires.sized below a_in b_in c.requires.takes none);
+            room = (let table = ap (λ (u : BitTable). u.room) j.table-is in omega arith);
+            cost = (let steps = j.steps-is in omega arith);
+          }
     ]
-
-pub returns-clause-closed : goal.returns-clause-closed
-returns-clause-closed g c = λ x y xh yh. c.loop-x.invariant.closing.new x y (omega arith) yh
-
-pub returns-clause-others : goal.returns-clause-others
-returns-clause-others g c = λ q d qh rh dh. c.loop-x.invariant.closing.old q d (omega arith) rh dh

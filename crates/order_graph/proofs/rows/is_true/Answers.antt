@@ -1,4 +1,4 @@
-use Rattle.order_graph.proofs.Standing.{denies}
+use Rattle.order_graph.proofs.Represents.{denies}
 use Rattle.order_graph.proofs.rows.is_true.Goals as goal
 
 pub returns-in-Node : goal.returns-in-Node

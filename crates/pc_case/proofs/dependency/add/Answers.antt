@@ -2,13 +2,13 @@ use Rattle.std.proofs.Common.{◌==◌, ◌&&◌, true, false, cond, ap, sym, �
 use Rattle.std.specs.List.{list_any}
 use Rattle.std.specs.Cmp.Lexicographic.{pointwise}
 use Rattle.indexmap.specs.IndexMap.{insert_entry}
-use Rattle.pc_case.specs.Tables.{are_ends, ties}
+use Rattle.pc_case.specs.Tables.{are_ends, has_ends}
 use Rattle.pc_case.proofs.KindEnds.{written, first_of_kind, ends_put}
 use Rattle.pc_case.proofs.dependency.add.Goals as goal
 
 pub returns-in_ok-insert-in-Some : goal.returns-in_ok-insert-in-Some
 returns-in_ok-insert-in-Some c = λ k i j.
-    ap (λ es. ties es k i j) (c.get_mut.follows.holds c.insert.new.self).0
+    ap (λ es. has_ends es k i j) (c.get_mut.follows.holds c.insert.new.self).0
     ∙ written (λ s. list_any (are_ends i j) s.keys) c.args.kind.now k c.args.table.now.entries c.in-Some.known.now c.insert.new.self (are_ends i j c.args.ends)
     (ends_put c.args.ends i j _ _ (c.in_ok-insert-in-Some.ensures.updates.0 record { source = i; target = j }))
     (sym c.in-Some.ensures.value)

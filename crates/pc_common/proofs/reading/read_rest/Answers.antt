@@ -12,5 +12,5 @@ returns-then-n-limit-clause-stops g c = λ _ told.
       before ++ now,
       omega (arith, length-append before now, c.in_ok-n.ensures.within, length-take {A = ℕ}),
       c.loop-bytes.invariant.bytes told ∙ ap (λ xs. before ++ xs) bytes
-          ∙ sym (append_assoc before now (g.F.Files.left c.read.new.self)),
+          ∙ sym (append_assoc before now (g.F.Files.view c.read.new.self).left),
     )

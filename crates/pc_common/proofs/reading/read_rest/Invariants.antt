@@ -6,13 +6,13 @@ abbrev pub invariant-loop-bytes : goal.invariant-loop-bytes
 invariant-loop-bytes g l = record {
   within : vec_len l.bytes ≤ l.limit;
   room : 0 < length l.buf;
-  started : IsTrue (g.F.Files.started l.files);
-  same_told : g.F.Files.told l.files ≡ g.F.Files.told l.initial.files;
-  same_held : g.F.Files.holds l.files ≡ g.F.Files.holds l.initial.files;
-  same_calm : g.F.Files.calm l.files ≡ g.F.Files.calm l.initial.files;
-  count : g.F.Files.faults l.initial.files ≤ g.F.Files.faults l.files;
-  bytes : IsTrue (g.F.Files.told l.initial.files) →
-      g.F.Files.left l.initial.files ≡ l.bytes.items ++ g.F.Files.left l.files;
+  started : IsTrue (g.F.Files.view l.files).started;
+  same_modelled : (g.F.Files.view l.files).modelled ≡ (g.F.Files.view l.initial.files).modelled;
+  same_held : (g.F.Files.view l.files).holds ≡ (g.F.Files.view l.initial.files).holds;
+  same_failing : (g.F.Files.view l.files).only_missing_fail ≡ (g.F.Files.view l.initial.files).only_missing_fail;
+  count : (g.F.Files.view l.initial.files).faults ≤ (g.F.Files.view l.files).faults;
+  bytes : IsTrue (g.F.Files.view l.initial.files).modelled →
+      (g.F.Files.view l.initial.files).left ≡ l.bytes.items ++ (g.F.Files.view l.files).left;
 }
 
 abbrev pub decreases-loop-bytes : goal.decreases-loop-bytes

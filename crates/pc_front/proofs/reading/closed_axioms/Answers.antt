@@ -1,8 +1,8 @@
 use Rattle.std.proofs.Common.{sym, ◌∙◌}
 use Rattle.std.proofs.lemmas.Result.{err_from_is_err_and}
 use Rattle.pc_syntax.specs.Written.{written_model}
-use Rattle.macro_expand.specs.Faults.{fault_told as macro_fault_told}
-use Rattle.scope_check.specs.FirstFault.{fault_told as name_fault_told}
+use Rattle.macro_expand.specs.Faults.{macro_fault_of}
+use Rattle.scope_check.specs.FirstFault.{name_fault_of}
 use Rattle.pc_front.proofs.FrontLaws.{expansion_first, names_first, only_names, names_of_expansions, closings_of_axioms, front_end}
 use Rattle.pc_front.proofs.reading.closed_axioms.Goals as goal
 
@@ -10,7 +10,7 @@ pub returns-in_err-expanded-clause-err : goal.returns-in_err-expanded-clause-err
 returns-in_err-expanded-clause-err c =
     let m = written_model c.args.model.now in
     let end = err_from_is_err_and c.from_residual.result c.from_residual.ensures.1 in
-    let fault = macro_fault_told c.in_err-expanded.field-0.0 in
+    let fault = macro_fault_of c.in_err-expanded.field-0.0 in
     rw (end.1, end.2) (λ bytes of. front_end bytes m of fault (expansion_first m c.requires fault c.in_err-expanded.ensures.err))
 
 pub returns-in_err-axioms-clause-err : goal.returns-in_err-axioms-clause-err
@@ -18,7 +18,7 @@ returns-in_err-axioms-clause-err c =
     let m = written_model c.args.model.now in
     let end = err_from_is_err_and c.from_residual-in_err-axioms.result c.from_residual-in_err-axioms.ensures.1 in
     let expanded = c.in_ok-expanded.ensures.ok in
-    let fault = name_fault_told c.in_err-axioms.field-0.0 in
+    let fault = name_fault_of c.in_err-axioms.field-0.0 in
     rw (end.1, end.2)
     (λ bytes of. front_end bytes m of fault
     (names_first m c.requires expanded.0.0 expanded.0.1 c.in_ok-expanded.expanded.items expanded.1 fault (rw c.deref.ensures.value at c.in_err-axioms.ensures.err)))

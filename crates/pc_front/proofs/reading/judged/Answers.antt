@@ -9,8 +9,8 @@ pub returns-in_err-check_stages-clause-err : goal.returns-in_err-check_stages-cl
 returns-in_err-check_stages-clause-err c =
     let m = written_model c.args.model.now in
     let end = err_from_is_err_and c.from_residual.result c.from_residual.ensures.1 in
-    let (fault, is, told) = c.in_err-check_stages.ensures.err in
-    rw (end.1, end.2, told) (λ bytes of. front_end bytes m of (Some fault) (stage_first m fault is))
+    let (fault, is, end_is) = c.in_err-check_stages.ensures.err in
+    rw (end.1, end.2, end_is) (λ bytes of. front_end bytes m of (Some fault) (stage_first m fault is))
 
 pub returns-clause-ok : goal.returns-clause-ok
 returns-clause-ok c =

@@ -1,6 +1,6 @@
 use Rattle.std.proofs.Common.{◌∙◌, sym, ap, ◌∷◌, []}
 use Rattle.std.specs.String.{string_bytes}
-use Rattle.pipecheck_run.proofs.Three.{three, same_if_not_other, other_text, first_word}
+use Rattle.pipecheck_run.proofs.ThreeWords.{three, same_if_not_other, other_text, first_word}
 use Rattle.pipecheck_run.proofs.command.inputs_behind.Goals as goal
 
 pub returns-then-ne : goal.returns-then-ne

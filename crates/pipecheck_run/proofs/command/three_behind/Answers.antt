@@ -1,7 +1,7 @@
 use Rattle.std.proofs.Common.{◌∙◌, sym, ap, ◌∷◌, []}
 use Rattle.std.specs.String.{string_bytes}
-use Rattle.pipecheck_run.proofs.Four.{four}
-use Rattle.pipecheck_run.proofs.Three.{same_if_not_other, other_text, first_word}
+use Rattle.pipecheck_run.proofs.FourWords.{four}
+use Rattle.pipecheck_run.proofs.ThreeWords.{same_if_not_other, other_text, first_word}
 use Rattle.pipecheck_run.proofs.command.three_behind.Goals as goal
 
 pub returns-then-ne : goal.returns-then-ne

@@ -1,4 +1,4 @@
-use Rattle.pipecheck_run.proofs.OneStatus.{one_status}
+use Rattle.pipecheck_run.proofs.OneVerdict.{one_status}
 use Rattle.pipecheck_run.proofs.laws.written_is_verified.Goals as goal
 
 pub returns : goal.returns

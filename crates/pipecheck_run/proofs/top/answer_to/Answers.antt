@@ -1,5 +1,15 @@
-use Rattle.pipecheck_run.proofs.RingAnswers.{ring_answers}
+use Rattle.pipecheck_run.specs.Command.{IsKnownTo, gen}
+use Rattle.pipecheck_run.specs.AnswerTexts.{answer_status, answer_text}
+use Rattle.gen_command.proofs.GenOutcomes.{gen_outcome}
 use Rattle.pipecheck_run.proofs.top.answer_to.Goals as goal
 
-pub returns-in-Gen-clause-answers : goal.returns-in-Gen-clause-answers
-returns-in-Gen-clause-answers g c = rw c.in-Gen.is (ring_answers c.args.files.now c.in-Gen.n c.generate.result c.generate.ensures)
+pub returns-in-Gen-clause-outcome : goal.returns-in-Gen-clause-outcome
+returns-in-Gen-clause-outcome g c =
+    rw c.in-Gen.is (gen_outcome (IsKnownTo (gen c.in-Gen.n) (g.F.Files.view c.args.files.now).modelled) c.args.files.now c.in-Gen.n
+    (answer_status c.gen_answer.result) (answer_text c.gen_answer.result) c.gen_answer.ensures.outcome)
+
+pub returns-in-Check-clause-outcome : goal.returns-in-Check-clause-outcome
+returns-in-Check-clause-outcome g c = rw c.in-Check.is c.check_answer.ensures.outcome
+
+pub returns-in-Verify-clause-outcome : goal.returns-in-Verify-clause-outcome
+returns-in-Verify-clause-outcome g c = rw c.in-Verify.is c.verify_answer.ensures.outcome

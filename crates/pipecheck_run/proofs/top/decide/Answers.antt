@@ -1,17 +1,17 @@
 use Rattle.std.specs.Prelude.{map}
 use Rattle.std.specs.String.{string_bytes}
-use Rattle.pipecheck_run.specs.Parsed.{said}
-use Rattle.pipecheck_run.proofs.OneCommand.{no_inputs}
-use Rattle.pipecheck_run.proofs.Decided.{usage_decides, command_decides}
+use Rattle.pipecheck_run.specs.Command.{plain_command}
+use Rattle.pipecheck_run.specs.AnswerTexts.{answer_status, answer_text}
+use Rattle.pipecheck_run.proofs.WordsOutcomes.{usage_outcome, command_outcome}
 use Rattle.pipecheck_run.proofs.top.decide.Goals as goal
 
-pub returns-in-None-clause-decides : goal.returns-in-None-clause-decides
-returns-in-None-clause-decides g c = usage_decides c.args.files.now (map string_bytes c.args.words.now) c.in-None.ensures
+pub returns-in-None-clause-outcome : goal.returns-in-None-clause-outcome
+returns-in-None-clause-outcome g c = usage_outcome c.args.files.now (map string_bytes c.args.words.now) c.in-None.ensures
 
-pub returns-in-Some-clause-decides : goal.returns-in-Some-clause-decides
-returns-in-Some-clause-decides g c =
-    command_decides (map string_bytes c.args.words.now) (said c.in-Some.command) c.answer_to.result c.in-Some.ensures c.answer_to.ensures.answers
+pub returns-in-Some-clause-outcome : goal.returns-in-Some-clause-outcome
+returns-in-Some-clause-outcome g c =
+    command_outcome (map string_bytes c.args.words.now) (plain_command c.in-Some.command) (answer_status c.answer_to.result) (answer_text c.answer_to.result)
+    c.in-Some.ensures c.answer_to.ensures.outcome
 
 pub returns-in-Some-clause-idle : goal.returns-in-Some-clause-idle
-returns-in-Some-clause-idle g c = λ idle.
-    c.answer_to.ensures.idle (no_inputs (map string_bytes c.args.words.now) (said c.in-Some.command) c.in-Some.ensures idle)
+returns-in-Some-clause-idle g c = λ idle. c.answer_to.ensures.idle (idle (plain_command c.in-Some.command) c.in-Some.ensures)

@@ -1,5 +1,5 @@
 use Rattle.std.proofs.Common.{arith}
-use Rattle.solver.proofs.Graphing.{edges_more, edges_all}
+use Rattle.solver.proofs.Shown.{edges_more, edges_all}
 use Rattle.solver.proofs.answer.edge_pairs.Goals as goal
 
 pub loop-k-preserved : goal.loop-k-preserved

@@ -1,4 +1,4 @@
-use Rattle.solver.proofs.Graphing.{edge_noted, same_pair}
+use Rattle.solver.proofs.Shown.{edge_noted, same_pair}
 use Rattle.solver.proofs.answer.note_edge.Goals as goal
 
 pub returns-in_ok-insert : goal.returns-in_ok-insert

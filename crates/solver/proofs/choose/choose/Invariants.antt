@@ -2,5 +2,5 @@ use Rattle.std.proofs.Common.{◌≡◌}
 use Rattle.solver.specs.Opens.{IsSame}
 use Rattle.solver.proofs.choose.choose.Given as goal
 
-abbrev pub invariant-loop-p : goal.invariant-loop-p
-invariant-loop-p g l = record { graph : IsSame l.fn.graph l.graph; asserted : l.asserted.items ≡ l.fn.asserted.items }
+abbrev pub invariant-loop-place : goal.invariant-loop-place
+invariant-loop-place g l = record { graph : IsSame l.fn.graph l.graph; asserted : l.asserted.items ≡ l.fn.asserted.items }

@@ -2,40 +2,42 @@ use Rattle.std.proofs.Common.{◌++◌, length, map, ap, subst, arith}
 use Rattle.std.specs.Prelude.{Option}
 use Rattle.std.proofs.lemmas.List.{nil_from_length}
 use Rattle.pc_ground.specs.Keys.{key_node}
+use Rattle.order_graph.specs.Clashes.{leaf_of}
 use Rattle.order_graph.specs.declared.clash.Clash.{Clash}
+use Rattle.solver.specs.Renamed.{node_at, renamed_leaf}
 use Rattle.solver.specs.Spelled.{spelled}
-use Rattle.solver.specs.Places.{reached}
+use Rattle.solver.specs.Places.{side_positions}
 use Rattle.solver.specs.Leaves.{clash_step}
-use Rattle.solver.specs.Opens.{positions, HasEntered}
+use Rattle.solver.specs.Opens.{positions, HasAsserted}
 use Rattle.solver.specs.Weights.{weight}
-use Rattle.solver.proofs.Closing.{clash_closes}
-use Rattle.solver.proofs.Going.{closed_kept, closed_all, entered_kept}
-use Rattle.solver.proofs.Descending.{clash_in, one_open, longer_push, lighter_closed, next_inside}
+use Rattle.solver.proofs.ClashLeaf.{clash_closes}
+use Rattle.solver.proofs.IsState.{closed_kept, closed_all, entered_kept}
+use Rattle.solver.proofs.HasDescended.{clash_in, one_open, longer_push, lighter_closed, next_inside}
 use Rattle.solver.proofs.descend.descend.Goals as goal
 
 pub close-requires-clause-below : goal.close-requires-clause-below
 close-requires-clause-below g c =
     let t = spelled c.args.rows.now in
     let here = c.loop-clash.asserted.items in
-    let E : Option Clash → Type 0 = HasEntered t c.loop-clash.part here c.enter_side.new.graph c.enter_side.new.asserted.items in
+    let E : Option Clash → Type 0 = HasAsserted t (side_positions t c.loop-clash.side) here c.enter_side.new.graph c.enter_side.new.asserted.items in
     let clash = subst E c.in-Some.is c.in_ok-clash.ensures.entered in
-    clash_in (length c.args.keys.now) c.args.rows.now (positions here ++ reached t c.loop-clash.part) c.in-Some.clash c.requires.tree c.requires.below clash
+    clash_in (length c.args.keys.now) c.args.rows.now (positions here ++ side_positions t c.loop-clash.side) c.in-Some.clash c.requires.tree c.requires.below clash
 
 pub close-requires-clause-open : goal.close-requires-clause-open
 close-requires-clause-open g c =
     let t = spelled c.args.rows.now in
-    one_open (map key_node c.args.keys.now) t c.loop-clash.graph c.loop-clash.asserted.items c.loop-clash.later.items c.loop-clash.refutation
-    (reached t c.loop-clash.part) c.loop-clash.invariant.kept
+    one_open c.args.version (map key_node c.args.keys.now) t c.loop-clash.graph c.loop-clash.asserted.items c.loop-clash.later.items c.loop-clash.refutation
+    (side_positions t c.loop-clash.side) c.loop-clash.invariant.state
 
 pub returns-in_default-pop-clause-descended : goal.returns-in_default-pop-clause-descended
 returns-in_default-pop-clause-descended g c =
     let nodes = map key_node c.args.keys.now in
     let t = spelled c.args.rows.now in
     let here = c.loop-clash.asserted.items in
-    let E : Option Clash → Type 0 = HasEntered t c.loop-clash.part here c.enter_side.new.graph c.enter_side.new.asserted.items in
+    let E : Option Clash → Type 0 = HasAsserted t (side_positions t c.loop-clash.side) here c.enter_side.new.graph c.enter_side.new.asserted.items in
     let clash = subst E c.in-Some.is c.in_ok-clash.ensures.entered in
-    closed_all nodes t c.loop-clash.graph here c.loop-clash.later.items c.loop-clash.refutation c.close.new.refutation (clash_step nodes c.in-Some.clash) c.loop-clash.part
-    c.loop-clash.invariant.kept (clash_closes nodes t (positions here ++ reached t c.loop-clash.part) c.in-Some.clash clash) c.in_ok-close.ensures
+    closed_all c.args.version nodes t c.loop-clash.graph here c.loop-clash.later.items c.loop-clash.refutation c.close.new.refutation (renamed_leaf (node_at nodes) (leaf_of c.in-Some.clash)) (side_positions t c.loop-clash.side)
+    c.loop-clash.invariant.state (clash_closes nodes t (positions here ++ side_positions t c.loop-clash.side) c.in-Some.clash clash) c.in_ok-close.ensures
     (nil_from_length c.loop-clash.later.items (let h = rw c.in_default-pop.is at c.pop.ensures.cases in omega (arith, h.0)))
 
 pub returns-in_default-pop-clause-longer : goal.returns-in_default-pop-clause-longer
@@ -46,8 +48,8 @@ returns-in_default-pop-clause-longer g c =
 pub go_back-requires : goal.go_back-requires
 go_back-requires g c =
     let t = spelled c.args.rows.now in
-    let is_later = next_inside (map key_node c.args.keys.now) t c.loop-clash.graph c.loop-clash.asserted.items c.loop-clash.later.items c.pop.new.self.items
-    c.loop-clash.refutation c.in-Some-pop.next (reached t c.loop-clash.part) c.loop-clash.invariant.kept c.in-Some-pop.ensures.items in
+    let is_later = next_inside c.args.version (map key_node c.args.keys.now) t c.loop-clash.graph c.loop-clash.asserted.items c.loop-clash.later.items c.pop.new.self.items
+    c.loop-clash.refutation c.in-Some-pop.next (side_positions t c.loop-clash.side) c.loop-clash.invariant.state c.in-Some-pop.ensures.items in
     omega (arith, is_later.live, ap length c.in_ok-clash.ensures.further.same_marks)
 
 pub loop-clash-preserved : goal.loop-clash-preserved
@@ -56,19 +58,19 @@ loop-clash-preserved g c =
     let t = spelled c.args.rows.now in
     let here = c.loop-clash.asserted.items in
     let next = c.in-Some-pop.next in
-    let E : Option Clash → Type 0 = HasEntered t c.loop-clash.part here c.enter_side.new.graph c.enter_side.new.asserted.items in
+    let E : Option Clash → Type 0 = HasAsserted t (side_positions t c.loop-clash.side) here c.enter_side.new.graph c.enter_side.new.asserted.items in
     let clash = subst E c.in-Some.is c.in_ok-clash.ensures.entered in
-    let closes = clash_closes nodes t (positions here ++ reached t c.loop-clash.part) c.in-Some.clash clash in
-    let is_later = next_inside nodes t c.loop-clash.graph here c.loop-clash.later.items c.pop.new.self.items c.loop-clash.refutation next
-    (reached t c.loop-clash.part) c.loop-clash.invariant.kept c.in-Some-pop.ensures.items in
+    let closes = clash_closes nodes t (positions here ++ side_positions t c.loop-clash.side) c.in-Some.clash clash in
+    let is_later = next_inside c.args.version nodes t c.loop-clash.graph here c.loop-clash.later.items c.pop.new.self.items c.loop-clash.refutation next
+    (side_positions t c.loop-clash.side) c.loop-clash.invariant.state c.in-Some-pop.ensures.items in
     let gone =
-    closed_kept nodes t c.loop-clash.graph c.enter_side.new.graph c.go_back.new.graph here c.enter_side.new.asserted.items c.go_back.new.asserted.items
-    c.loop-clash.later.items c.pop.new.self.items c.loop-clash.refutation c.close.new.refutation (clash_step nodes c.in-Some.clash) next c.loop-clash.part
-    c.loop-clash.invariant.kept closes c.in_ok-close.ensures c.in-Some-pop.ensures.items c.in_ok-clash.ensures.further c.in_ok-clash.ensures.kept
+    closed_kept c.args.version nodes t c.loop-clash.graph c.enter_side.new.graph c.go_back.new.graph here c.enter_side.new.asserted.items c.go_back.new.asserted.items
+    c.loop-clash.later.items c.pop.new.self.items c.loop-clash.refutation c.close.new.refutation (renamed_leaf (node_at nodes) (leaf_of c.in-Some.clash)) next (side_positions t c.loop-clash.side)
+    c.loop-clash.invariant.state closes c.in_ok-close.ensures c.in-Some-pop.ensures.items c.in_ok-clash.ensures.further c.in_ok-clash.ensures.kept
     c.go_back.ensures.cut c.go_back.ensures.positions in record {
       inside = is_later.side;
-      kept = gone.0;
-      lighter = lighter_closed t _ _ (positions here ++ reached t c.loop-clash.part) _ gone.1 c.loop-clash.invariant.lighter;
+      state = gone.0;
+      lighter = lighter_closed t _ _ (positions here ++ side_positions t c.loop-clash.side) _ gone.1 c.loop-clash.invariant.lighter;
       longer = longer_push c.args.refutation.now c.loop-clash.refutation c.close.new.refutation (clash_step nodes c.in-Some.clash) c.loop-clash.invariant.longer c.in_ok-close.ensures;
     }
 
@@ -77,9 +79,9 @@ returns-clause-descended g c =
     let nodes = map key_node c.args.keys.now in
     let t = spelled c.args.rows.now in
     let here = c.loop-clash.asserted.items in
-    let E : Option Clash → Type 0 = HasEntered t c.loop-clash.part here c.enter_side.new.graph c.enter_side.new.asserted.items in
+    let E : Option Clash → Type 0 = HasAsserted t (side_positions t c.loop-clash.side) here c.enter_side.new.graph c.enter_side.new.asserted.items in
     let entered = subst E c.in_default.is c.in_ok-clash.ensures.entered in
     let kept =
-    entered_kept nodes t c.loop-clash.graph c.enter_side.new.graph here c.enter_side.new.asserted.items c.loop-clash.later.items c.loop-clash.refutation c.loop-clash.part
-    c.loop-clash.invariant.kept entered.0 entered.1 c.in_ok-clash.ensures.further in
+    entered_kept c.args.version nodes t c.loop-clash.graph c.enter_side.new.graph here c.enter_side.new.asserted.items c.loop-clash.later.items c.loop-clash.refutation (side_positions t c.loop-clash.side)
+    c.loop-clash.invariant.state entered.0 entered.1 c.in_ok-clash.ensures.further in
     (kept.0, omega (arith, ap (weight t) kept.1, c.loop-clash.invariant.lighter))

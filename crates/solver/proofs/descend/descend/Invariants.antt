@@ -1,19 +1,18 @@
-use Rattle.std.proofs.Common.{◌≤◌, ◌<◌, ◌++◌, length, map}
+use Rattle.std.proofs.Common.{◌≤◌, ◌++◌, length, map}
 use Rattle.pc_ground.specs.Keys.{key_node}
-use Rattle.pc_ground.specs.Tree.{size_of}
 use Rattle.solver.specs.Spelled.{spelled}
-use Rattle.solver.specs.Places.{reached}
-use Rattle.solver.specs.Opens.{positions, opens, IsKept}
+use Rattle.solver.specs.Places.{side_positions, IsSideIn}
+use Rattle.solver.specs.Opens.{positions, opens, IsState}
 use Rattle.solver.specs.Weights.{weight}
 use Rattle.solver.specs.Descents.{IsLonger}
 use Rattle.solver.proofs.descend.descend.Given as goal
 
 abbrev pub invariant-loop-clash : goal.invariant-loop-clash
 invariant-loop-clash g l = record {
-  inside : l.part < size_of (spelled l.rows);
-  kept : IsKept (map key_node l.keys) (spelled l.rows) l.graph l.asserted.items l.later.items l.refutation (reached (spelled l.rows) l.part);
-  lighter : weight (spelled l.rows) (opens (spelled l.rows) (positions l.asserted.items ++ reached (spelled l.rows) l.part) l.asserted.items l.later.items)
-      ≤ weight (spelled l.rows) (opens (spelled l.rows) (positions l.fn.asserted.items ++ reached (spelled l.rows) l.fn.part) l.fn.asserted.items l.fn.later.items);
+  inside : IsSideIn (spelled l.rows) l.side;
+  state : IsState l.fn.version (map key_node l.keys) (spelled l.rows) l.graph l.asserted.items l.later.items l.refutation (side_positions (spelled l.rows) l.side);
+  lighter : weight (spelled l.rows) (opens (spelled l.rows) (positions l.asserted.items ++ side_positions (spelled l.rows) l.side) l.asserted.items l.later.items)
+      ≤ weight (spelled l.rows) (opens (spelled l.rows) (positions l.fn.asserted.items ++ side_positions (spelled l.rows) l.fn.side) l.fn.asserted.items l.fn.later.items);
   longer : IsLonger l.fn.refutation l.refutation;
 }
 

@@ -1,76 +1,60 @@
-use Rattle.std.proofs.Common.{◌+◌, ℕ, ◌++◌, refl, sym, ap, ◌∙◌, subst, arith}
-use Rattle.std.specs.Prelude.{Option}
-use Rattle.pc_ground.specs.Walks.{Walk}
+use Rattle.std.proofs.Common.{◌≡◌, ℕ, length, take, subst, sym}
+use Rattle.std.specs.Prelude.{Option, All}
 use Rattle.order_graph.specs.declared.clash.Clash.{Clash}
+use Rattle.order_graph.proofs.Results.{if_ok}
+use Rattle.solver.specs.Below.{IsRowBelow}
 use Rattle.solver.specs.Spelled.{spelled}
-use Rattle.solver.specs.Places.{reached}
-use Rattle.solver.specs.Opens.{positions, HasEnteredRow}
-use Rattle.solver.proofs.Entering.{length_spelled, walk_start, walk_step, positions_push, literals_push, further_same, further_more, kept_push, side_clash, whole_push, kept_same, stride_pos}
+use Rattle.solver.specs.Places.{denied_positions, asserted_at, side_positions}
+use Rattle.solver.specs.Opens.{IsFurther, HasAsserted}
+use Rattle.solver.proofs.HasAsserted.{asserted_clash, asserted_then, further_more, take_through}
 use Rattle.solver.proofs.enter.enter_side.Goals as goal
-
-pub row_at-requires : goal.row_at-requires
-row_at-requires g c = omega (arith, c.requires.part, length_spelled c.args.rows.now c.requires.tree)
-
-pub overflow_add-end : goal.overflow_add-end
-overflow_add-end g c =
-    let start = walk_start c.args.rows.now c.args.part c.row_at.result c.requires.tree c.requires.part c.row_at.ensures.row in
-    omega (arith, start.0, c.row_at.ensures.bound)
-
-pub loop-at-init : goal.loop-at-init
-loop-at-init g c =
-    let start = walk_start c.args.rows.now c.args.part c.row_at.result c.requires.tree c.requires.part c.row_at.ensures.row in record {
-      end = start.0;
-      walk = (reached (spelled c.args.rows.now) c.args.part, start.1, refl);
-      literals = c.requires.literals;
-      further = further_same c.args.graph.now;
-      kept = kept_same c.args.asserted.now.items;
-    }
-
-pub returns-in-Some-clause-further : goal.returns-in-Some-clause-further
-returns-in-Some-clause-further g c = further_more _ _ _ c.loop-at.invariant.further c.in_ok-clash.ensures.further
 
 pub returns-in-Some-clause-entered : goal.returns-in-Some-clause-entered
 returns-in-Some-clause-entered g c =
-    let rows = c.args.rows.now in
-    let row = c.row_at-row.result in
-    let here = c.loop-at.invariant in
-    let step = walk_step rows _ c.loop-at.at here.walk.0 row here.walk.1 c.loop-at-test.true c.row_at-row.ensures.row in
-    let old = positions c.loop-at.asserted.items in
-    let P : Option Clash → Type 0 = HasEnteredRow row c.loop-at.at c.loop-at.graph c.loop-at.asserted.items c.enter_row.new.graph c.enter_row.new.asserted.items in
-    let entered = subst P c.in-Some.is c.in_ok-clash.ensures.entered in
-    let whole = positions c.args.asserted.now.items ++ reached (spelled rows) c.args.part in
-    side_clash rows c.loop-at.at row old step.0 whole c.loop-at.graph.literals c.in-Some.clash c.requires.tree c.row_at-row.ensures.row here.literals
-    (ap (λ ps. old ++ ps) (sym step.1) ∙ here.walk.2) entered.1
+    let t = spelled c.args.rows.now in
+    let side = c.args.side in
+    let old = c.args.asserted.now.items in
+    let first = denied_positions t side.negated side.denied in
+    let E : Option Clash → Type 0 = HasAsserted t first old c.enter_denied.new.graph c.enter_denied.new.asserted.items in
+    asserted_clash t first (asserted_at t side.negated side.root) old c.in-Some.clash (subst E c.in-Some.is c.in_ok-clash.ensures.entered)
 
-pub overflow_add-at : goal.overflow_add-at
-overflow_add-at g c =
-    let here = c.loop-at.invariant in
-    let step = walk_step c.args.rows.now _ c.loop-at.at here.walk.0 c.row_at-row.result here.walk.1 c.loop-at-test.true c.row_at-row.ensures.row in
-    omega (arith, step.3, c.stride-at.ensures, here.end, c.row_at-row.ensures.bound)
-
-pub loop-at-preserved : goal.loop-at-preserved
-loop-at-preserved g c =
-    let rows = c.args.rows.now in
-    let row = c.row_at-row.result in
-    let here = c.loop-at.invariant in
-    let step = walk_step rows _ c.loop-at.at here.walk.0 row here.walk.1 c.loop-at-test.true c.row_at-row.ensures.row in
-    let old = c.loop-at.asserted.items in
-    let new = c.enter_row.new.asserted.items in
-    let E : Option Clash → Type 0 = HasEnteredRow row c.loop-at.at c.loop-at.graph old c.enter_row.new.graph new in
-    let entered = subst E c.in_default.is c.in_ok-clash.ensures.entered in
-    let P : ℕ → Type 0 = λ n. Walk rows (c.args.part + c.row_at.result.skip) (c.loop-at.at + n) step.0 in record {
-      end = here.end;
-      walk = (step.0, subst P (sym c.stride-at.ensures) step.2, whole_push new old c.loop-at.at here.walk.0 step.0 _ entered.0 step.1 here.walk.2);
-      literals = literals_push rows c.loop-at.at row (positions old) (positions new) c.loop-at.graph.literals c.enter_row.new.graph.literals c.requires.tree
-          c.row_at-row.ensures.row here.literals entered.1 (positions_push new old c.loop-at.at entered.0);
-      further = further_more _ _ _ here.further c.in_ok-clash.ensures.further;
-      kept = kept_push _ old new _ here.kept entered.0;
+pub enter_part-requires : goal.enter_part-requires
+enter_part-requires g c =
+    let t = spelled c.args.rows.now in
+    let side = c.args.side in
+    let old = c.args.asserted.now.items in
+    let E : Option Clash → Type 0 = HasAsserted t (denied_positions t side.negated side.denied) old c.enter_denied.new.graph c.enter_denied.new.asserted.items in
+    let B : ℕ → Type 0 = λ n. All (IsRowBelow n) c.args.rows.now in record {
+      tree = c.requires.tree;
+      root = c.requires.side.0;
+      below = subst B (sym c.in_ok-clash.ensures.further.same_nodes) c.requires.below;
+      literals = (subst E c.in_default.is c.in_ok-clash.ensures.entered).1;
     }
 
-pub loop-at-smaller : goal.loop-at-smaller
-loop-at-smaller g c =
-    let here = c.loop-at.invariant in
-    let row = c.row_at-row.result in
-    let step = walk_step c.args.rows.now _ c.loop-at.at here.walk.0 row here.walk.1 c.loop-at-test.true c.row_at-row.ensures.row in
-    let pos = stride_pos c.args.rows.now c.loop-at.at row c.requires.tree c.row_at-row.ensures.row in
-    omega (arith, step.3, pos, c.stride-at.ensures, c.loop-at-test.true)
+pub returns-clause-further : goal.returns-clause-further
+returns-clause-further g c =
+    if_ok (λ _. IsFurther c.enter_denied.new.graph c.enter_part.new.graph) (λ _. IsFurther c.args.graph.now c.enter_part.new.graph) c.enter_part.result c.enter_part.ensures.further
+    (λ _ h. further_more c.args.graph.now c.enter_denied.new.graph c.enter_part.new.graph c.in_ok-clash.ensures.further h)
+
+pub returns-clause-kept : goal.returns-clause-kept
+returns-clause-kept g c =
+    let old = c.args.asserted.now.items in
+    let mid = c.enter_denied.new.asserted.items in
+    let new = c.enter_part.new.asserted.items in
+    if_ok (λ _. take (length mid) new ≡ mid) (λ _. take (length old) new ≡ old) c.enter_part.result c.enter_part.ensures.kept
+    (λ _ h. take_through old mid new c.in_ok-clash.ensures.kept h)
+
+pub returns-clause-entered : goal.returns-clause-entered
+returns-clause-entered g c =
+    let t = spelled c.args.rows.now in
+    let side = c.args.side in
+    let old = c.args.asserted.now.items in
+    let mid = c.enter_denied.new.asserted.items in
+    let new = c.enter_part.new.asserted.items in
+    let first = denied_positions t side.negated side.denied in
+    let more = asserted_at t side.negated side.root in
+    let E : Option Clash → Type 0 = HasAsserted t first old c.enter_denied.new.graph mid in
+    let entered = subst E c.in_default.is c.in_ok-clash.ensures.entered in
+    if_ok (λ found. HasAsserted t more mid c.enter_part.new.graph new found) (λ found. HasAsserted t (side_positions t side) old c.enter_part.new.graph new found)
+    c.enter_part.result c.enter_part.ensures.entered
+    (λ found h. asserted_then t first more old mid new c.enter_denied.new.graph c.enter_part.new.graph found entered h)

@@ -1,11 +1,11 @@
 use Rattle.std.proofs.Common.{◌≡◌, ℕ, length, take}
 use Rattle.solver.specs.Flags.{flag}
-use Rattle.solver.specs.Weights.{is_on}
+use Rattle.solver.specs.Weights.{under, is_on}
 use Rattle.solver.specs.Opens.{positions}
 use Rattle.solver.proofs.flags.branch_flags.Given as goal
 
-abbrev pub invariant-loop-a : goal.invariant-loop-a
-invariant-loop-a l = record {
+abbrev pub invariant-loop-place : goal.invariant-loop-place
+invariant-loop-place l = record {
   count : length l.flags.items ≡ l.count;
-  flags : (p : ℕ) → flag l.flags.items p ≡ is_on (positions (take l.a-index l.asserted)) p;
+  flags : (p : ℕ) → flag l.flags.items p ≡ is_on (under l.negated (positions (take l.place-index l.asserted))) p;
 }

@@ -1,4 +1,4 @@
-use Rattle.solver.proofs.Closing.{key_is}
+use Rattle.solver.proofs.ClashLeaf.{key_is}
 use Rattle.solver.proofs.leaf.key_at.Goals as goal
 
 pub returns : goal.returns

@@ -1,6 +1,6 @@
 use Rattle.std.proofs.Common.{◌≡◌, map, take}
 use Rattle.pc_ground.specs.Keys.{key_node}
-use Rattle.solver.specs.Named.{node_at}
+use Rattle.solver.specs.Renamed.{node_at}
 use Rattle.solver.proofs.leaf.keys_of.Given as goal
 
 abbrev pub invariant-loop-k : goal.invariant-loop-k

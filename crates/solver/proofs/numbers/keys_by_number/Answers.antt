@@ -1,5 +1,5 @@
 use Rattle.pc_ground.specs.Keys.{key_node}
-use Rattle.solver.proofs.Numbering.{map_one_more}
+use Rattle.solver.proofs.IsKnown.{map_one_more}
 use Rattle.solver.proofs.numbers.keys_by_number.Goals as goal
 
 pub loop-k-preserved : goal.loop-k-preserved

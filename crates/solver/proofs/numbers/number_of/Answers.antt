@@ -1,6 +1,6 @@
 use Rattle.std.proofs.lemmas.Option.{slice_get_within}
 use Rattle.pc_ground.specs.Keys.{key_node}
-use Rattle.solver.proofs.Numbering.{number_named}
+use Rattle.solver.proofs.IsKnown.{number_named}
 use Rattle.solver.proofs.numbers.number_of.Goals as goal
 
 pub returns-in-Some-clause-is : goal.returns-in-Some-clause-is

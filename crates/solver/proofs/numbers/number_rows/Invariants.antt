@@ -1,11 +1,11 @@
 use Rattle.std.proofs.Common.{◌≡◌, take, length}
 use Rattle.std.specs.Prelude.{All}
-use Rattle.solver.specs.Named.{named_rows}
+use Rattle.solver.specs.Renamed.{rows_over}
 use Rattle.solver.specs.Below.{IsRowBelow}
 use Rattle.solver.proofs.numbers.number_rows.Given as goal
 
 abbrev pub invariant-loop-k : goal.invariant-loop-k
 invariant-loop-k l = record {
-  is : named_rows l.numbering l.rows.items ≡ take l.k l.tree;
+  is : rows_over l.numbering l.rows.items ≡ take l.k l.tree;
   below : All (IsRowBelow (length l.numbering)) l.rows.items;
 }

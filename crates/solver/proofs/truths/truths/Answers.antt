@@ -1,6 +1,6 @@
 use Rattle.std.proofs.Common.{◌-◌, length, arith}
 use Rattle.std.proofs.lemmas.List.{length-replicate}
-use Rattle.solver.proofs.Telling.{truths_none}
+use Rattle.solver.proofs.AreTruths.{truths_none}
 use Rattle.solver.proofs.truths.truths.Goals as goal
 
 pub loop-k-init : goal.loop-k-init

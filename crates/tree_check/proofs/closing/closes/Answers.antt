@@ -1,7 +1,7 @@
 use Rattle.std.proofs.Common.{map}
 use Rattle.std.specs.Prelude.{◌↔◌}
 use Rattle.pc_ground.specs.Keys.{key_node}
-use Rattle.tree_check.proofs.Leaving.{cycle_closes, path_closes, absent_closes, false_closes}
+use Rattle.tree_check.proofs.Closes.{cycle_closes, path_closes, absent_closes, false_closes}
 use Rattle.tree_check.proofs.closing.closes.Goals as goal
 
 through : {A B C : Type 0} → A ↔ B → B ↔ C → A ↔ C

@@ -1,5 +1,5 @@
 use Rattle.std.proofs.lemmas.Result.{on_ok_weaker}
-use Rattle.tree_check.proofs.Knowing.{added_then}
+use Rattle.tree_check.proofs.BranchFacts.{added_then}
 use Rattle.tree_check.proofs.entering.add_literal.Goals as goal
 
 pub returns-in-Node : goal.returns-in-Node

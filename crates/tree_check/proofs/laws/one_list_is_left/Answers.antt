@@ -1,4 +1,4 @@
-use Rattle.tree_check.proofs.Running.{runs_one}
+use Rattle.tree_check.proofs.Runs.{runs_one}
 use Rattle.tree_check.proofs.laws.one_list_is_left.Goals as goal
 
 pub returns : goal.returns

@@ -1,4 +1,4 @@
-use Rattle.tree_check.proofs.Rights.{root_inside}
+use Rattle.tree_check.proofs.OrRows.{root_inside}
 use Rattle.tree_check.proofs.root.show_size.Goals as goal
 
 pub returns-clause-root : goal.returns-clause-root

@@ -1,5 +1,5 @@
 use Rattle.std.proofs.Common.{not, eqb, arith}
-use Rattle.undo_trail.proofs.Meets.{met_more, met_all, columns_meet}
+use Rattle.undo_trail.proofs.MeetsWords.{met_more, met_all, columns_meet}
 use Rattle.undo_trail.proofs.kernels.meets_words.Goals as goal
 
 pub loop-k-preserved : goal.loop-k-preserved

@@ -7,7 +7,7 @@ invariant-loop-at g l = record {
   low : l.keep ≤ l.at;
   high : l.at ≤ length l.trail;
   taken : l.table ≡ back (drop l.at l.trail) l.initial.table;
-  counted : l.steps ≡ l.initial.steps + (length l.trail - l.at);
+  cost : l.steps ≡ l.initial.steps + (length l.trail - l.at);
 }
 
 abbrev pub decreases-loop-at : goal.decreases-loop-at

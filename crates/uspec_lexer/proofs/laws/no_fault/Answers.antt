@@ -1,4 +1,4 @@
-use Rattle.uspec_lexer.proofs.Spelling.{spells-no_fault}
+use Rattle.uspec_lexer.proofs.SpellsLaws.{spells-no_fault}
 use Rattle.uspec_lexer.proofs.laws.no_fault.Goals as goal
 
 pub returns : goal.returns

@@ -1,4 +1,4 @@
-use Rattle.uspec_lexer.proofs.Spelling.{lexical_fault-unique}
+use Rattle.uspec_lexer.proofs.SpellsLaws.{lexical_fault-unique}
 use Rattle.uspec_lexer.proofs.laws.one_fault.Goals as goal
 
 pub returns : goal.returns

@@ -1,4 +1,4 @@
-use Rattle.uspec_lexer.proofs.Spelling.{spells-unique}
+use Rattle.uspec_lexer.proofs.SpellsLaws.{spells-unique}
 use Rattle.uspec_lexer.proofs.laws.one_list.Goals as goal
 
 pub returns : goal.returns

@@ -7,8 +7,8 @@ use Rattle.uspec_parser.specs.Marks.{IsMarkedFormula}
 use Rattle.uspec_parser.specs.Phrases.{rules}
 use Rattle.uspec_parser.specs.declared.level.Level.{Level}
 use Rattle.uspec_parser.specs.declared.phrase.Phrase.TheVariants.{Operand}
-use Rattle.uspec_parser.proofs.Spelled.{marked_formula_of}
-use Rattle.uspec_parser.proofs.Reading.{formula_derived}
+use Rattle.uspec_parser.proofs.DerivedIsMarked.{marked_formula_of}
+use Rattle.uspec_parser.proofs.MarkedIsDerived.{formula_derived}
 use Rattle.uspec_parser.proofs.parse.formula_fault.Goals as goal
 
 pub returns : goal.returns

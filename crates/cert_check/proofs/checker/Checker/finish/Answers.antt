@@ -1,19 +1,24 @@
 use Rattle.std.proofs.Common.{subst}
+use Rattle.pc_common.specs.declared.limits.TheConstants.{MAX_CERTIFICATE}
 use Rattle.cert_check.specs.Certificates.{Question}
 use Rattle.cert_check.specs.Proper.{IsAsked}
-use Rattle.cert_check.specs.Verified.{text_limit}
-use Rattle.cert_check.proofs.Finishing.{whole_verified, refused_verified}
+use Rattle.cert_check.specs.Questions.{question_of}
+use Rattle.cert_check.proofs.Outcomes.{outcome_holds}
+use Rattle.cert_check.proofs.Verified.{whole_verified, refused_verified}
 use Rattle.cert_check.proofs.checker.Checker.finish.Goals as goal
 
-pub returns-in-Whole : goal.returns-in-Whole
-returns-in-Whole c = λ q text fed.
-    let A : Question → Type 0 = λ p. IsAsked p in
-    let asked = subst A fed.front (c.show_asked.ensures c.of.ensures.view) in
-    let ended = c.in-Whole.ensures fed.start text_limit text fed.after in
-    rw c.verdict.ensures (whole_verified q asked fed.start c.in-Whole.judge fed.asks text ended.0 ended.1)
+pub returns-in-Whole-clause-verified : goal.returns-in-Whole-clause-verified
+returns-in-Whole-clause-verified c = λ q text fed.
+    let end = c.in-Whole.ensures fed.start MAX_CERTIFICATE text fed.taken in
+    rw c.verdict.ensures (whole_verified q fed.start c.in-Whole.judge fed.asks text end.0 end.1)
 
-pub returns-in-Refused : goal.returns-in-Refused
-returns-in-Refused c = λ q text fed.
+pub returns-in-Whole-clause-outcome : goal.returns-in-Whole-clause-outcome
+returns-in-Whole-clause-outcome c = λ front text fed.
+    let end = c.in-Whole.ensures fed.start MAX_CERTIFICATE text fed.taken in
+    let q = question_of front in
+    rw c.verdict.ensures (outcome_holds front text _ (whole_verified q fed.start c.in-Whole.judge fed.asks text end.0 end.1))
+
+pub returns-in-Refused-clause-verified : goal.returns-in-Refused-clause-verified
+returns-in-Refused-clause-verified c = λ q text fed.
     let A : Question → Type 0 = λ p. IsAsked p in
-    let asked = subst A fed.front (c.show_asked.ensures c.of.ensures.view) in
-    refused_verified q asked fed.start fed.asks text c.in-Refused.line (c.in-Refused.ensures fed.start text_limit text fed.after)
+    refused_verified q (subst A fed.front (c.show_asked.ensures c.of.ensures.view)) fed.start fed.asks text c.in-Refused.line (c.in-Refused.ensures fed.start MAX_CERTIFICATE text fed.taken)

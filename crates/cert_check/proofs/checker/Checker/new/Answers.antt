@@ -14,4 +14,4 @@ new-requires-clause-stands c = (
 )
 
 pub returns : goal.returns
-returns c = record { start = c.new-judge.result; asks = ap question_of c.new-judge.ensures.front; front = refl; after = c.new.ensures }
+returns c = record { start = c.new-judge.result; asks = ap question_of c.new-judge.ensures.front; front = refl; taken = c.new.ensures }

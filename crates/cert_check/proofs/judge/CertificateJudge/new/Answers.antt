@@ -1,5 +1,5 @@
 use Rattle.cert_check.specs.Questions.{question_of}
-use Rattle.cert_check.proofs.Standing.{raw_start}
+use Rattle.cert_check.proofs.RawStages.{raw_start}
 use Rattle.cert_check.proofs.judge.CertificateJudge.new.Goals as goal
 
 pub returns-clause-stands : goal.returns-clause-stands

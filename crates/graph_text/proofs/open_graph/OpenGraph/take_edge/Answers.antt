@@ -2,7 +2,7 @@ use Rattle.std.proofs.Common.{sym, ◌∙◌, refl}
 use Rattle.std.proofs.lemmas.List.{map_push}
 use Rattle.graph_text.specs.Graphs.{key_edge, graph_nodes, graph_edges}
 use Rattle.pc_ground.specs.Keys.{key_node}
-use Rattle.graph_text.proofs.Listing.{open_edge, edge_put, is_listed, not_listed}
+use Rattle.graph_text.proofs.OpenGraphs.{open_edge, edge_put, is_listed, not_listed}
 use Rattle.graph_text.proofs.open_graph.OpenGraph.take_edge.Goals.{then-not-contains-via-then-not-contains, then-not-contains-via-else-not-contains+then-not-contains-2}
 use Rattle.graph_text.proofs.open_graph.OpenGraph.take_edge.Goals as goal
 

@@ -1,7 +1,7 @@
 use Rattle.std.proofs.lemmas.List.{map_push}
 use Rattle.pc_ground.specs.Keys.{key_node}
 use Rattle.graph_text.specs.Graphs.{graph_nodes, graph_edges}
-use Rattle.graph_text.proofs.Listing.{open_node}
+use Rattle.graph_text.proofs.OpenGraphs.{open_node}
 use Rattle.graph_text.proofs.open_graph.OpenGraph.take_node.Goals as goal
 
 pub invariant_of-self-2 : goal.invariant_of-self-2

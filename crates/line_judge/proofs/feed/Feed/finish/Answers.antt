@@ -1,5 +1,5 @@
 use Rattle.std.proofs.Common.{◌≤◌, rules}
-use Rattle.line_judge.proofs.Feedings.{fits, refused_before, ends, refused_after}
+use Rattle.line_judge.proofs.Feeds.{fits, refused_before, ends, refused_after}
 use Rattle.line_judge.proofs.feed.Feed.finish.Goals as goal
 
 pub returns-then-self-2 : goal.returns-then-self-2

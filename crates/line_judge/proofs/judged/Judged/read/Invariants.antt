@@ -1,6 +1,6 @@
 -- The piece up to what is left was taken, and its lines were good.
 use Rattle.std.proofs.Common.{◌≡◌, ◌++◌, List, ℕ, length}
-use Rattle.line_judge.specs.Judging.{IsGood}
+use Rattle.line_judge.specs.JudgedLines.{IsGood}
 use Rattle.line_judge.proofs.judged.Judged.read.Given as goal
 
 abbrev pub invariant-loop-line : goal.invariant-loop-line

@@ -1,16 +1,16 @@
 use Rattle.std.proofs.Common.{◌+◌, ◌*◌, max}
 use Rattle.pc_syntax.specs.Written.{written}
-use Rattle.pc_syntax.specs.Sizes.{height_of}
-use Rattle.macro_expand.specs.Tables.{before, listed}
+use Rattle.pc_syntax.specs.Sizes.{expanded_height}
+use Rattle.macro_expand.specs.Tables.{before, plain_macros}
 use Rattle.macro_expand.proofs.expansion.Expander.+walk.Given as goal
 
 abbrev pub decreases-expansion : goal.decreases-expansion
-decreases-expansion l = 2 * height_of (before (listed l.self.now.macros.now) l.earlier) (written l.formula.now)
+decreases-expansion l = 2 * expanded_height (before (plain_macros l.self.now.macros.now) l.earlier) (written l.formula.now)
 
 abbrev pub decreases-expansions : goal.decreases-expansions
 decreases-expansions l =
-    let ms = before (listed l.self.now.macros.now) l.earlier in
-    2 * max (height_of ms (written l.left.now)) (height_of ms (written l.right.now)) + 1
+    let ms = before (plain_macros l.self.now.macros.now) l.earlier in
+    2 * max (expanded_height ms (written l.left.now)) (expanded_height ms (written l.right.now)) + 1
 
 abbrev pub decreases-binding : goal.decreases-binding
-decreases-binding l = 2 * height_of (before (listed l.self.now.macros.now) l.earlier) (written l.body.now) + 1
+decreases-binding l = 2 * expanded_height (before (plain_macros l.self.now.macros.now) l.earlier) (written l.body.now) + 1

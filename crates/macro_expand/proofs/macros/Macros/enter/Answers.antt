@@ -1,10 +1,10 @@
 use Rattle.std.proofs.Common.{◌≡◌, Bool, true, false, not, Option, Some, None, option_copied, Bor, sym, ap, ◌∙◌, subst}
 use Rattle.std.specs.Option.{is_some}
 use Rattle.pc_syntax.specs.Written.{written}
-use Rattle.pc_syntax.specs.MacroFaults.{macro_called}
+use Rattle.pc_syntax.specs.MacroFaults.{macro_with_name}
 use Rattle.macro_expand.specs.declared.macros.Macro.{Macro}
-use Rattle.macro_expand.specs.Tables.{entered, macro_at, listed}
-use Rattle.macro_expand.proofs.Tables.{entered_in, still_table, entered_new, entered_old, some_first}
+use Rattle.macro_expand.specs.Tables.{with_macro, macro_at, plain_macros}
+use Rattle.macro_expand.proofs.Tables.{entry_macros, still_table, entered_new, entered_old, some_first}
 use Rattle.macro_expand.proofs.macros.Macros.enter.Goals as goal
 
 none_is : (o : Option (Bor Macro)) (p : Option Macro) (b : Bool) → option_copied o ≡ p → is_some o ≡ not b → b ≡ true → p ≡ None
@@ -30,7 +30,7 @@ returns-in_ok-insert c =
     entered_new table c.insert.new.self.entries c.as_slice-key.result m
     (none_is c.get.result _ c.is_none.result c.get.ensures.value c.is_none.ensures c.if-is_none.true)
     c.in_ok-insert.ensures.entries c.self.invariant.0 c.as_slice-key.ensures.value
-    ∙ ap (λ ms. entered (listed ms) (macro_at m)) c.self.view_is
+    ∙ ap (λ ms. with_macro (plain_macros ms) (macro_at m)) c.self.view_is
 
 pub returns-else-is_none : goal.returns-else-is_none
 returns-else-is_none c =
@@ -38,7 +38,7 @@ returns-else-is_none c =
     let there =
     some_first es c.as_slice-key.result.now c.self.invariant.0
     (some_is c.get.result _ c.is_none.result c.get.ensures.value c.is_none.ensures c.if-is_none.false) in
-    entered_old (listed c.args.self.now)
+    entered_old (plain_macros c.args.self.now)
     (record { name = c.args.name.now; parameters = c.args.parameters.now; body = written c.args.body.now })
-    (subst (λ ms. is_some (macro_called (listed ms) c.args.name.now.name) ≡ true) c.self.view_is
-    (subst (λ w. is_some (macro_called (entered_in es) w) ≡ true) c.as_slice-key.ensures.value there))
+    (subst (λ ms. is_some (macro_with_name (plain_macros ms) c.args.name.now.name) ≡ true) c.self.view_is
+    (subst (λ w. is_some (macro_with_name (entry_macros es) w) ≡ true) c.as_slice-key.ensures.value there))

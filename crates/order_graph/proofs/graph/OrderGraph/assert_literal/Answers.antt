@@ -1,14 +1,14 @@
 use Rattle.std.proofs.Common.{◌∙◌, length, refl, ap}
 use Rattle.std.proofs.lemmas.List.{length_push}
-use Rattle.order_graph.proofs.Pushed.{more}
-use Rattle.order_graph.proofs.Clashing.{clashes_refute}
-use Rattle.order_graph.proofs.Telling.{closes_none}
+use Rattle.order_graph.proofs.OneMore.{more}
+use Rattle.order_graph.proofs.IsClash.{clashes_refute}
+use Rattle.order_graph.proofs.TakesEdge.{takes}
 use Rattle.order_graph.proofs.MarkLists.{marks_none}
 use Rattle.order_graph.proofs.Orders.{order_now, order_sized, order_more, found_none, found_some, order_kept}
 use Rattle.order_graph.proofs.graph.OrderGraph.assert_literal.Goals as goal
 
-pub clash_of-requires-clause-stands : goal.clash_of-requires-clause-stands
-clash_of-requires-clause-stands g c =
+pub clash_of-requires-clause-represents : goal.clash_of-requires-clause-represents
+clash_of-requires-clause-represents g c =
     let s = c.self.inside in
     rw c.deref.ensures.value (order_now s.nodes s.table s.literals.items s.moments.items s.counts.items s.live c.self.invariant)
 
@@ -18,12 +18,12 @@ returns-in-Some-clause-added g c =
     let told = found_some c.deref.result.now s.literals.items c.args.literal c.in_ok-found.found c.in-Some.clash c.deref.ensures.value c.in_ok-found.ensures c.in-Some.is in
     rw (← c.self.view_is) (refl, told, clashes_refute (more s.literals.items c.args.literal) c.in-Some.clash told)
 
-pub keep-requires-clause-no_cycle : goal.keep-requires-clause-no_cycle
-keep-requires-clause-no_cycle g c =
+pub keep-requires-clause-takes : goal.keep-requires-clause-takes
+keep-requires-clause-takes g c =
     let s = c.self.inside in
     let consistent = found_none c.deref.result.now s.literals.items c.args.literal c.in_ok-found.found c.deref.ensures.value c.in_ok-found.ensures c.in_default.is in
     let sized = order_sized s.nodes s.table s.literals.items s.moments.items s.counts.items s.live c.self.invariant in
-    closes_none s.nodes s.table s.literals.items c.args.literal (order_now s.nodes s.table s.literals.items s.moments.items s.counts.items s.live c.self.invariant)
+    takes s.nodes s.table s.literals.items c.args.literal (order_now s.nodes s.table s.literals.items s.moments.items s.counts.items s.live c.self.invariant)
     sized.1 (rw (← c.self.view_is) at c.requires) consistent
 
 pub invariant_of-self-2 : goal.invariant_of-self-2
@@ -48,13 +48,10 @@ returns-clause-added g c =
     )
 
 pub returns-clause-cost : goal.returns-clause-cost
-returns-clause-cost g c = rw (← c.self.view_is) c.in_ok-keep.ensures.cost
+returns-clause-cost g c = rw (← c.self.view_is) c.keep.ensures.cost
 
-pub returns-clause-most : goal.returns-clause-most
-returns-clause-most g c = rw (← c.self.view_is, ← c.self.invariant.words) c.keep.ensures.most
-
-pub returns-in_err-keep-clause-most : goal.returns-in_err-keep-clause-most
-returns-in_err-keep-clause-most g c = rw (← c.self.view_is, ← c.self.invariant.words) c.keep.ensures.most
+pub returns-in_err-keep-clause-cost : goal.returns-in_err-keep-clause-cost
+returns-in_err-keep-clause-cost g c = rw (← c.self.view_is) c.keep.ensures.cost
 
 pub invariant_of-self : goal.invariant_of-self
 invariant_of-self g c =

@@ -1,6 +1,6 @@
 use Rattle.std.proofs.Common.{◌≡◌, ◌∙◌, ◌+◌, ◌≤◌, List, ℕ, length, take, get_or, sum, ap, refl, sym, arith}
 use Rattle.std.proofs.lemmas.List.{get_or_read, length_push, take_more_set}
-use Rattle.undo_trail.specs.Kept.{tables}
+use Rattle.undo_trail.specs.BitTable.{tables}
 use Rattle.order_graph.specs.Marks.{marks_from}
 use Rattle.order_graph.proofs.MarkLists.{length-marks, IsCutAt, cut_at}
 use Rattle.order_graph.proofs.Orders.{order_undone, order_cost}
@@ -77,7 +77,7 @@ returns-clause-cost g c =
     let s = c.self.inside in
     let at = moment g c in
     let last = c.self.invariant.last in
-    let counted = c.undo.ensures.steps in
+    let counted = c.undo.ensures.cost in
     rw (← c.self.view_is, (cut g c).at) (omega arith)
 
 pub returns-clause-bound : goal.returns-clause-bound
@@ -85,7 +85,7 @@ returns-clause-bound g c =
     let s = c.self.inside in
     let k = c.count_at-count.result.0 in
     let at = moment g c in
-    let counted = c.undo.ensures.steps in
+    let counted = c.undo.ensures.cost in
     let cost = order_cost s.nodes s.table s.literals.items s.moments.items s.counts.items s.live c.self.invariant k (low g c) in
     let most = cost.1 in
     rw (← c.self.view_is, (cut g c).at) (omega arith)

@@ -1,5 +1,5 @@
 use Rattle.std.proofs.Common.{ℕ, ◌<◌}
-use Rattle.pc_case.specs.Kept.{IsNamed}
+use Rattle.pc_case.specs.MicroOps.{IsNamed}
 use Rattle.pc_case.proofs.case.Case.find.Given as goal
 
 -- no micro-op so far has the name

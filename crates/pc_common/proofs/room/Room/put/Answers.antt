@@ -1,6 +1,6 @@
 use Rattle.std.proofs.Common.{rules, arith, refl, inl, inr, ap, ◌∙◌, ◌≡◌, ◌≤◌, [], ◌+◌}
 use Rattle.std.proofs.lemmas.Bool.{cases_lt}
-use Rattle.pc_common.specs.Writes.{done}
+use Rattle.pc_common.specs.Writes.{success}
 use Rattle.pc_common.specs.Room.{Puts}
 use Rattle.pc_common.proofs.Rooms.{puts_then, puts_nothing, puts_behind, puts_text, puts_cut, next_bytes}
 use Rattle.pc_common.proofs.room.Room.put.Goals as goal
@@ -19,11 +19,11 @@ pub loop-at-preserved : goal.loop-at-preserved
 loop-at-preserved g c =
     let most : c.loop-at.self.waiting.used ≤ 4096 = c.loop-at.self.waiting.within in
     let ok = c.in_ok-make_space.ensures in
-    let keeps : Puts g.K.Sink.told g.K.Sink.faults g.K.Sink.taken c.loop-at.self c.make_space.new.self done [] = elim (cases_lt c.loop-at.self.waiting.used 4096) [
-      | inl less ↦ puts_nothing g.K.Sink.told g.K.Sink.faults g.K.Sink.taken _ _ (ok.kept less).1
+    let keeps : Puts g.K.Sink.view c.loop-at.self c.make_space.new.self success [] = elim (cases_lt c.loop-at.self.waiting.used 4096) [
+      | inl less ↦ puts_nothing g.K.Sink.view _ _ (ok.kept less).1
       | inr past ↦ (ok.full (omega arith)).puts
     ] in
-    let behind = puts_behind g.K.Sink.told g.K.Sink.faults g.K.Sink.taken c.make_space.new.self c.put-at.new.self _ c.put-at.ensures.bytes in record {
+    let behind = puts_behind g.K.Sink.view c.make_space.new.self c.put-at.new.self _ c.put-at.ensures.bytes in record {
       within = search rules;
       puts = puts_text _ (next_bytes c.args.piece.now c.loop-at.at c.put-at.result) (puts_then refl c.loop-at.invariant.puts (puts_then refl keeps behind));
       fits = λ fits.

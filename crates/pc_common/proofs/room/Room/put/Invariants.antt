@@ -1,13 +1,13 @@
 -- The first `at` bytes of the piece were put.
 use Rattle.std.proofs.Common.{length, ◌-◌, ◌≡◌, ◌≤◌, ◌+◌, take}
-use Rattle.pc_common.specs.Writes.{done}
+use Rattle.pc_common.specs.Writes.{success}
 use Rattle.pc_common.specs.Room.{Puts}
 use Rattle.pc_common.proofs.room.Room.put.Given as goal
 
 abbrev pub invariant-loop-at : goal.invariant-loop-at
 invariant-loop-at g l = record {
   within : l.at ≤ length l.piece;
-  puts : Puts g.K.Sink.told g.K.Sink.faults g.K.Sink.taken l.initial.self l.self done (take l.at l.piece);
+  puts : Puts g.K.Sink.view l.initial.self l.self success (take l.at l.piece);
   fits : l.initial.self.waiting.used + length l.piece ≤ 4096 → (l.self.waiting.used ≡ l.initial.self.waiting.used + l.at) × (l.self.out.now ≡ l.initial.self.out.now);
 }
 

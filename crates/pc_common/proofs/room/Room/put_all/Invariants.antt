@@ -1,10 +1,10 @@
 -- The first pieces were put.
 use Rattle.std.proofs.Common.{take}
 use Rattle.std.specs.List.{flat_map}
-use Rattle.pc_common.specs.Writes.{done}
+use Rattle.pc_common.specs.Writes.{success}
 use Rattle.pc_common.specs.Room.{Puts}
 use Rattle.pc_common.proofs.room.Room.put_all.Given as goal
 
 abbrev pub invariant-loop-piece : goal.invariant-loop-piece
 invariant-loop-piece g l =
-    Puts g.K.Sink.told g.K.Sink.faults g.K.Sink.taken l.initial.self l.self done (flat_map (λ p. p.now) (take l.piece-index l.pieces))
+    Puts g.K.Sink.view l.initial.self l.self success (flat_map (λ p. p.now) (take l.piece-index l.pieces))

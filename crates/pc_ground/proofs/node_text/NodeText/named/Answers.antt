@@ -12,13 +12,13 @@ returns-in_err-stage c =
 
 pub overflow_cast-result : goal.overflow_cast-result
 overflow_cast-result c =
-    omega (arith, slice_get_within c.self.inside.front.now.case.ops c.in_ok-op.op c.in_ok-op.ensures.0 c.in_ok-op.ensures.1, c.self.invariant.1.few)
+    omega (arith, slice_get_within c.self.inside.case.now.ops c.in_ok-op.op c.in_ok-op.ensures.0 c.in_ok-op.ensures.1, c.self.invariant.1.few)
 
 pub invariant_of-result : goal.invariant_of-result
 invariant_of-result c = record {
   in_range = (
-    omega (arith, slice_get_within c.self.inside.front.now.case.ops c.in_ok-op.op c.in_ok-op.ensures.0 c.in_ok-op.ensures.1, c.self.invariant.1.few),
+    omega (arith, slice_get_within c.self.inside.case.now.ops c.in_ok-op.op c.in_ok-op.ensures.0 c.in_ok-op.ensures.1, c.self.invariant.1.few),
     omega (arith, c.if-words-gt-MAX_CORE.false),
-    c.self.inside.front.now.named.numbers c.in_ok-stage.ensures.0 (c.in_ok-stage.stage, c.args.words.now.stage.now) c.in_ok-stage.ensures.1,
+    c.self.inside.named.numbers c.in_ok-stage.ensures.0 (c.in_ok-stage.stage, c.args.words.now.stage.now) c.in_ok-stage.ensures.1,
   );
 }

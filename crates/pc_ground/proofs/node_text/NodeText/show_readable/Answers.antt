@@ -1,4 +1,4 @@
-use Rattle.pc_ground.proofs.NodeReading.{readable}
+use Rattle.pc_ground.proofs.ReadableNodes.{readable}
 use Rattle.pc_ground.proofs.node_text.NodeText.show_readable.Goals as goal
 
 pub returns : goal.returns

@@ -8,10 +8,10 @@ use Rattle.pc_ground.specs.Keys.{key_node}
 use Rattle.pc_ground.specs.Numbers.{AreDistinct}
 use Rattle.order_graph.specs.State.{Graph}
 use Rattle.solver.specs.Below.{IsRowBelow}
-use Rattle.solver.specs.Named.{named, node_at}
+use Rattle.solver.specs.Renamed.{tree_over, node_at}
 use Rattle.solver.specs.Spelled.{spelled}
-use Rattle.solver.proofs.Numbering.{rows_known}
-use Rattle.solver.proofs.Settling.{names_tree, folded_numbers, turn_of}
+use Rattle.solver.proofs.IsKnown.{rows_known}
+use Rattle.solver.proofs.IsTurn.{names_tree, folded_numbers, turn_of}
 use Rattle.solver.proofs.search.Search.begin.Goals as goal
 
 pub number_rows-requires : goal.number_rows-requires
@@ -43,5 +43,5 @@ start-requires g c =
 pub returns : goal.returns
 returns g c = λ t e.
     let names = names_tree c.args.numbering.now c.in_ok-rows.rows.items t (c.in_ok-rows.ensures.is ∙ e) in
-    turn_of (map key_node c.in_ok-keys.keys.items) c.args.numbering.now c.in_ok-rows.rows.items t c.in_ok-turn.turn c.in_ok-keys.ensures
-    (ap (λ ns. named ns (spelled c.in_ok-rows.rows.items)) c.in_ok-keys.ensures ∙ names.1) c.in_ok-turn.ensures
+    turn_of c.args.version (map key_node c.in_ok-keys.keys.items) c.args.numbering.now c.in_ok-rows.rows.items t c.in_ok-turn.turn c.in_ok-keys.ensures
+    (ap (λ ns. tree_over ns (spelled c.in_ok-rows.rows.items)) c.in_ok-keys.ensures ∙ names.1) c.in_ok-turn.ensures

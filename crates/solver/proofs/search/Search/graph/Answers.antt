@@ -1,10 +1,10 @@
 use Rattle.std.proofs.Common.{subst}
 use Rattle.solver.specs.Searched.{Searched, IsSearching}
-use Rattle.solver.proofs.Settling.{searching}
+use Rattle.solver.proofs.IsTurn.{searching}
 use Rattle.solver.proofs.search.Search.graph.Goals as goal
 
 pub returns-clause-searching : goal.returns-clause-searching
 returns-clause-searching c =
     let s = c.self.inside in
     let P : Searched → Type 0 = IsSearching in
-    subst P c.self.view_is (searching s.keys.items s.rows.items s.graph s.asserted.items s.later.items s.refutation s.candidates.items c.self.invariant)
+    subst P c.self.view_is (searching s.version s.keys.items s.rows.items s.graph s.asserted.items s.later.items s.refutation s.candidates.items c.self.invariant)

@@ -5,7 +5,7 @@ use Rattle.pc_ground.specs.Keys.{key_node}
 use Rattle.solver.specs.Spelled.{spelled}
 use Rattle.solver.specs.Weights.{weight}
 use Rattle.solver.specs.Searched.{Searched, branches_of}
-use Rattle.solver.specs.Found.{IsFound, found_weight}
+use Rattle.solver.specs.Statuses.{IsStatus, status_weight}
 use Rattle.solver.specs.Turns.{turn_weight}
 use Rattle.solver.proofs.search.Search.turn.Goals as goal
 
@@ -21,27 +21,27 @@ advance-requires g c =
       some = kept.some;
       candidates = kept.all;
       small = kept.small;
-      kept = kept.kept;
+      state = kept.state;
     })
 
 pub settle-requires : goal.settle-requires
 settle-requires g c =
     let kept = c.self.invariant in
     let F : List NodeKey → List (Row ℕ) → Type 0 = λ ks rs.
-    IsFound (map key_node ks) rs c.advance.new.graph c.advance.new.asserted.items c.advance.new.later.items c.advance.new.refutation c.in_ok-found.found in record {
+    IsStatus c.self.inside.version (map key_node ks) rs c.advance.new.graph c.advance.new.asserted.items c.advance.new.later.items c.advance.new.refutation c.in_ok-status.status in record {
       tree = kept.tree;
       few = kept.few;
       distinct = kept.distinct;
       below = kept.below;
-      found = subst (λ rs. F c.self.inside.keys.items rs) c.deref-2.ensures.value (subst (λ ks. F ks c.deref-2.result.now) c.deref.ensures.value c.in_ok-found.ensures.found);
+      status = subst (λ rs. F c.self.inside.keys.items rs) c.deref-2.ensures.value (subst (λ ks. F ks c.deref-2.result.now) c.deref.ensures.value c.in_ok-status.ensures.found);
     }
 
 pub returns-clause-weight : goal.returns-clause-weight
 returns-clause-weight g c =
     let s = c.self.inside in
     let W : List (Row ℕ) → Type 0 = λ rs.
-    found_weight rs c.advance.new.asserted.items c.advance.new.later.items c.in_ok-found.found < 1 + weight (spelled rs) (branches_of rs s.asserted.items s.later.items) in
-    let lighter : W s.rows.items = subst W c.deref-2.ensures.value c.in_ok-found.ensures.lighter in
+    status_weight rs c.advance.new.asserted.items c.advance.new.later.items c.in_ok-status.status < 1 + weight (spelled rs) (branches_of rs s.asserted.items s.later.items) in
+    let lighter : W s.rows.items = subst W c.deref-2.ensures.value c.in_ok-status.ensures.lighter in
     let less : turn_weight c.settle.result < 1 + weight (spelled s.rows.items) (branches_of s.rows.items s.asserted.items s.later.items) =
     omega (arith, c.settle.ensures.weight, lighter) in
     let S : Searched → Type 0 = λ x. turn_weight c.settle.result < 1 + weight (spelled x.rows) x.branches in

@@ -1,4 +1,5 @@
-use Rattle.std.proofs.Common.{length}
+use Rattle.std.proofs.Common.{◌≡◌, Some, length}
+use Rattle.pc_syntax.specs.Arguments.{place_in}
 use Rattle.pc_syntax.specs.Predicates.{takes_of}
 use Rattle.static_preds.specs.Values.{values_of, scope_of}
 use Rattle.static_preds.proofs.GivenLaws.{slot_given, place_is, place_below}
@@ -9,9 +10,16 @@ op_in_slot-requires c =
     let g = c.args.self.now in
     (slot_given (scope_of g.env.now.items) (takes_of g.pred) g.args.now c.args.k c.in-Slot.slot c.index-self-k.result c.requires.given.fit c.requires.taken c.in-Slot.is).1
 
+pub returns-clause-value : goal.returns-clause-value
+returns-clause-value c =
+    let g = c.args.self.now in
+    let at = slot_given (scope_of g.env.now.items) (takes_of g.pred) g.args.now c.args.k c.in-Slot.slot c.index-self-k.result c.requires.given.fit c.requires.taken c.in-Slot.is in
+    place_is g.env.now.items g.args.now c.args.k c.in-Slot.slot c.op_in_slot.result at.0 c.op_in_slot.ensures.value
+
 pub returns-clause-below : goal.returns-clause-below
 returns-clause-below c =
     let g = c.args.self.now in
     let at = slot_given (scope_of g.env.now.items) (takes_of g.pred) g.args.now c.args.k c.in-Slot.slot c.index-self-k.result c.requires.given.fit c.requires.taken c.in-Slot.is in
-    place_below (length g.case.now.ops) (values_of g.env.now.items g.args.now) c.args.k c.op_in_slot.result c.requires.given.below
-    (place_is g.env.now.items g.args.now c.args.k c.in-Slot.slot c.op_in_slot.result at.0 c.op_in_slot.ensures.value)
+    let is : place_in (values_of g.env.now.items g.args.now) c.args.k ≡ Some c.op_in_slot.result =
+    place_is g.env.now.items g.args.now c.args.k c.in-Slot.slot c.op_in_slot.result at.0 c.op_in_slot.ensures.value in
+    place_below (length g.case.now.ops) (values_of g.env.now.items g.args.now) c.args.k c.op_in_slot.result c.requires.given.below is

@@ -1,10 +1,14 @@
-use Rattle.std.proofs.Common.{sym, subst, List, []}
-use Rattle.tree_check.specs.Facts.{Known}
-use Rattle.tree_check.specs.Opened.{IsBranch}
-use Rattle.tree_check.proofs.Sides.{none_branch, root_at}
+use Rattle.std.proofs.Common.{false, sym, subst, refl, List, []}
+use Rattle.tree_check.specs.Facts.{PlainFact}
+use Rattle.tree_check.specs.Sides.{with_all, left_side}
+use Rattle.tree_check.specs.OpenBranches.{IsBranch}
+use Rattle.tree_check.specs.declared.side.Side.{Side}
+use Rattle.tree_check.proofs.SideFacts.{none_branch}
 use Rattle.tree_check.proofs.branches.Branches.new.Goals as goal
 
 pub returns : goal.returns
 returns c = λ t flat.
-    let P : List Known → Type 0 = λ ks. IsBranch t ks [] in
-    (flat, (c.in_ok-enter_side.ensures.entered t [] t flat (root_at t) (subst P (sym c.new-facts.ensures) (none_branch t)), rw c.new.ensures.items tt))
+    let P : List PlainFact → Type 0 = λ ks. IsBranch t ks [] in
+    let E : Side → Type 0 = λ side. IsBranch t c.enter_side.new.facts (with_all t [] side) in
+    let root : E (left_side false 0) = subst E c.left.ensures (c.in_ok-enter_side.ensures.entered t [] flat (subst P (sym c.new-facts.ensures) (none_branch t))) in
+    record { version = refl; rows = flat; are_open = (root, rw c.new.ensures.items tt) }

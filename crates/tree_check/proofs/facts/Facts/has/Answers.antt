@@ -1,5 +1,5 @@
 use Rattle.std.proofs.Common.{sym}
-use Rattle.tree_check.proofs.Sets.{found}
+use Rattle.tree_check.proofs.FactSet.{found}
 use Rattle.tree_check.proofs.facts.Facts.has.Goals as goal
 
 pub returns : goal.returns

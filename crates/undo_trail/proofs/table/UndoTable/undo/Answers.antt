@@ -1,8 +1,8 @@
 use Rattle.std.proofs.Common.{◌≡◌, ◌∙◌, ◌*◌, length, take, drop, ap, arith, add-one}
 use Rattle.std.proofs.lemmas.List.{with_items_is, length_push}
 use Rattle.undo_trail.specs.Trail.{back}
-use Rattle.undo_trail.proofs.Backwards.{length-past, past_split}
-use Rattle.undo_trail.proofs.Growing.{trail_cut}
+use Rattle.undo_trail.proofs.Back.{length-past, past_split}
+use Rattle.undo_trail.proofs.Grows.{trail_cut}
 use Rattle.undo_trail.proofs.table.UndoTable.undo.Goals as goal
 
 pub restore-requires-clause-live : goal.restore-requires-clause-live
@@ -40,12 +40,12 @@ returns-clause-tables g c =
     let size : length u ≡ s.table.len = c.restore.auto.table ∙ c.deref_mut.ensures.len in
     rw (← c.self.view_is, with_items_is s.table u size, trail_is, table_is, add-one) (past_split c.args.mark s.trail.items s.table.items)
 
-pub returns-clause-steps : goal.returns-clause-steps
-returns-clause-steps g c =
+pub returns-clause-cost : goal.returns-clause-cost
+returns-clause-cost g c =
     let s = c.self.inside in
     let all = ap (λ v. length v.past) c.self.view_is in
     let changes = length-past s.trail.items s.table.items in
     let list = ap length c.deref.ensures.value in
     let keep = c.changes-keep.ensures in
-    let counted = c.restore.ensures.steps in
+    let counted = c.restore.ensures.cost in
     omega arith

@@ -1,9 +1,9 @@
 use Rattle.std.proofs.Common.{◌≡◌, ◌<◌, true, false, List, length, sym, subst, ap, ◌∙◌, arith}
 use Rattle.pc_syntax.specs.Written.{written, not_, forall_, exists_}
 use Rattle.uspec_parser.specs.Terminals.{Lexeme}
-use Rattle.uspec_parser.specs.Operands.{only, joined, grouped}
-use Rattle.uspec_parser.specs.Grouping.{joins, operands_before}
-use Rattle.uspec_parser.specs.declared.operands.Joined.{Joined}
+use Rattle.uspec_parser.specs.Operands.{only, chain, formula_of}
+use Rattle.uspec_parser.specs.Grouping.{operands_before}
+use Rattle.uspec_parser.specs.declared.operands.Link.{Link}
 use Rattle.uspec_parser.specs.Descent.{start, next, connective, Atom, Operand, Row, Tail}
 use Rattle.uspec_parser.proofs.Shorter.{operand_no_longer, behind_connective, behind_no_longer}
 use Rattle.uspec_parser.proofs.Steps.{row_pushed, ok_map, negated, bracketed, bound, atom, RowOf}
@@ -49,13 +49,13 @@ pub formula-loop-connective-init : goal.formula-loop-connective-init
 formula-loop-connective-init t c = (
   operand_no_longer c.in_ok-last.ensures,
   λ more rest tail.
-      subst (λ (js : List Joined). Row c.args.self.now (operands_before js more) rest) (sym c.new-operands.ensures.items)
+      subst (λ (js : List Link). Row c.args.self.now (operands_before js more) rest) (sym c.new-operands.ensures.items)
       (Row.row c.in_ok-last.ensures tail),
 )
 
 pub formula-loop-connective-smaller : goal.formula-loop-connective-smaller
 formula-loop-connective-smaller t c =
-    let first = behind_connective c.loop-connective.self (joins c.in-Some.connective) (ap connective (sym c.next.ensures) ∙ c.in-Some.ensures) in
+    let first = behind_connective c.loop-connective.self c.in-Some.connective (ap connective (sym c.next.ensures) ∙ c.in-Some.ensures) in
     let left = ap length c.skip.ensures in
     let after = operand_no_longer c.in_ok-last-2.ensures in
     let all : length c.operand-in-Some.new.self < length c.loop-connective.self = omega arith in
@@ -66,15 +66,15 @@ formula-loop-connective-preserved t c =
     let first = behind_no_longer c.loop-connective.self in
     let left = ap length c.skip.ensures in
     let after = operand_no_longer c.in_ok-last-2.ensures in
-    let op = joins c.in-Some.connective in
+    let op = c.in-Some.connective in
     let last = written c.loop-connective.last in
     let items = c.loop-connective.operands.items in
-    let j : Joined = record { operand = c.loop-connective.last; connective = c.in-Some.connective } in (
+    let j : Link = record { operand = c.loop-connective.last; connective = c.in-Some.connective } in (
       omega (arith, c.loop-connective.invariant.0),
       λ more rest tail.
           let operand = subst (λ (xs : List Lexeme). Operand xs (written c.in_ok-last-2.last) c.operand-in-Some.new.self) c.skip.ensures c.in_ok-last-2.ensures in
           let longer = Tail.goes_on {w = last} op (ap connective (sym c.next.ensures) ∙ c.in-Some.ensures) operand tail in
-          let all = c.loop-connective.invariant.1 (joined last op more) rest longer in
+          let all = c.loop-connective.invariant.1 (chain last op more) rest longer in
           row_pushed c.args.self.now rest c.push.new.self.items items j more c.in_ok-push.ensures.items all,
     )
 
@@ -84,5 +84,5 @@ formula-returns t c =
     let l = operands_before c.loop-connective.operands.items (only last) in
     let ended = Tail.ends {w = last} (ap connective (sym c.next.ensures) ∙ c.in_default.ensures) in
     let row = c.loop-connective.invariant.1 (only last) c.loop-connective.self ended in
-    ok_map c.grouped.result (λ f. written f ≡ grouped l) (λ f. RowOf c.args.self.now (written f) c.loop-connective.self)
-    c.grouped.ensures (λ f e. (l, row, e))
+    ok_map c.formula_of.result (λ f. written f ≡ formula_of l) (λ f. RowOf c.args.self.now (written f) c.loop-connective.self)
+    c.formula_of.ensures (λ f e. (l, row, e))

@@ -20,4 +20,4 @@ returns c =
     let all =
     subst (λ (args : List Arg). Arguments c.args.self.now args c.loop-alloc.self) (append-nil c.loop-alloc.args)
     (c.loop-alloc.invariant [] c.loop-alloc.self (ends (sym c.is_argument_next.ensures ∙ c.loop-alloc-test.false))) in
-    all_shared c.new.result c.loop-alloc.args (λ (args : List Arg). Arguments c.args.self.now args c.loop-alloc.self) all c.new.ensures
+    all_shared c.of.result c.loop-alloc.args (λ (args : List Arg). Arguments c.args.self.now args c.loop-alloc.self) all c.of.ensures

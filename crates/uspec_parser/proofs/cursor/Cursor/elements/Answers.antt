@@ -36,4 +36,4 @@ returns g c =
     subst (λ (xs : List Lexeme). Elements g.E.Element.one g.E.Element.behind_one c.args.self.now c.loop-alloc.elements xs) (sym c.skip.ensures)
     (subst (λ (es : List _). Elements g.E.Element.one g.E.Element.behind_one c.args.self.now es (behind c.loop-alloc.self)) (append-nil c.loop-alloc.elements)
     (c.loop-alloc.invariant [] (behind c.loop-alloc.self) (ends none))) in
-    all_shared c.new.result c.loop-alloc.elements (λ (es : List _). Elements g.E.Element.one g.E.Element.behind_one c.args.self.now es c.skip.new.self) all c.new.ensures
+    all_shared c.of.result c.loop-alloc.elements (λ (es : List _). Elements g.E.Element.one g.E.Element.behind_one c.args.self.now es c.skip.new.self) all c.of.ensures

@@ -4,7 +4,7 @@ use Rattle.pc_syntax.specs.declared.model.StageItem.{StageItem}
 use Rattle.pc_syntax.specs.Written.{WrittenItem, written_item, axiom_}
 use Rattle.pc_syntax.specs.declared.model.Item.{Item as ItemTree}
 use Rattle.uspec_parser.specs.Terminals.{Lexeme}
-use Rattle.uspec_parser.specs.Operands.{grouped}
+use Rattle.uspec_parser.specs.Operands.{formula_of}
 use Rattle.uspec_parser.specs.Descent.{place, begins_item, stage_item, macro_item, Item}
 use Rattle.uspec_parser.specs.declared.terminal.Terminal.{Terminal}
 use Rattle.uspec_parser.specs.declared.terminal.Terminal.TheVariants.{StageName, Axiom, DefineMacro}
@@ -32,10 +32,10 @@ returns-in_ok-push-in-Axiom c =
     let old = c.args.self.now in
     let (l, rest, body, is, left) = c.in_ok-axiom-in-Axiom.ensures in (
       [],
-      axiom_ (place old) (grouped l) ∷ [],
-      subst (λ (xs : List Lexeme). Item old [] (axiom_ (place old) (grouped l) ∷ []) xs) (sym left) (Item.axiom_line (sym c.next.ensures ∙ c.in-Axiom.is) body),
+      axiom_ (place old) (formula_of l) ∷ [],
+      subst (λ (xs : List Lexeme). Item old [] (axiom_ (place old) (formula_of l) ∷ []) xs) (sym left) (Item.axiom_line (sym c.next.ensures ∙ c.in-Axiom.is) body),
       sym (append-nil c.args.file.now.stages),
-      more_items c.push-in-Axiom.new.self c.args.file.now.items c.in_ok-axiom-in-Axiom.axiom (axiom_ (place old) (grouped l)) c.in_ok-push-in-Axiom.ensures is,
+      more_items c.push-in-Axiom.new.self c.args.file.now.items c.in_ok-axiom-in-Axiom.axiom (axiom_ (place old) (formula_of l)) c.in_ok-push-in-Axiom.ensures is,
     )
 
 macro_next : (t : Terminal) → begins_item t ≡ true → (t ≡ StageName → ⊥) → (t ≡ Axiom → ⊥) → t ≡ DefineMacro

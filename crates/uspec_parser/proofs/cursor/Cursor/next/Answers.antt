@@ -12,17 +12,17 @@ returns-then-self c =
     let tokens = c.self.inside.tokens.now in
     let at = c.self.inside.at in
     let view : drop at (map lexeme tokens) ≡ c.args.self.now = c.self.view_is in
-    let told : c.self.inside.terminals.now ≡ map terminal_of tokens = c.self.invariant in
-    let many = ap length told ∙ length-map tokens terminal_of in
+    let same : c.self.inside.terminals.now ≡ map terminal_of tokens = c.self.invariant in
+    let many = ap length same ∙ length-map tokens terminal_of in
     let below : at < length tokens = omega arith in
-    ap (λ (ts : List Terminal). slice_index_or ts at StageName) told ∙ next_left tokens at StageName below ∙ ap next view
+    ap (λ (ts : List Terminal). slice_index_or ts at StageName) same ∙ next_left tokens at StageName below ∙ ap next view
 
 pub returns-else-self : goal.returns-else-self
 returns-else-self c =
     let tokens = c.self.inside.tokens.now in
     let at = c.self.inside.at in
     let view : drop at (map lexeme tokens) ≡ c.args.self.now = c.self.view_is in
-    let told : c.self.inside.terminals.now ≡ map terminal_of tokens = c.self.invariant in
-    let many = ap length told ∙ length-map tokens terminal_of in
+    let same : c.self.inside.terminals.now ≡ map terminal_of tokens = c.self.invariant in
+    let many = ap length same ∙ length-map tokens terminal_of in
     let above : length tokens ≤ at = omega arith in
     ap next (sym (left_none tokens at above)) ∙ ap next view

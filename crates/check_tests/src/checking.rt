@@ -1,0 +1,377 @@
+//! The command check: from words and files to a status and a text.
+use example_texts::{
+    BOTH_ORDERS, EMPTY, ITSELF, ONE, ORDERED, TWO, TWO_FORBIDDEN, TWO_IN_ORDER,
+};
+use memory_runs::{calls, ends_in, ends_over, files, held, words};
+use pc_common::{
+    Bytes, Calls, Held, HeldFile, MemFiles, MemSink, Memory, Status, SureFiles, SureSink,
+};
+use pipecheck_run::run;
+use std::alloc::Global;
+use std::test::Fail;
+
+const CYCLE: &str = "unobservable
+test forbidden: ok
+cycle 0.0@0:S 1.0@0:S
+end
+";
+
+const STRICTER: &str = "unobservable
+test permitted: stricter
+cycle 0.0@0:S 1.0@0:S
+end
+";
+
+/// A model and a test, and how a check of them ends.
+const CHECKS: &[(&'static str, &'static str, Status, &'static str)] = &[
+    (
+        "",
+        EMPTY,
+        Status::Observable,
+        "observable\ntest unstated\nend\n",
+    ),
+    (ORDERED, TWO, Status::Observable, TWO_IN_ORDER),
+    (BOTH_ORDERS, TWO_FORBIDDEN, Status::Unobservable, CYCLE),
+    (BOTH_ORDERS, TWO, Status::Unobservable, STRICTER),
+    (
+        ITSELF,
+        ONE,
+        Status::Unobservable,
+        "unobservable\ntest unstated\ncycle 0.0@0:S\nend\n",
+    ),
+    (
+        "True.",
+        TWO,
+        Status::Refused,
+        "refused model syntax at 1:1\n",
+    ),
+    (
+        ORDERED,
+        "t",
+        Status::Refused,
+        "refused test syntax at 1:1\n",
+    ),
+    // the model's fault is named before the test's
+    (
+        "True.",
+        "t",
+        Status::Refused,
+        "refused model syntax at 1:1\n",
+    ),
+];
+
+#[test]
+fn a_check_ends_with_its_status_and_its_text(rt: HostRuntime) -> Result<(), Fail> {
+    for (model, test, status, text) in CHECKS {
+        let contents = &[("model", *model), ("test", *test)];
+        let end = (*status, *text);
+        assert!(rt;
+            ends_over(rt.alloc(), "check model test", contents, (&[], &[]), end)?,
+            "{text}"
+        );
+    }
+    Ok(())
+}
+
+/// Tests over the empty model, and the one line that refuses each.
+const REFUSED: &[(&'static str, &'static str)] = &[
+    (
+        "Litmus \"d\".\nMicroop 0 0 0 0 (Fence).\nMicroop 0 0 0 0 (Fence).\n",
+        "refused test duplicate-op at 3:9\n",
+    ),
+    (
+        "Litmus \"d\".\nMicroop 0 64 0 0 (Fence).\n",
+        "refused test core-number at 2:11\n",
+    ),
+    (
+        "Litmus \"d\".\nMicroop 0 0 0 0 (Fence).\nMicroop 0 1 0 1 (Fence).\n",
+        "refused test split-instruction at 3:11\n",
+    ),
+    (
+        "Litmus \"d\".\nPermitted.\nForbidden.\n",
+        "refused test again-expectation at 3:1\n",
+    ),
+    (
+        "Litmus \"d\".\nRelationship addr 0 0 -> 1 0.\n",
+        "refused test op-unknown at 2:19\n",
+    ),
+    (
+        "Litmus \"d\".\nInit (PA 0 0) 1.\nInit (PA 0 0) 1.\n",
+        "refused test again-initial at 3:1\n",
+    ),
+    // the first fault in the text's order
+    (
+        "Litmus \"d\".\nFinal (PA 0 0) 1.\nFinal (PA 0 0) 1.\nPermitted.\nForbidden.\n",
+        "refused test again-final at 3:1\n",
+    ),
+];
+
+#[test]
+fn a_test_is_refused_at_its_first_fault(rt: HostRuntime) -> Result<(), Fail> {
+    for (test, text) in REFUSED {
+        let contents = &[("model", ""), ("test", *test)];
+        let end = (Status::Refused, *text);
+        assert!(rt;
+            ends_over(rt.alloc(), "check model test", contents, (&[], &[]), end)?,
+            "{text}"
+        );
+    }
+    Ok(())
+}
+
+const USAGE: &str = "pipecheck: bad command line\n";
+
+const NO_COMMANDS: &[&'static str] = &[
+    "",
+    "check",
+    "check model",
+    "check model test more",
+    "Check model test",
+    "model test check",
+    "gen 1",
+    "gen 17",
+    "gen 02",
+];
+
+#[test]
+fn words_of_no_command_are_told_so(rt: HostRuntime) -> Result<(), Fail> {
+    for command in NO_COMMANDS {
+        let contents = &[("model", ORDERED), ("test", TWO)];
+        let end = (Status::Usage, USAGE);
+        assert!(rt;
+            ends_over(rt.alloc(), command, contents, (&[], &[]), end)?,
+            "{command}"
+        );
+    }
+    Ok(())
+}
+
+/// The command, the calls of the files and of the sink that fail, and how it ends over the files `model`,
+/// `test` and `bad`. A line that is the whole answer is written in one call.
+const FAILS: &[(
+    &'static str,
+    &'static [u64],
+    &'static [u64],
+    Status,
+    &'static str,
+)] = &[
+    // a missing name, and so the test is never started
+    ("check model none", &[], &[], Status::ReadFault, ""),
+    ("check none test", &[], &[], Status::ReadFault, ""),
+    ("check none bad", &[], &[], Status::ReadFault, ""),
+    // the start of the model, its first read, and the read that would see its end
+    ("check model test", &[1], &[], Status::ReadFault, ""),
+    ("check model test", &[2], &[], Status::ReadFault, ""),
+    ("check model test", &[3], &[], Status::ReadFault, ""),
+    // the start of the test
+    ("check model test", &[4], &[], Status::ReadFault, ""),
+    // no word is a command, and no file is started
+    ("check model", &[1], &[], Status::Usage, USAGE),
+    ("check model test", &[], &[1], Status::WriteFault, ""),
+    (
+        "check model test",
+        &[],
+        &[2],
+        Status::WriteFault,
+        "observable\n",
+    ),
+    ("check model bad", &[], &[1], Status::WriteFault, ""),
+    (
+        "check model bad",
+        &[],
+        &[2],
+        Status::Refused,
+        "refused test syntax at 1:1\n",
+    ),
+    ("check model", &[], &[1], Status::WriteFault, ""),
+    ("check model", &[], &[2], Status::Usage, USAGE),
+    // a read fault writes nothing, so that no call of the sink can fail
+    ("check none test", &[], &[1], Status::ReadFault, ""),
+];
+
+#[test]
+fn a_failed_call_is_told_by_the_status(rt: HostRuntime) -> Result<(), Fail> {
+    for (command, read_fails, write_fails, status, text) in FAILS {
+        let contents = &[("model", ORDERED), ("test", TWO), ("bad", "t")];
+        let end = (*status, *text);
+        let fails = (*read_fails, *write_fails);
+        assert!(rt;
+            ends_over(rt.alloc(), command, contents, fails, end)?,
+            "{command}: {text}"
+        );
+    }
+    Ok(())
+}
+
+/// A model and a test whose check has an answer, and the whole answer.
+#[derive(Clone, Copy)]
+struct Answered {
+    model: &'static str,
+    test: &'static str,
+    text: &'static str,
+}
+
+const ANSWERED: &[Answered] = &[
+    Answered {
+        model: ORDERED,
+        test: TWO,
+        text: TWO_IN_ORDER,
+    },
+    Answered {
+        model: BOTH_ORDERS,
+        test: TWO_FORBIDDEN,
+        text: CYCLE,
+    },
+];
+
+/// Files of which one call fails, moving so many bytes a call (0: as many as fit).
+fn failing_files(alloc: Global, row: Answered, step: usize, call: u64) -> Result<MemFiles, Memory> {
+    let files = files(alloc, &[("model", row.model), ("test", row.test)], &[call])?;
+    Ok(if step > 0 {
+        files.with_step(step)
+    } else {
+        files
+    })
+}
+
+/// A sink of which one call fails, taking so many bytes a call (0: as many as it has room for).
+fn failing_sink(alloc: Global, step: usize, call: u64) -> Result<MemSink, Memory> {
+    let sink = MemSink::new(alloc, 1024, calls(alloc, &[call])?)?;
+    Ok(if step > 0 { sink.with_step(step) } else { sink })
+}
+
+/// Whether a run over files of which one call fails writes nothing; None where it meets no failed call.
+fn silent(
+    alloc: Global,
+    words: &[String],
+    row: Answered,
+    step: usize,
+    call: u64,
+) -> Result<Option<bool>, Memory> {
+    let mut files = failing_files(alloc, row, step, call)?;
+    let is_silent = ends_in(alloc, words, &mut files, &[], (Status::ReadFault, ""))?;
+    Ok(if files.faults() == 0 {
+        None
+    } else {
+        Some(is_silent)
+    })
+}
+
+/// Whether a run over a sink of which one call fails writes a part of the text, from its start; None
+/// where it meets no failed call.
+fn cut_short(
+    alloc: Global,
+    words: &[String],
+    files: &mut MemFiles,
+    sink: &mut MemSink,
+    text: &[u8],
+) -> Option<bool> {
+    let is_told = run(alloc, words, files, sink) == Status::WriteFault;
+    if sink.faults() == 0 {
+        return None;
+    }
+    let taken = sink.taken();
+    Some(is_told && taken.len() < text.len() && text.starts_with(taken))
+}
+
+/// The same, with files and a sink of its own.
+fn cut_short_at(
+    alloc: Global,
+    words: &[String],
+    row: Answered,
+    step: usize,
+    call: u64,
+) -> Result<Option<bool>, Memory> {
+    let mut files = files(alloc, &[("model", row.model), ("test", row.test)], &[])?;
+    let mut sink = failing_sink(alloc, step, call)?;
+    Ok(cut_short(alloc, words, &mut files, &mut sink, row.text.as_bytes()))
+}
+
+/// Whether each run over failing files writes nothing. The call that fails counts up until a run meets no
+/// failed call.
+fn are_silent(alloc: Global, words: &[String], row: Answered, step: usize) -> Result<bool, Memory> {
+    for call in 1..1000u64 {
+        match silent(alloc, words, row, step, call)? {
+            Some(true) => {}
+            Some(false) => return Ok(false),
+            None => return Ok(call > 4),
+        }
+    }
+    Ok(false)
+}
+
+/// Whether each run over a failing sink is cut short. The call that fails counts up until a run meets no
+/// failed call.
+fn are_cut_short(
+    alloc: Global,
+    words: &[String],
+    row: Answered,
+    step: usize,
+) -> Result<bool, Memory> {
+    for call in 1..1000u64 {
+        match cut_short_at(alloc, words, row, step, call)? {
+            Some(true) => {}
+            Some(false) => return Ok(false),
+            None => return Ok(call > 3),
+        }
+    }
+    Ok(false)
+}
+
+#[test]
+fn a_failed_read_writes_nothing_and_a_failed_write_cuts_the_text(
+    rt: HostRuntime,
+) -> Result<(), Fail> {
+    let words = words(rt.alloc(), "check model test")?;
+    for row in ANSWERED {
+        for step in [0, 1] {
+            let is_silent = are_silent(rt.alloc(), &words, *row, step)?;
+            let is_cut = are_cut_short(rt.alloc(), &words, *row, step)?;
+            assert!(rt; is_silent && is_cut, "{} by {step}", row.text);
+        }
+    }
+    Ok(())
+}
+
+/// A model of so many spaces, and the empty test.
+fn spaces(alloc: Global, count: usize) -> Result<Held, Memory> {
+    let mut held = held(alloc, &[("test", EMPTY)])?;
+    let name = Bytes::from_vec(b"model".to_vec(alloc)?);
+    let bytes = Bytes::from_vec(vec![in alloc; b' '; count]?);
+    held.push(HeldFile { name, bytes })?;
+    Ok(held)
+}
+
+fn ends_over_spaces(
+    alloc: Global,
+    words: &[String],
+    count: usize,
+    end: (Status, &str),
+) -> Result<bool, Memory> {
+    let mut files = MemFiles::new(alloc, spaces(alloc, count)?, Calls::new(alloc))?;
+    ends_in(alloc, words, &mut files, &[], end)
+}
+
+#[test]
+fn a_model_is_read_up_to_its_limit(rt: HostRuntime) -> Result<(), Fail> {
+    let words = words(rt.alloc(), "check model test")?;
+    let observable = (Status::Observable, "observable\ntest unstated\nend\n");
+    let refused = (Status::Refused, "refused model too-large at 1:1\n");
+    for (count, end) in [(1_048_576, observable), (1_048_577, refused)] {
+        assert!(rt;
+            ends_over_spaces(rt.alloc(), &words, count, end)?,
+            "{count} spaces"
+        );
+    }
+    Ok(())
+}
+
+#[test]
+fn what_cannot_fail_is_answered(rt: HostRuntime) -> Result<(), Fail> {
+    let words = words(rt.alloc(), "check model test")?;
+    let mut files = SureFiles::new(held(rt.alloc(), &[("model", ORDERED), ("test", TWO)])?);
+    let checked = run(rt.alloc(), &words, &mut files, &mut SureSink::new());
+    let told = run(rt.alloc(), &[], &mut files, &mut SureSink::new());
+    assert!(rt; checked == Status::Observable && told == Status::Usage);
+    Ok(())
+}

@@ -1,0 +1,15 @@
+//! Tests of the command check through the top call: verdicts with their certificates, refusals, and calls that fail.
+//!
+//! They stand in a crate beside the others of tests, so that all are proved side by side.
+#![tactic(auto)]
+
+#[cfg(test)]
+mod checking;
+#[cfg(test)]
+mod laws;
+#[cfg(test)]
+mod models;
+#[cfg(test)]
+mod ties;
+#[cfg(test)]
+mod verdicts;

@@ -1,0 +1,9 @@
+pub mod Words
+pub mod Inputs
+pub mod SecondFiles
+pub mod Refusals
+pub mod Endings
+pub mod Outcomes
+pub mod VerdictStatus
+pub mod Questions
+pub mod Laws

@@ -1,0 +1,38 @@
+ghost use Rattle.std.specs.Prelude.{◌≡◌};
+ghost use Rattle.pc_common.specs.Writes.{Writes};
+ghost use Rattle.command_base.specs.Endings.{ending_status as ending_status_of, ending_text};
+
+use super::refusal::{Refusal, write_refusal};
+use pc_common::{Failed, Sink, Status, write_all};
+
+/// How a command ends before it has an answer.
+#[derive(Clone, Copy)]
+pub enum Ending {
+    /// A call of the files failed.
+    ReadFault,
+    /// Memory was refused.
+    Memory,
+    /// A file has a fault, the first of the two.
+    Refused(Refusal),
+}
+
+/// Writes the line of a refusal, and nothing of the two others. Takes no memory.
+pub fn write_ending<K: Sink>(out: &mut K, ending: &Ending) -> Result<(), Failed>
+    ensures { Writes K.view out.old out.new result (ending_text ending.now) }
+{
+    match ending {
+        Ending::ReadFault | Ending::Memory => write_all(out, b""),
+        Ending::Refused(refusal) => write_refusal(out, refusal),
+    }
+}
+
+/// The status of an ending.
+pub fn ending_status(ending: &Ending) -> Status
+    ensures { result ≡ ending_status_of ending.now }
+{
+    match ending {
+        Ending::ReadFault => Status::ReadFault,
+        Ending::Memory => Status::Memory,
+        Ending::Refused(_) => Status::Refused,
+    }
+}

@@ -1,0 +1,96 @@
+ghost use Rattle.std.specs.Prelude.{◌≡◌, ◌≤◌, length, IfOk, IfErr, MatchResult};
+ghost use Rattle.pc_front.specs.declared.limits.TheConstants.{MAX_FILE};
+ghost use Rattle.pc_front.specs.Front.{fault_at};
+ghost use Rattle.command_base.specs.Inputs.{plain_inputs, start};
+ghost use Rattle.command_base.specs.SecondFiles.{SaysFront};
+ghost use Rattle.command_base.specs.Endings.{bytes_of as bytes_in, IsUnread, IsBytesEnding};
+ghost use Rattle.command_base.specs.Outcomes.{HasFront, IsInputsEnding};
+
+use super::ending::Ending;
+use super::refusal::placed;
+use super::second_file::SecondFile;
+use pc_common::{FaultKind, Files, InputFault, Place, ReadEnd, Which, read_all};
+use pc_front::{FrontEnd, MAX_FILE};
+use pc_ground::Front;
+use std::alloc::Global;
+
+/// The two files of a command, by their names.
+#[derive(Clone, Copy)]
+pub struct Inputs<'a> {
+    pub model: &'a str,
+    /// The second file: a test, or what stands in its place.
+    pub test: &'a str,
+}
+
+/// A fault at the first byte of a file.
+fn at_start(file: Which, kind: FaultKind) -> InputFault
+    ensures { result ≡ fault_at file kind start }
+{
+    InputFault {
+        file,
+        place: Place { offset: 0 },
+        kind,
+    }
+}
+
+/// The ending of a command that could not read a file whole.
+fn unread(file: Which, end: ReadEnd) -> Ending
+    ensures { IsUnread file end result }
+{
+    match end {
+        ReadEnd::ReadFault => Ending::ReadFault,
+        ReadEnd::Memory => Ending::Memory,
+        ReadEnd::TooLarge => {
+            let limit = MAX_FILE as u64;
+            Ending::Refused(placed(at_start(file, FaultKind::TooLarge { limit }), b""))
+        }
+    }
+}
+
+/// The bytes of one of the two files.
+fn bytes_of<'a>(file: Which, model: &'a [u8], second: &'a [u8]) -> &'a [u8]
+    ensures { result.now ≡ bytes_in file model.now second.now }
+{
+    match file {
+        Which::Model => model,
+        Which::Test => second,
+        Which::Query => b"",
+    }
+}
+
+/// What the bytes of the two files say, or the refusal of their first fault, or want of memory.
+pub fn front_of<S: SecondFile>(alloc: Global, model: &[u8], second: &[u8]) -> Result<Front, Ending>
+    requires model_short { length model.now ≤ MAX_FILE }
+    requires second_short { length second.now ≤ MAX_FILE }
+    ensures { MatchResult result (SaysFront S.case_of model.now second.now) (IsBytesEnding S.case_of S.first_fault model.now second.now) }
+{
+    match S::front(alloc, model, second) {
+        Ok(front) => Ok(front),
+        Err(FrontEnd::Refused(fault)) => {
+            Err(Ending::Refused(placed(fault, bytes_of(fault.file, model, second))))
+        }
+        Err(FrontEnd::Memory) => Err(Ending::Memory),
+    }
+}
+
+/// Reads the model, then the second file, at most 1,048,576 bytes each: what they say together, or how the command
+/// ends, which is a failed call, refused memory, or the first fault.
+pub fn read_inputs<S: SecondFile, F: Files>(
+    alloc: Global,
+    inputs: Inputs<'_>,
+    files: &mut F,
+) -> Result<Front, Ending>
+    ensures { MatchResult result
+        (HasFront F.view S.case_of (plain_inputs inputs.entry) files.old files.new)
+        (IsInputsEnding F.view S.case_of S.first_fault (plain_inputs inputs.entry) files.old files.new) }
+{
+    let model = match read_all(alloc, files, inputs.model, MAX_FILE) {
+        Ok(bytes) => bytes,
+        Err(end) => return Err(unread(Which::Model, end)),
+    };
+    let second = match read_all(alloc, files, inputs.test, MAX_FILE) {
+        Ok(bytes) => bytes,
+        Err(end) => return Err(unread(Which::Test, end)),
+    };
+    front_of::<S>(alloc, &model, &second)
+}

@@ -1,0 +1,67 @@
+ghost use Rattle.std.specs.Prelude.{◌≡◌, ◌<◌, length};
+ghost use Rattle.pc_common.specs.Writes.{Writes};
+ghost use Rattle.command_base.specs.Endings.{IsPlaced, refusal_text};
+
+use super::line::{LINE, join};
+use super::words::{fault_word, file_word};
+use arrayvec::ArrayVec;
+use itoa::Buffer;
+use pc_common::{Failed, InputFault, Place, Sink, line_col, write_all};
+
+/// A fault of an input file with its line and column, both from 1.
+#[derive(Clone, Copy)]
+pub struct Refusal {
+    pub fault: InputFault,
+    pub line: u32,
+    pub column: u32,
+}
+
+/// A fault with its line and column in the bytes of its file. A place past their end is told as their end.
+#[tactic(auto, using(crate::proofs::EndOfText::line_min, crate::proofs::EndOfText::column_min))]
+pub(crate) fn placed(fault: InputFault, bytes: &[u8]) -> Refusal
+    requires { length bytes.now < 4294967295 }
+    ensures fault { result.fault ≡ fault }
+    ensures placed { IsPlaced bytes.now result }
+{
+    let end = bytes.len() as u32;
+    let place = Place {
+        offset: fault.place.offset.min(end),
+    };
+    let (line, column) = line_col(bytes, place);
+    Refusal {
+        fault,
+        line,
+        column,
+    }
+}
+
+/// The line of a refusal, which always fits: 38 bytes of words at most, and two numbers of ten digits.
+fn refusal_line(refusal: &Refusal) -> ArrayVec<u8, LINE>
+    ensures { result.items ≡ refusal_text refusal.now }
+{
+    let mut line = Buffer::new();
+    let mut column = Buffer::new();
+    let mut text = ArrayVec::new();
+    join(
+        &mut text,
+        &[
+            b"refused ",
+            file_word(refusal.fault.file),
+            b" ",
+            fault_word(refusal.fault.kind),
+            b" at ",
+            line.format(refusal.line).as_bytes(),
+            b":",
+            column.format(refusal.column).as_bytes(),
+            b"\n",
+        ],
+    );
+    text
+}
+
+/// Writes the line of a refusal as one piece: the text of `refusal_line`, by one `write_all`.
+pub(crate) fn write_refusal<K: Sink>(out: &mut K, refusal: &Refusal) -> Result<(), Failed>
+    ensures { Writes K.view out.old out.new result (refusal_text refusal.now) }
+{
+    write_all(out, refusal_line(refusal).as_slice())
+}

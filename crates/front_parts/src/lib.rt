@@ -1,0 +1,10 @@
+//! A front of its parts: the ground tree of closed axioms in a case, and the numbers of its nodes, beside
+//! the case, the stages and the axioms themselves.
+//!
+//! So a command that changes a case or drops axioms gets its front without the files being read again.
+#![tactic(auto)]
+
+mod fronts;
+mod grounded;
+
+pub use fronts::{front_of, front_with};

@@ -1,0 +1,4 @@
+pub mod Texts
+pub mod Summaries
+pub mod Reports
+pub mod GenAnswers

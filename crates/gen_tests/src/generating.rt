@@ -1,0 +1,137 @@
+//! The command gen: rings of cores, searched and counted.
+ghost use Rattle.std.specs.Prelude.{◌≤◌, ◌<◌, ◌^◌, length};
+
+use cert_check::{Checked, check_text};
+use memory_runs::{ends_over, written};
+use pc_common::{Memory, Status};
+use pipecheck_run::{front, gen_texts};
+use std::alloc::Global;
+use std::test::Fail;
+
+const USAGE: &str = "pipecheck: bad command line\n";
+
+/// A command, and how it ends.
+const RINGS: &[(&'static str, Status, &'static str)] = &[
+    (
+        "gen 2",
+        Status::Done,
+        "gen 2\nunobservable\nnodes 4\nsplits 2\nleaves 3\nend\n",
+    ),
+    (
+        "gen 3",
+        Status::Done,
+        "gen 3\nunobservable\nnodes 6\nsplits 5\nleaves 6\nend\n",
+    ),
+    (
+        "gen 10",
+        Status::Done,
+        "gen 10\nunobservable\nnodes 20\nsplits 82\nleaves 83\nend\n",
+    ),
+    (
+        "gen 16",
+        Status::Done,
+        "gen 16\nunobservable\nnodes 32\nsplits 226\nleaves 227\nend\n",
+    ),
+    ("gen 1", Status::Usage, USAGE),
+    ("gen 17", Status::Usage, USAGE),
+    ("gen 02", Status::Usage, USAGE),
+    ("gen 2 2", Status::Usage, USAGE),
+    ("gen", Status::Usage, USAGE),
+];
+
+#[test]
+fn a_ring_is_searched_and_counted(rt: HostRuntime) -> Result<(), Fail> {
+    for (command, status, text) in RINGS {
+        let end = (*status, *text);
+        // no file is touched, so that no call of them can fail
+        assert!(rt;
+            ends_over(rt.alloc(), command, &[], (&[1], &[]), end)?,
+            "{command}"
+        );
+    }
+    Ok(())
+}
+
+/// The report on the ring of `n` cores: 2n nodes, (n - 1)(n - 1) + 1 splits, and one leaf more.
+fn report(alloc: Global, n: u64) -> Result<String, Memory>
+    requires { 2 ≤ n × n ≤ 16 }
+{
+    let splits = (n - 1) * (n - 1) + 1;
+    let text = format!(in alloc; "gen {n}\nunobservable\nnodes {}\nsplits {splits}\nleaves {}\nend\n", 2 * n, splits + 1)?;
+    Ok(text)
+}
+
+#[test]
+fn a_ring_of_each_size_has_its_counts(rt: HostRuntime) -> Result<(), Fail> {
+    for n in 2..17 {
+        let command = format!(in rt.alloc(); "gen {n}")?;
+        let text = report(rt.alloc(), n)?;
+        assert!(rt;
+            ends_over(rt.alloc(), &command, &[], (&[1], &[]), (Status::Done, &text))?,
+            "{command}"
+        );
+    }
+    Ok(())
+}
+
+/// Whether check refutes these two texts, by this text where one is given, and the checker accepts what it wrote.
+fn is_refuted(
+    alloc: Global,
+    model: &[u8],
+    test: &[u8],
+    expected: Option<&str>,
+) -> Result<bool, Memory>
+    requires model_short { length model.now < 2 ^ 32 }
+    requires test_short { length test.now < 2 ^ 32 }
+{
+    let Ok(front) = front(alloc, model, test) else {
+        return Ok(false);
+    };
+    let (Ok(model), Ok(test)) = (str::from_utf8(model), str::from_utf8(test)) else {
+        return Ok(false);
+    };
+    let written = written(
+        alloc,
+        "check model test",
+        &[("model", model), ("test", test)],
+    )?;
+    Ok(
+        expected.is_none_or(|text| written.as_slice() == text.as_bytes())
+            && check_text(alloc, &front, &written) == Ok(Checked::Unobservable),
+    )
+}
+
+/// The same of the ring of so many cores.
+fn is_refuted_ring(alloc: Global, cores: u8, expected: Option<&str>) -> Result<bool, Memory>
+    requires { 2 ≤ cores × cores ≤ 16 }
+{
+    let (model, test) = gen_texts(alloc, cores)?;
+    if model.len() > 100_000 || test.len() > 100_000 {
+        return Ok(false);
+    }
+    is_refuted(alloc, &model, &test, expected)
+}
+
+#[test]
+fn each_ring_has_no_fault_and_its_refutation_is_accepted(rt: HostRuntime) -> Result<(), Fail> {
+    for cores in 2..17 {
+        assert!(rt; is_refuted_ring(rt.alloc(), cores, None)?, "{cores}");
+    }
+    Ok(())
+}
+
+const TWO_CORES: &str = "unobservable
+test forbidden: ok
+split 7
+split 12
+cycle 0.0@0:S 2.0@1:S
+cycle 2.0@1:S 3.0@1:S
+cycle 0.0@0:S 1.0@0:S
+end
+";
+
+#[test]
+fn the_ring_of_two_cores_is_refuted_so(rt: HostRuntime) -> Result<(), Fail> {
+    assert!(rt; is_refuted_ring(rt.alloc(), 2, Some(TWO_CORES))?);
+    Ok(())
+}

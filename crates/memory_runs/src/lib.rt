@@ -1,0 +1,10 @@
+//! Runs of the top call over files and sinks in memory, for the crates of tests.
+//!
+//! Each of those crates has the tests of one family of commands, so that they are proved side by side.
+#![tactic(auto)]
+
+mod outside;
+mod runs;
+
+pub use outside::{calls, files, held, sink};
+pub use runs::{End, ends_in, ends_over, words, written};

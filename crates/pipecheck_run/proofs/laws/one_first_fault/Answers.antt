@@ -1,5 +1,0 @@
-use Rattle.pipecheck_run.proofs.OneFault.{one_first_fault}
-use Rattle.pipecheck_run.proofs.laws.one_first_fault.Goals as goal
-
-pub returns : goal.returns
-returns c = one_first_fault

@@ -1,8 +1,0 @@
-use Rattle.cert_check.specs.Questions.{question_of}
-use Rattle.pipecheck_run.proofs.Verified.{file_verified}
-use Rattle.pipecheck_run.proofs.verify.checking.check_file.Goals as goal
-
-pub returns-clause-verified : goal.returns-clause-verified
-returns-clause-verified g c = λ told.
-    file_verified c.in_ok-finish.field-0 c.in_ok-checker.ensures (c.in_ok-checker-2.ensures.took told)
-    (λ text fed. c.in_ok-finish.ensures (question_of c.args.front.now) text fed)

@@ -1,0 +1,34 @@
+-- The text and the status of the code's answer.
+use Rattle.std.specs.Prelude.{⊤, ℕ, List}
+use Rattle.pc_common.specs.declared.status.Status.{Status}
+use Rattle.pc_common.specs.declared.status.Status.TheVariants.{Done, Usage}
+use Rattle.pc_ground.specs.NodeForm.{names_of}
+use Rattle.command_base.specs.Endings.{ending_status, ending_text}
+use Rattle.verdicts.specs.Verdicts.{verdict_text, status_of, IsWritable}
+use Rattle.verify_command.specs.CheckedTexts.{checked_status, checked_text}
+use Rattle.gen_command.specs.Reports.{report_text}
+use Rattle.pipecheck_run.specs.declared.answer.Answer.{Answer}
+use Rattle.pipecheck_run.specs.declared.answer.Answer.TheVariants.{Usage as a_usage, Ended as an_ending, Checked as a_verdict, Verified as a_check, Generated as a_report}
+use Rattle.pipecheck_run.specs.Answers.{usage_text}
+
+abbrev pub answer_text : Answer → List ℕ
+answer_text a_usage = usage_text
+answer_text (an_ending e) = ending_text e
+answer_text (a_verdict v) = verdict_text v
+answer_text (a_check found) = checked_text found
+answer_text (a_report r) = report_text r
+
+abbrev pub answer_status : Answer → Status
+answer_status a_usage = Usage
+answer_status (an_ending e) = ending_status e
+answer_status (a_verdict v) = status_of v.found
+answer_status (a_check found) = checked_status found
+answer_status (a_report r) = Done
+
+-- each node of a verdict is of its front
+abbrev pub CanBeWritten : Answer → Type 0
+CanBeWritten a_usage = ⊤
+CanBeWritten (an_ending e) = ⊤
+CanBeWritten (a_verdict v) = IsWritable (names_of v.front) v.found
+CanBeWritten (a_check found) = ⊤
+CanBeWritten (a_report r) = ⊤

@@ -1,0 +1,241 @@
+-- Flags for the truth of subtrees and for the positions of a branch, and the sides of an Or by its rows.
+use Rattle.std.proofs.Common.{◌≡◌, ◌<◌, inl, inr, ℕ, ◌+◌, Bool, true, false, ◌&&◌, ◌||◌, List, [], Some, None, length, refl, sym, ap, ◌∙◌, subst, arith, set}
+use Rattle.std.specs.Prelude.{slice_get, ◌↔◌, IsTrue, replicate, All, Contains}
+use Rattle.std.proofs.lemmas.List.{get_or-set_same, get_or-set_other, get_or-replicate, get_or_past, length-replicate}
+use Rattle.std.proofs.lemmas.Bool.{cases_lt}
+use Rattle.pc_common.proofs.Elements.{and_first, and_second, true_or_false, or_first, or_later, or_second}
+use Rattle.pc_ground.specs.declared.literal.Literal.{Literal}
+use Rattle.pc_ground.specs.declared.row.Row.{Row}
+use Rattle.pc_ground.specs.declared.row.RowKind.{RowKind}
+use Rattle.pc_ground.specs.declared.row.RowKind.TheVariants.{True, False, Lit, And, Or}
+use Rattle.pc_common.specs.Chain.{Chain}
+use Rattle.pc_ground.specs.Literals.{Joins, IsPresent, Holds}
+use Rattle.pc_ground.specs.Tree.{Tree, always, never, leaf, both, either, negation, turned, size_of}
+use Rattle.pc_ground.specs.Rows.{root_kind, rows_of}
+use Rattle.pc_ground.specs.declared.version.Version.{Version}
+use Rattle.pc_ground.specs.declared.version.Version.TheVariants.{One, Two}
+use Rattle.pc_ground.specs.Refutes.{Signed, subtree_at}
+use Rattle.pc_ground.proofs.Turned.{subtree_denied, size_negation}
+use Rattle.pc_ground.proofs.FlatRows.{length_rows, size_pos, subtree_size, subtree_past, children_both, children_either}
+use Rattle.pc_ground.proofs.StageWalks.{some_same}
+use Rattle.solver.specs.Spelled.{spelled, IsSpelled}
+use Rattle.solver.specs.Met.{IsMet}
+use Rattle.solver.specs.Flags.{flag, AreTruths, HasChildren, of_both, of_either, SomeChildren, AreChildFlags}
+use Rattle.solver.specs.Places.{left_side, denied_left, right_side, IsOr, IsDeniedIn, AreSides}
+use Rattle.solver.specs.declared.side.Side.{Side}
+use Rattle.solver.specs.Below.{IsKindBelow, IsRowBelow}
+use Rattle.order_graph.specs.Ways.{IsBelow}
+use Rattle.std.proofs.lemmas.Option.{slice_get_within, get_or_from_slice_get}
+use Rattle.std.proofs.lemmas.List.Elements.{All-contains}
+use Rattle.solver.specs.Weights.{is_on}
+use Rattle.solver.proofs.HasAsserted.{row_root, length_spelled}
+
+pub children_inside : (rows : List (Row ℕ)) (p right : ℕ) → IsSpelled rows → HasChildren (spelled rows) p right → (p + 1 < length rows) × (right < length rows)
+children_inside rows p right flat (of_both a b e) =
+    let t = spelled rows in
+    let children = children_both t p a b e in
+    let first = subtree_size t (p + 1) a children.0 in
+    let second = subtree_size t (p + 1 + size_of a) b children.1 in
+    let len = length_spelled rows flat in
+    (omega (arith, first, size_pos a, len), omega (arith, second, size_pos b, len))
+children_inside rows p right flat (of_either a b e) =
+    let t = spelled rows in
+    let children = children_either t p a b e in
+    let first = subtree_size t (p + 1) a children.0 in
+    let second = subtree_size t (p + 1 + size_of a) b children.1 in
+    let len = length_spelled rows flat in
+    (omega (arith, first, size_pos a, len), omega (arith, second, size_pos b, len))
+
+root_skip : (rows : List (Row ℕ)) (p : ℕ) (r : Row ℕ) (s : Tree ℕ) → IsSpelled rows → p < size_of (spelled rows) → slice_get rows p ≡ Some r
+    → subtree_at (spelled rows) p ≡ Some s → r.skip ≡ size_of s
+root_skip rows p r s flat inside at e =
+    let there = row_root rows (spelled rows) p r flat inside at in
+    ap (λ (x : Row ℕ). x.skip) there.2 ∙ ap size_of (some_same (sym there.1 ∙ e))
+
+pub right_is : (rows : List (Row ℕ)) (p right : ℕ) (r : Row ℕ) → IsSpelled rows → HasChildren (spelled rows) p right → slice_get rows (p + 1) ≡ Some r → right ≡ p + 1 + r.skip
+right_is rows p right r flat (of_both a b e) at =
+    let t = spelled rows in
+    let children = children_both t p a b e in
+    let first = subtree_size t (p + 1) a children.0 in
+    ap (λ n. p + 1 + n) (sym (root_skip rows (p + 1) r a flat (omega (arith, first, size_pos a)) at children.0))
+right_is rows p right r flat (of_either a b e) at =
+    let t = spelled rows in
+    let children = children_either t p a b e in
+    let first = subtree_size t (p + 1) a children.0 in
+    ap (λ n. p + 1 + n) (sym (root_skip rows (p + 1) r a flat (omega (arith, first, size_pos a)) at children.0))
+
+-- the kind of a row is that of the tree that stands there
+pub kind_at : (rows : List (Row ℕ)) (p : ℕ) (r : Row ℕ) (s : Tree ℕ) → IsSpelled rows → p < length rows → slice_get rows p ≡ Some r
+    → subtree_at (spelled rows) p ≡ Some s → root_kind s ≡ r.kind
+kind_at rows p r s flat inside at e =
+    let there = row_root rows (spelled rows) p r flat (omega (arith, inside, length_spelled rows flat)) at in
+    sym (ap (λ (x : Row ℕ). x.kind) there.2 ∙ ap root_kind (some_same (sym there.1 ∙ e)))
+
+both_of : {N : Type 0} (s : Tree N) → root_kind s ≡ And → (a : Tree N) × (b : Tree N) × (s ≡ both a b)
+both_of always e = cc
+both_of never e = cc
+both_of (leaf l) e = cc
+both_of (both a b) e = (a, b, refl)
+both_of (either a b) e = cc
+
+pub either_of : {N : Type 0} (s : Tree N) → root_kind s ≡ Or → (a : Tree N) × (b : Tree N) × (s ≡ either a b)
+either_of always e = cc
+either_of never e = cc
+either_of (leaf l) e = cc
+either_of (both a b) e = cc
+either_of (either a b) e = (a, b, refl)
+
+pub and_children : (rows : List (Row ℕ)) (p : ℕ) (r : Row ℕ) → IsSpelled rows → p < length rows → slice_get rows p ≡ Some r → r.kind ≡ And
+    → SomeChildren (spelled rows) p
+and_children rows p r flat inside at kind =
+    let there = row_root rows (spelled rows) p r flat (omega (arith, inside, length_spelled rows flat)) at in
+    let parts = both_of there.0 (sym (ap (λ (x : Row ℕ). x.kind) there.2) ∙ kind) in
+    (p + 1 + size_of parts.0, of_both parts.0 parts.1 (there.1 ∙ ap Some parts.2))
+
+pub or_tree : (rows : List (Row ℕ)) (t : Tree ℕ) (p : ℕ) (r : Row ℕ) → rows ≡ rows_of t → p < length rows → slice_get rows p ≡ Some r → r.kind ≡ Or
+    → (a : Tree ℕ) × (b : Tree ℕ) × (subtree_at t p ≡ Some (either a b))
+or_tree rows t p r flat inside at kind =
+    let there = row_root rows t p r flat (omega (arith, inside, ap length flat, length_rows t)) at in
+    let parts = either_of there.0 (sym (ap (λ (x : Row ℕ). x.kind) there.2) ∙ kind) in
+    (parts.0, parts.1, there.1 ∙ ap Some parts.2)
+
+pub or_children : (rows : List (Row ℕ)) (p : ℕ) (r : Row ℕ) → IsSpelled rows → p < length rows → slice_get rows p ≡ Some r → r.kind ≡ Or
+    → SomeChildren (spelled rows) p
+or_children rows p r flat inside at kind = (let parts = or_tree rows (spelled rows) p r flat inside at kind in (p + 1 + size_of parts.0, of_either parts.0 parts.1 parts.2))
+
+pub met_always : (ls : List (Literal ℕ)) (s : Tree ℕ) → root_kind s ≡ True → IsTrue true ↔ IsMet ls s
+met_always ls always e = ((λ h. tt), (λ h. refl))
+met_always ls never e = cc
+met_always ls (leaf l) e = cc
+met_always ls (both a b) e = cc
+met_always ls (either a b) e = cc
+
+pub met_never : (ls : List (Literal ℕ)) (s : Tree ℕ) → root_kind s ≡ False → IsTrue false ↔ IsMet ls s
+met_never ls always e = cc
+met_never ls never e = ((λ h. (let no : false ≡ true → ⊥ = λ k. cc in no h)), (λ h. absurd h))
+met_never ls (leaf l) e = cc
+met_never ls (both a b) e = cc
+met_never ls (either a b) e = cc
+
+pub met_leaf : (ls : List (Literal ℕ)) (s : Tree ℕ) (l : Literal ℕ) (b : Bool) → root_kind s ≡ Lit l
+    → IsTrue b ↔ Holds (IsPresent ls) (Chain (Joins ls)) l → IsTrue b ↔ IsMet ls s
+met_leaf ls always l b e h = cc
+met_leaf ls never l b e h = cc
+met_leaf ls (leaf m) l b e h =
+    let same : l ≡ m = (let other : m ≡ l = cc in sym other) in
+    let P : Literal ℕ → Type 0 = λ x. IsTrue b ↔ Holds (IsPresent ls) (Chain (Joins ls)) x in
+    subst P same h
+met_leaf ls (both x y) l b e h = cc
+met_leaf ls (either x y) l b e h = cc
+
+pub met_both : (t : Tree ℕ) (ls : List (Literal ℕ)) (p : ℕ) (flags : List Bool) (s : Tree ℕ) (pair : Bool × Bool) → root_kind s ≡ And → subtree_at t p ≡ Some s
+    → AreTruths t ls (p + 1) flags → AreChildFlags t flags p pair → IsTrue (pair.0 && pair.1) ↔ IsMet ls s
+met_both t ls p flags always pair e at truths children = cc
+met_both t ls p flags never pair e at truths children = cc
+met_both t ls p flags (leaf l) pair e at truths children = cc
+met_both t ls p flags (both a b) pair e at truths children =
+    let places = children_both t p a b at in
+    let are = children (p + 1 + size_of a) (of_both a b at) in
+    let left = truths (p + 1) a (omega arith) places.0 in
+    let right = truths (p + 1 + size_of a) b (omega arith) places.1 in (
+      (λ h. (left.0 (sym are.0 ∙ and_first pair.0 pair.1 h), right.0 (sym are.1 ∙ and_second pair.0 pair.1 h))),
+      (λ h. and_both pair.0 pair.1 (are.0 ∙ left.1 h.0) (are.1 ∙ right.1 h.1)),
+    )
+  where
+    and_both : (x y : Bool) → x ≡ true → y ≡ true → (x && y) ≡ true
+    and_both x y e f = rw (e, f) refl
+met_both t ls p flags (either a b) pair e at truths children = cc
+
+pub met_either : (t : Tree ℕ) (ls : List (Literal ℕ)) (p : ℕ) (flags : List Bool) (s : Tree ℕ) (pair : Bool × Bool) → root_kind s ≡ Or → subtree_at t p ≡ Some s
+    → AreTruths t ls (p + 1) flags → AreChildFlags t flags p pair → IsTrue (pair.0 || pair.1) ↔ IsMet ls s
+met_either t ls p flags always pair e at truths children = cc
+met_either t ls p flags never pair e at truths children = cc
+met_either t ls p flags (leaf l) pair e at truths children = cc
+met_either t ls p flags (both a b) pair e at truths children = cc
+met_either t ls p flags (either a b) pair e at truths children =
+    let places = children_either t p a b at in
+    let are = children (p + 1 + size_of a) (of_either a b at) in
+    let left = truths (p + 1) a (omega arith) places.0 in
+    let right = truths (p + 1 + size_of a) b (omega arith) places.1 in (
+      (λ h. elim (true_or_false pair.0) [
+        | inl k ↦ inl (left.0 (sym are.0 ∙ k))
+        | inr k ↦ inr (right.0 (sym are.1 ∙ or_second pair.0 pair.1 k h))
+      ]),
+      (λ h. elim h [
+        | inl k ↦ or_first pair.0 pair.1 (are.0 ∙ left.1 k)
+        | inr k ↦ or_later pair.0 pair.1 (are.1 ∙ right.1 k)
+      ]),
+    )
+
+-- no position is past the end
+pub truths_none : (rows : List (Row ℕ)) (ls : List (Literal ℕ)) (from : ℕ) (flags : List Bool) → IsSpelled rows → from ≡ length rows → AreTruths (spelled rows) ls from flags
+truths_none rows ls from flags flat e = λ p s past at.
+    let none = subtree_past (spelled rows) p (omega (arith, past, e, length_spelled rows flat)) in
+    absurd (no_some s (sym none ∙ at))
+  where
+    no_some : (s : Tree ℕ) → None ≡ Some s → ⊥
+    no_some s e = cc
+
+-- one position more, before those that are told
+pub truths_more : (t : Tree ℕ) (ls : List (Literal ℕ)) (from p : ℕ) (old new : List Bool) (b : Bool) → from ≡ p + 1 → p < length old → new ≡ set old p b
+    → ((s : Tree ℕ) → subtree_at t p ≡ Some s → IsTrue b ↔ IsMet ls s) → AreTruths t ls from old → AreTruths t ls p new
+truths_more t ls from p old new b e inside f here truths = λ q s past at.
+    elim (cases_lt p q) [
+      | inl later ↦
+          let same : flag new q ≡ flag old q = ap (λ xs. flag xs q) f ∙ get_or-set_other old p q b false (omega arith) in
+          let k = truths q s (omega arith) at in
+          ((λ h. k.0 (sym same ∙ h)), (λ h. same ∙ k.1 h))
+      | inr not_later ↦
+          let equal : q ≡ p = omega arith in
+          let same : flag new q ≡ b = ap (flag new) equal ∙ ap (λ xs. flag xs p) f ∙ get_or-set_same old p b false inside in
+          let k = here s (ap (subtree_at t) (sym equal) ∙ at) in
+          ((λ h. k.0 (sym same ∙ h)), (λ h. same ∙ k.1 h))
+    ]
+
+pub flags_none : (n : ℕ) (p : ℕ) → flag (replicate n false) p ≡ is_on [] p
+flags_none n p =
+    elim (cases_lt p n) [
+      | inl inside ↦ get_or-replicate n p false false inside
+      | inr past ↦ get_or_past (replicate n false) p false (omega (arith, length-replicate {A = Bool} n false))
+    ]
+
+-- an Or of the tree or of its negation has the children of the tree's And or Or there
+pub signed_children : (t : Tree ℕ) (n : Bool) (p : ℕ) (a b : Tree ℕ) → subtree_at (turned n t) p ≡ Some (either a b) → HasChildren t p (p + 1 + size_of a)
+signed_children t false p a b e = of_either a b e
+signed_children t true p a b e =
+    let P : ℕ → Type 0 = λ n. HasChildren t p (p + 1 + n) in
+    subst P (size_negation a) (of_both (negation a) (negation b) (subtree_denied t true p (either a b) e))
+
+pub or_sides : (rows : List (Row ℕ)) (v : Version) (q : Signed) (r : Row ℕ) (left right : Side) → IsSpelled rows → slice_get rows (q.position + 1) ≡ Some r
+    → left ≡ left_side q → right ≡ right_side v q r.skip → AreSides v (spelled rows) q (left, right)
+or_sides rows v q r left right flat at e f = λ a b is.
+    let place : q.position + 1 + size_of a ≡ q.position + 1 + r.skip =
+    right_is rows q.position (q.position + 1 + size_of a) r flat (signed_children (spelled rows) q.negated q.position a b is) at in
+    let size : r.skip ≡ size_of a = omega (arith, place) in
+    (e, f ∙ ap (right_side v q) size)
+
+pub or_inside : (rows : List (Row ℕ)) (q : Signed) → IsSpelled rows → IsOr (spelled rows) q → (q.position + 1 < length rows) × (q.position + 1 < size_of (spelled rows))
+or_inside rows q flat (a, b, e) =
+    let inside = children_inside rows q.position (q.position + 1 + size_of a) flat (signed_children (spelled rows) q.negated q.position a b e) in
+    (inside.0, omega (arith, inside.0, length_spelled rows flat))
+
+pub or_right_inside : (rows : List (Row ℕ)) (q : Signed) (r : Row ℕ) → IsSpelled rows → IsOr (spelled rows) q → slice_get rows (q.position + 1) ≡ Some r
+    → q.position + 1 + r.skip < size_of (spelled rows)
+or_right_inside rows q r flat (a, b, e) at =
+    let children = signed_children (spelled rows) q.negated q.position a b e in
+    let inside = children_inside rows q.position (q.position + 1 + size_of a) flat children in
+    let right = right_is rows q.position (q.position + 1 + size_of a) r flat children at in
+    omega (arith, inside.1, right, length_spelled rows flat)
+
+pub denied_in : (v : Version) (t : Tree ℕ) (left : ℕ) → left < size_of t → IsDeniedIn t (denied_left v left)
+denied_in One t left inside = tt
+denied_in Two t left inside = inside
+
+-- the literal of a row is over numbers below n
+pub literal_at : (n : ℕ) (rows : List (Row ℕ)) (p : ℕ) (r : Row ℕ) (l : Literal ℕ) → All (IsRowBelow n) rows → slice_get rows p ≡ Some r → r.kind ≡ Lit l → IsBelow n l
+literal_at n rows p r l all at kind =
+    let P : RowKind ℕ → Type 0 = IsKindBelow n in
+    subst P kind (All-contains (IsRowBelow n) rows r all (contains_at rows p r at))
+  where
+    contains_at : {X : Type 0} (xs : List X) (k : ℕ) (x : X) → slice_get xs k ≡ Some x → Contains xs x
+    contains_at xs k x e = (k, slice_get_within xs k x e, get_or_from_slice_get xs k x x e)

@@ -1,0 +1,248 @@
+-- Asserting a side: where a part's walk starts, one row more, one part more, and what a clash of a first part says of the whole.
+use Rattle.std.proofs.Common.{◌≡◌, ◌≤◌, ◌<◌, ℕ, ◌+◌, Bool, true, false, List, [], ◌∷◌, ◌++◌, Option, Some, None, map, take, length, refl, sym, ap, ◌∙◌, subst, arith, append_assoc}
+use Rattle.std.specs.Prelude.{slice_get, All}
+use Rattle.std.proofs.lemmas.List.{append-nil, take-append-le}
+use Rattle.std.proofs.lemmas.List.Elements.{All-contains, Contains-append_left}
+use Rattle.std.proofs.lemmas.Option.{slice_get_within, get_or_from_slice_get}
+use Rattle.std.proofs.lemmas.Grind.{flat_map-append}
+use Rattle.pc_common.specs.Chain.{Leads}
+use Rattle.pc_common.specs.Steps.{Leaf}
+use Rattle.pc_ground.specs.declared.literal.Literal.{Literal}
+use Rattle.pc_ground.specs.declared.literal.Literal.TheVariants.{Node, Edge, NoNode, NoEdge}
+use Rattle.pc_ground.specs.declared.row.Row.{Row}
+use Rattle.pc_ground.specs.declared.row.RowKind.{RowKind}
+use Rattle.pc_ground.specs.declared.row.RowKind.TheVariants.{True, False, Lit, And, Or}
+use Rattle.pc_ground.specs.Tree.{Tree, always, never, leaf, both, either, contrary, turned, size_of}
+use Rattle.pc_ground.specs.Rows.{rows_of, literals_of_kind, turned_kind, turned_row, turned_rows}
+use Rattle.pc_ground.specs.Literals.{Joins, IsPresent, as_node, as_start, as_end}
+use Rattle.pc_ground.specs.Refutes.{Signed, Branch, all_signed, subtree_at, part_at, asserted, literal_of, literals_of, IsContradiction, a_cycle, a_path, an_absence}
+use Rattle.pc_ground.specs.Walks.{stride, Walk, literals_of_row}
+use Rattle.pc_ground.proofs.FlatRows.{root_of, row_subtree, subtree_within, subtree_row, subtree_size, length_rows, literal_by_row}
+use Rattle.pc_ground.proofs.Walks.{walk_side, walk_turn, walk_within}
+use Rattle.pc_ground.proofs.StageWalks.{some_same}
+use Rattle.order_graph.specs.Clashes.{leaf_of, IsClash}
+use Rattle.order_graph.specs.State.{Graph}
+use Rattle.order_graph.specs.Adding.{IsAdded}
+use Rattle.order_graph.specs.declared.clash.Added.{Added}
+use Rattle.order_graph.specs.declared.clash.Added.TheVariants.{Kept as was_kept, Clash as clashed}
+use Rattle.order_graph.specs.declared.clash.Clash.{Clash}
+use Rattle.order_graph.specs.Ways.{IsBelow}
+use Rattle.solver.specs.Spelled.{spelled, IsSpelled}
+use Rattle.solver.specs.Below.{IsKindBelow, IsRowBelow}
+use Rattle.solver.specs.Places.{place_signed, asserted_in, asserted_at}
+use Rattle.solver.specs.Opens.{positions, IsFurther, HasAsserted, HasAddedRow}
+use Rattle.solver.specs.declared.place.Place.{Place}
+use Rattle.solver.proofs.IsSpelled.{turned_flat}
+
+pub asserted_is : {N : Type 0} (t : Tree N) (n : Bool) (p : ℕ) (s : Tree N) → subtree_at (turned n t) p ≡ Some s → asserted_at t n p ≡ all_signed n (asserted s p)
+asserted_is {N} t n p s e = ap (λ (o : Option (Tree N)). all_signed n (asserted_in o p)) e
+
+-- the row at a position is its subtree's root
+pub row_root : (rows : List (Row ℕ)) (t : Tree ℕ) (p : ℕ) (r : Row ℕ) → rows ≡ rows_of t → p < size_of t → slice_get rows p ≡ Some r
+    → (s : Tree ℕ) × (subtree_at t p ≡ Some s) × (r ≡ root_of s)
+row_root rows t p r flat inside at =
+    let there = subtree_within t p inside in
+    (there.0, there.1, some_same (sym at ∙ ap (λ xs. slice_get xs p) flat ∙ subtree_row t p there.0 there.1))
+
+pub length_spelled : (rows : List (Row ℕ)) → IsSpelled rows → length rows ≡ size_of (spelled rows)
+length_spelled rows flat = ap length flat ∙ length_rows (spelled rows)
+
+-- the walk over a part, which ends where its rows do
+pub walk_start : (rows : List (Row ℕ)) (t : Tree ℕ) (root : ℕ) (r : Row ℕ) → rows ≡ rows_of t → root < size_of t → slice_get rows root ≡ Some r
+    → (root + r.skip ≤ size_of t) × Walk rows (root + r.skip) root (asserted_in (subtree_at t root) root)
+walk_start rows t root r flat inside at =
+    let there = row_root rows t root r flat inside at in
+    let s = there.0 in
+    let skip : r.skip ≡ size_of s = ap (λ (x : Row ℕ). x.skip) there.2 in
+    let size = subtree_size t root s there.1 in
+    let P : List (Row ℕ) → ℕ → List ℕ → Type 0 = λ xs n ps. Walk xs (root + n) root ps in
+    let walk : Walk (rows_of t) (root + size_of s) root (asserted s root) = walk_side t root s there.1 in
+    let by_rows : P rows (size_of s) (asserted s root) = subst (λ xs. P xs (size_of s) (asserted s root)) (sym flat) walk in
+    let by_skip : P rows r.skip (asserted s root) = subst (λ n. P rows n (asserted s root)) (sym skip) by_rows in
+    let is : asserted_in (subtree_at t root) root ≡ asserted s root = ap (λ (o : Option (Tree ℕ)). asserted_in o root) there.1 in
+    (omega (arith, skip, size), subst (P rows r.skip) (sym is) by_skip)
+
+pub walk_step : (rows : List (Row ℕ)) (end at : ℕ) (ps : List ℕ) (r : Row ℕ) → Walk rows end at ps → at < end → slice_get rows at ≡ Some r
+    → (rest : List ℕ) × (ps ≡ at ∷ rest) × Walk rows end (at + stride r) rest × (at + stride r ≤ end)
+walk_step rows end at ps r walk before here =
+    let turn = walk_turn walk before in
+    let P : Row ℕ → Type 0 = λ x. Walk rows end (at + stride x) turn.1 in
+    let next = subst P (some_same (sym turn.2 ∙ here)) turn.4 in
+    (turn.1, turn.3, next, walk_within next)
+
+-- literals of some positions more
+pub literals_more : (t : Tree ℕ) (ps qs : Branch) → literals_of t (ps ++ qs) ≡ literals_of t ps ++ literals_of t qs
+literals_more t ps qs = flat_map-append (λ q. literal_of (part_at t q)) ps qs
+
+map_append : {X Y : Type 0} (f : X → Y) (xs ys : List X) → map f (xs ++ ys) ≡ map f xs ++ map f ys
+map_append f [] ys = refl
+map_append f (x ∷ xs) ys = ap (λ zs. f x ∷ zs) (map_append f xs ys)
+
+pub positions_push : (new old : List Place) (q : Place) → new ≡ old ++ q ∷ [] → positions new ≡ positions old ++ place_signed q ∷ []
+positions_push new old q e = ap positions e ∙ map_append place_signed old (q ∷ [])
+
+literal_here : (rows : List (Row ℕ)) (q : Signed) (r : Row ℕ) → IsSpelled rows → slice_get (turned_rows q.negated rows) q.position ≡ Some r
+    → literals_of (spelled rows) (q ∷ []) ≡ literals_of_kind r.kind
+literal_here rows q r flat at =
+    let t = turned q.negated (spelled rows) in
+    append-nil (literal_of (subtree_at t q.position)) ∙ literal_by_row t q.position
+    ∙ ap literals_of_row (ap (λ xs. slice_get xs q.position) (sym (turned_flat q.negated rows flat)) ∙ at)
+
+-- the literals once a row is entered
+pub literals_push : (rows : List (Row ℕ)) (q : Signed) (r : Row ℕ) (ps qs : Branch) (ls ms : List (Literal ℕ)) → IsSpelled rows
+    → slice_get (turned_rows q.negated rows) q.position ≡ Some r
+    → ls ≡ literals_of (spelled rows) ps → ms ≡ ls ++ literals_of_kind r.kind → qs ≡ ps ++ q ∷ [] → ms ≡ literals_of (spelled rows) qs
+literals_push rows q r ps qs ls ms flat at e f g =
+    let t = spelled rows in
+    f ∙ ap (λ xs. xs ++ literals_of_kind r.kind) e ∙ ap (λ xs. literals_of t ps ++ xs) (sym (literal_here rows q r flat at))
+    ∙ sym (literals_more t ps (q ∷ [])) ∙ ap (literals_of t) (sym g)
+
+pub further_same : (g : Graph) → IsFurther g g
+further_same g = record { same_nodes = refl; same_marks = refl; literals = take_all g.literals }
+  where
+    take_all : {X : Type 0} (xs : List X) → take (length xs) xs ≡ xs
+    take_all [] = refl
+    take_all (x ∷ xs) = ap (λ ys. x ∷ ys) (take_all xs)
+
+pub take_through : {X : Type 0} (xs ys zs : List X) → take (length xs) ys ≡ xs → take (length ys) zs ≡ ys → take (length xs) zs ≡ xs
+take_through [] ys zs e f = refl
+take_through (x ∷ xs) [] zs e f = absurd (no_cons x xs e)
+  where
+    no_cons : {X : Type 0} (x : X) (xs : List X) → [] ≡ x ∷ xs → ⊥
+    no_cons x xs e = cc
+take_through (x ∷ xs) (y ∷ ys) [] e f = absurd (no_cons y ys f)
+  where
+    no_cons : {X : Type 0} (x : X) (xs : List X) → [] ≡ x ∷ xs → ⊥
+    no_cons x xs e = cc
+take_through (x ∷ xs) (y ∷ ys) (z ∷ zs) e f =
+    let first : y ≡ x = cc in
+    let second : z ≡ y = cc in
+    let rest : take (length xs) ys ≡ xs = cc in
+    let more : take (length ys) zs ≡ ys = cc in
+    ap (λ w. w ∷ take (length xs) zs) (second ∙ first) ∙ ap (λ ws. x ∷ ws) (take_through xs ys zs rest more)
+
+pub further_more : (f g h : Graph) → IsFurther f g → IsFurther g h → IsFurther f h
+further_more f g h a b = record {
+  same_nodes = b.same_nodes ∙ a.same_nodes;
+  same_marks = b.same_marks ∙ a.same_marks;
+  literals = take_through f.literals g.literals h.literals a.literals b.literals;
+}
+
+pub kept_push : {X : Type 0} (xs ys zs : List X) (x : X) → take (length xs) ys ≡ xs → zs ≡ ys ++ x ∷ [] → take (length xs) zs ≡ xs
+kept_push xs ys zs x e f =
+    let within : length xs ≤ length ys = shorter xs ys e in
+    ap (take (length xs)) f ∙ take-append-le (length xs) ys (x ∷ []) within ∙ e
+  where
+    shorter : {X : Type 0} (xs ys : List X) → take (length xs) ys ≡ xs → length xs ≤ length ys
+    shorter [] ys e = omega arith
+    shorter (x ∷ xs) [] e = cc
+    shorter (x ∷ xs) (y ∷ ys) e = let rest : take (length xs) ys ≡ xs = cc in omega (arith, shorter xs ys rest)
+
+contradiction_more : (ls ms : List (Literal ℕ)) (l : Leaf ℕ) → IsContradiction ls l → IsContradiction (ls ++ ms) l
+contradiction_more ls ms l c = go l c
+  where
+    leads : (a : ℕ) (via : List ℕ) (b : ℕ) → Leads (Joins ls) a via b → Leads (Joins (ls ++ ms)) a via b
+    leads a [] b l = Contains-append_left ls ms (Edge a b) l
+    leads a (x ∷ xs) b l = (Contains-append_left ls ms (Edge a x) l.0, leads x xs b l.1)
+
+    present : (a : ℕ) → IsPresent ls a → IsPresent (ls ++ ms) a
+    present a (as_node h) = as_node (Contains-append_left ls ms (Node a) h)
+    present a (as_start b h) = as_start b (Contains-append_left ls ms (Edge a b) h)
+    present a (as_end b h) = as_end b (Contains-append_left ls ms (Edge b a) h)
+
+    go : (l : Leaf ℕ) → IsContradiction ls l → IsContradiction (ls ++ ms) l
+    go l (a_cycle a via h) = a_cycle a via (leads a via a h)
+    go l (a_path a via b h d) = a_path a via b (leads a via b h) (Contains-append_left ls ms (NoEdge a b) d)
+    go l (an_absence a d p) = an_absence a (Contains-append_left ls ms (NoNode a) d) (present a p)
+
+-- a clash of a first part is one of the whole
+pub clash_more : (ls ms : List (Literal ℕ)) (k : Clash) → IsClash ls k → IsClash (ls ++ ms) k
+clash_more ls ms k c = contradiction_more ls ms (leaf_of k) c
+
+-- the first rows of a part clash, so all of them do
+pub part_clash : (rows : List (Row ℕ)) (q : Signed) (r : Row ℕ) (ps rest whole : Branch) (ls : List (Literal ℕ)) (k : Clash) → IsSpelled rows
+    → slice_get (turned_rows q.negated rows) q.position ≡ Some r
+    → ls ≡ literals_of (spelled rows) ps → ps ++ q ∷ rest ≡ whole → IsClash (ls ++ literals_of_kind r.kind) k → IsClash (literals_of (spelled rows) whole) k
+part_clash rows q r ps rest whole ls k flat at e f c =
+    let t = spelled rows in
+    let P : List (Literal ℕ) → Type 0 = λ xs. IsClash xs k in
+    let first : ls ++ literals_of_kind r.kind ≡ literals_of t (ps ++ q ∷ []) =
+    literals_push rows q r ps (ps ++ q ∷ []) ls (ls ++ literals_of_kind r.kind) flat at e refl refl in
+    let all : literals_of t (ps ++ q ∷ []) ++ literals_of t rest ≡ literals_of t whole =
+    sym (literals_more t (ps ++ q ∷ []) rest) ∙ ap (literals_of t) (append_assoc ps (q ∷ []) rest ∙ f) in
+    subst P (ap (λ xs. xs ++ literals_of t rest) first ∙ all) (clash_more (ls ++ literals_of_kind r.kind) (literals_of t rest) k c)
+
+-- the positions so far and those that the walk still comes to, once a row is entered
+pub whole_push : (new old : List Place) (q : Place) (ps rest : List ℕ) (whole : Branch) → new ≡ old ++ q ∷ [] → ps ≡ q.position ∷ rest
+    → positions old ++ all_signed q.negated ps ≡ whole → positions new ++ all_signed q.negated rest ≡ whole
+whole_push new old q ps rest whole e f g =
+    ap (λ xs. xs ++ all_signed q.negated rest) (positions_push new old q e) ∙ append_assoc (positions old) (place_signed q ∷ []) (all_signed q.negated rest)
+    ∙ ap (λ xs. positions old ++ all_signed q.negated xs) (sym f) ∙ g
+
+-- a first part is asserted, and then the rest
+pub asserted_then : (t : Tree ℕ) (first more : Branch) (old mid new : List Place) (g h : Graph) (found : Option Clash)
+    → HasAsserted t first old g mid None → HasAsserted t more mid h new found → HasAsserted t (first ++ more) old h new found
+asserted_then t first more old mid new g h None a b =
+    (b.0 ∙ ap (λ xs. xs ++ more) a.0 ∙ append_assoc (positions old) first more, b.1)
+asserted_then t first more old mid new g h (Some k) a b =
+    let P : Branch → Type 0 = λ ps. IsClash (literals_of t ps) k in
+    subst P (ap (λ xs. xs ++ more) a.0 ∙ append_assoc (positions old) first more) b
+
+-- a clash of the first part is one of all
+pub asserted_clash : (t : Tree ℕ) (first more : Branch) (old : List Place) (k : Clash) → IsClash (literals_of t (positions old ++ first)) k
+    → IsClash (literals_of t (positions old ++ (first ++ more))) k
+asserted_clash t first more old k c =
+    let P : List (Literal ℕ) → Type 0 = λ ls. IsClash ls k in
+    subst P (sym (literals_more t (positions old ++ first) more) ∙ ap (literals_of t) (append_assoc (positions old) first more))
+    (clash_more (literals_of t (positions old ++ first)) (literals_of t more) k c)
+
+pub kept_same : {X : Type 0} (xs : List X) → take (length xs) xs ≡ xs
+kept_same [] = refl
+kept_same (x ∷ xs) = ap (λ ys. x ∷ ys) (kept_same xs)
+
+root_stride : {N : Type 0} (s : Tree N) → 0 < stride (root_of s)
+root_stride always = omega arith
+root_stride never = omega arith
+root_stride (leaf l) = omega arith
+root_stride (both a b) = omega arith
+root_stride (either a b) = omega arith
+
+pub stride_pos : (rows : List (Row ℕ)) (t : Tree ℕ) (p : ℕ) (r : Row ℕ) → rows ≡ rows_of t → slice_get rows p ≡ Some r → 0 < stride r
+stride_pos rows t p r flat at =
+    let there = row_subtree t p r (ap (λ xs. slice_get xs p) (sym flat) ∙ at) in
+    let P : Row ℕ → Type 0 = λ x. 0 < stride x in
+    subst P there.2 (root_stride there.0)
+
+-- what was added is what the row asserts
+pub row_added : (old new : Graph) (l : Literal ℕ) (r : Row ℕ) (a : Added) → r.kind ≡ Lit l → IsAdded old l new a → HasAddedRow r old new a
+row_added old new l r was_kept e h =
+    let K : RowKind ℕ → Type 0 = λ kind. new.literals ≡ old.literals ++ literals_of_kind kind in
+    let first : take (length old.literals) new.literals ≡ old.literals =
+    ap (take (length old.literals)) h.0.literals ∙ take-append-le (length old.literals) old.literals (l ∷ []) (omega arith) ∙ kept_same old.literals in
+    (record { same_nodes = h.0.same_nodes; same_marks = h.0.marks; literals = first }, subst K (sym e) h.0.literals)
+row_added old new l r (clashed k) e h =
+    let F : Graph → Type 0 = IsFurther old in
+    let K : RowKind ℕ → Type 0 = λ kind. IsClash (old.literals ++ literals_of_kind kind) k in
+    (subst F (sym h.0) (further_same old), subst K (sym e) h.1)
+
+-- a row turned is over the same numbers
+pub turned_below : (n : ℕ) (negated : Bool) (r q : Row ℕ) → IsRowBelow n r → q ≡ turned_row negated r → IsRowBelow n q
+turned_below n negated r q below e = (let P : Row ℕ → Type 0 = IsRowBelow n in subst P (sym e) (of_kind negated r.kind below))
+  where
+    of_literal : (l : Literal ℕ) → IsBelow n l → IsBelow n (contrary l)
+    of_literal (Node a) h = h
+    of_literal (Edge a b) h = h
+    of_literal (NoNode a) h = h
+    of_literal (NoEdge a b) h = h
+
+    of_kind : (m : Bool) (k : RowKind ℕ) → IsKindBelow n k → IsKindBelow n (turned_kind m k)
+    of_kind false k h = h
+    of_kind true True h = tt
+    of_kind true False h = tt
+    of_kind true (Lit l) h = of_literal l h
+    of_kind true And h = tt
+    of_kind true Or h = tt
+
+-- the row at a position is over numbers below n
+pub row_below : (n : ℕ) (rows : List (Row ℕ)) (p : ℕ) (r : Row ℕ) → All (IsRowBelow n) rows → slice_get rows p ≡ Some r → IsRowBelow n r
+row_below n rows p r all at = All-contains (IsRowBelow n) rows r all (p, slice_get_within rows p r at, get_or_from_slice_get rows p r r at)

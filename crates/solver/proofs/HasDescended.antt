@@ -1,0 +1,117 @@
+-- One turn of a descent, and its end.
+use Rattle.std.proofs.Common.{◌≡◌, ◌≤◌, ◌<◌, ℕ, ◌+◌, List, [], ◌∷◌, ◌++◌, take, reverse, length, refl, sym, ap, ◌∙◌, subst, arith, append_assoc}
+use Rattle.std.specs.Prelude.{All}
+use Rattle.std.proofs.lemmas.List.{reverse-append, length-map}
+use Rattle.pc_common.specs.World.{Node}
+use Rattle.pc_common.specs.Steps.{Step, split}
+use Rattle.pc_common.proofs.Elements.{contains_from_in}
+use Rattle.pc_ground.specs.declared.row.Row.{Row}
+use Rattle.pc_ground.specs.Tree.{Tree, turned, size_of}
+use Rattle.pc_ground.specs.declared.version.Version.{Version}
+use Rattle.pc_ground.specs.Refutes.{Branch, Signed, signed, literals_of, left_branch, right_branch}
+use Rattle.refutation.specs.Steps.{open_branches}
+use Rattle.order_graph.specs.State.{Graph}
+use Rattle.order_graph.specs.Clashes.{IsClash}
+use Rattle.order_graph.specs.declared.clash.Clash.{Clash}
+use Rattle.solver.specs.Spelled.{spelled, IsSpelled}
+use Rattle.solver.specs.Below.{IsRowBelow}
+use Rattle.solver.specs.Renamed.{tree_over}
+use Rattle.solver.specs.Places.{place_signed, side_positions, left_side, right_side, IsOr, IsCandidate, AreSides}
+use Rattle.solver.specs.Leaves.{IsClashBelow}
+use Rattle.solver.specs.Opens.{positions, waiting, IsLater, AreLater, opens, IsState, IsSame}
+use Rattle.solver.specs.Weights.{weight}
+use Rattle.solver.specs.Descents.{IsLonger, HasMore}
+use Rattle.solver.specs.declared.place.Place.{Place}
+use Rattle.solver.specs.declared.side.Side.{Side}
+use Rattle.solver.specs.declared.later.Later.{Later}
+use Rattle.solver.proofs.Runs.{open_partial}
+use Rattle.solver.proofs.ClashLeaf.{clash_below, literals_below}
+use Rattle.solver.proofs.IsState.{split_kept, left_is, right_is}
+use Rattle.solver.proofs.Weight.{weight_more, weight_split}
+use Rattle.pc_ground.proofs.FlatRows.{children_either}
+
+pub clash_in : (n : ℕ) (rows : List (Row ℕ)) (ps : Branch) (k : Clash) → IsSpelled rows → All (IsRowBelow n) rows → IsClash (literals_of (spelled rows) ps) k → IsClashBelow n k
+clash_in n rows ps k flat all c = clash_below n (literals_of (spelled rows) ps) k (literals_below n rows ps flat all) c
+
+pub one_open : (v : Version) (nodes : List Node) (t : Tree ℕ) (g : Graph) (here : List Place) (ls : List Later) (ss : List (Step Node)) (more : Branch)
+    → IsState v nodes t g here ls ss more → 0 < open_branches ss
+one_open v nodes t g here ls ss more kept =
+    omega (arith, open_partial v (tree_over nodes t) ss (opens t (positions here ++ more) here ls) kept.partial)
+
+pub longer_push : (old mid new : List (Step Node)) (s : Step Node) → IsLonger old mid → new ≡ mid ++ s ∷ [] → IsLonger old new
+longer_push old mid new s (more, e) f = (more ++ s ∷ [], f ∙ ap (λ xs. xs ++ s ∷ []) e ∙ append_assoc old more (s ∷ []))
+
+pub more_longer : (old mid new : List (Step Node)) (s : Step Node) → mid ≡ old ++ s ∷ [] → IsLonger mid new → HasMore old new
+more_longer old mid new s e (more, f) = (s, more, f ∙ ap (λ xs. xs ++ more) e ∙ append_assoc old (s ∷ []) more)
+
+-- what the branches weigh once the first is closed
+pub lighter_closed : (t : Tree ℕ) (all rest : List Branch) (ps : Branch) (most : ℕ) → all ≡ ps ∷ rest → weight t all ≤ most → weight t rest ≤ most
+lighter_closed t all rest ps most e h = (let less = weight_more t ps rest in omega (arith, less, ap (weight t) e, h))
+
+-- the waiting side's root is inside, and its mark is live
+pub next_inside : (v : Version) (nodes : List Node) (t : Tree ℕ) (g : Graph) (here : List Place) (ls ms : List Later) (ss : List (Step Node)) (l : Later) (more : Branch)
+    → IsState v nodes t g here ls ss more → ls ≡ ms ++ l ∷ [] → IsLater t (positions here) g.marks l
+next_inside v nodes t g here ls ms ss l more kept popped =
+    let W : List Later → Type 0 = AreLater t (positions here) g.marks in
+    (subst W (ap reverse popped ∙ reverse_push ms l) kept.waits).0
+  where
+    reverse_push : {X : Type 0} (xs : List X) (x : X) → reverse (xs ++ x ∷ []) ≡ x ∷ reverse xs
+    reverse_push xs x = reverse-append xs (x ∷ [])
+
+pub candidates_ors : (t : Tree ℕ) (ps : Branch) (xs : List Place) → All (λ q. IsCandidate t ps (place_signed q)) xs → All (λ q. IsOr t (place_signed q)) xs
+candidates_ors t ps xs all = λ k d inside. (let c = all k d inside in (c.left, c.right, c.is_or))
+
+-- once the mark is made and the trials are over
+pub same_after : (g h i : Graph) → h ≡ record g { marks = g.marks ++ length g.literals ∷ [] } → IsSame h i
+    → (i.literals ≡ g.literals) × (i.nodes ≡ g.nodes) × (i.marks ≡ g.marks ++ length g.literals ∷ [])
+same_after g h i e same = (
+  same.same_literals ∙ ap (λ (x : Graph). x.literals) e,
+  same.same_nodes ∙ ap (λ (x : Graph). x.nodes) e,
+  same.same_marks ∙ ap (λ (x : Graph). x.marks) e,
+)
+
+-- the branches weigh less once the candidate is split
+pub lighter_split : (v : Version) (t : Tree ℕ) (here : List Place) (ls ms : List Later) (l : Later) (q : Signed) → (candidate : IsCandidate t (positions here) q)
+    → l.count ≡ length here → l.side ≡ right_side v q (size_of candidate.left) → ms ≡ ls ++ l ∷ []
+    → weight t (opens t (positions here ++ side_positions t (left_side q)) here ms) < weight t (opens t (positions here) here ls)
+lighter_split v t here ls ms l q candidate count side pushed =
+    let ps = positions here in
+    let n = q.negated in
+    let p = q.position in
+    let a = candidate.left in
+    let b = candidate.right in
+    let subs = children_either (turned n t) p a b candidate.is_or in
+    let reversed : reverse ms ≡ l ∷ reverse ls = ap reverse pushed ∙ reverse-append ls (l ∷ []) in
+    let length_ps : length ps ≡ length here = length-map here place_signed in
+    let whole : take l.count ps ≡ ps = ap (λ k. take k ps) (count ∙ sym length_ps) ∙ take_whole ps in
+    let left : ps ++ side_positions t (left_side q) ≡ left_branch ps n p a = left_is t ps n p a subs.0 in
+    let right : take l.count ps ++ side_positions t l.side ≡ right_branch v ps n p a b =
+    ap (λ rs. rs ++ side_positions t l.side) whole ∙ ap (λ z. ps ++ side_positions t z) side ∙ right_is v t ps n p a b subs.0 subs.1 in
+    let all : opens t (ps ++ side_positions t (left_side q)) here ms ≡ left_branch ps n p a ∷ right_branch v ps n p a b ∷ waiting t ps (reverse ls) =
+    ap (λ w. (ps ++ side_positions t (left_side q)) ∷ waiting t ps w) reversed
+    ∙ ap (λ u. u ∷ (take l.count ps ++ side_positions t l.side) ∷ waiting t (take l.count ps) (reverse ls)) left
+    ∙ ap (λ u. left_branch ps n p a ∷ u ∷ waiting t (take l.count ps) (reverse ls)) right
+    ∙ ap (λ u. left_branch ps n p a ∷ right_branch v ps n p a b ∷ waiting t u (reverse ls)) whole in
+    let less = weight_split v t ps (waiting t ps (reverse ls)) n p a b candidate.is_or
+    (λ i. candidate.no_left (contains_from_in (signed n (p + 1)) ps i)) (λ i. candidate.no_right (contains_from_in (signed n (p + 1 + size_of a)) ps i)) in
+    omega (arith, less, ap (weight t) all)
+  where
+    take_whole : {X : Type 0} (xs : List X) → take (length xs) xs ≡ xs
+    take_whole [] = refl
+    take_whole (x ∷ xs) = ap (λ ys. x ∷ ys) (take_whole xs)
+
+pub advanced : (v : Version) (nodes : List Node) (t : Tree ℕ) (g h i : Graph) (here there : List Place) (ls ms : List Later) (ss us : List (Step Node)) (l : Later) (q : Signed) (c : Side × Side)
+    → IsState v nodes t g here ls ss [] → IsCandidate t (positions here) q → h ≡ record g { marks = g.marks ++ length g.literals ∷ [] } → IsSame h i → there ≡ here
+    → AreSides v t q c → l.count ≡ length here → l.mark ≡ length g.marks → l.side ≡ c.1 → ms ≡ ls ++ l ∷ [] → us ≡ ss ++ split q.negated q.position ∷ []
+    → IsState v nodes t i there ms us (side_positions t c.0)
+    × (weight t (opens t (positions there ++ side_positions t c.0) there ms) < weight t (opens t (positions here) here ls))
+advanced v nodes t g h i here there ls ms ss us l q c kept candidate e same e_there are count mark side pushed steps =
+    let a = candidate.left in
+    let b = candidate.right in
+    let after = same_after g h i e same in
+    let sides = are a b candidate.is_or in
+    let next = split_kept v nodes t g i here ls ms ss us l q.negated q.position a b kept candidate.on_branch candidate.is_or after.0 after.1 after.2 count mark (side ∙ sides.1) pushed steps in
+    let P : List Place → Side → Type 0 = λ xs z. IsState v nodes t i xs ms us (side_positions t z) in
+    let less = lighter_split v t here ls ms l q candidate count (side ∙ sides.1) pushed in
+    let Q : List Place → Side → Type 0 = λ xs z. weight t (opens t (positions xs ++ side_positions t z) xs ms) < weight t (opens t (positions here) here ls) in
+    (subst (λ xs. P xs c.0) (sym e_there) (subst (P here) (sym sides.0) next), subst (λ xs. Q xs c.0) (sym e_there) (subst (Q here) (sym sides.0) less))

@@ -1,0 +1,297 @@
+-- From what a search keeps to what it hands out.
+use Rattle.std.proofs.Common.{◌≡◌, ◌<◌, inl, inr, ℕ, zero, suc, ◌+◌, ◌-◌, ◌^◌, true, List, [], ◌∷◌, Option, Some, None, map, reverse, length, refl, sym, ap, ◌∙◌, subst, arith, get_or}
+use Rattle.std.specs.Prelude.{Contains, All, slice_get, Bool, false, ◌==◌, nat_lt}
+use Rattle.std.specs.Option.{option_map}
+use Rattle.std.proofs.lemmas.List.{append-nil}
+use Rattle.std.proofs.lemmas.List.Elements.{All-contains}
+use Rattle.std.proofs.lemmas.Option.{slice_get-get_or, get_or_from_slice_get}
+use Rattle.pc_common.specs.World.{Node}
+use Rattle.pc_common.specs.Steps.{Step, close, false_step}
+use Rattle.pc_common.proofs.Elements.{In, contains_from_in, in_map, in_front, in_back, true_or_false}
+use Rattle.pc_ground.specs.declared.literal.Literal.{Literal}
+use Rattle.pc_ground.specs.declared.row.Row.{Row}
+use Rattle.pc_ground.specs.declared.node_key.NodeKey.{NodeKey}
+use Rattle.pc_ground.specs.Keys.{key_node}
+use Rattle.pc_ground.specs.Rows.{rows_of}
+use Rattle.pc_ground.specs.Numbers.{AreDistinct}
+use Rattle.pc_ground.specs.Tree.{Tree, always, never, leaf, both, either, turned, size_of}
+use Rattle.pc_ground.specs.declared.version.Version.{Version}
+use Rattle.pc_ground.specs.declared.version.Version.TheVariants.{One, Two}
+use Rattle.pc_ground.specs.Literals.{IsConsistent}
+use Rattle.pc_ground.specs.Refutes.{Branch, signed, all_signed, subtree_at, part_at, literals_of, a_falsity, IsPartial, IsRefutation}
+use Rattle.pc_ground.specs.Rows.{root_kind}
+use Rattle.pc_ground.proofs.FlatRows.{subtree_size, size_pos}
+use Rattle.pc_ground.proofs.Turned.{subtree_denied, size_turned}
+use Rattle.pc_ground.proofs.Bools.{not_both}
+use Rattle.pc_ground.proofs.Refuted.{one_has_no_sign}
+use Rattle.pc_ground.proofs.StageWalks.{some_same}
+use Rattle.pc_ground.specs.Folded.{HasNoConstant, IsFolded}
+use Rattle.pc_ground.specs.declared.row.RowKind.TheVariants.{False}
+use Rattle.graph_text.specs.Graphs.{graph_nodes, graph_edges}
+use Rattle.graph_text.specs.declared.graph.Graph.{Graph as PlainGraph}
+use Rattle.order_graph.specs.State.{Graph, IsGraph}
+use Rattle.order_graph.proofs.GeneratesWorld.{consistent_generate}
+use Rattle.solver.specs.Spelled.{spelled, IsSpelled}
+use Rattle.solver.specs.Renamed.{tree_over, rows_over, node_at, renamed_tree}
+use Rattle.solver.specs.Below.{IsRowBelow}
+use Rattle.solver.specs.Met.{IsMet, IsMetUnder}
+use Rattle.solver.specs.Places.{place_signed, IsCandidate, HasSignsOf, AreChosen, root_side, side_positions}
+use Rattle.solver.specs.Opens.{positions, waiting, opens, IsState}
+use Rattle.solver.specs.Shown.{ArePresent, AreEdges}
+use Rattle.solver.specs.Answers.{IsWitness, IsAnswer}
+use Rattle.solver.specs.Turns.{IsTurn, IsTurnOf}
+use Rattle.solver.specs.declared.search.Turn.{Turn}
+use Rattle.solver.specs.declared.search.Turn.TheVariants.{More, Done}
+use Rattle.solver.specs.Searched.{IsSearching, IsSearch, branches_of}
+use Rattle.solver.specs.declared.place.Place.{Place}
+use Rattle.solver.specs.declared.later.Later.{Later}
+use Rattle.solver.proofs.RenamedTree.{part_renamed, size_renamed, asserted_renamed, tree_of_names}
+use Rattle.solver.proofs.IsSpelled.{spelled_is, is_spelled}
+use Rattle.solver.proofs.IsGrown.{IsGrown, grown_first}
+use Rattle.solver.proofs.IsMet.{NoFalse, met_whole}
+use Rattle.solver.proofs.ShownWorld.{Shows, AreBelow, shown_world}
+use Rattle.solver.proofs.Shown.{all_by_in}
+use Rattle.solver.proofs.IsKnown.{number_named}
+use Rattle.order_graph.specs.Ways.{IsBelow}
+use Rattle.solver.proofs.HasAsserted.{length_spelled, row_root}
+
+option_back : {X Y : Type 0} (g : X → Y) (o : Option X) (y : Y) → option_map g o ≡ Some y → (x : X) × (o ≡ Some x) × (g x ≡ y)
+option_back g None y e = cc
+option_back g (Some x) y e = (x, refl, (let same : g x ≡ y = cc in same))
+
+grown_back : {M N : Type 0} (f : M → N) (t : Tree M) (ps : Branch) → IsGrown (renamed_tree f t) ps → IsGrown t ps
+grown_back f t ps g = record {
+  root = g.root;
+  inside = λ q i.
+      let there = g.inside q i in
+      let back = option_back (renamed_tree f) (part_at t q) there.0 (sym (part_renamed f t q) ∙ there.1) in
+      (back.0, back.1);
+  ands = λ q a b i e.
+      let k = g.ands q (renamed_tree f a) (renamed_tree f b) i (part_renamed f t q ∙ ap (option_map (renamed_tree f)) e) in
+      let P : ℕ → Type 0 = λ n. In (signed q.negated (q.position + 1 + n)) ps in
+      (k.0, subst P (size_renamed f a) k.1);
+}
+
+pub kept_run : (v : Version) (nodes : List Node) (t : Tree ℕ) (g : Graph) (here : List Place) (ls : List Later) (ss : List (Step Node)) → IsState v nodes t g here ls ss []
+    → IsPartial v (tree_over nodes t) ss (opens t (positions here) here ls)
+kept_run v nodes t g here ls ss kept =
+    let P : Branch → Type 0 = λ ps. IsPartial v (tree_over nodes t) ss (opens t ps here ls) in
+    subst P (append-nil (positions here)) kept.partial
+
+kept_grown : (v : Version) (nodes : List Node) (t : Tree ℕ) (g : Graph) (here : List Place) (ls : List Later) (ss : List (Step Node)) → IsState v nodes t g here ls ss [] → IsGrown t (positions here)
+kept_grown v nodes t g here ls ss kept =
+    grown_back (node_at nodes) t (positions here) (grown_first v (tree_over nodes t) ss (positions here) _ (kept_run v nodes t g here ls ss kept))
+
+-- asserted positions are inside
+pub positions_inside : (v : Version) (nodes : List Node) (rows : List (Row ℕ)) (g : Graph) (here : List Place) (ls : List Later) (ss : List (Step Node)) → IsSpelled rows
+    → IsState v nodes (spelled rows) g here ls ss [] → All (λ (a : Place). a.position < length rows) here
+positions_inside v nodes rows g here ls ss flat kept =
+    let t = spelled rows in
+    let grown = kept_grown v nodes t g here ls ss kept in
+    all_by_in (λ (a : Place). a.position < length rows) here (λ a i.
+    let there = grown.inside (place_signed a) (in_map place_signed a here i) in
+    let size = subtree_size (turned a.negated t) a.position there.0 there.1 in
+    omega (arith, size, size_pos there.0, size_turned a.negated t, length_spelled rows flat))
+
+-- on a branch with no candidate the whole tree is true
+pub kept_met : (v : Version) (nodes : List Node) (t : Tree ℕ) (g : Graph) (here : List Place) (ls : List Later) (ss : List (Step Node)) → IsState v nodes t g here ls ss []
+    → IsConsistent g.literals → AreChosen t (positions here) → NoFalse t → IsMet g.literals t
+kept_met v nodes t g here ls ss kept consistent chosen none =
+    let P : List (Literal ℕ) → Type 0 = IsConsistent in
+    let Q : List (Literal ℕ) → Type 0 = λ xs. IsMet xs t in
+    subst Q (sym kept.literals) (met_whole t (positions here) (kept_grown v nodes t g here ls ss kept)
+    (consistent_generate (literals_of t (positions here)) (subst P kept.literals consistent)).met chosen none)
+
+rows_below : (n : ℕ) (t : Tree ℕ) → ((r : Row ℕ) → In r (rows_of t) → IsRowBelow n r) → AreBelow n t
+rows_below n always f = tt
+rows_below n never f = tt
+rows_below n (leaf l) f = f _ (inl refl)
+rows_below n (both a b) f =
+    (rows_below n a (λ r i. f r (inr (in_front r (rows_of a) (rows_of b) i))), rows_below n b (λ r i. f r (inr (in_back r (rows_of a) (rows_of b) i))))
+rows_below n (either a b) f =
+    (rows_below n a (λ r i. f r (inr (in_front r (rows_of a) (rows_of b) i))), rows_below n b (λ r i. f r (inr (in_back r (rows_of a) (rows_of b) i))))
+
+tree_below : (n : ℕ) (rows : List (Row ℕ)) → IsSpelled rows → All (IsRowBelow n) rows → AreBelow n (spelled rows)
+tree_below n rows flat all =
+    let P : List (Row ℕ) → Type 0 = All (IsRowBelow n) in
+    let whole = subst P flat all in
+    rows_below n (spelled rows) (λ r i. All-contains (IsRowBelow n) (rows_of (spelled rows)) r whole (contains_from_in r (rows_of (spelled rows)) i))
+
+named_in : (nodes : List Node) (k : ℕ) (a : Node) → k < length nodes → node_at nodes k ≡ a → Contains nodes a
+named_in nodes k a inside e =
+    let other : Node = record { op = 0; core = 0; stage = 0 } in
+    let at = slice_get-get_or nodes k other inside in
+    let same : get_or nodes k other ≡ a = sym (number_named nodes k (get_or nodes k other) at) ∙ e in
+    (k, inside, get_or_from_slice_get nodes k a a (at ∙ ap Some same))
+
+-- the graph of such a branch shows that the tree is true in its world
+pub witness : (v : Version) (nodes : List Node) (n : ℕ) (rows : List (Row ℕ)) (g : Graph) (here : List Place) (ls : List Later) (ss : List (Step Node)) (shown : PlainGraph)
+    → n ≡ length nodes → IsSpelled rows → AreDistinct nodes → All (IsRowBelow n) rows → ((p : ℕ) → subtree_at (spelled rows) p ≡ Some never → ⊥)
+    → IsState v nodes (spelled rows) g here ls ss [] → IsGraph g → AreChosen (spelled rows) (positions here)
+    → ArePresent nodes g.literals n (graph_nodes shown) → AreEdges nodes g.literals (graph_edges shown) → IsWitness nodes (tree_over nodes (spelled rows)) shown
+witness v nodes n rows g here ls ss shown size flat distinct below none kept graph chosen present edges =
+    let t = spelled rows in
+    let P : ℕ → Type 0 = λ m. ArePresent nodes g.literals m (graph_nodes shown) in
+    let Q : ℕ → Type 0 = λ m. All (IsRowBelow m) rows in
+    let B : ℕ → Type 0 = λ m. All (IsBelow m) g.literals in
+    let there = subst P size present in
+    let shows : Shows nodes g.literals (graph_nodes shown) (graph_edges shown) =
+    record { distinct = distinct; below = subst B kept.all_nodes graph.below; consistent = graph.consistent; present = there; edges = edges } in
+    let met = kept_met v nodes t g here ls ss kept graph.consistent chosen none in
+    let made = shown_world nodes g.literals (graph_nodes shown) (graph_edges shown) t shows (tree_below (length nodes) rows flat (subst Q size below)) met in record {
+      known = λ a h. (let k = (there a).0 h in named_in nodes k.0 a k.1 k.3);
+      ends = made.0;
+      world = made.1.0;
+      generated = made.1.1;
+      is_world = made.1.2;
+      satisfied = made.1.3;
+    }
+
+-- in version 1 no position of the branch has a sign
+pub kept_signs : (v : Version) (nodes : List Node) (t : Tree ℕ) (g : Graph) (here : List Place) (ls : List Later) (ss : List (Step Node)) → IsState v nodes t g here ls ss []
+    → HasSignsOf v (positions here)
+kept_signs One nodes t g here ls ss kept =
+    let ps = positions here in
+    let opened = opens t ps here ls in
+    λ q has. one_has_no_sign (tree_over nodes t) ss opened (kept_run One nodes t g here ls ss kept) ps (contains_from_in ps opened (inl refl)) q has
+kept_signs Two nodes t g here ls ss kept = tt
+
+plain_part : (t : Tree ℕ) (n : Bool) (p : ℕ) (s : Tree ℕ) → subtree_at (turned n t) p ≡ Some s → subtree_at t p ≡ Some (turned n s)
+plain_part t false p s e = e
+plain_part t true p s e = subtree_denied t true p s e
+
+-- what the type of a search keeps, as its clauses say it
+pub searching : (v : Version) (keys : List NodeKey) (rows : List (Row ℕ)) (g : Graph) (here : List Place) (ls : List Later) (ss : List (Step Node)) (candidates : List Place)
+    → IsSearch v keys rows g here ls ss candidates
+    → IsSearching (record { version = v; nodes = map key_node keys; rows = rows; graph = g; steps = ss; branches = branches_of rows here ls })
+searching v keys rows g here ls ss candidates s =
+    let nodes = map key_node keys in
+    let t = spelled rows in
+    let other : Place = record { negated = false; position = 0 } in
+    let q = place_signed (get_or candidates 0 other) in
+    let candidate = s.all 0 other s.some in
+    let part = turned q.negated (either candidate.left candidate.right) in
+    let P : List (Literal ℕ) → Type 0 = λ xs. IsMetUnder q.negated xs part in record {
+      first = positions here;
+      others = waiting t (positions here) (reverse ls);
+      branches = refl;
+      partial = kept_run v nodes t g here ls ss s.state;
+      nodes = s.state.all_nodes;
+      literals = s.state.literals;
+      place = q;
+      part = part;
+      on_branch = candidate.on_branch;
+      at_place = plain_part t q.negated q.position (either candidate.left candidate.right) candidate.is_or;
+      not_met = λ h. candidate.is_false (subst P s.state.literals h);
+    }
+
+pub candidates_small : (rows : List (Row ℕ)) (ps : Branch) (xs : List Place) → IsSpelled rows → length rows < 2 ^ 63
+    → All (λ q. IsCandidate (spelled rows) ps (place_signed q)) xs → All (λ q. q.position < 2 ^ 63) xs
+candidates_small rows ps xs flat bound all = λ k d inside.
+    let c = all k d inside in
+    let q = get_or xs k d in
+    let size = subtree_size (turned q.negated (spelled rows)) q.position (either c.left c.right) c.is_or in
+    omega (arith, size, size_pos (either c.left c.right), size_turned q.negated (spelled rows), length_spelled rows flat, bound)
+
+pub not_zero : (n : ℕ) (b : Bool) → b ≡ (n == 0) → b ≡ false → 0 < n
+not_zero zero b e f = absurd (not_both b e f)
+not_zero (suc n) b e f = omega arith
+
+-- rows of numbers that are named as those of a tree
+pub names_tree : (nodes : List Node) (rows : List (Row ℕ)) (t : Tree Node) → rows_over nodes rows ≡ rows_of t → IsSpelled rows × (tree_over nodes (spelled rows) ≡ t)
+names_tree nodes rows t e =
+    let back = tree_of_names (node_at nodes) t rows e in
+    (is_spelled rows back.0 back.1, ap (tree_over nodes) (spelled_is rows back.0 back.1) ∙ back.2)
+
+some_false : {N : Type 0} (s : Tree N) → HasNoConstant s → (p : ℕ) → subtree_at s p ≡ Some never → ⊥
+some_false always h p e = h
+some_false never h p e = h
+some_false (leaf l) h zero e = cc
+some_false (leaf l) h (suc p) e = cc
+some_false (both a b) h zero e = cc
+some_false (both a b) h (suc p) e =
+    elim (true_or_false (nat_lt p (size_of a))) [
+      | inl l ↦ some_false a h.0 p (rw l at e)
+      | inr r ↦ some_false b h.1 (p - size_of a) (rw r at e)
+    ]
+some_false (either a b) h zero e = cc
+some_false (either a b) h (suc p) e =
+    elim (true_or_false (nat_lt p (size_of a))) [
+      | inl l ↦ some_false a h.0 p (rw l at e)
+      | inr r ↦ some_false b h.1 (p - size_of a) (rw r at e)
+    ]
+
+pub no_false : {N : Type 0} (t : Tree N) → IsFolded t → (t ≡ never → ⊥) → (p : ℕ) → subtree_at t p ≡ Some never → ⊥
+no_false always h other zero e = cc
+no_false always h other (suc p) e = cc
+no_false never h other p e = other refl
+no_false (leaf l) h other zero e = cc
+no_false (leaf l) h other (suc p) e = cc
+no_false (both a b) h other p e = some_false (both a b) h p e
+no_false (either a b) h other p e = some_false (either a b) h p e
+
+folded_back : {M N : Type 0} (f : M → N) (t : Tree M) → HasNoConstant (renamed_tree f t) → HasNoConstant t
+folded_back f always h = h
+folded_back f never h = h
+folded_back f (leaf l) h = tt
+folded_back f (both a b) h = (folded_back f a h.0, folded_back f b h.1)
+folded_back f (either a b) h = (folded_back f a h.0, folded_back f b h.1)
+
+pub folded_numbers : {M N : Type 0} (f : M → N) (t : Tree M) → IsFolded (renamed_tree f t) → IsFolded t
+folded_numbers f always h = tt
+folded_numbers f never h = tt
+folded_numbers f (leaf l) h = tt
+folded_numbers f (both a b) h = folded_back f (both a b) h
+folded_numbers f (either a b) h = folded_back f (either a b) h
+
+never_of : {N : Type 0} (s : Tree N) → root_kind s ≡ False → s ≡ never
+never_of always e = cc
+never_of never e = refl
+never_of (leaf l) e = cc
+never_of (both a b) e = cc
+never_of (either a b) e = cc
+
+-- the first row is False, where the whole tree is
+pub whole_false : (rows : List (Row ℕ)) (r : Row ℕ) → IsSpelled rows → slice_get rows 0 ≡ Some r → r.kind ≡ False → spelled rows ≡ never
+whole_false rows r flat at kind =
+    let there = row_root rows (spelled rows) 0 r flat (size_pos (spelled rows)) at in
+    let same : spelled rows ≡ there.0 = some_same there.1 in
+    same ∙ never_of there.0 (sym (ap (λ (x : Row ℕ). x.kind) there.2) ∙ kind)
+
+pub not_false : (rows : List (Row ℕ)) (r : Row ℕ) → IsSpelled rows → slice_get rows 0 ≡ Some r → (r.kind ≡ False → ⊥) → spelled rows ≡ never → ⊥
+not_false rows r flat at other e =
+    let there = row_root rows (spelled rows) 0 r flat (size_pos (spelled rows)) at in
+    let same : there.0 ≡ never = sym (some_same there.1) ∙ e in
+    other (ap (λ (x : Row ℕ). x.kind) there.2 ∙ ap root_kind same)
+
+-- what is kept before the root is entered
+pub first_kept : (v : Version) (nodes : List Node) (t : Tree ℕ) (g : Graph) (here : List Place) (ls : List Later) (ss : List (Step Node)) → g.nodes ≡ length nodes → g.literals ≡ [] → g.marks ≡ []
+    → here ≡ [] → ls ≡ [] → ss ≡ [] → IsState v nodes t g here ls ss (side_positions t root_side)
+first_kept v nodes t g here ls ss all literals marks none_here none_later none_steps =
+    let A : List Place → List Later → List (Step Node) → Type 0 = λ as' ls' ss'. IsState v nodes t g as' ls' ss' (side_positions t root_side) in
+    let first : A [] [] [] = record {
+      literals = literals;
+      all_nodes = all;
+      marks = omega (arith, ap length marks);
+      waits = tt;
+      partial = ap (λ ps. all_signed false ps ∷ []) (asserted_renamed (node_at nodes) t 0);
+    } in
+    subst (λ x. A here ls x) (sym none_steps) (subst (λ x. A here x []) (sym none_later) (subst (λ x. A x [] []) (sym none_here) first))
+
+-- the refutation of False
+pub false_refuted : (v : Version) (nodes : List Node) (t : Tree ℕ) (ss : List (Step Node)) → t ≡ never → ss ≡ close false_step ∷ [] → IsRefutation v (tree_over nodes t) ss
+false_refuted v nodes t ss e f =
+    let T = tree_over nodes t in
+    let is_never : T ≡ never = ap (tree_over nodes) e in
+    let run : IsPartial v T (close false_step ∷ []) [] = (a_falsity is_never, refl) in
+    let P : List (Step Node) → Type 0 = IsRefutation v T in
+    subst P (sym f) run
+
+pub turn_of : (v : Version) (had nodes : List Node) (rows : List (Row ℕ)) (t : Tree Node) (turn : Turn) → had ≡ nodes → tree_over had (spelled rows) ≡ t → IsTurn v had rows turn
+    → IsTurnOf v nodes t turn
+turn_of v had nodes rows t (More s) e f h =
+    (h.0, h.1 ∙ e, ap (λ ns. tree_over ns (spelled s.rows)) h.1 ∙ ap (λ rs. tree_over had (spelled rs)) h.2 ∙ f, h.3)
+turn_of v had nodes rows t (Done a) e f h =
+    let P : List Node → Type 0 = λ ns. IsAnswer v ns (tree_over had (spelled rows)) a in
+    let Q : Tree Node → Type 0 = λ x. IsAnswer v nodes x a in
+    subst Q f (subst P e h)

@@ -1,0 +1,22 @@
+use Rattle.std.proofs.Common.{◌≡◌, ◌≤◌, ◌-◌, ℕ, List, ◌++◌, length, take}
+use Rattle.pc_ground.specs.Rows.{turned_rows}
+use Rattle.pc_ground.specs.Refutes.{all_signed, literals_of}
+use Rattle.pc_ground.specs.Walks.{Walk}
+use Rattle.solver.specs.Spelled.{spelled}
+use Rattle.solver.specs.Places.{asserted_at}
+use Rattle.solver.specs.Opens.{positions, IsFurther}
+use Rattle.solver.proofs.enter.enter_part.Given as goal
+
+-- the positions so far and those that the walk still comes to are those of the whole part
+abbrev pub invariant-loop-at : goal.invariant-loop-at
+invariant-loop-at g l = record {
+  end : l.end ≤ length l.rows;
+  walk : (ps : List ℕ) × Walk (turned_rows l.negated l.rows) l.end l.at ps
+      × (positions l.asserted.items ++ all_signed l.negated ps ≡ positions l.fn.asserted.items ++ asserted_at (spelled l.rows) l.negated l.root);
+  literals : l.graph.literals ≡ literals_of (spelled l.rows) (positions l.asserted.items);
+  further : IsFurther l.fn.graph l.graph;
+  kept : take (length l.fn.asserted.items) l.asserted.items ≡ l.fn.asserted.items;
+}
+
+abbrev pub decreases-loop-at : goal.decreases-loop-at
+decreases-loop-at g l = l.end - l.at

@@ -1,0 +1,4 @@
+pub mod Fronts
+pub mod VerdictTexts
+pub mod CertifiedTruth
+pub mod FrontVerdicts

@@ -1,0 +1,53 @@
+-- What is decided of a model and a case, before it is written, and its text.
+use Rattle.std.specs.Prelude.{◌++◌, ℕ, List, [], codes, All}
+use Rattle.std.specs.List.{flat_map}
+use Rattle.pc_common.specs.Case.{Case}
+use Rattle.pc_common.specs.Lines.{Names, Verdict as Kind, observable, unobservable, verdict_text as verdict_words, second_text, lines_text}
+use Rattle.pc_common.specs.declared.status.Status.{Status}
+use Rattle.pc_common.specs.declared.status.Status.TheVariants.{Observable, Unobservable}
+use Rattle.pc_syntax.specs.Written.{WrittenModel}
+use Rattle.pc_ground.specs.GroundTree.{ground_tree}
+use Rattle.pc_ground.specs.NodeForm.{names_of}
+use Rattle.pc_ground.specs.declared.version.Version.{Version}
+use Rattle.pc_ground.specs.declared.version.Version.TheVariants.{One, Two}
+use Rattle.pc_front.specs.Front.{IsFrontOf}
+use Rattle.refutation.specs.Steps.{step_text, IsStepIn}
+use Rattle.graph_text.specs.Graphs.{graph_nodes, graph_edges, graph_lines, IsKeyIn, IsEdgeIn}
+use Rattle.solver.specs.Answers.{IsAnswer}
+use Rattle.solver.specs.declared.answer.Answer.{Answer as Found}
+use Rattle.solver.specs.declared.answer.Answer.TheVariants.{Observable as a_graph, Unobservable as a_refutation}
+use Rattle.verdicts.specs.declared.verdict.Verdict.{Verdict}
+
+-- the front is that of the model and the case, and what is found is of their ground tree
+pub record IsVerdict (m : WrittenModel) (c : Case) (v : Verdict) : Type 0 where
+  pub front_of : IsFrontOf m c v.front
+  pub found : IsAnswer v.version v.front.numbering (ground_tree m c) v.found
+
+abbrev pub kind_of : Found → Kind
+kind_of (a_graph g) = observable
+kind_of (a_refutation r) = unobservable
+
+abbrev pub status_of : Found → Status
+status_of (a_graph g) = Observable
+status_of (a_refutation r) = Unobservable
+
+-- each node is one of these names'
+abbrev pub IsWritable : Names → Found → Type 0
+IsWritable names (a_graph g) = All (IsKeyIn names) g.nodes × All (IsEdgeIn names) g.edges
+IsWritable names (a_refutation r) = All (IsStepIn names) r
+
+-- the line before the steps of a refutation
+abbrev pub version_text : Version → List ℕ
+version_text One = []
+version_text Two = codes "version 2\n"
+
+-- what stands between the second line and the last one
+abbrev pub body_text : Version → Names → Found → List ℕ
+body_text version names (a_graph g) = lines_text names (graph_lines (graph_nodes g) (graph_edges g))
+body_text version names (a_refutation r) = version_text version ++ flat_map (step_text names) r
+
+abbrev pub verdict_text : Verdict → List ℕ
+verdict_text v =
+    let kind = kind_of v.found in
+    (verdict_words kind ++ codes "\n") ++ ((second_text kind v.front.case.expectation ++ codes "\n")
+    ++ (body_text v.version (names_of v.front) v.found ++ codes "end\n"))

@@ -1,0 +1,12 @@
+//! What the search finds of a front, with the text of its certificate.
+//!
+//! `verdict_on` searches a front: a graph that shows the outcome, or a refutation of the ground tree. `write_verdict`
+//! writes the certificate of that, and `verdict_status` is the status that goes with it. `check` returns a verdict
+//! as its answer; other commands put the texts of verdicts into theirs.
+#![tactic(auto)]
+
+mod report;
+mod verdict;
+
+pub use report::write_verdict;
+pub use verdict::{Verdict, verdict_kind, verdict_on, verdict_status};

@@ -1,0 +1,94 @@
+-- A text is one thing to a model and a case, and what it is says whether the outcome is observable.
+use Rattle.std.proofs.Common.{◌≡◌, ◌⊎◌, inl, inr, ℕ, ◌≤◌, ◌<◌, ◌+◌, List, [], ◌++◌, Option, Some, length, refl, sym, ◌∙◌, ap, subst, arith, length-append}
+use Rattle.std.proofs.lemmas.Bool.{cases_order}
+use Rattle.pc_common.specs.Case.{Case}
+use Rattle.pc_common.specs.declared.status.Status.TheVariants.{Observable as is_observable, Unobservable as is_unobservable, CertRefused as is_cert_refused}
+use Rattle.pc_common.specs.Lines.{observable, unobservable}
+use Rattle.pc_syntax.specs.Written.{WrittenModel}
+use Rattle.cert_check.specs.Certificates.{Question}
+use Rattle.pc_common.specs.declared.limits.TheConstants.{MAX_CERTIFICATE}
+use Rattle.line_judge.specs.Texts.{IsRefusedAt}
+use Rattle.cert_check.specs.RawLines.{RawBegins, RawWhole}
+use Rattle.cert_check.specs.Verified.{Verified, seen, unseen, too_long, refused}
+use Rattle.cert_check.specs.Fed.{IsFed}
+use Rattle.cert_check.specs.declared.checker.Checker.{Checker}
+use Rattle.cert_check.specs.declared.checked.Checked.{Checked}
+use Rattle.cert_check.specs.declared.checked.Checked.TheVariants.{Refused}
+use Rattle.command_base.specs.Questions.{question_by}
+use Rattle.verify_command.specs.CheckedTexts.{checked_status}
+use Rattle.verify_command.specs.Reading.{TookFile}
+use Rattle.verify_command.proofs.PieceByPiece.{append_nil}
+use Rattle.command_base.specs.VerdictStatus.{IsTrueStatus}
+use Rattle.command_base.proofs.CertificateTruth.{graph_observable, tree_unobservable}
+
+one_verdict : is_observable ≡ is_unobservable → ⊥
+one_verdict e = cc
+
+refused_seen : is_cert_refused ≡ is_observable → ⊥
+refused_seen e = cc
+
+refused_unseen : is_cert_refused ≡ is_unobservable → ⊥
+refused_unseen e = cc
+
+pub verified_true : (m : WrittenModel) (c : Case) (text : List ℕ) (found : Checked) → Verified (question_by m c) text found
+    → IsTrueStatus m c (checked_status found)
+verified_true m c text found (seen short graph) = (λ e. graph_observable m c text graph, λ e. absurd (one_verdict e))
+verified_true m c text found (unseen short tree) = (λ e. absurd (one_verdict (sym e)), λ e. tree_unobservable m c text tree)
+verified_true m c text found (too_long long) = (λ e. absurd (refused_seen e), λ e. absurd (refused_unseen e))
+verified_true m c text found (refused n short none is) = (λ e. absurd (refused_seen e), λ e. absurd (refused_unseen e))
+
+-- a text is refused at one line
+one_line : (q : Question) (text : List ℕ) (n k : ℕ) → IsRefusedAt (RawBegins q) (RawWhole q) text n → IsRefusedAt (RawBegins q) (RawWhole q) text k → n ≡ k
+one_line q text n k x y = go (cases_order n k)
+  where
+    go : (n ≡ k) ⊎ ((n < k) ⊎ (k < n)) → n ≡ k
+    go (inl same) = same
+    go (inr (inl less)) = absurd (x.here (y.before n less))
+    go (inr (inr more)) = absurd (y.here (x.before k more))
+
+both_lengths : (text : List ℕ) → length text ≤ MAX_CERTIFICATE → MAX_CERTIFICATE < length text → ⊥
+both_lengths text short long = omega (arith, short, long)
+
+-- a text is one thing
+pub one_found : (m : WrittenModel) (c : Case) (text : List ℕ) (a b : Checked) → Verified (question_by m c) text a → Verified (question_by m c) text b → a ≡ b
+one_found m c text a b (seen short x) (seen short2 y) = refl
+one_found m c text a b (seen short x) (unseen short2 y) = absurd (tree_unobservable m c text y (graph_observable m c text x))
+one_found m c text a b (seen short x) (too_long long) = absurd (both_lengths text short long)
+one_found m c text a b (seen short x) (refused n short2 none y) = absurd (none observable x)
+one_found m c text a b (unseen short x) (seen short2 y) = absurd (tree_unobservable m c text x (graph_observable m c text y))
+one_found m c text a b (unseen short x) (unseen short2 y) = refl
+one_found m c text a b (unseen short x) (too_long long) = absurd (both_lengths text short long)
+one_found m c text a b (unseen short x) (refused n short2 none y) = absurd (none unobservable x)
+one_found m c text a b (too_long long) (seen short y) = absurd (both_lengths text short long)
+one_found m c text a b (too_long long) (unseen short y) = absurd (both_lengths text short long)
+one_found m c text a b (too_long long) (too_long long2) = refl
+one_found m c text a b (too_long long) (refused n short none y) = absurd (both_lengths text short long)
+one_found m c text a b (refused n short none x) (seen short2 y) = absurd (none observable y)
+one_found m c text a b (refused n short none x) (unseen short2 y) = absurd (none unobservable y)
+one_found m c text a b (refused n short none x) (too_long long) = absurd (both_lengths text short long)
+one_found m c text a b (refused n short none x) (refused k short2 other y) = ap Refused (one_line (question_by m c) text n k x y)
+
+-- what the first bytes past the limit are, all of the file is
+pub verified_past : (q : Question) (text rest : List ℕ) (found : Checked) → MAX_CERTIFICATE < length text → Verified q text found → Verified q (text ++ rest) found
+verified_past q text rest found long (seen short x) = absurd (both_lengths text short long)
+verified_past q text rest found long (unseen short x) = absurd (both_lengths text short long)
+verified_past q text rest found long (refused n short none x) = absurd (both_lengths text short long)
+verified_past q text rest found long (too_long long2) = too_long (let a = length-append text rest in omega (arith, a, long))
+
+-- a checker of a question that took nothing before, and then a file
+pub file_verified : {old new : Checker} {q : Question} {held : Option (List ℕ)} {after : List ℕ} (found : Checked) → IsFed old q [] → TookFile old new held after
+    → ((text : List ℕ) → IsFed new q text → Verified q text found) → (bytes : List ℕ) × (held ≡ Some bytes) × Verified q bytes found
+file_verified {q = q} {after = after} found fed file finish = (file.whole, file.held_is, go file.first.enough)
+  where
+    bytes : List ℕ
+    bytes = file.first.bytes
+
+    here : Verified q bytes found
+    here = finish bytes (file.first.took q [] fed)
+
+    P : List ℕ → Type 0
+    P t = Verified q t found
+
+    go : (after ≡ []) ⊎ (length bytes ≡ MAX_CERTIFICATE + 1) → Verified q file.whole found
+    go (inl none) = subst P (sym (file.first.are_first ∙ ap (λ (xs : List ℕ). bytes ++ xs) none ∙ append_nil bytes)) here
+    go (inr long) = subst P (sym file.first.are_first) (verified_past q bytes after found (omega (arith, long)) here)

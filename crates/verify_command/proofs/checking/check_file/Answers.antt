@@ -1,0 +1,8 @@
+use Rattle.cert_check.specs.Questions.{question_of}
+use Rattle.verify_command.proofs.OneVerdict.{file_verified}
+use Rattle.verify_command.proofs.checking.check_file.Goals as goal
+
+pub returns-clause-verified : goal.returns-clause-verified
+returns-clause-verified g c = λ told.
+    file_verified c.in_ok-finish.field-0 c.in_ok-checker.ensures (c.in_ok-checker-2.ensures.took told)
+    (λ text fed. c.in_ok-finish.ensures.verified (question_of c.args.front.now) text fed)

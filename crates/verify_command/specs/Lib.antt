@@ -1,0 +1,3 @@
+pub mod CheckedTexts
+pub mod Reading
+pub mod VerifyAnswers

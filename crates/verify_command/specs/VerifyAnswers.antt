@@ -1,0 +1,37 @@
+-- The answer of `verify` to three files, and the status that is due.
+use Rattle.std.specs.Prelude.{◌≡◌, ℕ, List, Some}
+use Rattle.pc_common.specs.Case.{Case}
+use Rattle.pc_common.specs.declared.fault.InputFault.{InputFault}
+use Rattle.pc_common.specs.declared.status.Status.{Status}
+use Rattle.pc_syntax.specs.Written.{WrittenModel}
+use Rattle.cert_check.specs.declared.checked.Checked.{Checked}
+use Rattle.cert_check.specs.Certificates.{Question}
+use Rattle.cert_check.specs.Verified.{Verified}
+use Rattle.command_base.specs.Inputs.{Inputs, Contents}
+use Rattle.command_base.specs.Questions.{question_by}
+use Rattle.command_base.specs.Outcomes.{AnswersFiles, IsDueOfFiles}
+use Rattle.verify_command.specs.CheckedTexts.{checked_status, checked_text}
+
+-- what the third file is to the model and the case
+pub data IsJudged (holds : Contents) (certificate : List ℕ) (m : WrittenModel) (c : Case) : Status → List ℕ → Type 0 where
+  judged : {bytes : List ℕ} {found : Checked} → holds certificate ≡ Some bytes → Verified (question_by m c) bytes found
+      → IsJudged holds certificate m c (checked_status found) (checked_text found)
+
+-- the status is that of the one thing that a text is to a question
+pub record IsStatusOf (q : Question) (text : List ℕ) (status : Status) : Type 0 where
+  pub found : Checked
+  pub verified : Verified q text found
+  pub only : (other : Checked) → Verified q text other → other ≡ found
+  pub status_is : status ≡ checked_status found
+
+-- the status of what the third file holds
+abbrev pub IsDueCheck : Contents → List ℕ → WrittenModel → Case → Status → Type 0
+IsDueCheck holds certificate m c status = (bytes : List ℕ) → holds certificate ≡ Some bytes → IsStatusOf (question_by m c) bytes status
+
+module _ (case_of : List ℕ → Case → Type 0) (first_fault : List ℕ → List ℕ → InputFault → Type 0) (holds : Contents) (i : Inputs) (certificate : List ℕ) where
+  -- the refusal by the first fault, or what the third file is
+  abbrev pub AnswersVerify : Status → List ℕ → Type 0
+  AnswersVerify = AnswersFiles case_of first_fault holds i (IsJudged holds certificate)
+
+  abbrev pub IsVerifyDue : Status → Type 0
+  IsVerifyDue = IsDueOfFiles case_of first_fault holds i (IsDueCheck holds certificate)
