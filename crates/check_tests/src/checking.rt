@@ -1,7 +1,5 @@
 //! The command check: from words and files to a status and a text.
-use example_texts::{
-    BOTH_ORDERS, EMPTY, ITSELF, ONE, ORDERED, TWO, TWO_FORBIDDEN, TWO_IN_ORDER,
-};
+use example_texts::{BOTH_ORDERS, EMPTY, ITSELF, ONE, ORDERED, TWO, TWO_FORBIDDEN, TWO_IN_ORDER};
 use memory_runs::{calls, ends_in, ends_over, files, held, words};
 use pc_common::{
     Bytes, Calls, Held, HeldFile, MemFiles, MemSink, Memory, Status, SureFiles, SureSink,

@@ -4,6 +4,8 @@
 #![tactic(auto)]
 
 #[cfg(test)]
+mod answers;
+#[cfg(test)]
 mod checking;
 #[cfg(test)]
 mod laws;
@@ -11,5 +13,3 @@ mod laws;
 mod models;
 #[cfg(test)]
 mod ties;
-#[cfg(test)]
-mod verdicts;

@@ -22,7 +22,10 @@ const MODELS: &[(Pieces, End<'static>)] = &[
     ),
     // the lexical fault comes before the fault of the tokens
     (
-        &[("Axiom \"a\": forall microops \"i\", IsAnyRead i /\\ .\nAxiom \"b", 1)],
+        &[(
+            "Axiom \"a\": forall microops \"i\", IsAnyRead i /\\ .\nAxiom \"b",
+            1,
+        )],
         (Status::Refused, "refused model lexical at 2:7\n"),
     ),
     // at the file's end, where no line feed stands
@@ -45,7 +48,10 @@ const MODELS: &[(Pieces, End<'static>)] = &[
     // the size 1,000,000, and one more
     (
         &[
-            ("StageName 0 \"S\".\nDefineMacro \"k\": forall microops \"i\", NodesExist [(i, S)", 1),
+            (
+                "StageName 0 \"S\".\nDefineMacro \"k\": forall microops \"i\", NodesExist [(i, S)",
+                1,
+            ),
             ("; (i, S)", 996),
             ("].\n", 1),
             ("Axiom \"a\": ExpandMacro k.\n", 1000),
@@ -54,7 +60,10 @@ const MODELS: &[(Pieces, End<'static>)] = &[
     ),
     (
         &[
-            ("StageName 0 \"S\".\nDefineMacro \"k\": forall microops \"i\", NodesExist [(i, S)", 1),
+            (
+                "StageName 0 \"S\".\nDefineMacro \"k\": forall microops \"i\", NodesExist [(i, S)",
+                1,
+            ),
             ("; (i, S)", 996),
             ("].\n", 1),
             ("Axiom \"a\": ExpandMacro k.\n", 1000),

@@ -79,7 +79,8 @@ fn read_named<K: Named>(
 /// Reads the lines of a graph, each with its LF: node lines, and then edge lines between the nodes listed.
 ///
 /// What `write_graph` writes of such a graph is read again as it was. `Line` names the first line, from 1,
-/// that is no line of a graph, may not stand where it does, names a node of neither file, or has no LF.
+/// that is no line of a graph, may not stand where it does, names a node that the test or the model lacks, or
+/// has no LF.
 /// Takes memory for the graph, for its nodes once more, and for a last line without LF.
 pub fn read_graph(alloc: Global, names: &NodeText<'_>, body: &[u8]) -> Result<Graph, GraphFault>
     ensures read { ReadsGraph names.now body.now result }

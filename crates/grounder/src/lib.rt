@@ -1,7 +1,7 @@
 //! Grounding: what closed axioms say of one test, with no quantifier, predicate or name left.
 //!
 //! `ground` unfolds each quantifier over its range and each list over its members, decides the
-//! predicates, and folds constants on the way, so that what a constant decides is never walked. A
+//! predicates, and folds constants on the way: members that follow one that decides are not walked. A
 //! negation stays where it is; an implication becomes Or of the negated premise and the conclusion.
 #![tactic(auto)]
 

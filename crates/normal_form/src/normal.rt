@@ -27,7 +27,7 @@ fn close(part: Part, rows: &mut Vec<Row<NodeKey>>) -> Result<(), Memory>
 /// The formula's tree as rows in preorder: negations are pushed down to the literals, and constants are
 /// folded, so that one is left only where it is the whole tree.
 ///
-/// Time and memory are in proportion to the formula. Answers Memory only where memory is refused.
+/// Time and memory are in proportion to the formula. The only other result is Memory.
 pub fn normalise(alloc: Global, ground: &Ground) -> Result<Flat, Memory>
     ensures { IfOk result (λ f. f ≡ rows_of (normal (plain_ground ground.now))) }
 {

@@ -26,8 +26,7 @@ fn see_row(numbering: &mut Numbering, row: Row<NodeKey>) -> Result<(), Memory>
 
 /// The nodes of the tree's literals, each once, numbered from 0 as they are first seen in preorder.
 ///
-/// One look-up a node of a literal; memory is in proportion to the nodes. Answers Memory only where memory
-/// is refused.
+/// One look-up a node of a literal; memory is in proportion to the nodes. The only other result is Memory.
 pub fn number(alloc: Global, tree: &Flat) -> Result<Numbering, Memory>
     ensures { IfOk result (λ n. (t : Tree PlainNode) → tree.now ≡ rows_of t → n ≡ numbered t) }
 {

@@ -27,8 +27,12 @@ pub struct Front {
     pub tree: Flat,
     pub numbering: Numbering,
     pub ghost named: { AreStages (map plain_stage stages) } by { AreStages-prop (map plain_stage stages) },
-    pub ghost within: { AxiomsWithin (numbers_of (map plain_stage stages)) (plain_axioms axioms) } by { AxiomsWithin-prop (numbers_of (map plain_stage stages)) (plain_axioms axioms) },
-    pub ghost grounded: { tree ≡ rows_of (closed_ground_tree case (plain_axioms axioms)) } by { Coded-set flat_row.the_row.coded tree (rows_of (closed_ground_tree case (plain_axioms axioms))) },
-    pub ghost counted: { numbering ≡ numbered (closed_ground_tree case (plain_axioms axioms)) } by { Coded-set numbering_row.the_row.coded numbering
-        (numbered (closed_ground_tree case (plain_axioms axioms))) },
+    pub ghost within: { AxiomsWithin (numbers_of (map plain_stage stages))
+        (plain_axioms axioms) } by { AxiomsWithin-prop (numbers_of (map plain_stage stages)) (plain_axioms axioms) },
+    pub ghost grounded: { tree ≡ rows_of (closed_ground_tree case
+        (plain_axioms axioms)) } by { Coded-set flat_row.the_row.coded tree
+            (rows_of (closed_ground_tree case (plain_axioms axioms))) },
+    pub ghost counted: { numbering ≡ numbered (closed_ground_tree case
+        (plain_axioms axioms)) } by { Coded-set numbering_row.the_row.coded numbering
+            (numbered (closed_ground_tree case (plain_axioms axioms))) },
 }

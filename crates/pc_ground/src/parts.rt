@@ -14,5 +14,6 @@ pub struct Parts {
     pub stages: Stages,
     pub axioms: Axioms,
     pub ghost named: { AreStages (map plain_stage stages) } by { AreStages-prop (map plain_stage stages) },
-    pub ghost within: { AxiomsWithin (numbers_of (map plain_stage stages)) (plain_axioms axioms) } by { AxiomsWithin-prop (numbers_of (map plain_stage stages)) (plain_axioms axioms) },
+    pub ghost within: { AxiomsWithin (numbers_of (map plain_stage stages))
+        (plain_axioms axioms) } by { AxiomsWithin-prop (numbers_of (map plain_stage stages)) (plain_axioms axioms) },
 }

@@ -187,7 +187,13 @@ fn each_line_before_and_behind_the_body_is_one_piece(rt: HostRuntime) -> Result<
     for (call, text) in CALLS {
         let end = (Status::WriteFault, *text);
         assert!(rt;
-            ends_over(rt.alloc(), "check model test", contents, (&[], &[*call]), end)?,
+            ends_over(
+                rt.alloc(),
+                "check model test",
+                contents,
+                (&[], &[*call]),
+                end
+            )?,
             "call {call}"
         );
     }
