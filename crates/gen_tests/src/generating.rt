@@ -57,7 +57,11 @@ fn report(alloc: Global, n: u64) -> Result<String, Memory>
     requires { 2 ≤ n × n ≤ 16 }
 {
     let splits = (n - 1) * (n - 1) + 1;
-    let text = format!(in alloc; "gen {n}\nunobservable\nnodes {}\nsplits {splits}\nleaves {}\nend\n", 2 * n, splits + 1)?;
+    let text = format!(in alloc;
+        "gen {n}\nunobservable\nnodes {}\nsplits {splits}\nleaves {}\nend\n",
+        2 * n,
+        splits + 1
+    )?;
     Ok(text)
 }
 
@@ -67,7 +71,13 @@ fn a_ring_of_each_size_has_its_counts(rt: HostRuntime) -> Result<(), Fail> {
         let command = format!(in rt.alloc(); "gen {n}")?;
         let text = report(rt.alloc(), n)?;
         assert!(rt;
-            ends_over(rt.alloc(), &command, &[], (&[1], &[]), (Status::Done, &text))?,
+            ends_over(
+                rt.alloc(),
+                &command,
+                &[],
+                (&[1], &[]),
+                (Status::Done, &text)
+            )?,
             "{command}"
         );
     }

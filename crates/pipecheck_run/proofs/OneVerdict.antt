@@ -65,8 +65,8 @@ module _ (holds later : Contents) (i : Inputs) (certificate : List ℕ) (model :
       absurd (no_fault_said test_form later i m c f (says_alike holds later i m c model test says) first)
   same_status {status} {second} {text} {line} (is_found {m = m} {c = c} says certified) short held (is_found {m = n} {c = d} says2 is) =
       let theirs : IsJudged later certificate m c second line =
-          found_of test_form {finds = IsJudged later certificate} {status = second} {text = line} (is_found {m = n} {c = d} says2 is)
-          m c (says_alike holds later i m c model test says) in
+      found_of test_form {finds = IsJudged later certificate} {status = second} {text = line} (is_found {m = n} {c = d} says2 is)
+      m c (says_alike holds later i m c model test says) in
       judged_alike m c text certified short held theirs
 
 pub one_status : (holds later : Contents) → HasOneStatus holds later

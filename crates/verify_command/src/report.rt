@@ -3,9 +3,9 @@ ghost use Rattle.std.specs.Fmt.{decimal};
 ghost use Rattle.pc_common.specs.Writes.{Writes};
 ghost use Rattle.verify_command.specs.CheckedTexts.{checked_status as checked_status_of, checked_text};
 
-use command_base::{LINE, join};
 use arrayvec::ArrayVec;
 use cert_check::Checked;
+use command_base::{LINE, join};
 use itoa::Buffer;
 use pc_common::{Failed, Sink, Status, write_all};
 
