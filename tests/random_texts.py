@@ -29,7 +29,6 @@ PREDICATES = {
 )
 NUMBERS = ("0", "1", "2", "00", "63", "64", "65", "007", "18446744073709551615", "18446744073709551616", "9" * 40)
 PIECE = re.compile(rb'\s+|"[^"\n]*"|[A-Za-z0-9_\']+|/\\|\\/|=>|->|.', re.DOTALL)
-SPLIT = re.compile(r"split ~?(\d+)")
 
 # the variables in scope, each with what it stands for
 Scope = dict[str, str]
@@ -51,7 +50,6 @@ class ModelMaker:
         for k in range(self.random.choice((0, 0, 1, 2, 4))):
             items.append(self.macro(f"M{k}"))
         for k in range(self.random.choice((1, 1, 2, 3, 5))):
-            items.insert(self.random.randint(0, len(items)), "") if self.random.random() < 0.1 else None
             items.append(f'Axiom "a{k}": {self.axiom()}.')
         return ("\n".join(items) + "\n").encode()
 
@@ -256,13 +254,18 @@ def changed_certificate(random: Random, text: bytes) -> bytes:
         words[random.randrange(len(words))] = random.choice(nodes)
         lines[at] = b" ".join(words)
     elif kind == "number":
-        lines[at] = re.sub(rb"\d+", lambda found: str(max(0, int(found[0]) + random.choice((-1, 1, 2)))).encode(), lines[at], count=1)
+        step = random.choice((-1, 1, 2))
+        lines[at] = re.sub(rb"\d+", lambda found: str(max(0, int(found[0]) + step)).encode(), lines[at], count=1)
     elif kind == "word":
-        lines[at] = b" ".join([random.choice((b"split", b"cycle", b"path", b"absent", b"false", b"node", b"edge", b"end"))] + words[1:])
+        lines[at] = b" ".join([random.choice(b"split cycle path absent false node edge end".split())] + words[1:])
     elif kind == "sign":
-        lines[at] = lines[at].replace(b"split ~", b"split ") if b"~" in lines[at] else lines[at].replace(b"split ", b"split ~")
+        old, new = (b"split ~", b"split ") if b"~" in lines[at] else (b"split ", b"split ~")
+        lines[at] = lines[at].replace(old, new)
     elif kind == "version":
-        lines.insert(random.randint(2, 3), b"version 2") if b"version 2" not in lines else lines.remove(b"version 2")
+        if b"version 2" in lines:
+            lines.remove(b"version 2")
+        else:
+            lines.insert(random.randint(2, 3), b"version 2")
     elif kind == "break":
         return text[:random.randrange(len(text) + 1)]
     elif kind == "space":
