@@ -1,11 +1,11 @@
 //! Certificates of version 2: texts with signs, each with what it is to its model and test.
 use super::certificates::Row;
-use super::running::ends_over;
 use cert_check::Checked;
 use example_texts::{
     BOTH_OR_ONE, EITHER_AND, EITHER_OF_THREE, EITHER_ORDER, EMPTY, ONE, SOME_OP, TWO,
     TWO_FORBIDDEN, UNORDERED,
 };
+use memory_runs::ends_over;
 use pc_common::Status;
 use std::test::Fail;
 

@@ -13,3 +13,5 @@ mod laws;
 mod models;
 #[cfg(test)]
 mod ties;
+#[cfg(test)]
+mod translation;

@@ -1,6 +1,6 @@
 //! Which of several answers comes, where the verdict leaves a choice.
-use super::checking::{ends_over, words};
 use example_texts::ONE;
+use memory_runs::ends_over;
 use pc_common::Status;
 use std::test::Fail;
 
@@ -83,12 +83,11 @@ const TIES: &[(&'static str, Status, &'static str)] = &[
 
 #[test]
 fn a_tie_is_decided_by_order(rt: HostRuntime) -> Result<(), Fail> {
-    let words = words(rt.alloc(), "check model test")?;
     for (model, status, text) in TIES {
         let contents = &[("model", *model), ("test", ONE)];
         let end = (*status, *text);
         assert!(rt;
-            ends_over(rt.alloc(), &words, contents, (&[], &[]), end)?,
+            ends_over(rt.alloc(), "check model test", contents, (&[], &[]), end)?,
             "{text}"
         );
     }
