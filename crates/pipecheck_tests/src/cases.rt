@@ -179,14 +179,6 @@ Relationship data 0 1 -> 0 1.
 Init (Entry 4) (Maps 9 1 0). Final (Entry 4) (Maps 9 1 1).
 Final (PA 1 2) 5.";
 
-const fn entry(tag: u64, accessed: u64, dirty: u64) -> Value {
-    Value::Entry {
-        tag,
-        accessed,
-        dirty,
-    }
-}
-
 /// An address, its initial value, and its final value where one is stated.
 const VALUES: &[(Address, Value, Option<Value>)] = &[
     (Address::Page { tag: 7, index: 7 }, Value::Number(3), None),
@@ -202,11 +194,27 @@ const VALUES: &[(Address, Value, Option<Value>)] = &[
     ),
     (Address::Page { tag: 2, index: 7 }, Value::Number(0), None),
     // an entry that no line states maps to its own tag, with neither mark
-    (Address::Entry { tag: 2 }, entry(2, 0, 0), None),
+    (
+        Address::Entry { tag: 2 },
+        Value::Entry {
+            tag: 2,
+            accessed: 0,
+            dirty: 0,
+        },
+        None,
+    ),
     (
         Address::Entry { tag: 4 },
-        entry(9, 1, 0),
-        Some(entry(9, 1, 1)),
+        Value::Entry {
+            tag: 9,
+            accessed: 1,
+            dirty: 0,
+        },
+        Some(Value::Entry {
+            tag: 9,
+            accessed: 1,
+            dirty: 1,
+        }),
     ),
 ];
 
