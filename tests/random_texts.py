@@ -1,0 +1,308 @@
+"""Random models, tests and certificates, and changes of them, for tests/hostile.
+
+What is made here is well-formed, and may mean anything. A change may spoil a text or not: what the answer has to be is
+said by the second reading, which reads the changed text too. Rewritings of certificates keep them right.
+"""
+import re
+from random import Random
+
+SORTS = {"op": "microop", "core": "core"}
+# what a predicate takes: a micro-op, a core, or a plain name of these
+OP, CORE, TYPE, KIND = "op", "core", "type", "kind"
+TYPES = ("Full", "Light", "Walk", "VA")
+KINDS = ("addr", "data", "ctrl")
+PREDICATES = {
+    "IsAnyRead": [OP],
+    "IsAnyWrite": [OP],
+    "IsAnyFence": [OP],
+    "AccessType": [TYPE, OP],
+    "OnCore": [CORE, OP],
+    "DataFromInitialStateAtPA": [OP],
+    "DataFromFinalStateAtPA": [OP],
+    "HasDependency": [KIND, OP, OP],
+    "MarkedAccessed": [OP],
+    "MarkedDirty": [OP],
+} | dict.fromkeys(
+    """SameCore SameThread SameMicroop SameInstruction SameIntra ProgramOrder SameVirtualAddress SamePhysicalAddress
+    SameVirtualTag SamePhysicalTag SameIndex SameData EntryOf MapsTagOf""".split(),
+    [OP, OP],
+)
+NUMBERS = ("0", "1", "2", "00", "63", "64", "65", "007", "18446744073709551615", "18446744073709551616", "9" * 40)
+PIECE = re.compile(rb'\s+|"[^"\n]*"|[A-Za-z0-9_\']+|/\\|\\/|=>|->|.', re.DOTALL)
+
+# the variables in scope, each with what it stands for
+Scope = dict[str, str]
+
+
+class ModelMaker:
+    """A model of one to five stages, with macros that expand macros and bindings that hide bindings."""
+
+    def __init__(self, random: Random) -> None:
+        self.random = random
+        self.stages = random.sample("STUVW", random.choice((1, 2, 3, 3, 4, 5)))
+        # each macro with what its parameters stand for, and how many quantifiers stand over each other in it
+        self.macros: list[tuple[str, list[str], int]] = []
+
+    def text(self) -> bytes:
+        """The text of the model."""
+        numbers = self.random.sample(range(64), len(self.stages))
+        items = [f'StageName {number} "{stage}".' for number, stage in zip(numbers, self.stages)]
+        for k in range(self.random.choice((0, 0, 1, 2, 4))):
+            items.append(self.macro(f"M{k}"))
+        for k in range(self.random.choice((1, 1, 2, 3, 5))):
+            items.append(f'Axiom "a{k}": {self.axiom()}.')
+        return ("\n".join(items) + "\n").encode()
+
+    def macro(self, name: str) -> str:
+        """A macro; its body names its parameters alone."""
+        sorts = [self.random.choice((OP, OP, CORE)) for _ in range(self.random.randint(0, 3))]
+        names = self.random.sample("ijkcd", len(sorts))
+        self.deepest = 0
+        body = self.formula(dict(zip(names, sorts)), 2, 1)
+        self.macros.append((name, sorts, self.deepest))
+        return f'DefineMacro "{name}"{"".join(f" {chr(34)}{k}{chr(34)}" for k in names)}: {body}.'
+
+    def axiom(self) -> str:
+        """An axiom, mostly a guarded order of two micro-ops."""
+        self.deepest = 0
+        if self.random.random() < 0.4:
+            return self.formula({}, 4, 3)
+        scope = {"i": OP, "j": OP}
+        guard, body = self.atom(scope, False), self.formula(scope, 2, 1)
+        return f'forall microops "i", forall microops "j", {guard} => {body}'
+
+    def formula(self, scope: Scope, depth: int, quantifiers: int) -> str:
+        """A formula over this scope: at most so deep, with at most so many quantifiers over each other."""
+        forms = ["atom", "atom", "and", "or", "implies", "not"] + ["quantifier"] * (2 if OP in scope.values() else 20)
+        form = self.random.choice(forms)
+        macros = [macro for macro in self.macros if macro[2] <= quantifiers and set(macro[1]) <= set(scope.values())]
+        if macros and self.random.random() < 0.25:
+            return self.expansion(scope, *self.random.choice(macros))
+        if depth == 0 or form == "atom" or (form == "quantifier" and quantifiers == 0):
+            return self.atom(scope, True)
+        if form == "quantifier":
+            return self.quantified(scope, depth, quantifiers)
+        if form == "not":
+            return f"~({self.formula(scope, depth - 1, quantifiers)})"
+        connective = {"and": "/\\", "or": "\\/", "implies": "=>"}[form]
+        left, right = (self.formula(scope, depth - 1, quantifiers) for _ in range(2))
+        # brackets that are left out change how the text is grouped
+        sides = [f"({side})" if self.random.random() < 0.7 or side.startswith("(") else side for side in (left, right)]
+        return f"{sides[0]} {connective} {sides[1]}"
+
+    def quantified(self, scope: Scope, depth: int, quantifiers: int) -> str:
+        """A quantifier, whose variable may hide one. Its brackets let it stand anywhere."""
+        sort = self.random.choice((OP, OP, OP, CORE))
+        name = self.random.choice("ijk" if sort == OP else "cdi")
+        self.deepest = max(self.deepest, 4 - quantifiers)
+        body = self.formula(scope | {name: sort}, depth - 1, quantifiers - 1)
+        word = self.random.choice(("forall", "exists"))
+        return f'({word} {SORTS[sort]}{self.random.choice(("", "s"))} "{name}", {body})'
+
+    def expansion(self, scope: Scope, name: str, sorts: list[str], deepest: int) -> str:
+        """An expansion with arguments of the sorts that the macro was made for."""
+        self.deepest = max(self.deepest, deepest)
+        return " ".join(["ExpandMacro", name] + [self.argument(scope, sort) for sort in sorts])
+
+    def argument(self, scope: Scope, sort: str) -> str:
+        """An argument of this sort."""
+        if sort in (TYPE, KIND):
+            return self.random.choice(TYPES if sort == TYPE else KINDS)
+        names = [name for name, its in scope.items() if its == sort]
+        if sort == CORE and (not names or self.random.random() < 0.4):
+            return str(self.random.randint(0, 3))
+        return self.random.choice(names)
+
+    def atom(self, scope: Scope, may_order: bool) -> str:
+        """A predicate, or nodes or edges where there is a micro-op to speak of."""
+        if OP not in scope.values():
+            return self.random.choice(("True", "False", "True"))
+        if may_order and self.random.random() < 0.75:
+            return self.order(scope)
+        name = self.random.choice(list(PREDICATES))
+        return " ".join([name] + [self.argument(scope, sort) for sort in PREDICATES[name]])
+
+    def node(self, scope: Scope) -> str:
+        """A node, at its own core or at another one."""
+        stage = self.random.choice(self.stages)
+        if self.random.random() < 0.2:
+            stage = f"({self.argument(scope, CORE)}, {stage})"
+        return f"({self.argument(scope, OP)}, {stage})"
+
+    def order(self, scope: Scope) -> str:
+        """Nodes or edges."""
+        if self.random.random() < 0.25:
+            return f"NodeExists {self.node(scope)}"
+        edges = [f"({self.node(scope)}, {self.node(scope)})" for _ in range(self.random.choice((1, 1, 1, 0, 2, 3)))]
+        if len(edges) == 1:
+            return f"{self.random.choice(('AddEdge', 'EdgeExists'))} {edges[0]}"
+        return f"{self.random.choice(('AddEdges', 'EdgesExist'))} [{'; '.join(edges)}]"
+
+
+def test_text(random: Random) -> bytes:
+    """A test of either format, of at most twelve micro-ops."""
+    has_entries = random.random() < 0.3
+    ops, lines, g = [], [], 0
+    for _ in range(random.choice((0, 1, 2, 3, 4, 4, 5, 6, 8, 10, 12))):
+        joins = bool(ops) and random.random() < 0.15
+        if not joins:
+            g, place, n = g + 1, (random.randint(0, 3), int(random.random() < 0.1)), 0
+        else:
+            g, place, n = ops[-1][0], ops[-1][2], ops[-1][1] + 1
+        ops.append((g, n, place))
+        lines.append(f"Microop {g} {place[0]} {place[1]} {n} ({access(random, has_entries)}).")
+    for _ in range(random.choice((0, 0, 1, 2)) if ops else 0):
+        first, second = random.choice(ops), random.choice(ops)
+        lines.append(f"Relationship {random.choice(KINDS)} {first[0]} {first[1]} -> {second[0]} {second[1]}.")
+    for word in ("Init", "Final"):
+        for address in random.sample(addresses(has_entries), random.choice((0, 0, 0, 1, 2))):
+            value = f"({entry(random)})" if has_entries and random.random() < 0.5 else str(random.randint(0, 3))
+            lines.append(f"{word} {address} {value}.")
+    lines += random.choice(([], ["Permitted."], ["Forbidden."]))
+    return "\n".join([f'Litmus{"2" if has_entries else ""} "r".'] + lines + [""]).encode()
+
+
+def addresses(has_entries: bool) -> list[str]:
+    """The physical addresses that tests use."""
+    pages = [f"(PA {tag} {index})" for tag in range(3) for index in range(2)]
+    return pages + [f"(Entry {tag})" for tag in range(3)] if has_entries else pages
+
+
+def entry(random: Random) -> str:
+    """An entry as a value."""
+    return f"Maps {random.randint(0, 2)} {random.randint(0, 1)} {random.randint(0, 1)}"
+
+
+def access(random: Random, has_entries: bool) -> str:
+    """What a micro-op does."""
+    types = "".join(f" {word}" for word in random.sample(TYPES[:3], random.choice((0, 0, 1, 2))))
+    if random.random() < 0.15:
+        return f"Fence{types}"
+    value = entry(random) if has_entries and random.random() < 0.4 else f"Data {random.randint(0, 3)}"
+    va = f"(VA {random.randint(0, 2)} {random.randint(0, 1)})"
+    return f"{random.choice(('Read', 'Write'))}{types} {va} {random.choice(addresses(has_entries))} ({value})"
+
+
+def machine_test(random: Random) -> bytes:
+    """A test that the machines of tests/machines can run: each write of an address has a value of its own."""
+    lines, written = [], {0: [0], 1: [0]}
+    plan = [(core, random.choice("RRWWF"), random.randint(0, 1)) for core in range(random.choice((2, 2, 3)))
+            for _ in range(random.choice((1, 2, 2, 3)))]
+    for _, kind, page in plan:
+        if kind == "W":
+            written[page].append(len(written[page]))
+    next_value = {0: 1, 1: 1}
+    for g, (core, kind, page) in enumerate(plan):
+        if kind == "F":
+            lines.append(f"Microop {g} {core} 0 0 (Fence Full).")
+            continue
+        value = random.choice(written[page])
+        if kind == "W":
+            value, next_value[page] = next_value[page], next_value[page] + 1
+        word = "Read" if kind == "R" else "Write"
+        lines.append(f"Microop {g} {core} 0 0 ({word} (VA {page} 0) (PA {page} 0) (Data {value})).")
+    return "\n".join(['Litmus "m".'] + lines + [""]).encode()
+
+
+def changed_file(random: Random, text: bytes) -> bytes:
+    """The text with one to three changes of its pieces."""
+    pieces = PIECE.findall(text)
+    for _ in range(random.choice((1, 1, 2, 3))):
+        pieces = changed_pieces(random, pieces) or [b" "]
+    return b"".join(pieces)
+
+
+def changed_pieces(random: Random, pieces: list[bytes]) -> list[bytes]:
+    """One change: a piece goes, comes twice, moves or becomes another, or the text breaks off."""
+    at, other = (random.randrange(len(pieces)) for _ in range(2))
+    kind = random.choice(("drop", "twice", "swap", "other", "number", "byte", "break", "open", "line"))
+    if kind == "drop":
+        return pieces[:at] + pieces[at + random.choice((1, 1, 5)):]
+    if kind == "twice":
+        return pieces[:at] + pieces[at:at + 1] * random.choice((2, 3, 200)) + pieces[at + 1:]
+    if kind == "swap":
+        pieces[at], pieces[other] = pieces[other], pieces[at]
+    elif kind == "other":
+        pieces[at] = pieces[other]
+    elif kind == "number":
+        pieces[at] = random.choice(NUMBERS).encode()
+    elif kind == "byte":
+        pieces[at] = bytes([random.choice((0, 9, 13, 34, 37, 40, 127, 128, 195, 255, random.randrange(256)))])
+    elif kind == "break":
+        return pieces[:at]
+    elif kind == "open":
+        pieces[at] = random.choice((b"(", b"~", b"(*", b"//", b'"')) * random.choice((1, 127, 128, 129))
+    elif kind == "line":
+        return pieces[:at] + [b"\n"] + pieces[min(at, other):max(at, other)] + pieces[at:]
+    return pieces
+
+
+def changed_certificate(random: Random, text: bytes) -> bytes:
+    """The certificate with one change of its lines, which may spoil it or not."""
+    lines = text.split(b"\n")
+    at, other = (random.randrange(len(lines)) for _ in range(2))
+    words = lines[at].split(b" ")
+    nodes = [word for line in lines for word in line.split(b" ") if b"@" in word] or [b"0.0@0:S"]
+    kind = random.choice(("drop", "twice", "swap", "node", "number", "word", "sign", "version", "break", "space", "byte"))
+    if kind == "drop":
+        del lines[at]
+    elif kind == "twice":
+        lines.insert(other, lines[at])
+    elif kind == "swap":
+        lines[at], lines[other] = lines[other], lines[at]
+    elif kind == "node":
+        words[random.randrange(len(words))] = random.choice(nodes)
+        lines[at] = b" ".join(words)
+    elif kind == "number":
+        step = random.choice((-1, 1, 2))
+        lines[at] = re.sub(rb"\d+", lambda found: str(max(0, int(found[0]) + step)).encode(), lines[at], count=1)
+    elif kind == "word":
+        lines[at] = b" ".join([random.choice(b"split cycle path absent false node edge end".split())] + words[1:])
+    elif kind == "sign":
+        old, new = (b"split ~", b"split ") if b"~" in lines[at] else (b"split ", b"split ~")
+        lines[at] = lines[at].replace(old, new)
+    elif kind == "version":
+        if b"version 2" in lines:
+            lines.remove(b"version 2")
+        else:
+            lines.insert(random.randint(2, 3), b"version 2")
+    elif kind == "break":
+        return text[:random.randrange(len(text) + 1)]
+    elif kind == "space":
+        lines[at] += random.choice((b" ", b"\r", b"\t", b" 0.0@0:S"))
+    else:
+        lines[at] = lines[at][:1] + bytes([random.randrange(256)]) + lines[at][1:]
+    return b"\n".join(lines)
+
+
+def rewritten_certificate(random: Random, text: bytes) -> bytes:
+    """Another right certificate of the same verdict: a graph's lines come in another order and again, a cycle begins
+    elsewhere, and a split that is made already is made again."""
+    lines = text.decode().split("\n")
+    if lines[0] == "observable":
+        nodes, edges = ([line for line in lines if line.startswith(word)] for word in ("node ", "edge "))
+        for part in (nodes, edges):
+            part += random.sample(part, min(len(part), random.randint(0, 2)))
+            random.shuffle(part)
+        return "\n".join(lines[:2] + nodes + edges + ["end", ""]).encode()
+    for k, line in enumerate(lines):
+        word, *nodes = line.split(" ")
+        if word == "cycle":
+            at = random.randrange(len(nodes))
+            lines[k] = " ".join([word] + nodes[at:] + nodes[:at])
+    splits = [k for k, line in enumerate(lines) if line.startswith("split ")]
+    if splits and random.random() < 0.7:
+        # the left branch of a split has its side twice then, and so has its left and its right branch again
+        at = random.choice(splits)
+        left = lines[at + 1:refuted_to(lines, at + 1)]
+        lines[at + 1:at + 1 + len(left)] = [lines[at]] + left + left
+    return "\n".join(lines).encode()
+
+
+def refuted_to(lines: list[str], at: int) -> int:
+    """Behind the steps from this line on that refute one branch."""
+    is_open = 1
+    while is_open:
+        is_open += 1 if lines[at].startswith("split ") else -1
+        at += 1
+    return at
