@@ -1,0 +1,2 @@
+//! The reader.
+#![tactic(auto)]
