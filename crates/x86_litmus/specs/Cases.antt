@@ -1,35 +1,29 @@
 -- The case of a listing without a fault.
-use Rattle.std.specs.Prelude.{ℕ, zero, suc, ◌+◌, ◌==◌, Bool, true, false, List, [], ◌∷◌, ◌++◌, Option, Some, None, map, fold, filter, length, codes, if◌then◌else◌}
-use Rattle.std.specs.List.{list_any, filter_map, position_or_len}
+use Rattle.std.specs.Prelude.{ℕ, zero, suc, ◌+◌, ◌==◌, Bool, true, false, List, [], ◌∷◌, ◌++◌, Option, Some, None, map, fold, filter, codes, if◌then◌else◌}
+use Rattle.std.specs.List.{list_any, position_or_len}
 use Rattle.pc_common.specs.Names.{same_name}
-use Rattle.pc_common.specs.Case.{Address, page, Value, number, Touch, Kind, read, write, MicroOp, Expectation, forbidden, unstated, Case}
-use Rattle.pc_common.specs.Case as plain
+use Rattle.pc_common.specs.Case.{Address, page, Value, number, Touch, Kind, read, write, fence as a_fence, MicroOp, Expectation, forbidden, unstated, Case}
 use Rattle.x86_litmus.specs.Listing.{Named, Action, fence, store, load}
 use Rattle.x86_litmus.specs.Said.{Instruction, Asked, Said, is_about}
-
--- the location that an instruction names
-abbrev pub location_of : Instruction → Option (List ℕ)
-location_of i = by i.action
-  where
-    by : Action → Option (List ℕ)
-    by fence = None
-    by (store location value) = Some location.word
-    by (load register location) = Some location.word
-
--- the locations in the order of the text, as often as they stand there: those of the block, of the rows and of the
--- condition
-abbrev pub mentions : Said → List (List ℕ)
-mentions s =
-    map (λ (e : List ℕ × ℕ). e.0) s.initial
-    ++ (filter_map location_of s.instructions ++ map (λ (e : List ℕ × ℕ). e.0) s.final)
 
 -- the words with this one behind them, where it is not among them
 abbrev pub seen : List (List ℕ) → List ℕ → List (List ℕ)
 seen words w = if list_any (same_name w) words then words else words ++ w ∷ []
 
--- each location once, as first named
+abbrev pub seen_value : List (List ℕ) → List ℕ × ℕ → List (List ℕ)
+seen_value words e = seen words e.0
+
+abbrev pub seen_in : List (List ℕ) → Action → List (List ℕ)
+seen_in words fence = words
+seen_in words (store location value) = seen words location.word
+seen_in words (load register location) = seen words location.word
+
+abbrev pub seen_by : List (List ℕ) → Instruction → List (List ℕ)
+seen_by words i = seen_in words i.action
+
+-- each location once, as first named: in the block, in the rows, in the condition
 abbrev pub locations : Said → List (List ℕ)
-locations s = fold seen [] (mentions s)
+locations s = fold seen_value (fold seen_by (fold seen_value [] s.initial) s.instructions) s.final
 
 abbrev pub number_of : List (List ℕ) → List ℕ → ℕ
 number_of words w = position_or_len (same_name w) words
@@ -56,7 +50,7 @@ types_of fence = codes "MFENCE" ∷ []
 types_of _ = []
 
 abbrev pub kind_of : Action → Kind
-kind_of fence = plain.fence
+kind_of fence = a_fence
 kind_of (store location value) = write
 kind_of (load register location) = read
 

@@ -1,5 +1,5 @@
 -- What the code's names, items, spots and lists are as plain data.
-use Rattle.std.specs.Prelude.{◌≡◌, ℕ, Bor, List, Option, Some, None, map}
+use Rattle.std.specs.Prelude.{◌≡◌, ℕ, List, Option, Some, None, map}
 use Rattle.x86_litmus.specs.Listing.{Named as PlainNamed, Action as PlainAction, fence, store, load}
 use Rattle.x86_litmus.specs.Items.{Item as PlainItem, initial, column, instructed, row_ended, denied, register_is, final}
 use Rattle.x86_litmus.specs.Said.{Instruction as PlainInstruction, Asked as PlainAsked, Said as PlainSaid}
@@ -27,8 +27,8 @@ plain_named n = record { word = n.word.now; at = n.at.offset }
 
 abbrev pub plain_action : Action → PlainAction
 plain_action Fence = fence
-plain_action (Store location value) = store (plain_named location) value
-plain_action (Load register location) = load (plain_named register) (plain_named location)
+plain_action (Store l v) = store (plain_named l) v
+plain_action (Load r l) = load (plain_named r) (plain_named l)
 
 abbrev pub plain_instruction : Instruction → PlainInstruction
 plain_instruction i = record { thread = i.thread; at = i.at.offset; action = plain_action i.action }

@@ -1,5 +1,5 @@
 -- What the code answers at a token.
-use Rattle.std.specs.Prelude.{◌≡◌, ◌×◌, Option}
+use Rattle.std.specs.Prelude.{◌≡◌, Option}
 use Rattle.x86_litmus.specs.Spots.{Step}
 use Rattle.x86_litmus.specs.Plain.{plain_spot, plain_some}
 use Rattle.x86_litmus.specs.declared.item.Item.{Item}

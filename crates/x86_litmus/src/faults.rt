@@ -46,7 +46,7 @@ pub(crate) fn again(
     name: Named<'_>,
     value: u64,
 ) -> Option<ContentFault>
-    ensures { plain_fault result ≡ again_spec (word_of when) values.now (plain_named name) value }
+    ensures { plain_fault result ≡ again_spec (word_of when) values.now (plain_named name.entry) value }
 {
     let first = values.get(name.word)?;
     fault(stated_again(when, first, value), name.at)
@@ -64,7 +64,7 @@ fn is_thread_name(word: &[u8], column: u64) -> bool
 
 /// The fault of the name of the column of this number.
 pub(crate) fn column_fault(column: u64, name: Named<'_>) -> Option<ContentFault>
-    ensures { plain_fault result ≡ column_fault_spec column (plain_named name) }
+    ensures { plain_fault result ≡ column_fault_spec column (plain_named name.entry) }
 {
     if column > MAX_CORE {
         return fault(FaultKind::CoreNumber { number: column }, name.at);
@@ -76,7 +76,7 @@ pub(crate) fn column_fault(column: u64, name: Named<'_>) -> Option<ContentFault>
 }
 
 fn is_load_of(register: &[u8], action: Action<'_>) -> bool
-    ensures { result ≡ is_load_of_spec register.now (plain_action action) }
+    ensures { result ≡ is_load_of_spec register.now (plain_action action.entry) }
 {
     match action {
         Action::Load {
@@ -104,7 +104,7 @@ fn loads(instructions: &[Instruction<'_>], thread: u64, register: &[u8]) -> bool
     false
 }
 
-fn is_about(thread: u64, register: &[u8], asked: &Asked<'_>) -> bool
+pub(crate) fn is_about(thread: u64, register: &[u8], asked: &Asked<'_>) -> bool
     ensures { result ≡ is_about_spec thread register.now (plain_asked asked.now) }
 {
     asked.thread == thread && register == asked.register
@@ -124,7 +124,7 @@ fn gives(asked: &[Asked<'_>], thread: u64, register: &[u8]) -> bool
 
 fn reload(before: &[Instruction<'_>], instruction: Instruction<'_>) -> Option<ContentFault>
     ensures { plain_fault result
-        ≡ reload_spec (map plain_instruction before.now) instruction.thread (plain_action instruction.action) }
+        ≡ reload_spec (map plain_instruction before.now) instruction.entry.thread (plain_action instruction.entry.action) }
 {
     match instruction.action {
         Action::Load { register, .. } if loads(before, instruction.thread, register.word) => {
@@ -139,8 +139,8 @@ pub(crate) fn instruction_fault(
     before: &[Instruction<'_>],
     instruction: Instruction<'_>,
 ) -> Option<ContentFault>
-    ensures { plain_fault result ≡ instruction_fault_spec (map plain_instruction before.now) instruction.thread
-        instruction.at.offset (plain_action instruction.action) }
+    ensures { plain_fault result ≡ instruction_fault_spec (map plain_instruction before.now) instruction.entry.thread
+        instruction.entry.at.offset (plain_action instruction.entry.action) }
 {
     if before.len() >= MAX_OPS {
         let limit = MAX_OPS as u64;
@@ -167,7 +167,7 @@ pub(crate) fn register_fault(
     register: Named<'_>,
 ) -> Option<ContentFault>
     ensures { plain_fault result ≡ register_fault_spec (map plain_instruction instructions.now)
-        (map plain_asked asked.now) thread.number thread.at.offset (plain_named register) }
+        (map plain_asked asked.now) thread.number thread.at.offset (plain_named register.entry) }
 {
     if !loads(instructions, thread.number, register.word) {
         return fault(FaultKind::X86Unloaded, thread.at);
@@ -180,7 +180,7 @@ pub(crate) fn register_fault(
 
 fn open_action(asked: &[Asked<'_>], instruction: Instruction<'_>) -> Option<ContentFault>
     ensures { plain_fault result
-        ≡ open_action_spec (map plain_asked asked.now) instruction.thread (plain_action instruction.action) }
+        ≡ open_action_spec (map plain_asked asked.now) instruction.entry.thread (plain_action instruction.entry.action) }
 {
     match instruction.action {
         Action::Load { register, .. } if !gives(asked, instruction.thread, register.word) => {

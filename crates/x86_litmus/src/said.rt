@@ -49,7 +49,7 @@ impl<'a> Said<'a> {
 
     /// The fault of an item behind what was said.
     fn fault(&self, item: Item<'a>) -> Option<ContentFault>
-        ensures { plain_fault result ≡ fault_of (plain_said self.now) (plain_item item) }
+        ensures { plain_fault result ≡ fault_of (plain_said self.now) (plain_item item.entry) }
     {
         match item {
             Item::Initial(name, value) => again(When::Before, &self.initial, name, value),
@@ -67,7 +67,7 @@ impl<'a> Said<'a> {
     /// Takes one more item, which has no fault.
     fn append(&mut self, item: Item<'a>) -> Result<(), Memory>
         requires { fault_of (plain_said self.old) (plain_item item) ≡ None }
-        ensures { OnOk result (plain_said self.new ≡ add (plain_said self.old) (plain_item item)) }
+        ensures { OnOk result (plain_said self.new ≡ add (plain_said self.old) (plain_item item.entry)) }
     {
         match item {
             Item::Initial(name, value) => self.initial.add(name.word, value)?,
@@ -87,9 +87,9 @@ impl<'a> Said<'a> {
 
     /// Takes one more item, or names its fault. After an `Err` the text is not to be read on.
     pub(crate) fn add(&mut self, item: Item<'a>) -> Result<(), X86Fault>
-        ensures ok { OnOk result ((fault_of (plain_said self.old) (plain_item item) ≡ None)
-            × (plain_said self.new ≡ add (plain_said self.old) (plain_item item))) }
-        ensures err { IfErr result (IsRefusal (fault_of (plain_said self.old) (plain_item item))) }
+        ensures ok { OnOk result ((fault_of (plain_said self.old) (plain_item item.entry) ≡ None)
+            × (plain_said self.new ≡ add (plain_said self.old) (plain_item item.entry))) }
+        ensures err { IfErr result (IsRefusal (fault_of (plain_said self.old) (plain_item item.entry))) }
     {
         if let Some(fault) = self.fault(item) {
             return Err(X86Fault::Content(fault.kind, fault.place));

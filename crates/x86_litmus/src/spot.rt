@@ -49,14 +49,14 @@ fn is(piece: &[u8], bytes: &[u8]) -> bool
 }
 
 fn instructed<'a>(thread: u64, at: Place, action: Action<'a>) -> Option<Item<'a>>
-    ensures { result ≡ Some (Item.Instructed (record { thread = thread; at = at; action = action })) }
+    ensures { result ≡ Some (Item.Instructed (record { thread = thread; at = at; action = action.entry })) }
 {
     Some(Item::Instructed(Instruction { thread, at, action }))
 }
 
 /// Behind a name in a line: a word of an instruction, or `exists`.
 fn after_row_word<'a>(column: u64, name: Named<'a>) -> Next<'a>
-    ensures { IsStep (after_word column (plain_named name)) result }
+    ensures { IsStep (after_word column (plain_named name.entry)) result }
 {
     if is(name.word, b"MOV") {
         (Spot::Moving(column, name.at), None)
@@ -84,7 +84,7 @@ fn after_row_sign<'a>(column: u64, piece: &[u8], at: Place) -> Next<'a>
 
 impl<'a> Spot<'a> {
     fn after_name(self, name: Named<'a>) -> Next<'a>
-        ensures { IsStep (after_name (plain_spot self) (plain_named name)) result }
+        ensures { IsStep (after_name (plain_spot self.entry) (plain_named name.entry)) result }
     {
         match self {
             Spot::Block => (Spot::Valued(name), None),
@@ -110,7 +110,7 @@ impl<'a> Spot<'a> {
     }
 
     fn after_number(self, value: u64, at: Place) -> Next<'a>
-        ensures { IsStep (after_number (plain_spot self) value at.offset) result }
+        ensures { IsStep (after_number (plain_spot self.entry) value at.offset) result }
     {
         match self {
             Spot::Valued(name) => (Spot::Block, Some(Item::Initial(name, value))),
@@ -130,7 +130,7 @@ impl<'a> Spot<'a> {
 
     fn after_symbol(self, piece: &[u8], at: Place) -> Next<'a>
         requires { column_of (plain_spot self) < 2 ^ 63 }
-        ensures { IsStep (after_symbol (plain_spot self) piece.now at.offset) result }
+        ensures { IsStep (after_symbol (plain_spot self.entry) piece.now at.offset) result }
     {
         match self {
             Spot::Block if is(piece, b"}") => (Spot::Head, None),
@@ -144,7 +144,7 @@ impl<'a> Spot<'a> {
     /// The spot behind this token, and what the listing says there.
     pub(crate) fn after(self, token: Token<'a>) -> Next<'a>
         requires { column_of (plain_spot self) < 2 ^ 63 }
-        ensures { IsStep (after (plain_spot self) (plain token)) result }
+        ensures { IsStep (after (plain_spot self.entry) (plain token.entry)) result }
     {
         let at = token.at;
         match token.kind {

@@ -1,4 +1,4 @@
-ghost use Rattle.std.specs.Prelude.{◌≡◌, ◌∷◌, ◌++◌, [], None, IfOk, OnOk};
+ghost use Rattle.std.specs.Prelude.{◌≡◌, ◌∷◌, ◌++◌, ◌<◌, ◌^◌, [], None, Some, length, slice_get, OnOk};
 ghost use Rattle.x86_litmus.specs.Faults.{value_at};
 
 use indexmap::IndexMap;
@@ -13,7 +13,7 @@ pub(crate) struct Values<'a> {
 }
 
 impl<'a> Model for Values<'a> {
-    ghost use Rattle.std.specs.Prelude.{List, map, ℕ, ◌×◌};
+    ghost use Rattle.std.specs.Prelude.{List, map, ℕ};
     ghost use Rattle.x86_litmus.specs.Values.{plain_entry};
 
     ghost Value = { List (List ℕ × ℕ) };
@@ -45,5 +45,23 @@ impl<'a> Values<'a> {
     {
         self.by_name.insert(word, value)?;
         Ok(())
+    }
+
+    pub(crate) fn len(&self) -> usize
+        ensures value { result ≡ length self.now }
+        ensures bound { length self.now < 2 ^ 63 }
+    {
+        self.by_name.len()
+    }
+
+    /// The location of place `k`, from 0, and its value.
+    pub(crate) fn entry(&self, k: usize) -> (&'a [u8], u64)
+        requires { k < length self.now }
+        ensures { slice_get self.now k ≡ Some (result.0.now, result.1) }
+    {
+        match self.by_name.get_index(k) {
+            Some((word, value)) => (*word, *value),
+            None => unreachable!(),
+        }
     }
 }
