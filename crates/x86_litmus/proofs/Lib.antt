@@ -14,3 +14,4 @@ pub mod CaseOps
 mod LookUps
 mod Loops
 mod Walks
+pub mod Outcomes

@@ -3,7 +3,7 @@ ghost use Rattle.x86_litmus.specs.Syntax.{IsListing};
 ghost use Rattle.x86_litmus.specs.Said.{nothing};
 ghost use Rattle.x86_litmus.specs.Plain.{plain_said};
 ghost use Rattle.x86_litmus.specs.Answer.{IsBody, CaseOf, IsX86Fault};
-ghost use Rattle.x86_litmus.specs.Reading.{IsReadTo, IsFaultIn, CaseIn};
+ghost use Rattle.x86_litmus.specs.Reading.{IsReadTo, IsFaultIn, CaseIn, IsListingFault};
 
 use super::case_of::case_of;
 use super::fault::X86Fault;
@@ -51,7 +51,7 @@ fn case_of_tokens(alloc: Global, bytes: &[u8], tokens: &Tokens<'_>) -> Result<Ca
 fn case_of_listing(alloc: Global, tokens: &Tokens<'_>) -> Result<Case, X86Fault>
     requires { IsListing tokens.now }
     ensures ok { IfOk result (CaseIn tokens.now) }
-    ensures err { IfErr result (IsFaultIn tokens.now) }
+    ensures err { IfErr result (IsListingFault tokens.now) }
 {
     let mut said = Said::new(alloc);
     read_items(tokens, &mut said)?;
