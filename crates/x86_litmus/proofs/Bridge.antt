@@ -104,11 +104,11 @@ number_of (q ∷ []) cs e = absurd (cc)
 number_of [] cs e = absurd (cc)
 
 -- NAME "]" "=" NUMBER, and whatever stands behind
-bracketed_of : (xs : List Terminal) (ys : List Bool) → Means AnyName xs ys → (ts : List Token) (cs : List Terminal)
+bracketed_of : (xs : List Terminal) → ((us : List Token) → map terminal_of us ≡ xs → Spelled AnyName us) → (ts : List Token) (cs : List Terminal)
     → map terminal_of ts ≡ xs ++ (CloseBracket ∷ Equals ∷ Number ∷ cs)
     → (n : Named) × (v : ℕ) × (rest : List Token) × (map terminal_of rest ≡ cs)
     × ((es : List Expected) → Spell es rest → Spell (a_name n ∷ a_symbol (codes "]") ∷ a_symbol (codes "=") ∷ a_number v ∷ es) ts)
-bracketed_of xs ys any ts cs e =
+bracketed_of xs any ts cs e =
     let (us, vs, same, here, behind) = map-part terminal_of ts xs (CloseBracket ∷ Equals ∷ Number ∷ cs) e in
     let (n, s) = any us here in
     let (z, zs, at, is_z, left) = map-head terminal_of vs CloseBracket (Equals ∷ Number ∷ cs) behind in
@@ -125,11 +125,11 @@ bracketed_of xs ys any ts cs e =
     )
 
 -- ":" NAME "=" NUMBER, and whatever stands behind
-register_of : (xs : List Terminal) (ys : List Bool) → Means AnyName xs ys → (ts : List Token) (cs : List Terminal)
+register_of : (xs : List Terminal) → ((us : List Token) → map terminal_of us ≡ xs → Spelled AnyName us) → (ts : List Token) (cs : List Terminal)
     → map terminal_of ts ≡ Colon ∷ (xs ++ (Equals ∷ Number ∷ cs))
     → (n : Named) × (v : ℕ) × (rest : List Token) × (map terminal_of rest ≡ cs)
     × ((es : List Expected) → Spell es rest → Spell (a_symbol (codes ":") ∷ a_name n ∷ a_symbol (codes "=") ∷ a_number v ∷ es) ts)
-register_of xs ys any (c ∷ ts) cs e =
+register_of xs any (c ∷ ts) cs e =
     let (us, vs, same, here, behind) = map-part terminal_of ts xs (Equals ∷ Number ∷ cs) cc in
     let (n, s) = any us here in
     let (v, rest, more, spells) = number_of vs cs behind in
@@ -141,7 +141,7 @@ register_of xs ys any (c ∷ ts) cs e =
       λ es r. (let tail : List Expected = a_symbol (codes "=") ∷ a_number v ∷ es in
           (colon, subst (Spell (a_name n ∷ tail)) (sym same) (spell-append (a_name n ∷ []) tail us vs s (spells es r)))),
     )
-register_of xs ys any [] cs e = absurd (cc)
+register_of xs any [] cs e = absurd (cc)
 
 -- the block
 block_ends : IsRule Values CloseBrace []
@@ -159,7 +159,7 @@ block_named c h _ _ (class (class (part more none))) [] e = absurd (cc)
 
 block_bracketed : IsRule Values OpenBracket (bracketed_and MoreValues)
 block_bracketed _ _ (part {cs = xs} {ds = ys} any (class (class (class (part {cs = cs} more none))))) (o ∷ ts) e =
-    let (n, v, rest, left, spells) = bracketed_of xs _ any ts (cs ++ []) cc in
+    let (n, v, rest, left, spells) = bracketed_of xs any ts (cs ++ []) cc in
     let (ss, last, s) = more rest (left ∙ append-nil cs) in
     let opens : Is (a_symbol (codes "[")) o = is_symbol o OpenBracket refl (λ h. cc) cc in
     (values (record { location = bracketed n; value = v }) ss last, (opens, spells (spelled_values ss last) s))
@@ -305,16 +305,16 @@ plain_condition _ _ (part asked none) [] e = absurd (cc)
 
 -- equations
 equation_register : IsRule Equations Number (register_and MoreEquations)
-equation_register _ _ (class (part {cs = xs} any (class (class (part {cs = cs} more none))))) (t ∷ ts) e =
-    let (n, v, rest, left, spells) = register_of xs _ any ts (cs ++ []) cc in
+equation_register _ _ (class (part {cs = xs} {ds = ys} any (class (class (part {cs = cs} more none))))) (t ∷ ts) e =
+    let (n, v, rest, left, spells) = register_of xs any ts (cs ++ []) cc in
     let (es, s) = more rest (left ∙ append-nil cs) in
     let (thread, is_thread) = is_number t cc in
     (of_register thread t.at n v, es, ((is_thread, refl), spells (spelled_equations es) s))
 equation_register _ _ (class (part any (class (class (part more none))))) [] e = absurd (cc)
 
 equation_bracketed : IsRule Equations OpenBracket (bracketed_and MoreEquations)
-equation_bracketed _ _ (part {cs = xs} any (class (class (class (part {cs = cs} more none))))) (o ∷ ts) e =
-    let (n, v, rest, left, spells) = bracketed_of xs _ any ts (cs ++ []) cc in
+equation_bracketed _ _ (part {cs = xs} {ds = ys} any (class (class (class (part {cs = cs} more none))))) (o ∷ ts) e =
+    let (n, v, rest, left, spells) = bracketed_of xs any ts (cs ++ []) cc in
     let (es, s) = more rest (left ∙ append-nil cs) in
     let opens : Is (a_symbol (codes "[")) o = is_symbol o OpenBracket refl (λ h. cc) cc in
     (of_location (record { location = bracketed n; value = v }), es, (opens, spells (spelled_equations es) s))
@@ -540,10 +540,10 @@ read_any w = begin AnyName (word_terminal w) [] (any_names (word_terminal w) (wo
 -- loc "=" NUMBER, and what stands behind
 read_stated : (n m : Phrase) → behind n OpenBracket ≡ Some (bracketed_and m) → TakesNames n (number_and m) → (s : Stated)
     → (es : List Expected) → Reads m (map terminal es) → Reads n (map terminal (spelled_stated s ++ es))
+unfolding symbol_terminal
 read_stated n m bracket names s es (_, q) = by s.location
   where
     by : (l : Location) → Reads n (map terminal ((spelled_location l ++ (a_symbol (codes "=") ∷ a_number s.value ∷ [])) ++ es))
-    unfolding symbol_terminal
     by (bare x) =
         begin n (word_terminal x.word) (number_and m) (names (word_terminal x.word) (word_is_name x.word)) (class (class (part q none)))
         (word_terminal x.word ∷ Equals ∷ Number ∷ map terminal es)

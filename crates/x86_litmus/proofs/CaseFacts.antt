@@ -22,35 +22,35 @@ in_column k is = filter (λ (i : Instruction). i.thread == k) is
 -- an instruction stands in one column at most
 cons_none : (k : ℕ) (i : Instruction) (is : List Instruction) → k ≤ i.thread → length (test_order k (i ∷ is)) ≡ length (test_order k is)
 cons_none zero i is le = refl
-cons_none (suc k) i is le = by (i.thread == k) refl
+cons_none (suc k) i is le = by (cons_none k i is (omega arith)) (i.thread == k) refl
   where
-    by : (b : Bool) → (i.thread == k) ≡ b
+    by : length (test_order k (i ∷ is)) ≡ length (test_order k is) → (b : Bool) → (i.thread == k) ≡ b
         → length (test_order k (i ∷ is) ++ cond b (i ∷ filter (λ (j : Instruction). j.thread == k) is) (filter (λ (j : Instruction). j.thread == k) is))
         ≡ length (test_order k is ++ filter (λ (j : Instruction). j.thread == k) is)
-    by true h = absurd (omega (arith, eqb-true i.thread k h))
-    by false h = omega (
+    by later true h = absurd (omega (arith, eqb-true i.thread k h))
+    by later false h = omega (
       arith,
-      cons_none k i is (omega arith),
+      later,
       length-append (test_order k (i ∷ is)) (filter (λ (j : Instruction). j.thread == k) is),
       length-append (test_order k is) (filter (λ (j : Instruction). j.thread == k) is),
     )
 
 cons_one : (k : ℕ) (i : Instruction) (is : List Instruction) → length (test_order k (i ∷ is)) ≤ length (test_order k is) + 1
 cons_one zero i is = omega arith
-cons_one (suc k) i is = by (i.thread == k) refl
+cons_one (suc k) i is = by (cons_one k i is) (i.thread == k) refl
   where
-    by : (b : Bool) → (i.thread == k) ≡ b
+    by : length (test_order k (i ∷ is)) ≤ length (test_order k is) + 1 → (b : Bool) → (i.thread == k) ≡ b
         → length (test_order k (i ∷ is) ++ cond b (i ∷ filter (λ (j : Instruction). j.thread == k) is) (filter (λ (j : Instruction). j.thread == k) is))
         ≤ length (test_order k is ++ filter (λ (j : Instruction). j.thread == k) is) + 1
-    by true h = omega (
+    by later true h = omega (
       arith,
       cons_none k i is (omega (arith, eqb-true i.thread k h)),
       length-append (test_order k (i ∷ is)) (i ∷ filter (λ (j : Instruction). j.thread == k) is),
       length-append (test_order k is) (filter (λ (j : Instruction). j.thread == k) is),
     )
-    by false h = omega (
+    by later false h = omega (
       arith,
-      cons_one k i is,
+      later,
       length-append (test_order k (i ∷ is)) (filter (λ (j : Instruction). j.thread == k) is),
       length-append (test_order k is) (filter (λ (j : Instruction). j.thread == k) is),
     )

@@ -15,3 +15,4 @@ mod LookUps
 mod Loops
 mod Walks
 pub mod Outcomes
+mod LexFaults

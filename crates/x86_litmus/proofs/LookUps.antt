@@ -1,5 +1,6 @@
 -- Values and locations that are looked up by name.
-use Rattle.std.proofs.Common.{◌≡◌, ℕ, Bool, true, false, not, List, [], ◌∷◌, ◌++◌, map, length, Option, Some, None, cond, Bor, if◌then◌else◌, nat_lt, refl, sym, ap, ◌∙◌, arith}
+use Rattle.std.proofs.Common.{◌≡◌, ℕ, ◌+◌, Bool, true, false, not, List, [], ◌∷◌, ◌++◌, map, length, Option, Some, None, cond, Bor, if◌then◌else◌, nat_lt, refl, sym, ap, ◌∙◌, arith}
+use Rattle.std.specs.Prelude.{◌||◌}
 use Rattle.std.specs.Map.{lookup}
 use Rattle.std.specs.List.{list_any, position, position_or_len, prefix_len}
 use Rattle.std.proofs.lemmas.Bool.{ltb-true, ltb-false}
@@ -27,12 +28,7 @@ value_more m new k v none put =
 
 any_word : (w : List ℕ) (ks : List (Bor (List ℕ))) → list_any (λ y. same_name w y.now) ks ≡ list_any (same_name w) (map plain_word ks)
 any_word w [] = refl
-any_word w (k ∷ ks) = by (same_name w k.now) (any_word w ks)
-  where
-    by : (b : Bool) → list_any (λ y. same_name w y.now) ks ≡ list_any (same_name w) (map plain_word ks)
-        → cond b true (list_any (λ y. same_name w y.now) ks) ≡ cond b true (list_any (same_name w) (map plain_word ks))
-    by true e = refl
-    by false e = e
+any_word w (k ∷ ks) = ap (λ (b : Bool). same_name w k.now || b) (any_word w ks)
 
 pub seen_word : (ks : List (Bor (List ℕ))) (k : Bor (List ℕ))
     → map plain_word (insert_key (λ x y. same_name x.now y.now) ks k) ≡ seen (map plain_word ks) k.now

@@ -38,17 +38,17 @@ one_syntax bytes p q (inl e) (inl f) =
     let same : fault p.offset ≡ fault q.offset = sym e ∙ f in
     let offset : p.offset ≡ q.offset = cc in
     place_is p q offset
-one_syntax bytes p q (inl e) (inr g) = absurd (no_body g.spelled.header e)
-one_syntax bytes p q (inr f) (inl e) = absurd (no_body f.spelled.header e)
+one_syntax bytes p q (inl e) (inr g) = absurd (no_body bytes g.spelled.header e)
+one_syntax bytes p q (inr f) (inl e) = absurd (no_body bytes f.spelled.header e)
 one_syntax bytes p q (inr f) (inr g) = place_is p q (one_token_fault bytes p q f g)
 
 lexical_or_syntax : (bytes : List ℕ) (p q : Place) → IsX86Fault bytes (Lexical p) → IsX86Fault bytes (Syntax q) → ⊥
-lexical_or_syntax bytes p q (from, header, f) (inl e) = no_body header e
+lexical_or_syntax bytes p q (from, header, f) (inl e) = no_body bytes header e
 lexical_or_syntax bytes p q (from, header, f) (inr g) =
-    spells-no_fault g.spelled.spelled (subst (λ (i : ℕ). IsLexicalFault bytes i p.offset) (one_body header g.spelled.header) f)
+    spells-no_fault g.spelled.spelled (subst (λ (i : ℕ). IsLexicalFault bytes i p.offset) (one_body bytes header g.spelled.header) f)
 
 syntax_or_content : (bytes : List ℕ) (p q : Place) (kind : FaultKind) → IsX86Fault bytes (Syntax p) → IsX86Fault bytes (Content kind q) → ⊥
-syntax_or_content bytes p q kind (inl e) s = no_body s.spelled.header e
+syntax_or_content bytes p q kind (inl e) s = no_body bytes s.spelled.header e
 syntax_or_content bytes p q kind (inr f) s = no_token_fault s (f.k, f.tokens, f.spelled, f.fault_at)
 
 lexical_or_content : (bytes : List ℕ) (p q : Place) (kind : FaultKind) → IsX86Fault bytes (Lexical p) → IsX86Fault bytes (Content kind q) → ⊥
@@ -57,7 +57,7 @@ lexical_or_content bytes p q kind (from, header, f) s = no_lexical s header f
 -- a text has one first fault at most
 pub one_fault : (bytes : List ℕ) (e f : X86Fault) → e ≢ Memory → f ≢ Memory → IsX86Fault bytes e → IsX86Fault bytes f → e ≡ f
 one_fault bytes (Lexical p) (Lexical q) _ _ (i, h, r) (j, g, s) =
-    let there : IsLexicalFault bytes i q.offset = subst (λ (k : ℕ). IsLexicalFault bytes k q.offset) (one_body g h) s in
+    let there : IsLexicalFault bytes i q.offset = subst (λ (k : ℕ). IsLexicalFault bytes k q.offset) (one_body bytes g h) s in
     ap Lexical (place_is p q (lexical_fault-unique r there))
 one_fault bytes (Lexical p) (Syntax q) _ _ r s = absurd (lexical_or_syntax bytes p q r s)
 one_fault bytes (Lexical p) (Content kind q) _ _ r s = absurd (lexical_or_content bytes p q kind r s)

@@ -17,16 +17,16 @@ use Rattle.x86_litmus.specs.declared.fault.X86Fault.{X86Fault}
 use Rattle.x86_litmus.specs.declared.fault.X86Fault.TheVariants.{Lexical, Syntax, Content, Memory}
 use Rattle.x86_litmus.proofs.Readings.{read_listing}
 
-pub one_body : {bytes : List ℕ} {j k : ℕ} → header_of bytes ≡ body j → header_of bytes ≡ body k → j ≡ k
-one_body {bytes} {j} {k} e f = let same : body j ≡ body k = sym e ∙ f in cc
+pub one_body : (bytes : List ℕ) {j k : ℕ} → header_of bytes ≡ body j → header_of bytes ≡ body k → j ≡ k
+one_body bytes {j} {k} e f = let same : body j ≡ body k = sym e ∙ f in cc
 
-pub no_body : {bytes : List ℕ} {j k : ℕ} → header_of bytes ≡ body j → header_of bytes ≡ fault k → ⊥
-no_body {bytes} {j} {k} e f = let same : body j ≡ fault k = sym e ∙ f in cc
+pub no_body : (bytes : List ℕ) {j k : ℕ} → header_of bytes ≡ body j → header_of bytes ≡ fault k → ⊥
+no_body bytes {j} {k} e f = let same : body j ≡ fault k = sym e ∙ f in cc
 
 -- a text has one list of tokens behind its header
 pub one_list : {bytes : List ℕ} {ts us : List Token} → IsBody bytes ts → IsBody bytes us → ts ≡ us
 one_list {bytes} {ts} {us} s t =
-    spells-unique s.spelled (subst (λ (from : ℕ). Spells bytes from us) (one_body t.header s.header) t.spelled)
+    spells-unique s.spelled (subst (λ (from : ℕ). Spells bytes from us) (one_body bytes t.header s.header) t.spelled)
 
 -- and comes to one thing
 pub one_outcome : {bytes : List ℕ} {x y : Outcome} → ComesTo bytes x → ComesTo bytes y → x ≡ y
@@ -50,7 +50,7 @@ no_syntax_fault ts k l f =
 -- a text that is a listing has no fault but one of content
 pub no_lexical : {bytes : List ℕ} {x : Outcome} {from k : ℕ} → ComesTo bytes x → header_of bytes ≡ body from → IsLexicalFault bytes from k → ⊥
 no_lexical {bytes} {k = k} s e f =
-    spells-no_fault s.spelled.spelled (subst (λ (i : ℕ). IsLexicalFault bytes i k) (one_body e s.spelled.header) f)
+    spells-no_fault s.spelled.spelled (subst (λ (i : ℕ). IsLexicalFault bytes i k) (one_body bytes e s.spelled.header) f)
 
 pub no_token_fault : {bytes : List ℕ} {x : Outcome} (s : ComesTo bytes x) → (f : (k : ℕ) × (ts : List Token) × IsBody bytes ts × IsFaultAt IsListing ts k) → ⊥
 no_token_fault s (k, ts, spelled, f) =
@@ -58,7 +58,7 @@ no_token_fault s (k, ts, spelled, f) =
 
 pub no_fault : (bytes : List ℕ) (c : Case) (f : X86Fault) → CaseOf bytes c → f ≢ Memory → IsX86Fault bytes f → ⊥
 no_fault bytes c (Lexical place) (s, x, e) not (from, header, f) = no_lexical x header f
-no_fault bytes c (Syntax place) (s, x, e) not (inl header) = no_body x.spelled.header header
+no_fault bytes c (Syntax place) (s, x, e) not (inl header) = no_body bytes x.spelled.header header
 no_fault bytes c (Syntax place) (s, x, e) not (inr f) = no_token_fault x (f.k, f.tokens, f.spelled, f.fault_at)
 no_fault bytes c (Content kind place) (s, x, e) not f =
     let both : says s ≡ faulty (found kind place.offset) = one_outcome x f in cc

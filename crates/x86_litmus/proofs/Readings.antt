@@ -86,8 +86,8 @@ takes_symbol_at s w at es (t ∷ ts) h = record {
       ∙ ap (λ a. told (after_symbol s w a) ts) h.0.2;
 }
 
-subst_spell : {es fs : List Expected} {ts : List Token} → es ≡ fs → Spell es ts → Spell fs ts
-subst_spell {ts = ts} e = subst (λ (es : List Expected). Spell es ts) e
+subst_spell : (es fs : List Expected) (ts : List Token) → es ≡ fs → Spell es ts → Spell fs ts
+subst_spell es fs ts e = subst (λ (xs : List Expected). Spell xs ts) e
 
 -- a value of a location, of the block and of the condition
 block_stated : (s : Stated) (es : List Expected) (ts : List Token) → Spell (spelled_stated s ++ es) ts
@@ -139,7 +139,7 @@ read_values [] true es ts h =
     record { rest = a.rest; spell = a.spell; reads = s.reads ∙ a.reads }
 read_values (x ∷ ss) last es ts h =
     let s = takes_symbol block (codes ";") ((spelled_stated x ++ spelled_values ss last) ++ es) ts h in
-    let parts = subst_spell (append_assoc (spelled_stated x) (spelled_values ss last) es) s.spell in
+    let parts = subst_spell _ _ s.rest (append_assoc (spelled_stated x) (spelled_values ss last) es) s.spell in
     let a = block_stated x (spelled_values ss last ++ es) s.rest parts in
     let b = read_values ss last es a.rest a.spell in
     record { rest = b.rest; spell = b.spell; reads = s.reads ∙ a.reads ∙ ap (λ (is : List Item). initial_of x ∷ is) b.reads }
@@ -148,7 +148,7 @@ read_block : (b : Block) (es : List Expected) (ts : List Token) → Spell (spell
 read_block no_values es ts h =
     let a = takes_symbol block (codes "}") es ts h in record { rest = a.rest; spell = a.spell; reads = a.reads }
 read_block (values x ss last) es ts h =
-    let a = block_stated x (spelled_values ss last ++ es) ts (subst_spell (append_assoc (spelled_stated x) (spelled_values ss last) es) h) in
+    let a = block_stated x (spelled_values ss last ++ es) ts (subst_spell _ _ ts (append_assoc (spelled_stated x) (spelled_values ss last) es) h) in
     let b = read_values ss last es a.rest a.spell in
     record { rest = b.rest; spell = b.spell; reads = a.reads ∙ ap (λ (is : List Item). initial_of x ∷ is) b.reads }
 
@@ -203,7 +203,7 @@ read_cells k [] end es ts h =
     let a = takes_symbol_at (row k) (codes ";") end es ts h in record { rest = a.rest; spell = a.spell; reads = a.reads }
 read_cells k (c ∷ cs) end es ts h =
     let b = takes_symbol (row k) (codes "|") ((spelled_cell c ++ spelled_cells cs end) ++ es) ts h in
-    let a = read_cell (k + 1) c (spelled_cells cs end ++ es) b.rest (subst_spell (append_assoc (spelled_cell c) (spelled_cells cs end) es) b.spell) in
+    let a = read_cell (k + 1) c (spelled_cells cs end ++ es) b.rest (subst_spell _ _ b.rest (append_assoc (spelled_cell c) (spelled_cells cs end) es) b.spell) in
     let d = read_cells (k + 1) cs end es a.rest a.spell in
     record {
       rest = d.rest;
@@ -215,7 +215,7 @@ read_cells k (c ∷ cs) end es ts h =
 read_row : (r : Row) (es : List Expected) (ts : List Token) → Spell (spelled_row r ++ es) ts → IsBehind (row 0) ts es (row 0) (items_of_row r)
 read_row r es ts h =
     let a = read_cell 0 r.first (spelled_cells r.others r.end ++ es) ts
-    (subst_spell (append_assoc (spelled_cell r.first) (spelled_cells r.others r.end) es) h) in
+    (subst_spell _ _ ts (append_assoc (spelled_cell r.first) (spelled_cells r.others r.end) es) h) in
     let d = read_cells 0 r.others r.end es a.rest a.spell in
     record {
       rest = d.rest;
@@ -242,14 +242,14 @@ read_equations : (qs : List Equation) (es : List Expected) (ts : List Token) →
 read_equations [] es ts h = record { rest = ts; spell = h; reads = refl }
 read_equations (q ∷ qs) es ts h =
     let a = takes_symbol asking (codes "/\\") ((spelled_equation q ++ spelled_equations qs) ++ es) ts h in
-    let b = read_equation q (spelled_equations qs ++ es) a.rest (subst_spell (append_assoc (spelled_equation q) (spelled_equations qs) es) a.spell) in
+    let b = read_equation q (spelled_equations qs ++ es) a.rest (subst_spell _ _ a.rest (append_assoc (spelled_equation q) (spelled_equations qs) es) a.spell) in
     let c = read_equations qs es b.rest b.spell in
     record { rest = c.rest; spell = c.spell; reads = a.reads ∙ b.reads ∙ ap (λ (is : List Item). item_of_equation q ∷ is) c.reads }
 
 read_conjunction : (q : Equation) (qs : List Equation) (es : List Expected) (ts : List Token) → Spell (spelled_conjunction q qs ++ es) ts
     → IsBehind asking ts es asking (item_of_equation q ∷ map item_of_equation qs)
 read_conjunction q qs es ts h =
-    let b = read_equation q (spelled_equations qs ++ es) ts (subst_spell (append_assoc (spelled_equation q) (spelled_equations qs) es) h) in
+    let b = read_equation q (spelled_equations qs ++ es) ts (subst_spell _ _ ts (append_assoc (spelled_equation q) (spelled_equations qs) es) h) in
     let c = read_equations qs es b.rest b.spell in
     record { rest = c.rest; spell = c.spell; reads = b.reads ∙ ap (λ (is : List Item). item_of_equation q ∷ is) c.reads }
 
@@ -265,7 +265,7 @@ read_asked : (b : Bool) (q : Equation) (qs : List Equation) (ts : List Token) �
     → items_from asking ts ≡ item_of_equation q ∷ map item_of_equation qs
 read_asked false q qs ts h =
     whole asking asking ts (item_of_equation q ∷ map item_of_equation qs)
-    (read_conjunction q qs [] ts (subst_spell (sym (append-nil (spelled_conjunction q qs))) h))
+    (read_conjunction q qs [] ts (subst_spell _ _ ts (sym (append-nil (spelled_conjunction q qs))) h))
 read_asked true q qs ts h =
     let o = takes_symbol asking (codes "(") (spelled_conjunction q qs ++ a_symbol (codes ")") ∷ []) ts h in
     let c = read_conjunction q qs (a_symbol (codes ")") ∷ []) o.rest o.spell in

@@ -8,6 +8,7 @@ use Rattle.pc_common.specs.Names.{same_name}
 use Rattle.pc_common.specs.declared.fault.FaultKind.{FaultKind}
 use Rattle.pc_common.specs.declared.fault.FaultKind.TheVariants.{CoreNumber, TooManyOps, AgainInitial, AgainFinal, X86Column}
 use Rattle.pc_common.specs.declared.value.Value.{Value}
+use Rattle.pc_common.specs.declared.value.Value.TheVariants.{Number}
 use Rattle.pc_common.specs.declared.limits.TheConstants.{MAX_CORE, MAX_OPS}
 use Rattle.x86_litmus.specs.Listing.{Named, Action}
 use Rattle.x86_litmus.specs.Items.{Item, initial, column, instructed, row_ended, denied, register_is, final}
@@ -59,7 +60,7 @@ pub again_none : (kind : Value → Value → FaultKind) (values : List (List ℕ
     → value_at values n.word ≡ None
 again_none kind values n v e = by (value_at values n.word) e
   where
-    by : (o : Option ℕ) → option_map _ o ≡ None → o ≡ None
+    by : (o : Option ℕ) → option_map (λ first. found (kind (Number first) (Number v)) n.at) o ≡ None → o ≡ None
     by None h = refl
     by (Some x) h = cc
 

@@ -27,7 +27,6 @@ lines-total [] = refl
 lines-total (x ∷ xs) = by (is_line_end x) (lines xs) (lines-total xs)
   where
     by : (b : Bool) (ls : List (List ℕ)) → total ls ≡ length xs + 1 → total (if b then [] ∷ ls else onto_first x ls) ≡ length (x ∷ xs) + 1
-    unfolding total
     by true ls e = omega (arith, e)
     by false [] e = absurd (omega (arith, e))
     by false (l ∷ ls) e = omega (arith, e)
@@ -46,11 +45,11 @@ behind_within end at k (l ∷ ls) e is =
     by later false false h = absurd (cc)
 
 body_within : (bytes : List ℕ) (k : ℕ) → header_of bytes ≡ body k → k ≤ length bytes
+unfolding total
 body_within bytes k is = by (lines bytes) (lines-total bytes) is
   where
     titled : (title : List ℕ) (others : List (List ℕ)) → total (title ∷ others) ≡ length bytes + 1 → (b : Bool)
         → (if b then header_behind (length bytes) (length title + 1) others else fault 0) ≡ body k → k ≤ length bytes
-    unfolding total
     titled title others e true h = behind_within (length bytes) (length title + 1) k others (omega (arith, e)) h
     titled title others e false h = absurd (cc)
 
@@ -76,10 +75,10 @@ tokens_settled : (bytes : List ℕ) (ts : List Token) → IsBody bytes ts → Is
 tokens_settled bytes ts spelled =
     ⊎_elim
     (λ (l, is). listing_settled bytes ts spelled l is)
-    (λ (k, fault). inr (
+    (λ (k, found_at). inr (
       Syntax (record { offset = token_place bytes ts k }),
       (λ e. cc),
-      inr (record { tokens = ts; spelled = spelled; k = k; fault_at = fault; at = refl }),
+      inr (record { tokens = ts; spelled = spelled; k = k; fault_at = found_at; at = refl }),
     ))
     (listing_or_fault ts)
 
@@ -87,7 +86,7 @@ body_settled : (bytes : List ℕ) (from : ℕ) → header_of bytes ≡ body from
 body_settled bytes from header =
     ⊎_elim
     (λ (ts, spelled). tokens_settled bytes ts (record { from = from; header = header; spelled = spelled }))
-    (λ (k, fault). inr (Lexical (record { offset = k }), (λ e. cc), (from, header, fault)))
+    (λ (k, found_at). inr (Lexical (record { offset = k }), (λ e. cc), (from, header, found_at)))
     (spells-or_fault bytes from (body_within bytes from header))
 
 pub case_or_fault : (bytes : List ℕ) → ((c : Case) × CaseOf bytes c) ⊎ ((f : X86Fault) × (f ≢ Memory) × IsX86Fault bytes f)

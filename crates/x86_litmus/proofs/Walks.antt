@@ -9,7 +9,10 @@ use Rattle.x86_litmus.specs.Items.{Item, initial, column, instructed, row_ended,
 use Rattle.x86_litmus.specs.Said.{Said, add}
 use Rattle.x86_litmus.specs.Spots.{Spot, block, valued, head, row, moving, storing, stored, loading, asking, thread, register, behind, Step, goes, tells, after_word, after_name, after_number, after_row_symbol, after_symbol, after_kind, after, with_item, items_from, column_of}
 use Rattle.x86_litmus.specs.Faults.{Found, found, fault_of, open_fault, Outcome, faulty, says, unless, judged, outcome_of}
-use Rattle.x86_litmus.specs.Reading.{items_in}
+use Rattle.x86_litmus.specs.Reading.{items_in, IsFaultIn}
+use Rattle.x86_litmus.specs.Takes.{IsRefusal}
+use Rattle.x86_litmus.specs.declared.fault.X86Fault.{X86Fault}
+use Rattle.x86_litmus.specs.declared.fault.X86Fault.TheVariants.{Lexical, Syntax, Content, Memory}
 use Rattle.x86_litmus.proofs.Loops.{no_more}
 
 next_tokens : (ts : List Token) (k : ℕ) (t : Token) → slice_get ts k ≡ Some t → k < length ts → drop k ts ≡ t ∷ drop (k + 1) ts
@@ -24,8 +27,8 @@ module _ (s : Spot) (said : Said) (ts : List Token) (k : ℕ) (t : Token) (at : 
       ∙ ap (λ (x : Spot). judged said (with_item (after s t).item (items_from x (drop (k + 1) ts)))) (sym goes_to)
 
   pub step_none : None ≡ (after s t).item → judged said (items_from s (drop k ts)) ≡ judged said (items_from next (drop (k + 1) ts))
-  step_none no =
-      reads_on ∙ ap (λ (o : Option Item). judged said (with_item o (items_from next (drop (k + 1) ts)))) (sym no)
+  step_none none =
+      reads_on ∙ ap (λ (o : Option Item). judged said (with_item o (items_from next (drop (k + 1) ts)))) (sym none)
 
   reads_item : (i : Item) → Some i ≡ (after s t).item
       → judged said (items_from s (drop k ts)) ≡ unless (fault_of said i) (judged (add said i) (items_from next (drop (k + 1) ts)))
@@ -120,3 +123,13 @@ column_kind s symbol piece at = column_symbol s piece at
 
 pub column_after : (s : Spot) (t : Token) (next : Spot) (k : ℕ) → next ≡ (after s t).next → column_of s ≤ k → column_of next ≤ k + 1
 column_after s t next k e low = omega (arith, ap column_of e, column_kind s t.kind t.piece t.at, low)
+
+-- why the code takes no item more is the fault of what the tokens say
+pub refused_in : (s : Spot) (said : Said) (ts : List Token) (k : ℕ) (t : Token) → slice_get ts k ≡ Some t → k < length ts → (i : Item)
+    → Some i ≡ (after s t).item → outcome_of (items_in ts) ≡ judged said (items_from s (drop k ts)) → (fault : X86Fault)
+    → IsRefusal (fault_of said i) fault → IsFaultIn ts fault
+refused_in s said ts k t at lt i is reads (Content kind place) here =
+    reads ∙ step_fault s said ts k t at lt (after s t).next refl i (found kind place.offset) is here
+refused_in s said ts k t at lt i is reads Memory here = tt
+refused_in s said ts k t at lt i is reads (Lexical place) here = absurd here
+refused_in s said ts k t at lt i is reads (Syntax place) here = absurd here
