@@ -341,9 +341,16 @@ asked_brackets _ _ (part {cs = xs} equations (class none)) (o ∷ ts) e =
     by : (q : Equation) (qs : List Equation) → Is (a_symbol (codes "(")) o → (us vs : List Token) → us ++ vs ≡ ts
         → Spell (spelled_conjunction q qs) us → map terminal_of vs ≡ Close ∷ [] → Spelled Asked (o ∷ ts)
     by q qs opens us (z ∷ []) same s f =
-        let closes : Is (a_symbol (codes ")")) z = is_symbol z Close refl (λ h. cc) cc in
-        (true, q, qs, (opens, subst (Spell (spelled_conjunction q qs ++ a_symbol (codes ")") ∷ [])) same
-        (spell-append (spelled_conjunction q qs) (a_symbol (codes ")") ∷ []) us (z ∷ []) s (closes, tt))))
+        let closes : Is (a_symbol (codes ")")) z = is_symbol z Close refl (λ h. cc) cc in (
+          true,
+          q,
+          qs,
+          (
+            opens,
+            subst (Spell (spelled_conjunction q qs ++ a_symbol (codes ")") ∷ [])) same
+                (spell-append (spelled_conjunction q qs) (a_symbol (codes ")") ∷ []) us (z ∷ []) s (closes, tt)),
+          ),
+        )
     by q qs opens us vs same s f = absurd (cc)
 asked_brackets _ _ (part equations (class none)) [] e = absurd (cc)
 

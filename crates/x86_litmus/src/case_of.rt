@@ -11,7 +11,9 @@ use super::item::{Action, Instruction};
 use super::locations::Locations;
 use super::said::{Asked, Said};
 use super::values::Values;
-use pc_case::{Access, Address, Case, Expect, Memop, Op, OpId, Ops, Page, Stated, StatedValues, TypeNames};
+use pc_case::{
+    Access, Address, Case, Expect, Memop, Op, OpId, Ops, Page, Stated, StatedValues, TypeNames,
+};
 use pc_common::{Listed, Memory, Value};
 use std::alloc::Global;
 

@@ -80,7 +80,8 @@ fn is_load_of(register: &[u8], action: Action<'_>) -> bool
 {
     match action {
         Action::Load {
-            register: loaded, ..
+            register: loaded,
+            ..
         } => register == loaded.word,
         Action::Fence | Action::Store { .. } => false,
     }

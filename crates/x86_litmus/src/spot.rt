@@ -61,7 +61,10 @@ fn after_row_word<'a>(column: u64, name: Named<'a>) -> Next<'a>
     if is(name.word, b"MOV") {
         (Spot::Moving(column, name.at), None)
     } else if is(name.word, b"MFENCE") {
-        (Spot::Row(column), instructed(column, name.at, Action::Fence))
+        (
+            Spot::Row(column),
+            instructed(column, name.at, Action::Fence),
+        )
     } else {
         (Spot::Asking, None)
     }
