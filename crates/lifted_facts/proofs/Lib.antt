@@ -1,0 +1,4 @@
+pub mod FactTruth
+pub mod PartTruth
+pub mod Sound
+pub mod RunLaws

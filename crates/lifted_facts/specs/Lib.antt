@@ -1,0 +1,6 @@
+pub mod PlainFacts
+pub mod Parts
+pub mod Lifted
+pub mod Steps
+pub mod OpenBranches
+pub mod Laws

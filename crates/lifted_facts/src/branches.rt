@@ -1,0 +1,170 @@
+ghost use Rattle.std.specs.Prelude.{◌≡◌, ◌↔◌, ◌∷◌, [], All, List, map, IsTrue, IfOk, OnOk};
+ghost use Rattle.pc_common.specs.Case.{Case as PlainCase};
+ghost use Rattle.pc_ground.specs.Stages.{plain_axioms};
+ghost use Rattle.lifted_facts.specs.PlainFacts.{Branch, root, plain_fact, IsProper};
+ghost use Rattle.lifted_facts.specs.Lifted.{derive as derive_step, split as split_step, close as close_step, HasAdvanced};
+ghost use Rattle.lifted_facts.specs.Steps.{plain_leaf, plain_step};
+
+use super::fact::Fact;
+use super::leaves::closes;
+use super::named::{part_at, sides_at};
+use super::parts::said_of;
+use super::step::{Leaf, Step};
+use super::waiting::Waiting;
+use super::way::Way;
+use pc_case::Case;
+use pc_common::Memory;
+use pc_syntax::{Closed, Env};
+use std::alloc::Global;
+use std::marker::Model;
+
+/// The branches that the steps of a lifted refutation so far leave open.
+///
+/// It takes memory for the facts of the first open branch, and for one fact of each other.
+#[derive(Drop)]
+pub struct Branches<'a> {
+    case: &'a Case,
+    /// What is known on the first branch.
+    facts: Vec<Fact<'a>>,
+    /// The branches that wait, the next one last.
+    later: Vec<Waiting<'a>>,
+    is_open: bool,
+}
+
+impl<'a> Model for Branches<'a> {
+    ghost use Rattle.std.specs.Prelude.{length, reverse};
+    ghost use Rattle.lifted_facts.specs.OpenBranches.{OpenBranches, opens_of, AreWithin, AreProper};
+
+    ghost Value = { OpenBranches };
+
+    ghost view = { λ s. record { case = s.case.now; opens = opens_of s.is_open s.facts.items (reverse s.later.items) } };
+
+    ghost invariant = { λ s. AreProper s.case.now s.facts.items s.later.items × AreWithin (length s.facts.items) (reverse s.later.items) };
+}
+
+/// The axioms as facts, in their order.
+fn axiom_facts<'a>(alloc: Global, axioms: &'a [Closed]) -> Result<Vec<Fact<'a>>, Memory>
+    ensures are { IfOk result (λ facts. map plain_fact facts.items ≡ root (plain_axioms axioms.now)) }
+    ensures proper { (c : PlainCase) → IfOk result (λ facts. All (IsProper c) facts.items) }
+{
+    let env = Env::new();
+    let mut facts = Vec::new(alloc);
+    for axiom in axioms {
+        facts.push(said_of(&env, true, &axiom.body))?;
+    }
+    Ok(facts)
+}
+
+impl<'a> Branches<'a> {
+    /// The one branch of no step, whose facts are the axioms.
+    pub fn new(
+        alloc: Global,
+        case: &'a Case,
+        axioms: &'a [Closed],
+    ) -> Result<Branches<'a>, Memory>
+        ensures case { IfOk result (λ branches. branches.case ≡ case.now) }
+        ensures opens { IfOk result (λ branches. branches.opens ≡ root (plain_axioms axioms.now) ∷ []) }
+    {
+        Ok(Branches {
+            case,
+            facts: axiom_facts(alloc, axioms)?,
+            later: Vec::new(alloc),
+            is_open: true,
+        })
+    }
+
+    /// Takes a step at the first open branch. False where no branch is open, or where the step's condition does not
+    /// hold. After false, or where memory is refused, nothing is said of the branches.
+    pub fn take(&mut self, step: Step<'_>) -> Result<bool, Memory>
+        ensures case { self.new.case ≡ self.old.case }
+        ensures advanced { IfOk result (HasAdvanced self.old.case (plain_step step.entry) self.old.opens self.new.opens) }
+    {
+        if !self.is_open {
+            return Ok(false);
+        }
+        match step {
+            Step::Derive(way, number) => self.derive(way, number),
+            Step::Split(number) => self.split(number),
+            Step::Close(leaf) => self.close(leaf),
+        }
+    }
+
+    /// Whether no branch is open. Takes no memory.
+    pub fn is_closed(&self) -> bool
+        ensures { IsTrue result ↔ (self.now.opens ≡ []) }
+    {
+        !self.is_open
+    }
+
+    /// Adds a part of a fact.
+    fn derive(&mut self, way: Way, number: u64) -> Result<bool, Memory>
+        ensures case { self.new.case ≡ self.old.case }
+        ensures advanced { IfOk result (HasAdvanced self.old.case (derive_step way number) self.old.opens self.new.opens) }
+    {
+        if !self.is_open {
+            return Ok(false);
+        }
+        match part_at(self.case, &self.facts, way, number) {
+            Some(part) => {
+                self.facts.push(part)?;
+                Ok(true)
+            }
+            None => Ok(false),
+        }
+    }
+
+    /// Adds the first side of a fact, and lets the branch with the second one wait.
+    fn split(&mut self, number: u64) -> Result<bool, Memory>
+        ensures case { self.new.case ≡ self.old.case }
+        ensures advanced { IfOk result (HasAdvanced self.old.case (split_step number) self.old.opens self.new.opens) }
+    {
+        if !self.is_open {
+            return Ok(false);
+        }
+        match sides_at(self.case, &self.facts, number) {
+            Some((first, second)) => {
+                self.later.push(Waiting {
+                    count: self.facts.len(),
+                    fact: second,
+                })?;
+                self.facts.push(first)?;
+                Ok(true)
+            }
+            None => Ok(false),
+        }
+    }
+
+    /// Closes the branch by a leaf, so that the next one that waits is first.
+    fn close(&mut self, leaf: Leaf<'_>) -> Result<bool, Memory>
+        ensures case { self.new.case ≡ self.old.case }
+        ensures advanced { IfOk result (HasAdvanced self.old.case (close_step (plain_leaf leaf.entry)) self.old.opens self.new.opens) }
+    {
+        if !self.is_open {
+            return Ok(false);
+        }
+        if !closes(self.case, &self.facts, leaf) {
+            return Ok(false);
+        }
+        self.open_next()?;
+        Ok(true)
+    }
+
+    /// Leaves the first branch, and enters the next one that waits.
+    fn open_next(&mut self) -> Result<(), Memory>
+        ensures case { self.new.case ≡ self.old.case }
+        ensures opens { OnOk result ((b : Branch) (rest : List Branch) → self.old.opens ≡ b ∷ rest → self.new.opens ≡ rest) }
+    {
+        match self.later.pop() {
+            None => {
+                self.is_open = false;
+                Ok(())
+            }
+            Some(next) => {
+                let Waiting { count, fact } = next;
+                self.facts.truncate(count);
+                self.facts.push(fact)?;
+                Ok(())
+            }
+        }
+    }
+}
