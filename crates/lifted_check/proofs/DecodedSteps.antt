@@ -67,14 +67,15 @@ front_is (n ∷ []) r e =
     (let pair : List ℕ × ℕ = ([], n) in
     let same : pair ≡ r = cc in
     ap (λ (x : List ℕ × ℕ). x.0 ++ x.1 ∷ []) (sym same))
-front_is (m ∷ n ∷ ns) r e = go (front_and_last (n ∷ ns)) refl e
+front_is (m ∷ n ∷ ns) r e = go (front_and_last (n ∷ ns)) refl (λ q is. front_is (n ∷ ns) q is) e
   where
-    go : (o : Option (List ℕ × ℕ)) → front_and_last (n ∷ ns) ≡ o → onto_front m o ≡ Some r → r.0 ++ r.1 ∷ [] ≡ m ∷ n ∷ ns
-    go None is f = cc
-    go (Some q) is f =
+    go : (o : Option (List ℕ × ℕ)) → front_and_last (n ∷ ns) ≡ o → ((q : List ℕ × ℕ) → front_and_last (n ∷ ns) ≡ Some q → q.0 ++ q.1 ∷ [] ≡ n ∷ ns)
+        → onto_front m o ≡ Some r → r.0 ++ r.1 ∷ [] ≡ m ∷ n ∷ ns
+    go None is later f = cc
+    go (Some q) is later f =
         (let pair : List ℕ × ℕ = (m ∷ q.0, q.1) in
         let same : pair ≡ r = cc in
-        ap (λ (x : List ℕ × ℕ). x.0 ++ x.1 ∷ []) (sym same) ∙ ap (λ (xs : List ℕ). m ∷ xs) (front_is (n ∷ ns) q is))
+        ap (λ (x : List ℕ × ℕ). x.0 ++ x.1 ∷ []) (sym same) ∙ ap (λ (xs : List ℕ). m ∷ xs) (later q is))
 
 pub decoded_is : (ops : List MicroOp) (k : Keyword) (ns : List ℕ) (s : LiftedStep) → decoded k ns ≡ Some s → IsDecoded ops k ns s
 decoded_is ops Left ns s e =

@@ -81,13 +81,13 @@ one_row (j ∷ js) (k ∷ ks) hj hk e =
 pub dotted : (g n : List ℕ) → g ++ codes "." ++ n ≡ g ++ 46 ∷ n
 dotted g n = append_assoc g (codes ".") n
 
-op_is : (ops : List MicroOp) (i : ℕ) (o : MicroOp) → slice_get ops i ≡ Some o → op_text (slice_get ops i) ≡ decimal o.g ++ 46 ∷ decimal o.n
+pub op_is : (ops : List MicroOp) (i : ℕ) (o : MicroOp) → slice_get ops i ≡ Some o → op_text (slice_get ops i) ≡ decimal o.g ++ 46 ∷ decimal o.n
 op_is ops i o at = ap op_text at ∙ dotted (decimal o.g) (decimal o.n)
 
-dot_lacks : (k : ℕ) → IsSmall k → Lacks 46 (decimal k)
+pub dot_lacks : (k : ℕ) → IsSmall k → Lacks 46 (decimal k)
 dot_lacks k small = decimal_lacks 46 (decimal k) refl (k, (small, refl))
 
-value_lacks : (ops : List MicroOp) (v : Instance) → IsValue ops v → Lacks 32 (value_text ops v)
+pub value_lacks : (ops : List MicroOp) (v : Instance) → IsValue ops v → Lacks 32 (value_text ops v)
 value_lacks ops (CoreInstance k) h = number_lacks k h
 value_lacks ops (OpInstance i) h =
     (let o = h.0 in

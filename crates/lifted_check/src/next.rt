@@ -33,7 +33,7 @@ fn read_keyword(line: &[u8]) -> Option<(Keyword, &[u8])>
 /// Takes the line of an instantiation, of which this stands behind its keyword.
 fn take_instance(case: &Case, branches: &mut Branches<'_>, rest: &[u8]) -> Result<bool, Memory>
     ensures case { branches.new.case ≡ branches.old.case }
-    ensures stepped { IfOk result (λ good. (line : List ℕ) → branches.old.case ≡ case.now
+    ensures stepped { IfOk result (λ good. (line : List ℕ) → IsCase case.now → branches.old.case ≡ case.now
         → words line ≡ keyword_text InstWord ∷ words rest.now
         → HasSteppedOn case.now line branches.old.opens branches.new.opens good) }
 {

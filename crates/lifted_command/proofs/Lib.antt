@@ -1,0 +1,3 @@
+pub mod PieceByPiece
+pub mod OneAnswer
+pub mod LiftedOutcomes

@@ -1,0 +1,4 @@
+pub mod LiftedTexts
+pub mod LiftedQuestions
+pub mod Reading
+pub mod LiftedAnswers

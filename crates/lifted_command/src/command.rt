@@ -1,0 +1,45 @@
+ghost use Rattle.std.specs.Prelude.{◌≡◌};
+ghost use Rattle.command_base.specs.Inputs.{plain_inputs};
+ghost use Rattle.command_base.specs.Endings.{returned_status, returned_text};
+ghost use Rattle.command_base.specs.Outcomes.{IsThirdOutcome};
+ghost use Rattle.lifted_command.specs.LiftedTexts.{lifted_status, lifted_text};
+ghost use Rattle.lifted_command.specs.Reading.{returned};
+ghost use Rattle.lifted_command.specs.LiftedAnswers.{IsJudged};
+
+use super::checking::check_file;
+use super::reading::FeedEnd;
+use lifted_check::Lifted;
+use command_base::{Ending, Inputs, SecondFile, read_inputs};
+use pc_common::Files;
+use std::alloc::Global;
+
+/// What the command returns where the third file was checked, or could not be.
+fn returned_of(checked: Result<Lifted, FeedEnd>) -> Result<Lifted, Ending>
+    ensures { result ≡ returned checked }
+{
+    match checked {
+        Ok(checked) => Ok(checked),
+        Err(FeedEnd::ReadFault) => Err(Ending::ReadFault),
+        Err(FeedEnd::Memory) => Err(Ending::Memory),
+    }
+}
+
+/// Reads the two files, and where they have no fault the third: what it is to them, or how the command ends before.
+pub fn verify_lifted<S: SecondFile, F: Files>(
+    alloc: Global,
+    inputs: Inputs<'_>,
+    certificate: &str,
+    files: &mut F,
+) -> Result<Lifted, Ending>
+    ensures { IsThirdOutcome F.view S.case_of S.first_fault (plain_inputs inputs.entry) certificate.now
+        (IsJudged ((F.view files.old).holds) certificate.now)
+        files.old files.new (returned_status lifted_status result) (returned_text lifted_text result) }
+{
+    let front = match read_inputs::<S, F>(alloc, inputs, files) {
+        Ok(front) => front,
+        Err(ending) => return Err(ending),
+    };
+    let checked = check_file(alloc, &front, certificate, files);
+    drop(front);
+    returned_of(checked)
+}
