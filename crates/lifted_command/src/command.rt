@@ -1,4 +1,6 @@
 ghost use Rattle.std.specs.Prelude.{◌≡◌};
+ghost use Rattle.litmus_reader.specs.Answer.{CaseOf};
+ghost use Rattle.pc_front.specs.Front.{IsFirstFault as IsTestFault};
 ghost use Rattle.command_base.specs.Inputs.{plain_inputs};
 ghost use Rattle.command_base.specs.Endings.{returned_status, returned_text};
 ghost use Rattle.command_base.specs.Outcomes.{IsThirdOutcome};
@@ -7,9 +9,10 @@ ghost use Rattle.lifted_command.specs.Reading.{returned};
 ghost use Rattle.lifted_command.specs.LiftedAnswers.{IsJudged};
 
 use super::checking::check_file;
+use super::inputs::read_two;
 use super::reading::FeedEnd;
 use lifted_check::Lifted;
-use command_base::{Ending, Inputs, SecondFile, read_inputs};
+use command_base::{Ending, Inputs};
 use pc_common::Files;
 use std::alloc::Global;
 
@@ -25,21 +28,21 @@ fn returned_of(checked: Result<Lifted, FeedEnd>) -> Result<Lifted, Ending>
 }
 
 /// Reads the two files, and where they have no fault the third: what it is to them, or how the command ends before.
-pub fn verify_lifted<S: SecondFile, F: Files>(
+pub fn verify_lifted<F: Files>(
     alloc: Global,
     inputs: Inputs<'_>,
     certificate: &str,
     files: &mut F,
 ) -> Result<Lifted, Ending>
-    ensures { IsThirdOutcome F.view S.case_of S.first_fault (plain_inputs inputs.entry) certificate.now
+    ensures { IsThirdOutcome F.view CaseOf IsTestFault (plain_inputs inputs.entry) certificate.now
         (IsJudged ((F.view files.old).holds) certificate.now)
         files.old files.new (returned_status lifted_status result) (returned_text lifted_text result) }
 {
-    let front = match read_inputs::<S, F>(alloc, inputs, files) {
-        Ok(front) => front,
+    let parts = match read_two(alloc, inputs, files) {
+        Ok(parts) => parts,
         Err(ending) => return Err(ending),
     };
-    let checked = check_file(alloc, &front, certificate, files);
-    drop(front);
+    let checked = check_file(alloc, &parts, certificate, files);
+    drop(parts);
     returned_of(checked)
 }

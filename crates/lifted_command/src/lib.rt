@@ -8,6 +8,7 @@
 
 mod checking;
 mod command;
+mod inputs;
 mod reading;
 mod report;
 

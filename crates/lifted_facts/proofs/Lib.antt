@@ -2,3 +2,4 @@ pub mod FactTruth
 pub mod PartTruth
 pub mod Sound
 pub mod RunLaws
+pub mod Members
