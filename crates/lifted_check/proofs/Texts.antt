@@ -3,7 +3,8 @@ use Rattle.std.proofs.Common.{◌≡◌, ◌⊎◌, inl, inr, ℕ, Bool, true, f
 use Rattle.std.specs.Prelude.{codes}
 use Rattle.pc_common.specs.Case.{Case}
 use Rattle.lifted_facts.specs.PlainFacts.{Branch, root}
-use Rattle.lifted_facts.specs.OpenBranches.{OpenBranches}
+use Rattle.lifted_facts.specs.declared.branches.Branches.{Branches}
+use Rattle.lifted_facts.specs.Opens.{opens_at}
 use Rattle.lifted_check.specs.LiftedTexts.{Question, header, second_line, LineAdvances, LinesRun, IsPartialText, IsLiftedText, BeginsLifted}
 use Rattle.lifted_check.specs.Stages.{IsAsked, IsCase, StandsAt, AreStepsSoFar, GoesTo, HasGone, HasSteppedOn, is_end}
 use Rattle.lifted_check.specs.declared.stage.Stage.{Stage}
@@ -146,31 +147,31 @@ no_more q lines line w begins = go b.is
             (let P : List (List ℕ) → Type 0 = λ ls. LinesRun q.case ls (root q.axioms ∷ []) [] in ended rest [] (subst P same all))
 
 -- a step line, taken where the branches are
-pub steps_gone : (q : Question) → IsAsked q → (old new : OpenBranches) (lines : List (List ℕ)) (line : List ℕ) → AreStepsSoFar q old lines → (line ≡ codes "end" → ⊥)
-    → new.case ≡ old.case → (good : Bool) → HasSteppedOn q.case line old.opens new.opens good → HasGone q lines line (Steps new) good
+pub steps_gone : (q : Question) → IsAsked q → (old new : Branches) (lines : List (List ℕ)) (line : List ℕ) → AreStepsSoFar q old lines → (line ≡ codes "end" → ⊥)
+    → new.case.now ≡ old.case.now → (good : Bool) → HasSteppedOn q.case line (opens_at old) (opens_at new) good → HasGone q lines line (Steps new) good
 steps_gone q kept old new lines line so_far other same true a = record {
   steps = so_far.steps ++ line ∷ [];
   case = same ∙ so_far.case;
   are = ap (λ (ls : List (List ℕ)). ls ++ line ∷ []) so_far.are ∙ append_assoc (header q) so_far.steps (line ∷ []);
-  run = lines_then q.case so_far.steps (line ∷ []) (root q.axioms ∷ []) old.opens new.opens so_far.run (new.opens, a, refl);
+  run = lines_then q.case so_far.steps (line ∷ []) (root q.axioms ∷ []) (opens_at old) (opens_at new) so_far.run ((opens_at new), a, refl);
 }
-steps_gone q kept old new lines line so_far other same false none = λ begins. go (steps_next q kept lines so_far.steps old.opens line so_far.are so_far.run begins)
+steps_gone q kept old new lines line so_far other same false none = λ begins. go (steps_next q kept lines so_far.steps (opens_at old) line so_far.are so_far.run begins)
   where
-    go : IsNext q old.opens line → ⊥
+    go : IsNext q (opens_at old) line → ⊥
     go (a_step next a) = none next a
     go (the_end is closed) = other is
 
-pub steps_ended : (q : Question) (o : OpenBranches) (lines : List (List ℕ)) → AreStepsSoFar q o lines → o.opens ≡ [] → IsLiftedText q (lines ++ codes "end" ∷ [])
+pub steps_ended : (q : Question) (o : Branches) (lines : List (List ℕ)) → AreStepsSoFar q o lines → (opens_at o) ≡ [] → IsLiftedText q (lines ++ codes "end" ∷ [])
 steps_ended q o lines so_far closed = record {
   steps = so_far.steps;
   are = ap (λ (ls : List (List ℕ)). ls ++ codes "end" ∷ []) so_far.are ∙ append_assoc (header q) so_far.steps (codes "end" ∷ []);
   run = (let P : List Branch → Type 0 = λ bs. LinesRun q.case so_far.steps (root q.axioms ∷ []) bs in subst P closed so_far.run);
 }
 
-pub end_stuck : (q : Question) → IsAsked q → (o : OpenBranches) (lines : List (List ℕ)) → AreStepsSoFar q o lines → (o.opens ≡ [] → ⊥) → BeginsLifted q (lines ++ codes "end" ∷ []) → ⊥
-end_stuck q kept o lines so_far «open» begins = go (steps_next q kept lines so_far.steps o.opens (codes "end") so_far.are so_far.run begins)
+pub end_stuck : (q : Question) → IsAsked q → (o : Branches) (lines : List (List ℕ)) → AreStepsSoFar q o lines → ((opens_at o) ≡ [] → ⊥) → BeginsLifted q (lines ++ codes "end" ∷ []) → ⊥
+end_stuck q kept o lines so_far «open» begins = go (steps_next q kept lines so_far.steps (opens_at o) (codes "end") so_far.are so_far.run begins)
   where
-    go : IsNext q o.opens (codes "end") → ⊥
+    go : IsNext q (opens_at o) (codes "end") → ⊥
     go (a_step next a) = no_end_step q.case.ops a.0 a.1
     go (the_end is closed) = «open» closed
 
@@ -186,6 +187,6 @@ done_is q kept (Steps o) lines st = (λ e. cc, λ w. absurd (no_last w))
     no_last w =
         (let both : header q ++ st.steps ≡ header q ++ (w.steps ++ codes "end" ∷ []) = sym st.are ∙ w.are in
         let same : st.steps ≡ w.steps ++ codes "end" ∷ [] = cc in
-        let P : List (List ℕ) → Type 0 = λ ls. LinesRun q.case ls (root q.axioms ∷ []) o.opens in
-        let cut = lines_cut q.case w.steps (codes "end" ∷ []) (root q.axioms ∷ []) o.opens (subst P same st.run) in
+        let P : List (List ℕ) → Type 0 = λ ls. LinesRun q.case ls (root q.axioms ∷ []) (opens_at o) in
+        let cut = lines_cut q.case w.steps (codes "end" ∷ []) (root q.axioms ∷ []) (opens_at o) (subst P same st.run) in
         no_end_step q.case.ops cut.2.1.0 cut.2.1.1)

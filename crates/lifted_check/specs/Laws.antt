@@ -3,6 +3,7 @@ use Rattle.std.specs.Prelude.{ℕ, ◌≡◌, ◌⊎◌, List, [], ◌∷◌, �
 use Rattle.std.proofs.Common.{inl, inr, refl, sym, ◌∙◌, ap, subst}
 use Rattle.std.proofs.lemmas.List.{append-nil, append_assoc}
 use Rattle.lifted_facts.specs.PlainFacts.{root}
+use Rattle.lifted_facts.specs.Opens.{opens_at}
 use Rattle.lifted_check.specs.LiftedTexts.{Question, header, second_line, IsPartialText, IsLiftedText, BeginsLifted}
 use Rattle.lifted_check.specs.Stages.{StandsAt}
 use Rattle.lifted_check.specs.declared.stage.Stage.{Stage}
@@ -34,6 +35,6 @@ taken_begins q First lines st =
 taken_begins q Second lines st = in_header q lines (codes "lifted" ∷ []) (ap (λ (ls : List (List ℕ)). ls ++ (codes "lifted" ∷ [])) st)
 taken_begins q (Steps o) lines st = record {
   more = [];
-  begins = inl (record { steps = st.steps; opens = o.opens; are = append-nil lines ∙ st.are; run = st.run });
+  begins = inl (record { steps = st.steps; opens = opens_at o; are = append-nil lines ∙ st.are; run = st.run });
 }
 taken_begins q Ended lines st = whole_begins q lines st

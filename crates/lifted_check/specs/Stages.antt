@@ -3,17 +3,18 @@ use Rattle.std.specs.Prelude.{◌≡◌, ℕ, List, [], ◌∷◌, ◌++◌, Boo
 use Rattle.pc_common.specs.Case.{Case}
 use Rattle.pc_case.specs.MicroOps.{AreMicroOps}
 use Rattle.lifted_facts.specs.PlainFacts.{Branch, root}
-use Rattle.lifted_facts.specs.OpenBranches.{OpenBranches}
+use Rattle.lifted_facts.specs.declared.branches.Branches.{Branches}
+use Rattle.lifted_facts.specs.Opens.{opens_at}
 use Rattle.lifted_check.specs.LiftedTexts.{Question, header, second_line, LineAdvances, LinesRun, IsLiftedText, BeginsLifted}
 use Rattle.lifted_check.specs.declared.stage.Stage.{Stage}
 use Rattle.lifted_check.specs.declared.stage.Stage.TheVariants.{Start, First, Second, Steps, Ended}
 
 -- step lines behind a header, which leave these branches open
-pub record AreStepsSoFar (q : Question) (o : OpenBranches) (lines : List (List ℕ)) : Type 0 where
+pub record AreStepsSoFar (q : Question) (o : Branches) (lines : List (List ℕ)) : Type 0 where
   pub steps : List (List ℕ)
-  pub case : o.case ≡ q.case
+  pub case : o.case.now ≡ q.case
   pub are : lines ≡ header q ++ steps
-  pub run : LinesRun q.case steps (root q.axioms ∷ []) o.opens
+  pub run : LinesRun q.case steps (root q.axioms ∷ []) (opens_at o)
 
 abbrev pub StandsAt : Question → Stage → List (List ℕ) → Type 0
 StandsAt q Start lines = lines ≡ []

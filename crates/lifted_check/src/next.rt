@@ -1,6 +1,7 @@
 ghost use Rattle.std.specs.Prelude.{◌≡◌, ◌≢◌, ◌∷◌, ℕ, List, IfOk, MatchOption, codes};
 ghost use Rattle.pc_common.specs.Case.{MicroOp};
 ghost use Rattle.lifted_facts.specs.Lifted.{LiftedStep};
+ghost use Rattle.lifted_facts.specs.Opens.{opens_at};
 ghost use Rattle.lifted_check.specs.Words.{words};
 ghost use Rattle.lifted_check.specs.StepLines.{keyword_text, IsStepLine};
 ghost use Rattle.lifted_check.specs.declared.keyword.Keyword.TheVariants.{Inst as InstWord};
@@ -32,10 +33,10 @@ fn read_keyword(line: &[u8]) -> Option<(Keyword, &[u8])>
 
 /// Takes the line of an instantiation, of which this stands behind its keyword.
 fn take_instance(case: &Case, branches: &mut Branches<'_>, rest: &[u8]) -> Result<bool, Memory>
-    ensures case { branches.new.case ≡ branches.old.case }
-    ensures stepped { IfOk result (λ good. (line : List ℕ) → IsCase case.now → branches.old.case ≡ case.now
+    ensures case { branches.new.case.now ≡ branches.old.case.now }
+    ensures stepped { IfOk result (λ good. (line : List ℕ) → IsCase case.now → branches.old.case.now ≡ case.now
         → words line ≡ keyword_text InstWord ∷ words rest.now
-        → HasSteppedOn case.now line branches.old.opens branches.new.opens good) }
+        → HasSteppedOn case.now line (opens_at branches.old) (opens_at branches.new) good) }
 {
     match read_instance(case, rest) {
         Some((number, value)) => branches.take(Step::Derive(Way::Inst(value), number)),
@@ -51,10 +52,10 @@ fn take_numbers(
     rest: &[u8],
 ) -> Result<bool, Memory>
     requires { keyword ≢ InstWord }
-    ensures case { branches.new.case ≡ branches.old.case }
-    ensures stepped { IfOk result (λ good. (line : List ℕ) → IsCase branches.old.case
+    ensures case { branches.new.case.now ≡ branches.old.case.now }
+    ensures stepped { IfOk result (λ good. (line : List ℕ) → IsCase branches.old.case.now
         → words line ≡ keyword_text keyword ∷ words rest.now
-        → HasSteppedOn branches.old.case line branches.old.opens branches.new.opens good) }
+        → HasSteppedOn branches.old.case.now line (opens_at branches.old) (opens_at branches.new) good) }
 {
     row.clear();
     if !read_numbers(rest, row)? {
@@ -74,9 +75,9 @@ pub(crate) fn take_line(
     branches: &mut Branches<'_>,
     line: &[u8],
 ) -> Result<bool, Memory>
-    ensures case { branches.new.case ≡ branches.old.case }
-    ensures stepped { IfOk result (λ good. IsCase case.now → branches.old.case ≡ case.now
-        → HasSteppedOn case.now line.now branches.old.opens branches.new.opens good) }
+    ensures case { branches.new.case.now ≡ branches.old.case.now }
+    ensures stepped { IfOk result (λ good. IsCase case.now → branches.old.case.now ≡ case.now
+        → HasSteppedOn case.now line.now (opens_at branches.old) (opens_at branches.new) good) }
 {
     let Some((keyword, rest)) = read_keyword(line) else {
         return Ok(false);

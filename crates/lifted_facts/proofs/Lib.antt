@@ -3,3 +3,5 @@ pub mod PartTruth
 pub mod Sound
 pub mod RunLaws
 pub mod Members
+pub mod JoinedEdges
+pub mod OpenFacts

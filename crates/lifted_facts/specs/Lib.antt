@@ -3,4 +3,5 @@ pub mod Parts
 pub mod Lifted
 pub mod Steps
 pub mod OpenBranches
+pub mod Opens
 pub mod Laws

@@ -4,6 +4,8 @@ ghost use Rattle.pc_ground.specs.Stages.{plain_axioms};
 ghost use Rattle.lifted_facts.specs.PlainFacts.{Branch, root, plain_fact, IsProper};
 ghost use Rattle.lifted_facts.specs.Lifted.{derive as derive_step, split as split_step, close as close_step, HasAdvanced};
 ghost use Rattle.lifted_facts.specs.Steps.{plain_leaf, plain_step};
+ghost use Rattle.lifted_facts.specs.OpenBranches.{AreKept, AreKept-prop};
+ghost use Rattle.lifted_facts.specs.Opens.{opens_at};
 
 use super::fact::Fact;
 use super::leaves::closes;
@@ -16,7 +18,6 @@ use pc_case::Case;
 use pc_common::Memory;
 use pc_syntax::{Closed, Env};
 use std::alloc::Global;
-use std::marker::Model;
 
 /// The branches that the steps of a lifted refutation so far leave open.
 ///
@@ -29,17 +30,7 @@ pub struct Branches<'a> {
     /// The branches that wait, the next one last.
     later: Vec<Waiting<'a>>,
     is_open: bool,
-}
-
-impl<'a> Model for Branches<'a> {
-    ghost use Rattle.std.specs.Prelude.{length, reverse};
-    ghost use Rattle.lifted_facts.specs.OpenBranches.{OpenBranches, opens_of, AreWithin, AreProper};
-
-    ghost Value = { OpenBranches };
-
-    ghost view = { λ s. record { case = s.case.now; opens = opens_of s.is_open s.facts.items (reverse s.later.items) } };
-
-    ghost invariant = { λ s. AreProper s.case.now s.facts.items s.later.items × AreWithin (length s.facts.items) (reverse s.later.items) };
+    ghost kept: { AreKept case.now facts.items later.items } by { AreKept-prop case.now facts.items later.items },
 }
 
 /// The axioms as facts, in their order.
@@ -62,8 +53,8 @@ impl<'a> Branches<'a> {
         case: &'a Case,
         axioms: &'a [Closed],
     ) -> Result<Branches<'a>, Memory>
-        ensures case { IfOk result (λ branches. branches.case ≡ case.now) }
-        ensures opens { IfOk result (λ branches. branches.opens ≡ root (plain_axioms axioms.now) ∷ []) }
+        ensures case { IfOk result (λ branches. branches.case.now ≡ case.now) }
+        ensures opens { IfOk result (λ branches. opens_at branches ≡ root (plain_axioms axioms.now) ∷ []) }
     {
         Ok(Branches {
             case,
@@ -76,8 +67,8 @@ impl<'a> Branches<'a> {
     /// Takes a step at the first open branch. False where no branch is open, or where the step's condition does not
     /// hold. After false, or where memory is refused, nothing is said of the branches.
     pub fn take(&mut self, step: Step<'_>) -> Result<bool, Memory>
-        ensures case { self.new.case ≡ self.old.case }
-        ensures advanced { IfOk result (HasAdvanced self.old.case (plain_step step.entry) self.old.opens self.new.opens) }
+        ensures case { self.new.case.now ≡ self.old.case.now }
+        ensures advanced { IfOk result (HasAdvanced self.old.case.now (plain_step step.entry) (opens_at self.old) (opens_at self.new)) }
     {
         if !self.is_open {
             return Ok(false);
@@ -91,15 +82,15 @@ impl<'a> Branches<'a> {
 
     /// Whether no branch is open. Takes no memory.
     pub fn is_closed(&self) -> bool
-        ensures { IsTrue result ↔ (self.now.opens ≡ []) }
+        ensures { IsTrue result ↔ (opens_at self.now ≡ []) }
     {
         !self.is_open
     }
 
     /// Adds a part of a fact.
     fn derive(&mut self, way: Way, number: u64) -> Result<bool, Memory>
-        ensures case { self.new.case ≡ self.old.case }
-        ensures advanced { IfOk result (HasAdvanced self.old.case (derive_step way number) self.old.opens self.new.opens) }
+        ensures case { self.new.case.now ≡ self.old.case.now }
+        ensures advanced { IfOk result (HasAdvanced self.old.case.now (derive_step way number) (opens_at self.old) (opens_at self.new)) }
     {
         if !self.is_open {
             return Ok(false);
@@ -115,8 +106,8 @@ impl<'a> Branches<'a> {
 
     /// Adds the first side of a fact, and lets the branch with the second one wait.
     fn split(&mut self, number: u64) -> Result<bool, Memory>
-        ensures case { self.new.case ≡ self.old.case }
-        ensures advanced { IfOk result (HasAdvanced self.old.case (split_step number) self.old.opens self.new.opens) }
+        ensures case { self.new.case.now ≡ self.old.case.now }
+        ensures advanced { IfOk result (HasAdvanced self.old.case.now (split_step number) (opens_at self.old) (opens_at self.new)) }
     {
         if !self.is_open {
             return Ok(false);
@@ -136,8 +127,8 @@ impl<'a> Branches<'a> {
 
     /// Closes the branch by a leaf, so that the next one that waits is first.
     fn close(&mut self, leaf: Leaf<'_>) -> Result<bool, Memory>
-        ensures case { self.new.case ≡ self.old.case }
-        ensures advanced { IfOk result (HasAdvanced self.old.case (close_step (plain_leaf leaf.entry)) self.old.opens self.new.opens) }
+        ensures case { self.new.case.now ≡ self.old.case.now }
+        ensures advanced { IfOk result (HasAdvanced self.old.case.now (close_step (plain_leaf leaf.entry)) (opens_at self.old) (opens_at self.new)) }
     {
         if !self.is_open {
             return Ok(false);
@@ -151,8 +142,8 @@ impl<'a> Branches<'a> {
 
     /// Leaves the first branch, and enters the next one that waits.
     fn open_next(&mut self) -> Result<(), Memory>
-        ensures case { self.new.case ≡ self.old.case }
-        ensures opens { OnOk result ((b : Branch) (rest : List Branch) → self.old.opens ≡ b ∷ rest → self.new.opens ≡ rest) }
+        ensures case { self.new.case.now ≡ self.old.case.now }
+        ensures opens { OnOk result ((b : Branch) (rest : List Branch) → opens_at self.old ≡ b ∷ rest → opens_at self.new ≡ rest) }
     {
         match self.later.pop() {
             None => {

@@ -79,10 +79,13 @@ fn is_cycle(facts: &[Fact<'_>], first: u64, more: &[u64]) -> bool
 fn is_path(facts: &[Fact<'_>], first: u64, more: &[u64], denial: u64) -> bool
     ensures { IsTrue result ↔ IsPath (map plain_fact facts.now) first more.now denial }
 {
-    match (ends_of(facts, first, more), edge_at(facts, false, denial)) {
-        (Some((from, to)), Some((start, end))) => is_same(from, start) && is_same(to, end),
-        _ => false,
-    }
+    let Some((from, to)) = ends_of(facts, first, more) else {
+        return false;
+    };
+    let Some((start, end)) = edge_at(facts, false, denial) else {
+        return false;
+    };
+    is_same(from, start) && is_same(to, end)
 }
 
 /// The node that is the denied one of this number; None where that is none.

@@ -32,9 +32,9 @@ fn later<'a>(said: &Said<'a>) -> Fact<'a>
 /// The member at the first place, where there is one, with the same from the next place on.
 fn with_later<'a>(said: &Said<'a>, first: Option<Fact<'a>>) -> Option<(Fact<'a>, Fact<'a>)>
     requires { IfSome first (λ f. said.now.start < 2 ^ 63) }
-    ensures is { option_map plain_pair result ≡ or_later (option_map plain_fact first)
+    ensures is { option_map plain_pair result ≡ or_later (option_map plain_fact first.entry)
         (plain_said said.now.plus (plain_closed said.now.formula.now) (meanings said.now.env.items) (said.now.start + 1)) }
-    ensures proper { (c : PlainCase) → IsProperPart c said.now → IfSome first (IsProper c)
+    ensures proper { (c : PlainCase) → IsProperPart c said.now → IfSome first.entry (IsProper c)
         → IfSome result (λ both. IsProper c both.0 × IsProper c both.1) }
 {
     let first = first?;

@@ -1,6 +1,7 @@
 use Rattle.std.proofs.Common.{◌≡◌, ℕ, List, true, false, Bool, ◌∷◌, [], ◌++◌, refl, sym, ◌∙◌, subst}
 use Rattle.std.specs.Prelude.{codes}
 use Rattle.std.proofs.lemmas.Result.{IfOk-weaker}
+use Rattle.lifted_facts.specs.Opens.{opens_at}
 use Rattle.lifted_check.specs.LiftedTexts.{asked}
 use Rattle.lifted_check.specs.Stages.{IsAsked, IsCase, StandsAt, AreStepsSoFar, HasGone, HasSteppedOn}
 use Rattle.lifted_check.specs.declared.stage.Stage.{Stage}
@@ -19,7 +20,7 @@ returns-then-not-is_last c =
     let old = c.in-Steps.branches in
     let new = c.take_line.new.branches in
     IfOk-weaker c.take_line.result
-    (λ good. IsCase c.args.case.now → old.case ≡ c.args.case.now → HasSteppedOn c.args.case.now line old.opens new.opens good)
+    (λ good. IsCase c.args.case.now → old.case.now ≡ c.args.case.now → HasSteppedOn c.args.case.now line (opens_at old) (opens_at new) good)
     (λ good. IsAsked q → (lines : List (List ℕ)) → StandsAt q c.args.stage.now lines → HasGone q lines line (Steps new) good)
     (λ good h kept lines st.
     let P : Stage → Type 0 = λ s. StandsAt q s lines in
