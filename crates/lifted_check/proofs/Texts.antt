@@ -3,7 +3,7 @@ use Rattle.std.proofs.Common.{◌≡◌, ◌⊎◌, inl, inr, ℕ, Bool, true, f
 use Rattle.std.specs.Prelude.{codes}
 use Rattle.pc_common.specs.Case.{Case}
 use Rattle.lifted_facts.specs.PlainFacts.{Branch, root}
-use Rattle.lifted_facts.specs.declared.branches.Branches.{Branches}
+use Rattle.lifted_facts.specs.declared.open_branches.Branches.{Branches}
 use Rattle.lifted_facts.specs.Opens.{opens_at}
 use Rattle.lifted_check.specs.LiftedTexts.{Question, header, second_line, LineAdvances, LinesRun, IsPartialText, IsLiftedText, BeginsLifted}
 use Rattle.lifted_check.specs.Stages.{IsAsked, IsCase, StandsAt, AreStepsSoFar, GoesTo, HasGone, HasSteppedOn, is_end}

@@ -5,3 +5,4 @@ pub mod RunLaws
 pub mod Members
 pub mod JoinedEdges
 pub mod OpenFacts
+pub mod KeptFacts

@@ -1,6 +1,6 @@
 -- The open branches of the code.
 use Rattle.std.specs.Prelude.{List, reverse}
-use Rattle.lifted_facts.specs.declared.branches.Branches.{Branches}
+use Rattle.lifted_facts.specs.declared.open_branches.Branches.{Branches}
 use Rattle.lifted_facts.specs.PlainFacts.{Branch}
 use Rattle.lifted_facts.specs.OpenBranches.{opens_of}
 

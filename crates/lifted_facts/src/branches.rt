@@ -4,12 +4,12 @@ ghost use Rattle.pc_ground.specs.Stages.{plain_axioms};
 ghost use Rattle.lifted_facts.specs.PlainFacts.{Branch, root, plain_fact, IsProper};
 ghost use Rattle.lifted_facts.specs.Lifted.{derive as derive_step, split as split_step, close as close_step, HasAdvanced};
 ghost use Rattle.lifted_facts.specs.Steps.{plain_leaf, plain_step};
-ghost use Rattle.lifted_facts.specs.OpenBranches.{AreKept, AreKept-prop};
 ghost use Rattle.lifted_facts.specs.Opens.{opens_at};
 
 use super::fact::Fact;
 use super::leaves::closes;
 use super::named::{part_at, sides_at};
+use super::open_branches::Branches;
 use super::parts::said_of;
 use super::step::{Leaf, Step};
 use super::waiting::Waiting;
@@ -18,20 +18,6 @@ use pc_case::Case;
 use pc_common::Memory;
 use pc_syntax::{Closed, Env};
 use std::alloc::Global;
-
-/// The branches that the steps of a lifted refutation so far leave open.
-///
-/// It takes memory for the facts of the first open branch, and for one fact of each other.
-#[derive(Drop)]
-pub struct Branches<'a> {
-    case: &'a Case,
-    /// What is known on the first branch.
-    facts: Vec<Fact<'a>>,
-    /// The branches that wait, the next one last.
-    later: Vec<Waiting<'a>>,
-    is_open: bool,
-    ghost kept: { AreKept case.now facts.items later.items } by { AreKept-prop case.now facts.items later.items },
-}
 
 /// The axioms as facts, in their order.
 fn axiom_facts<'a>(alloc: Global, axioms: &'a [Closed]) -> Result<Vec<Fact<'a>>, Memory>

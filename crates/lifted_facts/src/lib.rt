@@ -17,16 +17,17 @@ mod laws;
 mod leaves;
 mod member;
 mod named;
+mod open_branches;
 mod parts;
 mod side;
 mod step;
 mod waiting;
 mod way;
 
-pub use branches::Branches;
 pub use fact::{Fact, Said};
 pub use falsity::is_false;
 pub use laws::{lifted_is_sound, one_list_is_left, runs_are_joined};
+pub use open_branches::Branches;
 pub use parts::part;
 pub use side::sides;
 pub use step::{Leaf, Step};
