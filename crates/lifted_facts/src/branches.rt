@@ -34,11 +34,7 @@ fn axiom_facts<'a>(alloc: Global, axioms: &'a [Closed]) -> Result<Vec<Fact<'a>>,
 
 impl<'a> Branches<'a> {
     /// The one branch of no step, whose facts are the axioms.
-    pub fn new(
-        alloc: Global,
-        case: &'a Case,
-        axioms: &'a [Closed],
-    ) -> Result<Branches<'a>, Memory>
+    pub fn new(alloc: Global, case: &'a Case, axioms: &'a [Closed]) -> Result<Branches<'a>, Memory>
         ensures case { IfOk result (λ branches. branches.case.now ≡ case.now) }
         ensures opens { IfOk result (λ branches. opens_at branches ≡ root (plain_axioms axioms.now) ∷ []) }
     {

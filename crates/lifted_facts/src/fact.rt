@@ -19,7 +19,10 @@ pub struct Said<'a> {
 pub enum Fact<'a> {
     Said(Said<'a>),
     /// One node, which is there or is not.
-    Node { plus: bool, node: NodeKey },
+    Node {
+        plus: bool,
+        node: NodeKey,
+    },
     /// One edge: the first node happens before the second, or does not.
     Edge {
         plus: bool,

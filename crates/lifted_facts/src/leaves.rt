@@ -94,13 +94,7 @@ fn denied_at(facts: &[Fact<'_>], number: u64) -> Option<NodeKey>
         (λ a. HasFact (map plain_fact facts.now) number (one_node false (Some (key_node a)))) }
 {
     match facts.get(number as usize)? {
-        Fact::Node { plus, node } => {
-            if *plus {
-                None
-            } else {
-                Some(*node)
-            }
-        }
+        Fact::Node { plus, node } => { if *plus { None } else { Some(*node) } }
         _ => None,
     }
 }

@@ -51,7 +51,10 @@ fn sides_of_said<'a>(case: &Case, said: &Said<'a>) -> Option<(Fact<'a>, Fact<'a>
     match said.formula {
         ClosedFormula::Or(first, second) => {
             if said.plus {
-                Some((said_of(&said.env, true, first), said_of(&said.env, true, second)))
+                Some((
+                    said_of(&said.env, true, first),
+                    said_of(&said.env, true, second),
+                ))
             } else {
                 None
             }
@@ -60,12 +63,18 @@ fn sides_of_said<'a>(case: &Case, said: &Said<'a>) -> Option<(Fact<'a>, Fact<'a>
             if said.plus {
                 None
             } else {
-                Some((said_of(&said.env, false, first), said_of(&said.env, false, second)))
+                Some((
+                    said_of(&said.env, false, first),
+                    said_of(&said.env, false, second),
+                ))
             }
         }
         ClosedFormula::Implies(first, second) => {
             if said.plus {
-                Some((said_of(&said.env, false, first), said_of(&said.env, true, second)))
+                Some((
+                    said_of(&said.env, false, first),
+                    said_of(&said.env, true, second),
+                ))
             } else {
                 None
             }
