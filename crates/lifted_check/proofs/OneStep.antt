@@ -183,10 +183,10 @@ plain_line ops line k ks s e small d =
       small = subst A (sym is.numbers) small;
       value = is.value;
       is = line_of_words line (step_words ops s) (e ∙ sym (
-      ap (λ (j : Keyword). keyword_text j ∷ (map decimal (numbers_of s) ++ value_words ops s)) is.keyword
-      ∙ ap (λ (vs : List (List ℕ)). keyword_text k ∷ (map decimal (numbers_of s) ++ vs)) is.none
-      ∙ ap (λ (xs : List (List ℕ)). keyword_text k ∷ xs) (append-nil (map decimal (numbers_of s)))
-      ∙ ap (λ (ns : List ℕ). keyword_text k ∷ map decimal ns) is.numbers));
+          ap (λ (j : Keyword). keyword_text j ∷ (map decimal (numbers_of s) ++ value_words ops s)) is.keyword
+          ∙ ap (λ (vs : List (List ℕ)). keyword_text k ∷ (map decimal (numbers_of s) ++ vs)) is.none
+          ∙ ap (λ (xs : List (List ℕ)). keyword_text k ∷ xs) (append-nil (map decimal (numbers_of s)))
+          ∙ ap (λ (ns : List ℕ). keyword_text k ∷ map decimal ns) is.numbers));
     }
 
 pub value_line : (ops : List MicroOp) (line : List ℕ) (k : ℕ) (v : Instance) → words line ≡ keyword_text Inst ∷ decimal k ∷ value_text ops v ∷ []

@@ -55,8 +55,7 @@ no_such_op ops word g n hg hn is none (OpInstance i) h e =
 pub an_op : (ops : List MicroOp) (word : List ℕ) (g n : ℕ) → IsSmall g → IsSmall n → IsName word g n → (k : ℕ) → IsNamed ops g n k
     → IsValue ops (OpInstance k) × (word ≡ value_text ops (OpInstance k))
 an_op ops word g n hg hn is k h =
-    let o = h.0 in
-    (
+    let o = h.0 in (
       (o, h.1, subst IsSmall (sym h.2) hg, subst IsSmall (sym h.3) hn),
       is ∙ ap (λ (x : ℕ). decimal x ++ codes "." ++ decimal n) (sym h.2) ∙ ap (λ (x : ℕ). decimal o.g ++ codes "." ++ decimal x) (sym h.3)
           ∙ dotted (decimal o.g) (decimal o.n) ∙ sym (op_is ops k o h.1),

@@ -68,5 +68,9 @@ pub fn check_lifted(
     ensures found { IfOk result (IsFound (asked case.now axioms.now) bytes.now) }
     ensures outcome { IfOk result (SaysOutcome (asked case.now axioms.now)) }
 {
-    Ok(LiftedChecker::new(alloc, case, axioms).feed(bytes)?.finish())
+    Ok(
+        LiftedChecker::new(alloc, case, axioms)
+            .feed(bytes)?
+            .finish(),
+    )
 }

@@ -11,8 +11,8 @@ ghost use Rattle.lifted_command.specs.LiftedAnswers.{IsJudged};
 use super::checking::check_file;
 use super::inputs::read_two;
 use super::reading::FeedEnd;
-use lifted_check::Lifted;
 use command_base::{Ending, Inputs};
+use lifted_check::Lifted;
 use pc_common::Files;
 use std::alloc::Global;
 

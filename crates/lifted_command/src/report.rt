@@ -3,10 +3,10 @@ ghost use Rattle.std.specs.Fmt.{decimal};
 ghost use Rattle.pc_common.specs.Writes.{Writes};
 ghost use Rattle.lifted_command.specs.LiftedTexts.{lifted_status as lifted_status_of, lifted_text};
 
-use command_base::{LINE, join};
 use arrayvec::ArrayVec;
-use lifted_check::Lifted;
+use command_base::{LINE, join};
 use itoa::Buffer;
+use lifted_check::Lifted;
 use pc_common::{Failed, Sink, Status, write_all};
 
 /// The line of a refused certificate, which always fits: 29 bytes of words, and a number of twenty digits at most.
