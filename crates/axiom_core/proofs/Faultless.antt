@@ -22,6 +22,10 @@ none_both : {A : Type 0} (a b : Option A) → a ≡ None → b ≡ None → opti
 none_both None b e f = f
 none_both (Some x) b e f = cc
 
+none_there : {A : Type 0} (b : Bool) (x : A) → b ≡ false → (if b then Some x else None) ≡ None
+none_there true x e = cc
+none_there false x e = refl
+
 call_front : (all earlier : List MacroAt) (b : Bool) (at : Place) (body : Written) (items : List WrittenItem)
     → body_fault all body ≡ None → items_fault all earlier items ≡ None
     → items_fault all earlier (if b then axiom_ at body ∷ items else items) ≡ None
@@ -41,7 +45,7 @@ calls_with keep all earlier (axiom_ at body ∷ items) h =
 total_less : (at : Place) (total other : ℕ) → other ≤ total → total_fault at total ≡ None → total_fault at other ≡ None
 total_less at total other less h =
     let most : total ≤ MAX_SIZE = ltb-false MAX_SIZE total (none_where (nat_lt MAX_SIZE total) _ h) in
-    ap (λ b. if b then _ else None) (le-ltb MAX_SIZE other (omega (arith, most, less)))
+    none_there (nat_lt MAX_SIZE other) _ (le-ltb MAX_SIZE other (omega (arith, most, less)))
 
 size_front : (ms : List MacroAt) (b : Bool) (at : Place) (body : Written) (total other : ℕ) (items : List WrittenItem) → other ≤ total
     → depth_fault at (expanded_height ms body) ≡ None → total_fault at (total + expanded_size ms body) ≡ None

@@ -50,12 +50,13 @@ among_past keep (suc n) k h =
 pub among_within : (keep : Choice) (n k : ℕ) → k < n → among (places keep n) k ≡ keep k
 among_within keep zero k h = absurd (omega arith)
 among_within keep (suc n) k h =
-    among_end (places keep n) (if keep n then n ∷ [] else []) k ∙ elim (cases_lt k n) [ inl lower ↦ before lower | inr past ↦ last past ]
+    among_end (places keep n) (if keep n then n ∷ [] else []) k
+    ∙ elim (cases_lt k n) [ inl lower ↦ before lower (among_within keep n k lower) | inr past ↦ last past ]
   where
-    before : k < n → (among (places keep n) k || among (if keep n then n ∷ [] else []) k) ≡ keep k
-    before lower =
+    before : k < n → among (places keep n) k ≡ keep k → (among (places keep n) k || among (if keep n then n ∷ [] else []) k) ≡ keep k
+    before lower rest =
         ap (λ z. among (places keep n) k || z) (among_one_other (keep n) n k (ne_eqb n k (omega arith)))
-        ∙ or-false (among (places keep n) k) ∙ among_within keep n k lower
+        ∙ or-false (among (places keep n) k) ∙ rest
 
     last : n ≤ k → (among (places keep n) k || among (if keep n then n ∷ [] else []) k) ≡ keep k
     last past =
@@ -84,3 +85,9 @@ places_all P keep zero p = All-nil P
 places_all P keep (suc n) p =
     All-append P (places keep n) (if keep n then n ∷ [] else [])
     (places_all P keep n (λ k h kept. p k (omega arith) kept)) (all_one P (keep n) n (p n (omega arith)))
+
+pub kept_flagged : (flags : List Bool) (kept : List ℕ) → kept ≡ places (flagged flags) (length flags)
+    → All (λ k. (k < length flags) × IsTrue (flagged flags k)) kept
+kept_flagged flags kept is =
+    let P : List ℕ → Type 0 = λ ks. All (λ k. (k < length flags) × IsTrue (flagged flags k)) ks in
+    subst P (sym is) (places_all (λ k. (k < length flags) × IsTrue (flagged flags k)) (flagged flags) (length flags) (λ k inside flag. (inside, flag)))

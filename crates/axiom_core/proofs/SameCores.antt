@@ -1,11 +1,12 @@
 -- What the search finds of chosen axioms, as what the axioms allow or forbid; and one core by two choices that agree.
-use Rattle.std.proofs.Common.{◌≡◌, ℕ, zero, suc, ◌+◌, ◌<◌, Bool, true, false, ◌&&◌, not, eqb, List, [], ◌∷◌, ◌++◌, length, map, get_or, take, refl, sym, ◌∙◌, ap, subst, arith, length-map}
-use Rattle.std.specs.Prelude.{IsTrue, ◌↔◌}
+use Rattle.std.proofs.Common.{◌≡◌, ℕ, zero, suc, ◌+◌, ◌<◌, Bool, true, false, ◌&&◌, not, eqb, List, [], ◌∷◌, ◌++◌, Result, Ok, Err, length, map, get_or, take, refl, sym, ◌∙◌, ap, subst, arith}
+use Rattle.std.specs.Prelude.{IsTrue, IfOk, ◌↔◌}
 use Rattle.std.specs.Bool.{MatchBool}
-use Rattle.std.proofs.lemmas.List.{take_more}
+use Rattle.std.proofs.lemmas.List.{take_more, length-map}
 use Rattle.pc_common.specs.Case.{Case}
 use Rattle.pc_common.specs.Steps.{Step}
 use Rattle.pc_common.specs.World.{Node, World}
+use Rattle.pc_syntax.specs.declared.closed.Closed.{Closed}
 use Rattle.pc_syntax.specs.Closed.{PlainClosed, closed_true, closed_satisfies}
 use Rattle.pc_ground.specs.declared.front.Front.{Front}
 use Rattle.pc_ground.specs.Tree.{Tree, tree_true}
@@ -73,6 +74,22 @@ module _ (front : Front) (keep : Choice) where
   shown_more i s (j ∷ numbers) [] all last = absurd all
   shown_more i s (j ∷ numbers) (t ∷ shown) all last = (all.0, shown_more i s numbers shown all.1 last)
 
+  -- a loop that has the graphs of the first numbers, and comes to the next
+  pub shown_next : (numbers : List ℕ) (k : ℕ) (s : Front × Graph) (shown new : List (Front × Graph)) → k < length numbers
+      → AreShownWithout front keep (take k numbers) shown → IsShownWith front (less (get_or numbers k 0) keep) s → new ≡ shown ++ s ∷ []
+      → AreShownWithout front keep (take (k + 1) numbers) new
+  shown_next numbers k s shown new inside all next is =
+      let P : List ℕ → Type 0 = λ ks. AreShownWithout front keep ks new in
+      let Q : List (Front × Graph) → Type 0 = λ ss. AreShownWithout front keep (take k numbers ++ get_or numbers k 0 ∷ []) ss in
+      subst P (sym (take_more numbers k 0 inside)) (subst Q (sym is) (shown_more (get_or numbers k 0) s (take k numbers) shown all next))
+
+-- the front of copies of the chosen axioms
+pub part_is : {E : Type 0} (front : Front) (keep : Choice) (case : Case) (axioms : List Closed) (r : Result Front E) → case ≡ front.case
+    → plain_axioms axioms ≡ taken keep (plain_axioms front.axioms)
+    → IfOk r (λ f. f.case ≡ case) → IfOk r (λ f. f.stages ≡ front.stages) → IfOk r (λ f. f.axioms ≡ axioms) → IfOk r (IsFrontWith front keep)
+part_is front keep case axioms (Ok part) same chosen c s a = record { case = c ∙ same; stages = s; axioms = ap plain_axioms a ∙ chosen }
+part_is front keep case axioms (Err e) same chosen c s a = tt
+
 module _ (front : Front) (keep other : Choice) (same : (k : ℕ) → keep k ≡ other k) where
   less_same : (i k : ℕ) → less i keep k ≡ less i other k
   less_same i k = ap (λ b. b && not (eqb k i)) (same k)
@@ -113,7 +130,7 @@ pub core_of_flags : (front : Front) (flags : List Bool) (kept : List ℕ) (refut
     → kept ≡ places (flagged flags) (length flags) → IsRefutedWith front (flagged flags) refuted → AreShownWithout front (flagged flags) kept without
     → IsCore front kept refuted without
 core_of_flags front flags kept refuted without t is r s =
-    let axioms : length (plain_axioms front.axioms) ≡ length front.axioms = length-map _ front.axioms in
+    let axioms : length (plain_axioms front.axioms) ≡ length front.axioms = length-map front.axioms _ in
     let size : length flags ≡ length front.axioms = t.size ∙ axioms in
     let same : (k : ℕ) → flagged flags k ≡ among kept k = λ k. sym (ap (λ ks. among ks k) is ∙ among_flagged flags k) in
     record {

@@ -1,8 +1,9 @@
 -- What is taken of a list by two choices, and what holds of it.
-use Rattle.std.proofs.Common.{◌≡◌, ℕ, zero, suc, ◌+◌, ◌<◌, Bool, true, false, ◌&&◌, not, List, [], ◌∷◌, ◌++◌, length, get_or, take, refl, sym, ◌∙◌, ap, arith}
+use Rattle.std.proofs.Common.{◌≡◌, ℕ, zero, suc, ◌+◌, ◌<◌, Bool, true, false, ◌&&◌, not, List, [], ◌∷◌, ◌++◌, length, map, get_or, take, refl, sym, ◌∙◌, ap, arith}
 use Rattle.std.specs.Prelude.{IsTrue, if◌then◌else◌}
 use Rattle.std.specs.List.{list_all}
 use Rattle.std.proofs.Common.{add-one}
+use Rattle.std.proofs.lemmas.List.{get_or-map, length-map}
 use Rattle.pc_common.specs.Case.{Case}
 use Rattle.pc_syntax.specs.Closed.{PlainClosed, closed_true}
 use Rattle.pc_syntax.specs.StagesWithin.{StagesWithin}
@@ -42,6 +43,17 @@ pub taken_more : {X : Type 0} (keep : Choice) (xs : List X) (k : ℕ) (d : X) �
     → taken keep (take (k + 1) xs) ≡ taken keep (take k xs) ++ (if keep k then get_or xs k d ∷ [] else [])
 taken_more keep xs k d h = ap (λ n. taken keep (take n xs)) (add-one k) ∙ taken_next keep xs k d h
 
+-- the images of the chosen ones of the first k, and then that of the next
+pub copied_more : {X Y : Type 0} (f : X → Y) (keep : Choice) (xs : List X) (k : ℕ) (x : X) (chosen : Bool) (before after : List Y) → k < length xs
+    → x ≡ get_or xs k x → chosen ≡ keep k → before ≡ taken keep (take k (map f xs)) → after ≡ before ++ (if chosen then f x ∷ [] else [])
+    → after ≡ taken keep (take (k + 1) (map f xs))
+copied_more f keep xs k x chosen before after inside at same done is =
+    let here : get_or (map f xs) k (f x) ≡ f x = get_or-map f xs k x (f x) inside ∙ ap f (sym at) in
+    is ∙ ap (λ ys. ys ++ (if chosen then f x ∷ [] else [])) done
+    ∙ ap (λ b. taken keep (take k (map f xs)) ++ (if b then f x ∷ [] else [])) same
+    ∙ ap (λ y. taken keep (take k (map f xs)) ++ (if keep k then y ∷ [] else [])) (sym here)
+    ∙ sym (taken_more keep (map f xs) k (f x) (omega (arith, inside, length-map xs f)))
+
 within_front : (numbers : List ℕ) (b : Bool) (p : PlainClosed) (ps : List PlainClosed)
     → StagesWithin numbers p → AxiomsWithin numbers ps → AxiomsWithin numbers (if b then p ∷ ps else ps)
 within_front numbers true p ps first rest = (first, rest)
@@ -79,12 +91,26 @@ module _ (c : Case) (ps : List PlainClosed) (keep other : Choice) (more : (k : �
   pub more_forbid : Forbid c (taken other ps) → Forbid c (taken keep ps)
   more_forbid none w is h = none w is (fewer_hold (closed_true c w []) keep other ps more h)
 
+-- what passes everywhere passes at the chosen places
+pub all_hold : {X : Type 0} (test : X → Bool) (keep : Choice) (xs : List X) → list_all test xs ≡ true → list_all test (taken keep xs) ≡ true
+all_hold test keep xs h =
+    let all : Choice = λ k. true in
+    fewer_hold test all keep xs (λ k kept. refl) (ap (list_all test) (all_taken all xs (λ k inside. refl)) ∙ h)
+
 -- where some of the axioms forbid, all do
 pub all_forbid : (c : Case) (ps : List PlainClosed) (keep : Choice) → Forbid c (taken keep ps) → Forbid c ps
-all_forbid c ps keep none w is h =
-    let all : Choice = λ k. true in
-    more_forbid c ps all keep (λ k kept. refl) none w is
-    (ap (list_all (closed_true c w [])) (all_taken all ps (λ k inside. refl)) ∙ h)
+all_forbid c ps keep none w is h = none w is (all_hold (closed_true c w []) keep ps h)
+
+map_front : {X Y : Type 0} (f : X → Y) (b : Bool) (x : X) (xs : List X) (ys : List Y) → map f xs ≡ ys
+    → map f (if b then x ∷ xs else xs) ≡ (if b then f x ∷ ys else ys)
+map_front f true x xs ys e = ap (λ zs. f x ∷ zs) e
+map_front f false x xs ys e = e
+
+-- the images of what is taken
+pub map_taken : {X Y : Type 0} (f : X → Y) (keep : Choice) (xs : List X) → map f (taken keep xs) ≡ taken keep (map f xs)
+map_taken f keep [] = refl
+map_taken f keep (x ∷ xs) =
+    map_front f (keep zero) x (taken (behind keep) xs) (taken (behind keep) (map f xs)) (map_taken f (behind keep) xs)
 
 pub less_kept : (i : ℕ) (keep : Choice) (k : ℕ) → IsTrue (less i keep k) → IsTrue (keep k)
 less_kept i keep k h = and_first (keep k) _ h

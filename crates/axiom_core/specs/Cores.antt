@@ -58,11 +58,12 @@ AreShownWithout front keep (i ∷ is) (s ∷ ss) = IsShownWith front (less i kee
 AreShownWithout front keep [] (s ∷ ss) = ⊥
 AreShownWithout front keep (i ∷ is) [] = ⊥
 
-pub record IsCore (front : Front) (kept : List ℕ) (refuted : Front × List (Step Node)) (without : List (Front × Graph)) : Type 0 where
+-- the axioms of these numbers are a minimal set, with its refutation and, for each of them, a graph without it
+pub record IsCore (front : Front) (kept : List ℕ) (tree : Front × List (Step Node)) (graphs : List (Front × Graph)) : Type 0 where
   pub rising : AreRising 0 (length front.axioms) kept
   pub minimal : IsMinimal front.case (plain_axioms front.axioms) (among kept)
-  pub refuted : IsRefutedWith front (among kept) refuted
-  pub without : AreShownWithout front (among kept) kept without
+  pub refuted : IsRefutedWith front (among kept) tree
+  pub without : AreShownWithout front (among kept) kept graphs
 
 -- a graph of the whole front, or a minimal set of its axioms
 abbrev pub IsCoreOf : Front → Core → Type 0
