@@ -28,11 +28,11 @@ AreCertifiedWithout m c keep [] (g ∷ gs) = ⊥
 AreCertifiedWithout m c keep (i ∷ is) [] = ⊥
 
 -- the outcome is unobservable, these axioms are a minimal set that makes it so, and these are certificates of its claims
-pub record IsCoreSet (m : WrittenModel) (c : Case) (numbers : List ℕ) (tree : List ℕ) (graphs : List (List ℕ)) : Type 0 where
+pub record IsCoreSet (m : WrittenModel) (c : Case) (numbers : List ℕ) (refutation : List ℕ) (texts : List (List ℕ)) : Type 0 where
   pub unobservable : Observable m c → ⊥
   pub minimal : IsMinimalSet m c numbers
-  pub tree : IsCertified One (model_with (among numbers) m) c is_unobservable tree
-  pub graphs : AreCertifiedWithout m c (among numbers) numbers graphs
+  pub tree : IsCertified One (model_with (among numbers) m) c is_unobservable refutation
+  pub graphs : AreCertifiedWithout m c (among numbers) numbers texts
 
 -- no core where the outcome is observable, with a graph's certificate, or else a minimal set with its certificates
 pub data IsCoreText (m : WrittenModel) (c : Case) : Status → List ℕ → Type 0 where
