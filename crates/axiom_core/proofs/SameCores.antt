@@ -153,3 +153,8 @@ core_none front (Minimal kept refuted without) is = (
   λ none. absurd none,
   λ allow. never_both front.case (plain_axioms front.axioms) allow (all_forbid front.case (plain_axioms front.axioms) (among kept) is.minimal.forbidden),
 )
+
+pub core_none_ok : {E : Type 0} (front : Front) (r : Result Core E) → IfOk r (IsCoreOf front)
+    → IfOk r (λ found. HasNone found ↔ Allow front.case (plain_axioms front.axioms))
+core_none_ok front (Ok found) is = core_none front found is
+core_none_ok front (Err e) is = tt

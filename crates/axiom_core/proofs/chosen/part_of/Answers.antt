@@ -11,7 +11,9 @@ front_with-requires c =
     let front = c.args.front.now in
     let numbers = numbers_of (map plain_stage front.stages) in
     let P : List PlainClosed → Type 0 = λ ps. AxiomsWithin numbers ps in
-    subst P (sym c.in_ok-axioms.ensures) (within_taken numbers (choice c.args.flags.now c.args.left_out) (plain_axioms front.axioms) front.within)
+    record {
+      within = subst P (sym c.in_ok-axioms.ensures) (within_taken numbers (choice c.args.flags.now c.args.left_out) (plain_axioms front.axioms) front.within);
+    }
 
 pub returns : goal.returns
 returns c =
