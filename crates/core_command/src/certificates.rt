@@ -12,11 +12,7 @@ use pc_ground::{Front, NodeText};
 use refutation::{Refutation, write_refutation};
 
 /// Writes the certificate of a graph of a front.
-pub(crate) fn write_shown<K: Sink>(
-    out: &mut K,
-    front: &Front,
-    graph: &Graph,
-) -> Result<(), Failed>
+pub(crate) fn write_shown<K: Sink>(out: &mut K, front: &Front, graph: &Graph) -> Result<(), Failed>
     requires { IsWritable (names_of front.now) (a_graph graph.now) }
     ensures { Writes K.view out.old out.new result (certificate_text front.now (a_graph graph.now)) }
 {
@@ -38,10 +34,7 @@ pub(crate) fn write_refuted<K: Sink>(
 {
     let names = NodeText::of(front);
     write_all(out, verdict_line(Kind::Unobservable))?;
-    write_all(
-        out,
-        second_line(Kind::Unobservable, front.case.expect()),
-    )?;
+    write_all(out, second_line(Kind::Unobservable, front.case.expect()))?;
     write_refutation(out, &names, steps)?;
     write_all(out, b"end\n")
 }

@@ -25,10 +25,7 @@ fn line_of(word: &[u8], number: usize) -> ArrayVec<u8, LINE>
 {
     let mut digits = Buffer::new();
     let mut text = ArrayVec::new();
-    join(
-        &mut text,
-        &[word, digits.format(number).as_bytes(), b"\n"],
-    );
+    join(&mut text, &[word, digits.format(number).as_bytes(), b"\n"]);
     text
 }
 
@@ -51,11 +48,7 @@ fn write_axioms<K: Sink>(out: &mut K, kept: &AxiomNumbers) -> Result<(), Failed>
 }
 
 /// Writes the certificate of a graph without the axiom of this number.
-fn write_without<K: Sink>(
-    out: &mut K,
-    number: usize,
-    shown: &(Front, Graph),
-) -> Result<(), Failed>
+fn write_without<K: Sink>(out: &mut K, number: usize, shown: &(Front, Graph)) -> Result<(), Failed>
     requires { IsWritable (names_of shown.now.0) (a_graph shown.now.1) }
     ensures { Writes K.view out.old out.new result (without_text (number, graph_text shown.now)) }
 {
@@ -64,11 +57,7 @@ fn write_without<K: Sink>(
 }
 
 /// Writes the certificates of the graphs, each behind the number of the axiom that it does without.
-fn write_graphs<K: Sink>(
-    out: &mut K,
-    kept: &AxiomNumbers,
-    without: &Shown,
-) -> Result<(), Failed>
+fn write_graphs<K: Sink>(out: &mut K, kept: &AxiomNumbers, without: &Shown) -> Result<(), Failed>
     requires writable { All (λ s. IsWritable (names_of s.0) (a_graph s.1)) without.now }
     requires beside { length kept.now ≡ length without.now }
     ensures { Writes K.view out.old out.new result (flat_map without_text (beside kept.now (map graph_text without.now))) }

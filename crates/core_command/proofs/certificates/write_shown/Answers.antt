@@ -1,6 +1,17 @@
-use Rattle.std.proofs.Common.{refl}
+use Rattle.std.proofs.Common.{refl, sym, subst}
+use Rattle.std.specs.Prelude.{All}
+use Rattle.pc_common.specs.Lines.{Names}
 use Rattle.pc_common.proofs.Writes.{writes_then, writes_stop}
+use Rattle.graph_text.specs.Graphs.{IsKeyIn, IsEdgeIn}
 use Rattle.core_command.proofs.certificates.write_shown.Goals as goal
+
+pub write_graph-requires-clause-nodes : goal.write_graph-requires-clause-nodes
+write_graph-requires-clause-nodes g c =
+    let P : Names → Type 0 = λ ns. All (IsKeyIn ns) c.args.graph.now.nodes in subst P (sym c.of-names.ensures.view) c.requires.0
+
+pub write_graph-requires-clause-edges : goal.write_graph-requires-clause-edges
+write_graph-requires-clause-edges g c =
+    let P : Names → Type 0 = λ ns. All (IsEdgeIn ns) c.args.graph.now.edges in subst P (sym c.of-names.ensures.view) c.requires.1
 
 pub returns-in_err-write_all : goal.returns-in_err-write_all
 returns-in_err-write_all g c =
