@@ -1,21 +1,19 @@
 -- A core of a front is one of its model, with certificates.
 use Rattle.std.proofs.Common.{◌≡◌, ℕ, zero, suc, ◌<◌, inl, inr, List, [], ◌∷◌, length, map, get_or, refl, sym, ◌∙◌, ap, subst, arith}
 use Rattle.std.proofs.lemmas.List.{length-map}
-use Rattle.std.specs.Prelude.{Contains, All}
+use Rattle.std.specs.Prelude.{All}
 use Rattle.pc_common.specs.Case.{Case}
 use Rattle.pc_common.specs.Steps.{Step}
-use Rattle.pc_common.specs.World.{Node, World}
+use Rattle.pc_common.specs.World.{Node}
 use Rattle.pc_common.specs.declared.status.Status.TheVariants.{Done, Observable as is_observable, Unobservable as is_unobservable}
 use Rattle.pc_common.proofs.Elements.{In, in_from_contains}
 use Rattle.pc_case.specs.MicroOps.{AreMicroOps}
-use Rattle.pc_syntax.specs.Written.{Written, WrittenModel}
+use Rattle.pc_syntax.specs.Written.{WrittenModel}
 use Rattle.pc_syntax.specs.Observable.{axioms_of, macros_of, setting, Observable}
 use Rattle.pc_syntax.specs.Truth.{is_true}
 use Rattle.pc_ground.specs.declared.front.Front.{Front}
 use Rattle.pc_ground.specs.declared.version.Version.TheVariants.{One}
 use Rattle.pc_ground.specs.NodeForm.{names_of}
-use Rattle.pc_ground.specs.Stages.{plain_axioms}
-use Rattle.pc_front.specs.ModelFront.{closed_axiom}
 use Rattle.pc_front.specs.Front.{IsFrontOf}
 use Rattle.graph_text.specs.declared.graph.Graph.{Graph}
 use Rattle.solver.specs.declared.answer.Answer.TheVariants.{Observable as a_graph, Unobservable as a_refutation}
@@ -29,8 +27,8 @@ use Rattle.axiom_core.proofs.AxiomsWith.{satisfies_with}
 use Rattle.verdicts.specs.Verdicts.{IsWritable}
 use Rattle.verdicts.specs.Certified.{IsCertified}
 use Rattle.verdicts.proofs.CertifiedTruth.{certified_true}
-use Rattle.core_command.specs.CoreAnswers.{IsMinimalSet, AreCertifiedWithout, IsCoreSet, IsCoreText, no_core, a_core}
-use Rattle.core_command.specs.Found.{certificate_text, graph_text, tree_text, text_of, CanBeWritten}
+use Rattle.core_command.specs.CoreAnswers.{AreCertifiedWithout, IsCoreSet, IsCoreText, no_core, a_core}
+use Rattle.core_command.specs.Found.{graph_text, tree_text, text_of, CanBeWritten}
 use Rattle.core_command.proofs.PartFronts.{found_certified, found_writable, part_front}
 
 -- an outcome that all axioms allow is allowed by some of them

@@ -1,5 +1,5 @@
 -- The front of chosen axioms is the front of the model with just those axioms.
-use Rattle.std.proofs.Common.{◌≡◌, List, [], map, sym, ◌∙◌, ap, subst}
+use Rattle.std.proofs.Common.{◌≡◌, [], map, sym, ◌∙◌, ap, subst}
 use Rattle.pc_common.specs.Case.{Case}
 use Rattle.pc_common.specs.World.{Node}
 use Rattle.pc_case.specs.MicroOps.{AreMicroOps}

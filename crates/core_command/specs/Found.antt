@@ -1,5 +1,5 @@
 -- The code's core with its front, and its text.
-use Rattle.std.specs.Prelude.{◌≡◌, ℕ, List, [], ◌∷◌, length, map, All}
+use Rattle.std.specs.Prelude.{◌≡◌, ℕ, List, length, map, All}
 use Rattle.pc_common.specs.World.{Node}
 use Rattle.pc_common.specs.Steps.{Step}
 use Rattle.pc_ground.specs.declared.front.Front.{Front}

@@ -1,4 +1,4 @@
-use Rattle.std.proofs.Common.{ap, arith, map, refl, sym, subst, ◌<◌, ◌≤◌, ◌≡◌, ◌∙◌, length, get_or}
+use Rattle.std.proofs.Common.{ap, arith, map, refl, sym, subst, ◌<◌, ◌≤◌, ◌≡◌, length}
 use Rattle.pc_common.proofs.Writes.{writes_text, writes_more, writes_cut, writes_all}
 use Rattle.pc_ground.specs.declared.front.Front.{Front}
 use Rattle.pc_ground.specs.NodeForm.{names_of}
