@@ -4,10 +4,12 @@ use Rattle.uspec_lexer.specs.Token.{Token}
 use Rattle.uspec_lexer.specs.Spells.{Spells}
 use Rattle.litmus_reader.specs.Answer.{CaseOf, IsCaseFault, CaseIn, IsContentFaultIn}
 use Rattle.litmus_reader.specs.Answers.{IsSyntaxAnswer}
+use Rattle.litmus_reader.specs.Lists.{case_by}
+use Rattle.litmus_reader.specs.declared.lists.CaseLists.{CaseLists}
 use Rattle.litmus_reader.specs.declared.fault.CaseFault.{CaseFault}
 use Rattle.litmus_reader.specs.declared.fault.CaseFault.TheVariants.{Lexical, Syntax, Content, Memory}
 use Rattle.litmus_reader.proofs.BuilderFacts.{if_ok, if_err}
-use Rattle.litmus_reader.proofs.read.case_of_tokens.Goals as goal
+use Rattle.litmus_reader.proofs.read.lists_of_tokens.Goals as goal
 
 -- what the tokens say, the bytes say
 case_of : (bytes : List ℕ) (ts : List Token) → Spells bytes ts → (case : Case) → CaseIn ts case → CaseOf bytes case
@@ -34,7 +36,7 @@ returns-in-Some-clause-err c = record {
 }
 
 pub returns-clause-ok : goal.returns-clause-ok
-returns-clause-ok c = if_ok c.case_of_test.result (case_of c.args.bytes.now c.args.tokens.now c.requires.spelled) c.case_of_test.ensures.ok
+returns-clause-ok c = if_ok c.lists_of_test.result (λ (l : CaseLists). case_of c.args.bytes.now c.args.tokens.now c.requires.spelled (case_by l)) c.lists_of_test.ensures.ok
 
 pub returns-clause-err : goal.returns-clause-err
-returns-clause-err c = if_err c.case_of_test.result (refusal_of c.args.bytes.now c.args.tokens.now c.requires.spelled) c.case_of_test.ensures.err
+returns-clause-err c = if_err c.lists_of_test.result (refusal_of c.args.bytes.now c.args.tokens.now c.requires.spelled) c.lists_of_test.ensures.err

@@ -12,9 +12,8 @@ use Rattle.litmus_reader.specs.declared.item.Microop.{Microop}
 use Rattle.litmus_reader.specs.declared.item.ValueLine.{ValueLine}
 use Rattle.litmus_reader.specs.declared.item.Item.{Item}
 use Rattle.litmus_reader.specs.declared.builder.CaseBuilder.{CaseBuilder}
-use Rattle.litmus_reader.proofs.BuilderFacts.{if_ok}
 use Rattle.litmus_reader.proofs.CleanFacts.{are_micro_ops, dependencies_within, initial_once, final_once}
-use Rattle.litmus_reader.proofs.builder.CaseBuilder.finish.Goals as goal
+use Rattle.litmus_reader.proofs.builder.CaseBuilder.lists.Goals as goal
 
 lines_stated : (lines : List ValueLine) → map stated_value (map stated_of lines) ≡ map stated_by lines
 lines_stated [] = refl
@@ -33,34 +32,23 @@ count k items keeps =
     length-map (microops_in items) (λ (m : Microop). m.head) ∙ sym (length-map (microops_in items) op_of) ∙ ap length (sym keeps.ops)
     ∙ length-map k.ops micro_op
 
-pub full-requires-clause-kept : goal.full-requires-clause-kept
-full-requires-clause-kept c =
-    let (items, keeps, clean) = c.requires in subst AreMicroOps (sym keeps.ops) (are_micro_ops items clean)
-
-pub full-requires-clause-within : goal.full-requires-clause-within
-full-requires-clause-within c =
+pub returns-clause-kept : goal.returns-clause-kept
+returns-clause-kept c =
     let (items, keeps, clean) = c.requires in
-    subst (λ (n : ℕ). AreWithin n (map dependency c.args.self.dependencies)) (count c.args.self items keeps)
-    (subst (AreWithin (length (heads_in items))) (sym (dependencies_are c.args.self items keeps)) (dependencies_within items clean))
+    let initial = stated c.in_ok-initial.initial c.args.self.initial (initial_in items) c.in_ok-initial.ensures.0 keeps.initial in
+    let final = stated c.in_ok-initial.final_values c.args.self.final_values (final_in items) c.in_ok-initial.ensures.1 keeps.final_values in record {
+      kept = subst AreMicroOps (sym keeps.ops) (are_micro_ops items clean);
+      within = subst (λ (n : ℕ). AreWithin n (map dependency c.args.self.dependencies)) (count c.args.self items keeps)
+          (subst (AreWithin (length (heads_in items))) (sym (dependencies_are c.args.self items keeps)) (dependencies_within items clean));
+      initial_once = subst IsStatedOnce (sym initial) (initial_once items clean);
+      final_once = subst IsStatedOnce (sym final) (final_once items clean);
+    }
 
-pub full-requires-clause-initial_once : goal.full-requires-clause-initial_once
-full-requires-clause-initial_once c =
-    let (items, keeps, clean) = c.requires in
-    subst IsStatedOnce (sym (stated c.in_ok-initial.initial c.args.self.initial (initial_in items) c.in_ok-initial.ensures.0 keeps.initial)) (initial_once items clean)
-
-pub full-requires-clause-final_once : goal.full-requires-clause-final_once
-full-requires-clause-final_once c =
-    let (items, keeps, clean) = c.requires in
-    subst IsStatedOnce (sym (stated c.in_ok-initial.final_values c.args.self.final_values (final_in items) c.in_ok-initial.ensures.1 keeps.final_values)) (final_once items clean)
-
-pub returns : goal.returns
-returns c =
-    if_ok c.full.result
-    (λ case is items keeps clean.
+pub returns-clause-said : goal.returns-clause-said
+returns-clause-said c = λ items keeps clean.
     let ops = keeps.ops in
     let dependencies = dependencies_are c.args.self items keeps in
     let initial = stated c.in_ok-initial.initial c.args.self.initial (initial_in items) c.in_ok-initial.ensures.0 keeps.initial in
     let final = stated c.in_ok-initial.final_values c.args.self.final_values (final_in items) c.in_ok-initial.ensures.1 keeps.final_values in
     let expected = c.expect_of-expect.ensures ∙ ap expectation_among keeps.expected in
-    is ∙ (λ i. record { ops = ops i; dependencies = dependencies i; initial = initial i; final = final i; expectation = expected i }))
-    c.full.ensures
+    (λ i. record { ops = ops i; dependencies = dependencies i; initial = initial i; final = final i; expectation = expected i })

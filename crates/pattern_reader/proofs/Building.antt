@@ -1,0 +1,87 @@
+-- The reads of a pattern as they are gathered from its open values.
+use Rattle.std.proofs.Common.{◌≡◌, ℕ, ◌<◌, ◌≤◌, ◌+◌, ◌*◌, List, [], ◌∷◌, ◌++◌, Some, length, map, take, refl, sym, ◌∙◌, ap, subst, arith}
+use Rattle.std.specs.Prelude.{All}
+use Rattle.std.specs.List.{slice_get}
+use Rattle.std.proofs.lemmas.List.{map-append, length-map, take_more}
+use Rattle.std.proofs.lemmas.List.Elements.{All-append}
+use Rattle.std.proofs.lemmas.Option.{slice_get_within, get_or_from_slice_get}
+use Rattle.std.proofs.Math.Nat.{mul_assoc}
+use Rattle.pc_common.specs.Case.{Value, Case}
+use Rattle.pc_case.specs.Plain.{plain_value}
+use Rattle.litmus_reader.specs.declared.fault.CaseFault.{CaseFault}
+use Rattle.pattern_reader.specs.Opens.{Open, plain_open}
+use Rattle.pattern_reader.specs.Answer.{IsTooMany}
+use Rattle.pattern_reader.specs.declared.opens.Open.{Open as CodeOpen}
+use Rattle.pattern_reader.proofs.Values.{values_some}
+use Rattle.pattern_reader.specs.Rows.{values_of, choices_of, combinations}
+use Rattle.pattern_reader.specs.Reads.{values_in, op_in, HasValues, AddsRead, IsTooManyAt}
+use Rattle.pattern_reader.specs.declared.rows.OpenRead.{OpenRead}
+use Rattle.pattern_reader.specs.declared.pattern.TheConstants.{MAX_ROWS}
+
+abbrev pub ops_of : List Open → List ℕ
+ops_of opens = map (λ (o : Open). o.op) opens
+
+-- the reads are those of these open values, and have so many rows
+pub record AreRead (c : Case) (reads : List OpenRead) (rows : ℕ) (opens : List Open) : Type 0 where
+  pub ops : map op_in reads ≡ ops_of opens
+  pub choices : map values_in reads ≡ choices_of c (ops_of opens)
+  pub rows_are : rows ≡ combinations (choices_of c (ops_of opens))
+  pub few : rows ≤ MAX_ROWS
+  pub some : All HasValues reads
+
+-- a choice more
+pub combinations_more : (css : List (List Value)) (vs : List Value) → combinations (css ++ vs ∷ []) ≡ combinations css * length vs
+combinations_more [] vs = omega arith
+combinations_more (c ∷ css) vs = ap (λ n. length c * n) (combinations_more css vs) ∙ sym (mul_assoc (length c) (combinations css) (length vs))
+
+ops_more : (opens : List Open) (o : Open) → ops_of (opens ++ o ∷ []) ≡ ops_of opens ++ o.op ∷ []
+ops_more opens o = map-append (λ (x : Open). x.op) opens (o ∷ [])
+
+choices_more : (c : Case) (opens : List Open) (o : Open)
+    → choices_of c (ops_of (opens ++ o ∷ [])) ≡ choices_of c (ops_of opens) ++ values_of c o.op ∷ []
+choices_more c opens o = ap (choices_of c) (ops_more opens o) ∙ map-append (values_of c) (ops_of opens) (o.op ∷ [])
+
+-- before the first open value
+pub read_none : (c : Case) → AreRead c [] 1 []
+read_none c = record { ops = refl; choices = refl; rows_are = refl; few = omega arith; some = tt }
+
+-- and with one more
+pub read_more : (c : Case) (reads new : List OpenRead) (rows more : ℕ) (opens : List Open) (o : Open)
+    → AreRead c reads rows opens → AddsRead c o.op rows reads new more → AreRead c new more (opens ++ o ∷ [])
+read_more c reads new rows more opens o r a = record {
+  ops = ap (map op_in) a.behind ∙ map-append op_in reads (a.read ∷ []) ∙ ap (λ ks. ks ++ op_in a.read ∷ []) r.ops
+      ∙ ap (λ k. ops_of opens ++ k ∷ []) a.op_is ∙ sym (ops_more opens o);
+  choices = ap (map values_in) a.behind ∙ map-append values_in reads (a.read ∷ []) ∙ ap (λ css. css ++ values_in a.read ∷ []) r.choices
+      ∙ ap (λ vs. choices_of c (ops_of opens) ++ vs ∷ []) a.values ∙ sym (choices_more c opens o);
+  rows_are = a.product ∙ ap (λ n. n * length (values_of c o.op)) r.rows_are
+      ∙ sym (combinations_more (choices_of c (ops_of opens)) (values_of c o.op)) ∙ ap combinations (sym (choices_more c opens o));
+  few = a.few;
+  some = subst (λ rs. All HasValues rs) (sym a.behind) (All-append HasValues reads (a.read ∷ []) r.some (has_values c o.op a.read a.values, tt));
+}
+  where
+    has_values : (c : Case) (k : ℕ) (r : OpenRead) → values_in r ≡ values_of c k → HasValues r
+    has_values c k r same =
+        let some = values_some c k in
+        let length_is : length (values_in r) ≡ length r.values = length-map r.values plain_value in
+        let lengths = ap length same in omega (arith, some, length_is, lengths)
+
+-- the next one is too much
+pub too_many : (c : Case) (reads : List OpenRead) (rows : ℕ) (opens : List Open) (k : ℕ) (o : CodeOpen) (fault : CaseFault)
+    → slice_get opens k ≡ Some (plain_open o) → AreRead c reads rows (take k opens) → IsTooManyAt c o rows fault → IsTooMany c opens fault
+too_many c reads rows opens k o fault here r many =
+    let next : take (k + 1) opens ≡ take k opens ++ plain_open o ∷ [] =
+    take_more opens k (plain_open o) (slice_get_within opens k (plain_open o) here)
+    ∙ ap (λ x. take k opens ++ x ∷ []) (get_or_from_slice_get opens k (plain_open o) (plain_open o) here) in
+    let product : combinations (choices_of c (ops_of (take (k + 1) opens))) ≡ rows * length (values_of c o.op) =
+    ap (λ os. combinations (choices_of c (ops_of os))) next ∙ ap combinations (choices_more c (take k opens) (plain_open o))
+    ∙ combinations_more (choices_of c (ops_of (take k opens))) (values_of c o.op)
+    ∙ ap (λ n. n * length (values_of c o.op)) (sym r.rows_are) in record {
+      k = k;
+      any = plain_open o;
+      here = here;
+      few = subst (λ n. n ≤ MAX_ROWS) r.rows_are r.few;
+      many = subst (λ n. MAX_ROWS < n) (sym product) many.many;
+      place = o.at;
+      at = refl;
+      is = many.is;
+    }
