@@ -1,5 +1,5 @@
 -- The reads of a pattern as they are gathered from its open values.
-use Rattle.std.proofs.Common.{◌≡◌, ℕ, ◌<◌, ◌≤◌, ◌+◌, ◌*◌, List, [], ◌∷◌, ◌++◌, Some, length, map, take, refl, sym, ◌∙◌, ap, subst, arith}
+use Rattle.std.proofs.Common.{◌≡◌, ℕ, zero, suc, ◌<◌, ◌≤◌, ◌+◌, ◌*◌, List, [], ◌∷◌, ◌++◌, Some, length, map, take, refl, sym, ◌∙◌, ap, subst, arith}
 use Rattle.std.specs.Prelude.{All}
 use Rattle.std.specs.List.{slice_get}
 use Rattle.std.proofs.lemmas.List.{map-append, length-map, take_more}
@@ -43,7 +43,7 @@ choices_more c opens o = ap (choices_of c) (ops_more opens o) ∙ map-append (va
 
 -- before the first open value
 pub read_none : (c : Case) → AreRead c [] 1 []
-read_none c = record { ops = refl; choices = refl; rows_are = refl; few = omega arith; some = tt }
+read_none c = record { ops = refl; choices = refl; rows_are = refl; few = omega arith; some = λ k d inside. absurd (omega (arith, inside)) }
 
 -- and with one more
 pub read_more : (c : Case) (reads new : List OpenRead) (rows more : ℕ) (opens : List Open) (o : Open)
@@ -56,9 +56,13 @@ read_more c reads new rows more opens o r a = record {
   rows_are = a.product ∙ ap (λ n. n * length (values_of c o.op)) r.rows_are
       ∙ sym (combinations_more (choices_of c (ops_of opens)) (values_of c o.op)) ∙ ap combinations (sym (choices_more c opens o));
   few = a.few;
-  some = subst (λ rs. All HasValues rs) (sym a.behind) (All-append HasValues reads (a.read ∷ []) r.some (has_values c o.op a.read a.values, tt));
+  some = subst (λ rs. All HasValues rs) (sym a.behind) (All-append HasValues reads (a.read ∷ []) r.some (all_one a.read (has_values c o.op a.read a.values)));
 }
   where
+    all_one : (r : OpenRead) → HasValues r → All HasValues (r ∷ [])
+    all_one r h zero d inside = h
+    all_one r h (suc k) d inside = absurd (omega (arith, inside))
+
     has_values : (c : Case) (k : ℕ) (r : OpenRead) → values_in r ≡ values_of c k → HasValues r
     has_values c k r same =
         let some = values_some c k in
