@@ -2,6 +2,7 @@
 use Rattle.std.proofs.Common.{◌≡◌, ◌≢◌, ℕ, ◌≤◌, ◌<◌, ◌⊎◌, inl, inr, ⊎_elim, List, length, map, take, refl, sym, ◌∙◌, ap, subst, arith}
 use Rattle.std.proofs.Math.Seq.{take-length}
 use Rattle.pc_common.specs.Case.{Case}
+use Rattle.pc_common.specs.declared.fault.FaultKind.{FaultKind}
 use Rattle.pc_common.specs.declared.place.Place.{Place}
 use Rattle.uspec_lexer.specs.Token.{Token}
 use Rattle.uspec_lexer.specs.Spells.{Spells, IsLexicalFault}
@@ -9,7 +10,7 @@ use Rattle.uspec_lexer.proofs.SpellsLaws.{spells-unique, spells-no_fault, lexica
 use Rattle.uspec_lexer.proofs.Totality.{spells-or_fault}
 use Rattle.litmus_reader.specs.Answer.{CaseOf, IsCaseFault}
 use Rattle.litmus_reader.specs.declared.fault.CaseFault.{CaseFault}
-use Rattle.litmus_reader.specs.declared.fault.CaseFault.TheVariants.{Lexical, Memory}
+use Rattle.litmus_reader.specs.declared.fault.CaseFault.TheVariants.{Lexical, Content, Memory}
 use Rattle.litmus_reader.proofs.Exclusive.{one_case, no_fault}
 use Rattle.litmus_reader.proofs.OneFault.{one_fault}
 use Rattle.litmus_reader.proofs.Totality.{case_or_fault}
@@ -19,6 +20,12 @@ use Rattle.pattern_reader.specs.Rows.{Pattern, rows_of}
 use Rattle.pattern_reader.specs.Answer.{pattern_with, ClosesTo, IsTooMany, IsClosedFault, in_test, too_many, PatternOf, IsPatternFault, lexical, closed}
 use Rattle.pattern_reader.specs.declared.pattern.TheConstants.{MAX_ROWS}
 use Rattle.pattern_reader.proofs.Rows.{compare, too_many_above, too_many_once, first_above}
+
+lexical_no_memory : {place : Place} → Lexical place ≡ Memory → ⊥
+lexical_no_memory e = cc
+
+content_no_memory : {kind : FaultKind} {place : Place} → Content kind place ≡ Memory → ⊥
+content_no_memory e = cc
 
 one_closing : (bytes : List ℕ) (opens : List Open) (p q : Pattern) → ClosesTo bytes opens p → ClosesTo bytes opens q → p ≡ q
 one_closing bytes opens p q x y =
@@ -63,8 +70,8 @@ of_rows : (bytes : List ℕ) (opens : List Open) (c : Case) → CaseOf (closed_b
 of_rows bytes opens c said = ⊎_elim
     (λ few. inl (pattern_with c opens, record { case = c; closed = said; is = refl; few = few }))
     (λ many.
-        let (f, is) = first_above c (length opens) opens (subst (λ os. MAX_ROWS < rows_of (pattern_with c os)) (sym (take-length opens)) many) in
-        inr (f, too_many said is))
+    let (f, is) = first_above c (length opens) opens (subst (λ os. MAX_ROWS < rows_of (pattern_with c os)) (sym (take-length opens)) many) in
+    inr (f, too_many said is))
     (compare (rows_of (pattern_with c opens)) MAX_ROWS)
 
 of_opens : (bytes : List ℕ) (opens : List Open)
@@ -74,8 +81,20 @@ of_opens bytes opens = ⊎_elim (λ (c, said). of_rows bytes opens c said) (λ (
 pub pattern_or_fault_of : (bytes : List ℕ) → ((p : Pattern) × PatternOf bytes p) ⊎ ((f : CaseFault) × IsPatternFault bytes f)
 pattern_or_fault_of bytes = ⊎_elim
     (λ (ts, spelled). ⊎_elim
-        (λ (p, closes). inl (p, record { tokens = ts; spelled = spelled; closes = closes }))
-        (λ (f, is). inr (f, closed spelled is))
-        (of_opens bytes (opens_in ts)))
+    (λ (p, closes). inl (p, record { tokens = ts; spelled = spelled; closes = closes }))
+    (λ (f, is). inr (f, closed spelled is))
+    (of_opens bytes (opens_in ts)))
     (λ (k, is). inr (Lexical (record { offset = k }), lexical is))
     (spells-or_fault bytes)
+
+-- want of memory is no fault
+pub no_memory_fault : (bytes : List ℕ) → IsPatternFault bytes Memory → ⊥
+no_memory_fault bytes is = no_memory bytes Memory refl is
+  where
+    unlike_content : {c : Case} {opens : List Open} (f : CaseFault) → f ≡ Memory → IsTooMany c opens f → ⊥
+    unlike_content f e many = content_no_memory (sym many.is ∙ e)
+
+    no_memory : (bytes : List ℕ) (f : CaseFault) → f ≡ Memory → IsPatternFault bytes f → ⊥
+    no_memory bytes _ e (lexical {place} is) = lexical_no_memory e
+    no_memory bytes f e (closed spelled (in_test is)) = is.0 e
+    no_memory bytes f e (closed spelled (too_many said many)) = unlike_content f e many

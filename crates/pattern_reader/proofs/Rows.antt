@@ -73,13 +73,23 @@ module _ (c : Case) where
   first_above zero opens many = absurd (omega (arith, many))
   first_above (suc n) opens many = ⊎_elim
       (λ few. ⊎_elim
-          (λ (o, within, here, same). (Content (TooManyRows MAX_ROWS) (record { offset = o.at }), record {
-            k = n; any = o; here = here; few = few; many = many; place = record { offset = o.at }; at = refl; is = refl;
-          }))
-          (λ (past, none).
-              let same : take (suc n) opens ≡ take n opens = take_all (suc n) opens (omega (arith, past)) ∙ sym (take_all n opens past) in
-              let rows = ap rows_with same in
-              absurd (omega (arith, rows, few, many)))
-          (slice_get_cases opens n).1)
+      (λ (o, within, here, same). (
+        Content (TooManyRows MAX_ROWS) (record { offset = o.at }),
+        record {
+          k = n;
+          any = o;
+          here = here;
+          few = few;
+          many = many;
+          place = record { offset = o.at };
+          at = refl;
+          is = refl;
+        },
+      ))
+      (λ (past, none).
+      let same : take (suc n) opens ≡ take n opens = take_all (suc n) opens (omega (arith, past)) ∙ sym (take_all n opens past) in
+      let rows = ap rows_with same in
+      absurd (omega (arith, rows, few, many)))
+      (slice_get_cases opens n).1)
       (λ above. first_above n opens above)
       (compare (rows_with (take n opens)) MAX_ROWS)

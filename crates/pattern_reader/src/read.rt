@@ -1,4 +1,4 @@
-ghost use Rattle.std.specs.Prelude.{◌≡◌, ◌≢◌, ◌<◌, ◌≤◌, ◌^◌, ◌*◌, length, map, IfOk, IfErr};
+ghost use Rattle.std.specs.Prelude.{◌≡◌, ◌≢◌, ◌<◌, ◌≤◌, ◌^◌, ◌*◌, ◌++◌, ◌∷◌, [], length, map, IfOk, IfErr, OnOk};
 ghost use Rattle.uspec_lexer.specs.Spells.{Spells};
 ghost use Rattle.litmus_reader.specs.Lists.{case_by, AreLists};
 ghost use Rattle.litmus_reader.specs.declared.fault.CaseFault.TheVariants.{Memory as no_memory, Content};
@@ -14,7 +14,7 @@ use super::pattern::{MAX_ROWS, Pattern};
 use super::rows::OpenRead;
 use super::values::values_of;
 use litmus_reader::{CaseFault, CaseLists, read_lists};
-use pc_common::FaultKind;
+use pc_common::{FaultKind, Memory};
 use std::alloc::Global;
 use uspec_lexer::{Tokens, tokens};
 
@@ -71,6 +71,14 @@ fn pattern_of_lists(alloc: Global, lists: CaseLists, opens: &[Open]) -> Result<P
     Ok(Pattern::new(lists, reads, rows))
 }
 
+/// Puts a read behind the others.
+fn push_read(reads: &mut Vec<OpenRead>, read: OpenRead) -> Result<(), Memory>
+    ensures { OnOk result (reads.new.items ≡ reads.old.items ++ read ∷ []) }
+{
+    reads.push(read)?;
+    Ok(())
+}
+
 /// Puts one more open read behind the others: the number of rows with it.
 fn add_read(
     alloc: Global,
@@ -85,7 +93,7 @@ fn add_read(
 {
     let values = values_of(alloc, lists, any.op)?;
     let more = rows_with(rows, values.len(), any)?;
-    reads.push(OpenRead { op: any.op, values })?;
+    push_read(reads, OpenRead { op: any.op, values })?;
     Ok(more)
 }
 

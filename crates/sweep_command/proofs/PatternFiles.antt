@@ -21,9 +21,10 @@ use Rattle.pc_front.specs.declared.model_front.FrontEnd.TheVariants.{Refused, Me
 use Rattle.pc_front.proofs.OneModel.{no_whole_fault, one_model_fault}
 use Rattle.pattern_reader.specs.Rows.{Pattern}
 use Rattle.pattern_reader.specs.Answer.{PatternOf, IsPatternFault}
-use Rattle.pattern_reader.proofs.Patterns.{no_fault_beside, one_fault_of, one_pattern_of}
+use Rattle.pattern_reader.proofs.Patterns.{no_fault_beside, one_fault_of, one_pattern_of, pattern_or_fault_of, no_memory_fault}
+use Rattle.pc_front.proofs.ModelOrFault.{model_or_fault}
 use Rattle.command_base.specs.Inputs.{Inputs, Contents, IsRead, LacksInput}
-use Rattle.command_base.specs.SecondFiles.{SaysNone, IsOfTwo, IsFrontEnd}
+use Rattle.command_base.specs.SecondFiles.{SaysNone, IsOfTwo, IsFrontEnd, IsForm}
 use Rattle.command_base.proofs.InputsRead.{reads_then}
 use Rattle.command_base.proofs.OneCase.{one_held}
 use Rattle.sweep_command.specs.Patterns.{ClosedCase, IsFirstFault, in_model, in_pattern, SaysPattern, SaysTask, HasTask}
@@ -82,3 +83,50 @@ task_read {view = view} {old = old} failing_modelled keeps i mb tb read task say
     both_held : (holds : Contents) (i : Inputs) (mb tb : List ℕ) → IsRead holds i.model mb × IsRead holds i.test tb → LacksInput holds i → ⊥
     both_held holds i mb tb read (inl none) = some_none (sym read.0.held ∙ none)
     both_held holds i mb tb read (inr (first, none)) = some_none (sym read.1.held ∙ none)
+
+-- want of memory is no fault of a pattern
+untold : (f : InputFault) → case_fault_of no_room ≡ Some f → ⊥
+untold f told = cc
+
+no_fault_of : (mb tb : List ℕ) (f : InputFault) → IsFirstFault mb tb f → SaysNone ClosedCase mb tb
+no_fault_of mb tb _ (in_model {kind} {at} is) = none_by_model mb tb kind at is
+no_fault_of mb tb f (in_pattern {found = found} says is same) = none_by_pattern mb tb found is
+
+one_input_fault : (mb tb : List ℕ) (f g : InputFault) → IsFirstFault mb tb f → IsFirstFault mb tb g → f ≡ g
+one_input_fault mb tb _ _ (in_model {kind = j} {at = p} x) (in_model {kind = k} {at = q} y) =
+    let same = one_model_fault mb j k p q x y in
+    ap (λ kind. fault_at Model kind p) same.0 ∙ ap (fault_at Model k) same.1
+one_input_fault mb tb _ _ (in_model {kind = j} {at = p} x) (in_pattern {m = m} says y same) =
+    absurd (no_whole_fault mb m says.model says.no_fault j p x)
+one_input_fault mb tb _ _ (in_pattern {m = m} says y same) (in_model {kind = k} {at = q} x) =
+    absurd (no_whole_fault mb m says.model says.no_fault k q x)
+one_input_fault mb tb f g (in_pattern {found = d} says x same) (in_pattern {found = e} told y alike) =
+    ap (λ o. unwrap_or o f) (sym same ∙ ap case_fault_of (one_fault_of tb d e x y) ∙ alike)
+
+pattern_fault : (mb tb : List ℕ) (m : WrittenModel) → SaysModel mb m → (f : CaseFault) → IsPatternFault tb f → (g : InputFault) × IsFirstFault mb tb g
+pattern_fault mb tb m says (a_lexical_fault at) is = (fault_at Test Lexical at, in_pattern says is refl)
+pattern_fault mb tb m says (a_syntax_fault at) is = (fault_at Test Syntax at, in_pattern says is refl)
+pattern_fault mb tb m says (a_fault_of_content kind at) is = (fault_at Test kind at, in_pattern says is refl)
+pattern_fault mb tb m says no_room is = absurd (no_memory_fault tb is)
+
+some_of_pattern : (mb tb : List ℕ) (m : WrittenModel) → SaysModel mb m → ((p : Pattern) × PatternOf tb p) ⊎ ((f : CaseFault) × IsPatternFault tb f)
+    → ((n : WrittenModel) × (c : Case) × SaysModel mb n × ClosedCase tb c) ⊎ ((f : InputFault) × IsFirstFault mb tb f)
+some_of_pattern mb tb m says (inl (p, said)) = inl (m, p.case, says, (p, said, refl))
+some_of_pattern mb tb m says (inr (f, is)) = inr (pattern_fault mb tb m says f is)
+
+some_of_model : (mb tb : List ℕ) → ((m : WrittenModel) × SaysModel mb m) ⊎ ((kind : FaultKind) × (at : Place) × IsModelFault mb kind at)
+    → ((n : WrittenModel) × (c : Case) × SaysModel mb n × ClosedCase tb c) ⊎ ((f : InputFault) × IsFirstFault mb tb f)
+some_of_model mb tb (inl (m, says)) = some_of_pattern mb tb m says (pattern_or_fault_of tb)
+some_of_model mb tb (inr (kind, at, is)) = inr (fault_at Model kind at, in_model is)
+
+one_closed_case : (bytes : List ℕ) (c d : Case) → ClosedCase bytes c → ClosedCase bytes d → c ≡ d
+one_closed_case bytes c d (p, said, same) (q, told, other) = same ∙ ap (λ (x : Pattern). x.case) (one_pattern_of bytes p q said told) ∙ sym other
+
+-- patterns are a form of second files
+pub pattern_form : IsForm ClosedCase IsFirstFault
+pattern_form = record {
+  one_case = one_closed_case;
+  one_fault = one_input_fault;
+  no_fault = no_fault_of;
+  some = λ mb tb. some_of_model mb tb (model_or_fault mb);
+}

@@ -16,13 +16,17 @@ use Rattle.pattern_reader.specs.Answer.{PatternOf}
 use Rattle.pattern_reader.proofs.Filling.{filled_kept}
 use Rattle.sweep.specs.Sweeps.{AreAnswers}
 use Rattle.command_base.specs.declared.ending.Ending.{Ending}
-use Rattle.command_base.specs.Inputs.{Inputs, Contents}
+use Rattle.command_base.specs.Inputs.{Inputs, Contents, Says}
+use Rattle.command_base.specs.Refusals.{refusal}
+use Rattle.command_base.proofs.OneCase.{one_held, one_said, no_fault_said}
+use Rattle.pattern_reader.proofs.Patterns.{one_pattern_of}
 use Rattle.command_base.specs.Endings.{ending_status, ending_text}
 use Rattle.command_base.specs.Outcomes.{IsInputsEnding}
 use Rattle.sweep_command.specs.Texts.{sweep_text}
 use Rattle.sweep_command.specs.Patterns.{ClosedCase, IsFirstFault, SaysPattern, SaysTask, HasTask}
-use Rattle.sweep_command.specs.SweepAnswers.{IsVerdictOn, IsSweep, AnswersSweep, refused_sweep, swept, IsSweepOutcome}
+use Rattle.sweep_command.specs.SweepAnswers.{IsVerdictOn, IsSweep, AnswersSweep, refused_sweep, swept, IsSweepDue, IsSweepOutcome}
 use Rattle.sweep_command.specs.declared.inputs.Task.{Task}
+use Rattle.sweep_command.proofs.PatternFiles.{pattern_form}
 use Rattle.sweep_command.proofs.Shown.{verdict_of}
 
 -- the micro-ops of a row are those of a test
@@ -93,3 +97,41 @@ module _ {F : Type 0} {view : F → FilesView} {old new : F} {i : Inputs} where
       missing_due = λ c l. inr refl;
       answers = λ t no_fault memory. absurd (memory refl);
     }
+
+-- the model and the case that two files say, where they say a pattern
+closed_says : {holds : Contents} {i : Inputs} {m : WrittenModel} {p : Pattern} → SaysPattern holds i m p → Says ClosedCase holds i m p.case
+closed_says {p = p} says = record {
+  model_bytes = says.model_bytes;
+  test_bytes = says.pattern_bytes;
+  model_read = says.model_read;
+  test_read = says.pattern_read;
+  says_model = says.says_model;
+  says_case = (p, says.says_pattern, refl);
+}
+
+one_pattern_said : (holds : Contents) (i : Inputs) (m n : WrittenModel) (p q : Pattern) → SaysPattern holds i m p → SaysPattern holds i n q
+    → (m ≡ n) × (p ≡ q)
+one_pattern_said holds i m n p q x y =
+    let same = one_held holds i.test x.pattern_bytes y.pattern_bytes x.pattern_read.held y.pattern_read.held in (
+      (one_said pattern_form holds i m n p.case q.case (closed_says x) (closed_says y)).0,
+      one_pattern_of y.pattern_bytes p q (subst (λ b. PatternOf b p) same x.says_pattern) y.says_pattern,
+    )
+
+module _ {holds : Contents} {i : Inputs} {status : Status} {text : List ℕ} where
+  -- the text is the sweep of what the two files say
+  pub sweep_true : AnswersSweep holds i status text → (m : WrittenModel) (p : Pattern) → SaysPattern holds i m p → IsSweep m p text
+  sweep_true (refused_sweep (refusal {fault = f} first held)) m p says =
+      absurd (no_fault_said pattern_form holds i m p.case f (closed_says says) first)
+  sweep_true (swept {m = n} {p = q} other is) m p says =
+      let one = one_pattern_said holds i n m q p other says in
+      subst (λ k. IsSweep k p text) one.0 (subst (λ r. IsSweep n r text) one.1 is)
+
+  pub sweep_due : AnswersSweep holds i status text → IsSweepDue holds i status
+  sweep_due (refused_sweep (refusal {fault = f} first held)) = record {
+    found = λ m p says. absurd (no_fault_said pattern_form holds i m p.case f (closed_says says) first);
+    fault = λ g fault. refl;
+  }
+  sweep_due (swept {m = m} {p = p} says is) = record {
+    found = λ n q other. refl;
+    fault = λ f fault. absurd (no_fault_said pattern_form holds i m p.case f (closed_says says) fault);
+  }

@@ -75,7 +75,7 @@ fn bytes_of<'a>(file: Which, model: &'a [u8], second: &'a [u8]) -> &'a [u8]
 }
 
 /// What the bytes of a model and of a pattern say.
-fn task(alloc: Global, model: &[u8], second: &[u8]) -> Result<Task, FrontEnd>
+fn make_task(alloc: Global, model: &[u8], second: &[u8]) -> Result<Task, FrontEnd>
     requires model_short { length model.now ≤ MAX_FILE }
     requires second_short { length second.now ≤ MAX_FILE }
     ensures ok { IfOk result (SaysTask model.now second.now) }
@@ -92,7 +92,7 @@ fn task_of(alloc: Global, model: &[u8], second: &[u8]) -> Result<Task, Ending>
     requires second_short { length second.now ≤ MAX_FILE }
     ensures { MatchResult result (SaysTask model.now second.now) (IsBytesEnding ClosedCase IsFirstFault model.now second.now) }
 {
-    match task(alloc, model, second) {
+    match make_task(alloc, model, second) {
         Ok(task) => Ok(task),
         Err(FrontEnd::Refused(fault)) => {
             Err(Ending::Refused(placed(fault, bytes_of(fault.file, model, second))))
