@@ -12,7 +12,7 @@ use Rattle.litmus_reader.specs.declared.fault.CaseFault.{CaseFault}
 use Rattle.pattern_reader.specs.Opens.{Open, plain_open}
 use Rattle.pattern_reader.specs.Answer.{IsTooMany}
 use Rattle.pattern_reader.specs.declared.opens.Open.{Open as CodeOpen}
-use Rattle.pattern_reader.proofs.Values.{values_some}
+use Rattle.pattern_reader.proofs.ReadableValues.{values_some}
 use Rattle.pattern_reader.specs.Rows.{values_of, choices_of, combinations}
 use Rattle.pattern_reader.specs.Reads.{values_in, op_in, HasValues, AddsRead, IsTooManyAt}
 use Rattle.pattern_reader.specs.declared.rows.OpenRead.{OpenRead}

@@ -1,6 +1,7 @@
-pub mod Values
+pub mod ReadableValues
+pub mod Scanning
 pub mod Digits
 pub mod Building
 pub mod Filling
-pub mod Rows
+pub mod RowCounts
 pub mod Patterns

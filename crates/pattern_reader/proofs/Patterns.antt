@@ -19,7 +19,7 @@ use Rattle.pattern_reader.specs.Closing.{closed_bytes}
 use Rattle.pattern_reader.specs.Rows.{Pattern, rows_of}
 use Rattle.pattern_reader.specs.Answer.{pattern_with, ClosesTo, IsTooMany, IsClosedFault, in_test, too_many, PatternOf, IsPatternFault, lexical, closed}
 use Rattle.pattern_reader.specs.declared.pattern.TheConstants.{MAX_ROWS}
-use Rattle.pattern_reader.proofs.Rows.{compare, too_many_above, too_many_once, first_above}
+use Rattle.pattern_reader.proofs.RowCounts.{compare, too_many_above, too_many_once, first_above}
 
 lexical_no_memory : {place : Place} → Lexical place ≡ Memory → ⊥
 lexical_no_memory e = cc

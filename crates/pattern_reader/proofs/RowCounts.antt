@@ -14,7 +14,7 @@ use Rattle.pattern_reader.specs.Opens.{Open}
 use Rattle.pattern_reader.specs.Rows.{values_of, rows_of}
 use Rattle.pattern_reader.specs.Answer.{pattern_with, IsTooMany}
 use Rattle.pattern_reader.specs.declared.pattern.TheConstants.{MAX_ROWS}
-use Rattle.pattern_reader.proofs.Values.{values_some}
+use Rattle.pattern_reader.proofs.ReadableValues.{values_some}
 
 pub compare : (a b : ℕ) → (a ≤ b) ⊎ (b < a)
 compare zero b = inl (omega arith)
