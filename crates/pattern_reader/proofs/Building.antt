@@ -1,20 +1,23 @@
 -- The reads of a pattern as they are gathered from its open values.
-use Rattle.std.proofs.Common.{◌≡◌, ℕ, zero, suc, ◌<◌, ◌≤◌, ◌+◌, ◌*◌, List, [], ◌∷◌, ◌++◌, Some, length, map, take, refl, sym, ◌∙◌, ap, subst, arith}
+use Rattle.std.proofs.Common.{◌≡◌, ℕ, zero, suc, ◌<◌, ◌≤◌, ◌+◌, ◌*◌, List, [], ◌∷◌, ◌++◌, Some, length, map, take, get_or, refl, sym, ◌∙◌, ap, subst, arith}
 use Rattle.std.specs.Prelude.{All}
 use Rattle.std.specs.List.{slice_get}
-use Rattle.std.proofs.lemmas.List.{map-append, length-map, take_more}
+use Rattle.std.proofs.lemmas.List.{map-append, length-map, take_more, take_all, take-map}
 use Rattle.std.proofs.lemmas.List.Elements.{All-append}
-use Rattle.std.proofs.lemmas.Option.{slice_get_within, get_or_from_slice_get}
+use Rattle.std.proofs.lemmas.Option.{slice_get_within, get_or_from_slice_get, slice_get-map}
+use Rattle.std.specs.Option.{option_map}
 use Rattle.std.proofs.Math.Nat.{mul_assoc}
 use Rattle.pc_common.specs.Case.{Value, Case}
 use Rattle.pc_case.specs.Plain.{plain_value}
 use Rattle.litmus_reader.specs.declared.fault.CaseFault.{CaseFault}
 use Rattle.pattern_reader.specs.Opens.{Open, plain_open}
-use Rattle.pattern_reader.specs.Answer.{IsTooMany}
+use Rattle.pattern_reader.specs.Answer.{IsTooMany, pattern_with}
 use Rattle.pattern_reader.specs.declared.opens.Open.{Open as CodeOpen}
 use Rattle.pattern_reader.proofs.ReadableValues.{values_some}
-use Rattle.pattern_reader.specs.Rows.{values_of, choices_of, combinations}
-use Rattle.pattern_reader.specs.Reads.{values_in, op_in, HasValues, AddsRead, IsTooManyAt}
+use Rattle.litmus_reader.specs.Lists.{case_by, AreLists}
+use Rattle.litmus_reader.specs.declared.lists.CaseLists.{CaseLists}
+use Rattle.pattern_reader.specs.Rows.{Pattern, values_of, choices_of, combinations, rows_of}
+use Rattle.pattern_reader.specs.Reads.{values_in, op_in, HasValues, AddsRead, IsTooManyAt, IsPattern, pattern_by}
 use Rattle.pattern_reader.specs.declared.rows.OpenRead.{OpenRead}
 use Rattle.pattern_reader.specs.declared.pattern.TheConstants.{MAX_ROWS}
 
@@ -89,3 +92,44 @@ too_many c reads rows opens k o fault here r many =
       at = refl;
       is = many.is;
     }
+
+-- the first open values of the code
+taken : (opens : List CodeOpen) (k : ℕ) (o : CodeOpen) → slice_get opens k ≡ Some o
+    → map plain_open (take (k + 1) opens) ≡ map plain_open (take k opens) ++ plain_open o ∷ []
+taken opens k o here =
+    ap (map plain_open) (take_more opens k o (slice_get_within opens k o here)) ∙ map-append plain_open (take k opens) (get_or opens k o ∷ [])
+    ∙ ap (λ (x : CodeOpen). map plain_open (take k opens) ++ plain_open x ∷ []) (get_or_from_slice_get opens k o o here)
+
+pub next_read : (c : Case) (reads new : List OpenRead) (rows more : ℕ) (opens : List CodeOpen) (k : ℕ) (o : CodeOpen) → slice_get opens k ≡ Some o
+    → AreRead c reads rows (map plain_open (take k opens)) → AddsRead c o.op rows reads new more → AreRead c new more (map plain_open (take (k + 1) opens))
+next_read c reads new rows more opens k o here r a =
+    subst (AreRead c new more) (sym (taken opens k o here)) (read_more c reads new rows more (map plain_open (take k opens)) (plain_open o) r a)
+
+pub too_many_here : (c : Case) (reads : List OpenRead) (rows : ℕ) (opens : List CodeOpen) (k : ℕ) (o : CodeOpen) (fault : CaseFault) → slice_get opens k ≡ Some o
+    → AreRead c reads rows (map plain_open (take k opens)) → IsTooManyAt c o rows fault → IsTooMany c (map plain_open opens) fault
+too_many_here c reads rows opens k o fault here r many =
+    too_many c reads rows (map plain_open opens) k o fault (slice_get-map plain_open opens k ∙ ap (option_map plain_open) here)
+    (subst (AreRead c reads rows) (sym (take-map plain_open k opens)) r) many
+
+-- all of them
+pub all_read : (c : Case) (reads : List OpenRead) (rows : ℕ) (opens : List CodeOpen) (k : ℕ) → length opens ≤ k
+    → AreRead c reads rows (map plain_open (take k opens)) → AreRead c reads rows (map plain_open opens)
+all_read c reads rows opens k past r = subst (λ os. AreRead c reads rows (map plain_open os)) (take_all k opens past) r
+
+pub pattern_made : (lists : CaseLists) (reads : List OpenRead) (rows : ℕ) (opens : List CodeOpen) → AreLists lists → length opens < 4294967296
+    → AreRead (case_by lists) reads rows (map plain_open opens) → IsPattern lists reads rows
+pattern_made lists reads rows opens are short r =
+    let count : length reads ≡ length opens =
+    sym (length-map reads op_in) ∙ ap length r.ops ∙ length-map (map plain_open opens) (λ (o : Open). o.op) ∙ length-map opens plain_open in record {
+      are = record { lists_are = are; choices = r.choices ∙ ap (choices_of (case_by lists)) (sym r.ops); some = r.some };
+      rows_are = r.rows_are ∙ ap combinations (sym r.choices);
+      few = r.few;
+      bound = omega (arith, count, short);
+    }
+
+pub pattern_is : (lists : CaseLists) (reads : List OpenRead) (rows : ℕ) (opens : List CodeOpen) (p : Pattern)
+    → AreRead (case_by lists) reads rows (map plain_open opens) → p ≡ pattern_by lists reads
+    → (p ≡ pattern_with (case_by lists) (map plain_open opens)) × (rows_of p ≤ MAX_ROWS)
+pattern_is lists reads rows opens p r is =
+    let same : p ≡ pattern_with (case_by lists) (map plain_open opens) = is ∙ ap (λ ks. record { case = case_by lists; opens = ks }) r.ops in
+    (same, subst (λ q. rows_of q ≤ MAX_ROWS) (sym same) (subst (λ n. n ≤ MAX_ROWS) r.rows_are r.few))

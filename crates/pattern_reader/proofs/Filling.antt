@@ -5,9 +5,10 @@ use Rattle.std.specs.List.{slice_get}
 use Rattle.std.specs.Option.{option_map}
 use Rattle.std.proofs.lemmas.List.{take_more}
 use Rattle.pc_common.specs.Case.{Value, Touch, Kind, fence, MicroOp}
-use Rattle.pc_common.specs.declared.limits.TheConstants.{MAX_CORE}
+use Rattle.pc_common.specs.declared.limits.TheConstants.{MAX_CORE, MAX_OPS}
 use Rattle.pc_case.specs.MicroOps.{AreMicroOps}
 use Rattle.pattern_reader.specs.Rows.{reading, filled, touch_reading}
+use Rattle.pattern_reader.proofs.Digits.{plus_one}
 
 pub length_filled : (value : ℕ → Option Value) (k : ℕ) (os : List MicroOp) → length (filled value k os) ≡ length os
 length_filled value k [] = refl
@@ -53,7 +54,7 @@ fence_kept (Some v) o (to, from) = (λ e. none_out v o.touch (to e), λ none. fr
 
 pub filled_kept : (value : ℕ → Option Value) (os : List MicroOp) → AreMicroOps os → AreMicroOps (filled value 0 os)
 filled_kept value os kept = record {
-  few = subst (λ n. n ≤ _) (sym (length_filled value 0 os)) kept.few;
+  few = subst (λ n. n ≤ MAX_OPS) (sym (length_filled value 0 os)) kept.few;
   cores = λ k a at.
       let (o, here, v, is) = filled_get value 0 k os a at in
       subst (λ n. n < MAX_CORE + 1) (sym (ap (λ (x : MicroOp). x.core) is ∙ same_core v o)) (kept.cores k o here);
@@ -68,15 +69,18 @@ filled_kept value os kept = record {
       subst (λ (x : MicroOp). (x.kind ≡ fence) ↔ IsNone x.touch) (sym is) (fence_kept v o (kept.fences k o here));
 }
 
--- one micro-op more
-pub filled_more : (value : ℕ → Option Value) (j k : ℕ) (os : List MicroOp) (o : MicroOp) → slice_get os k ≡ Some o
-    → filled value j (take (k + 1) os) ≡ filled value j (take k os) ++ reading (value (j + k)) o ∷ []
-filled_more value j k [] o here = absurd (none_some here)
-  where
-    none_some : slice_get [] k ≡ Some o → ⊥
-    none_some e = cc
-filled_more value j zero (x ∷ os) o here =
-    ap (λ (y : MicroOp). reading (value j) y ∷ []) (ap (λ y. unwrap_or y o) here) ∙ ap (λ n. reading (value n) o ∷ []) (omega arith)
-filled_more value j (suc k) (x ∷ os) o here =
+filled_from : (value : ℕ → Option Value) (j k : ℕ) (os : List MicroOp) (o : MicroOp) → slice_get os k ≡ Some o
+    → filled value j (take (suc k) os) ≡ filled value j (take k os) ++ reading (value (j + k)) o ∷ []
+filled_from value j k [] o here = cc
+filled_from value j zero (x ∷ os) o here =
+    ap (λ y. reading (value j) (unwrap_or y o) ∷ []) here ∙ ap (λ n. reading (value n) o ∷ []) (omega arith)
+filled_from value j (suc k) (x ∷ os) o here =
     ap (λ ys. reading (value j) x ∷ ys)
-    (filled_more value (j + 1) k os o here ∙ ap (λ n. filled value (j + 1) (take k os) ++ reading (value n) o ∷ []) (omega arith))
+    (filled_from value (j + 1) k os o here ∙ ap (λ n. filled value (j + 1) (take k os) ++ reading (value n) o ∷ []) (omega arith))
+
+-- one micro-op more
+pub filled_more : (value : ℕ → Option Value) (k : ℕ) (os : List MicroOp) (o : MicroOp) → slice_get os k ≡ Some o
+    → filled value 0 (take (k + 1) os) ≡ filled value 0 (take k os) ++ reading (value k) o ∷ []
+filled_more value k os o here =
+    ap (λ n. filled value 0 (take n os)) (plus_one k) ∙ filled_from value 0 k os o here
+    ∙ ap (λ n. filled value 0 (take k os) ++ reading (value n) o ∷ []) (omega arith)

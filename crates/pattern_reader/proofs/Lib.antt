@@ -5,3 +5,4 @@ pub mod Building
 pub mod Filling
 pub mod RowCounts
 pub mod Patterns
+pub mod RowCases

@@ -11,6 +11,10 @@ use Rattle.uspec_lexer.proofs.Totality.{spells-or_fault}
 use Rattle.litmus_reader.specs.Answer.{CaseOf, IsCaseFault}
 use Rattle.litmus_reader.specs.declared.fault.CaseFault.{CaseFault}
 use Rattle.litmus_reader.specs.declared.fault.CaseFault.TheVariants.{Lexical, Content, Memory}
+use Rattle.uspec_lexer.specs.Fault.{IsRefusal}
+use Rattle.uspec_lexer.specs.declared.fault.LexFault.{LexFault}
+use Rattle.uspec_lexer.specs.declared.fault.LexFault.TheVariants.{Lexical as a_lexical_fault, Memory as no_room}
+use Rattle.litmus_reader.specs.Rows.{fault_from}
 use Rattle.litmus_reader.proofs.Exclusive.{one_case, no_fault}
 use Rattle.litmus_reader.proofs.OneFault.{one_fault}
 use Rattle.litmus_reader.proofs.Totality.{case_or_fault}
@@ -98,3 +102,8 @@ no_memory_fault bytes is = no_memory bytes Memory refl is
     no_memory bytes _ e (lexical {place} is) = lexical_no_memory e
     no_memory bytes f e (closed spelled (in_test is)) = is.0 e
     no_memory bytes f e (closed spelled (too_many said many)) = unlike_content f e many
+
+-- the fault of the tokens is that of the pattern
+pub tokens_end : (bytes : List ℕ) (f : LexFault) → IsRefusal bytes f → fault_from f ≢ Memory → IsPatternFault bytes (fault_from f)
+tokens_end bytes (a_lexical_fault place) is some = lexical is
+tokens_end bytes no_room is some = absurd (some refl)

@@ -14,6 +14,7 @@ use Rattle.pattern_reader.specs.Opens.{Open}
 use Rattle.pattern_reader.specs.Rows.{values_of, rows_of}
 use Rattle.pattern_reader.specs.Answer.{pattern_with, IsTooMany}
 use Rattle.pattern_reader.specs.declared.pattern.TheConstants.{MAX_ROWS}
+use Rattle.pattern_reader.proofs.Digits.{plus_one}
 use Rattle.pattern_reader.proofs.ReadableValues.{values_some}
 
 pub compare : (a b : ℕ) → (a ≤ b) ⊎ (b < a)
@@ -80,7 +81,7 @@ module _ (c : Case) where
           any = o;
           here = here;
           few = few;
-          many = many;
+          many = subst (λ j. MAX_ROWS < rows_with (take j opens)) (sym (plus_one n)) many;
           place = record { offset = o.at };
           at = refl;
           is = refl;

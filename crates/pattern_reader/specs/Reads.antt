@@ -1,5 +1,5 @@
 -- What the code's open reads are as plain data, and what the type of a pattern keeps.
-use Rattle.std.specs.Prelude.{◌≡◌, ◌≤◌, ◌<◌, ◌*◌, ℕ, List, [], ◌∷◌, ◌++◌, map, length, Option, Some, None, All}
+use Rattle.std.specs.Prelude.{◌≡◌, ◌≤◌, ◌<◌, ◌*◌, ◌==◌, if◌then◌else◌, ℕ, zero, suc, List, [], ◌∷◌, ◌++◌, map, length, Option, Some, None, All}
 use Rattle.pc_common.specs.Case.{Value, Touch, Case}
 use Rattle.pc_common.specs.declared.fault.FaultKind.TheVariants.{TooManyRows}
 use Rattle.pc_case.specs.Plain.{plain_value}
@@ -26,6 +26,13 @@ abbrev pub touch_with : Option Value → Option Touch → Option Touch
 touch_with value None = None
 touch_with None (Some t) = Some t
 touch_with (Some v) (Some t) = Some (touch_reading v t)
+
+-- of open read k, if it is at this place
+abbrev pub value_at_place : List ℕ → List Value → ℕ → ℕ → Option Value
+value_at_place [] values k place = None
+value_at_place (o ∷ os) [] k place = None
+value_at_place (o ∷ os) (v ∷ vs) zero place = if o == place then Some v else None
+value_at_place (o ∷ os) (v ∷ vs) (suc k) place = value_at_place os vs k place
 
 abbrev pub pattern_by : CaseLists → List OpenRead → Pattern
 pattern_by lists reads = record { case = case_by lists; opens = map op_in reads }

@@ -1,4 +1,4 @@
-ghost use Rattle.std.specs.Prelude.{◌≡◌, ◌<◌, ◌≤◌, ◌+◌, ◌++◌, length, map, slice_get, IfOk, OnOk};
+ghost use Rattle.std.specs.Prelude.{◌≡◌, ◌<◌, ◌≤◌, ◌^◌, ◌+◌, ◌++◌, length, map, slice_get, IfOk, OnOk};
 ghost use Rattle.std.specs.Str.{bytes_eq};
 ghost use Rattle.uspec_lexer.specs.Token.{place_or};
 ghost use Rattle.pattern_reader.specs.Opens.{stands as stands_spec, opens_access as opens_access_spec, opens_any as opens_any_spec};
@@ -42,7 +42,8 @@ fn stands(tokens: &Tokens<'_>, k: usize, word: &[u8]) -> bool
 /// Whether the bracket of a micro-op opens at `k`.
 #[tactic(auto, unfolding(crate::specs::Opens::opens_access))]
 fn opens_access(tokens: &Tokens<'_>, k: usize) -> bool
-    requires { k < length tokens.now }
+    requires within { k < length tokens.now }
+    requires few { length tokens.now < 2 ^ 63 }
     ensures { result ≡ opens_access_spec tokens.now k }
 {
     stands(tokens, k, b"(")
@@ -54,15 +55,18 @@ fn opens_access(tokens: &Tokens<'_>, k: usize) -> bool
 /// Whether the bracket of an open value opens at `k`.
 #[tactic(auto, unfolding(crate::specs::Opens::opens_any))]
 fn opens_any(tokens: &Tokens<'_>, k: usize) -> bool
-    requires { k < length tokens.now }
+    requires within { k < length tokens.now }
+    requires few { length tokens.now < 2 ^ 63 }
     ensures { result ≡ opens_any_spec tokens.now k }
 {
     stands(tokens, k, b"(") && stands(tokens, k + 1, b"Data") && stands(tokens, k + 2, b"Any")
 }
 
 /// What was seen of one token more.
+#[tactic(auto, using(crate::proofs::Scanning::seen_open, crate::proofs::Scanning::seen_same))]
 fn seen_more(tokens: &Tokens<'_>, k: usize, seen: Accesses) -> Accesses
     requires within { k < length tokens.now }
+    requires few { length tokens.now < 2 ^ 63 }
     requires seen { AreSeen tokens.now k seen }
     ensures { AreSeen tokens.now (k + 1) result }
 {
@@ -95,6 +99,7 @@ fn note_open(
     opens: &mut Vec<Open>,
 ) -> Result<(), Memory>
     requires within { k < length tokens.now }
+    requires few { length tokens.now < 2 ^ 63 }
     requires seen { AreSeen tokens.now k seen }
     ensures opens { OnOk result (map plain_open opens.new.items ≡ map plain_open opens.old.items ++ open_at tokens.now k) }
     ensures few { OnOk result (length opens.new.items ≤ length opens.old.items + 1) }

@@ -1,8 +1,9 @@
-ghost use Rattle.std.specs.Prelude.{◌≡◌, ◌<◌, Some, All, length, map, slice_get, IfOk};
+ghost use Rattle.std.specs.Prelude.{◌≡◌, ◌<◌, ◌≤◌, ◌%◌, ◌==◌, Some, All, length, map, drop, get_or, slice_get, IfOk};
 ghost use Rattle.std.specs.Option.{option_map};
+ghost use Rattle.pc_common.specs.Case.{number};
 ghost use Rattle.pc_case.specs.Plain.{plain_value, touch_of, micro_op};
 ghost use Rattle.pattern_reader.specs.Rows.{left_by, row_values, value_for as value_for_spec, reading, filled};
-ghost use Rattle.pattern_reader.specs.Reads.{values_in, op_in, HasValues, touch_with};
+ghost use Rattle.pattern_reader.specs.Reads.{values_in, op_in, HasValues, touch_with, value_at_place};
 
 use super::values::Values;
 use pc_case::{Dependencies, Memop, Op, Ops, StatedValues};
@@ -16,29 +17,67 @@ pub(crate) struct OpenRead {
     pub(crate) values: Values,
 }
 
-/// What is left of a row's number when these reads, the last first, have taken their digits.
-fn left_by_reads(reads: &[OpenRead], row: usize) -> usize
-    requires { All HasValues reads.now }
-    ensures { result ≡ left_by (map values_in reads.now) row }
+/// What is left of a row's number when the reads from this place on, the last first, have taken their digits.
+fn left_by_reads(reads: &[OpenRead], from: usize, row: usize) -> usize
+    requires some { All HasValues reads.now }
+    requires within { from ≤ length reads.now }
+    ensures { result ≡ left_by (map values_in (drop from reads.now)) row }
 {
     let mut left = row;
     let mut at = reads.len();
-    while at > 0 {
+    while at > from {
         at -= 1;
         left /= reads[at].values.len();
     }
     left
 }
 
+/// The read at this place.
+fn read_at(reads: &[OpenRead], k: usize) -> &OpenRead
+    requires { k < length reads.now }
+    ensures { slice_get reads.now k ≡ Some result.now }
+{
+    &reads[k]
+}
+
+/// The value of a read by what is left of a row's number.
+#[tactic(auto, using(crate::proofs::Digits::value_read))]
+fn digit_value(read: &OpenRead, left: usize) -> Value
+    requires { HasValues read.now }
+    ensures { plain_value result ≡ get_or (values_in read.now) (left % length (values_in read.now)) (number 0) }
+{
+    *read.values.get(left % read.values.len())
+}
+
 /// The value of the read at place `k` among these, in a row.
 pub(crate) fn value_in(reads: &[OpenRead], row: usize, k: usize) -> Value
-    requires filled { All HasValues reads.now }
+    requires some { All HasValues reads.now }
     requires within { k < length reads.now }
     ensures { slice_get (row_values (map values_in reads.now) row) k ≡ Some (plain_value result) }
 {
-    let left = left_by_reads(&reads[k + 1..], row);
-    let values = &reads[k].values;
-    *values.get(left % values.len())
+    let left = left_by_reads(reads, k + 1, row);
+    digit_value(read_at(reads, k), left)
+}
+
+/// Whether the read is that of this micro-op.
+fn is_at(read: &OpenRead, place: usize) -> bool
+    ensures { result ≡ (read.now.op == place) }
+{
+    read.op == place
+}
+
+/// The value of the read at place `k` among these, if it is that of this micro-op.
+#[tactic(auto, using(crate::proofs::Digits::is_at_place, crate::proofs::Digits::not_at_place))]
+fn value_if(reads: &[OpenRead], row: usize, k: usize, place: usize) -> Option<Value>
+    requires some { All HasValues reads.now }
+    requires within { k < length reads.now }
+    ensures { option_map plain_value result ≡ value_at_place (map op_in reads.now) (row_values (map values_in reads.now) row) k place }
+{
+    if is_at(read_at(reads, k), place) {
+        Some(value_in(reads, row, k))
+    } else {
+        None
+    }
 }
 
 /// The value that a row has for the micro-op at this place, if it is an open read.
@@ -48,8 +87,8 @@ fn value_for(reads: &[OpenRead], row: usize, place: usize) -> Option<Value>
         ≡ value_for_spec (map op_in reads.now) (row_values (map values_in reads.now) row) place }
 {
     for k in 0..reads.len() {
-        if reads[k].op == place {
-            return Some(value_in(reads, row, k));
+        if let Some(value) = value_if(reads, row, k, place) {
+            return Some(value);
         }
     }
     None

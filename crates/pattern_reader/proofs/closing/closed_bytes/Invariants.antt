@@ -4,4 +4,4 @@ use Rattle.pattern_reader.specs.Closing.{closed_bytes}
 use Rattle.pattern_reader.proofs.closing.closed_bytes.Given as goal
 
 abbrev pub invariant-loop-any : goal.invariant-loop-any
-invariant-loop-any l = l.closed.items ≡ closed_bytes l.bytes (map plain_open (take l.any-index l.any-items))
+invariant-loop-any l = l.closed.items ≡ closed_bytes l.bytes (map plain_open (take l.any-index l.opens))

@@ -5,4 +5,4 @@ use Rattle.pattern_reader.proofs.Building.{AreRead}
 use Rattle.pattern_reader.proofs.read.pattern_of_lists.Given as goal
 
 abbrev pub invariant-loop-any : goal.invariant-loop-any
-invariant-loop-any l = AreRead (case_by l.lists) l.reads.items l.rows (map plain_open (take l.any-index l.any-items))
+invariant-loop-any l = AreRead (case_by l.lists) l.reads.items l.rows (map plain_open (take l.any-index l.opens))
