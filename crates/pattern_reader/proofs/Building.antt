@@ -45,8 +45,8 @@ choices_more : (c : Case) (opens : List Open) (o : Open)
 choices_more c opens o = ap (choices_of c) (ops_more opens o) ∙ map-append (values_of c) (ops_of opens) (o.op ∷ [])
 
 -- before the first open value
-pub read_none : (c : Case) → AreRead c [] 1 []
-read_none c = record { ops = refl; choices = refl; rows_are = refl; few = omega arith; some = λ k d inside. absurd (omega (arith, inside)) }
+pub read_none : (c : Case) (reads : List OpenRead) → reads ≡ [] → AreRead c reads 1 []
+read_none c reads is = subst (λ rs. AreRead c rs 1 []) (sym is) (record { ops = refl; choices = refl; rows_are = refl; few = omega arith; some = λ k d inside. absurd (omega (arith, inside)) })
 
 -- and with one more
 pub read_more : (c : Case) (reads new : List OpenRead) (rows more : ℕ) (opens : List Open) (o : Open)

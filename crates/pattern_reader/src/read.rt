@@ -65,8 +65,8 @@ fn pattern_of_lists(alloc: Global, lists: CaseLists, opens: &[Open]) -> Result<P
 {
     let mut reads = Vec::new(alloc);
     let mut rows = 1;
-    for any in opens {
-        rows = add_read(alloc, &lists, &mut reads, rows, *any)?;
+    for k in 0..opens.len() {
+        rows = add_read(alloc, &lists, &mut reads, rows, opens[k])?;
     }
     Ok(Pattern::new(lists, reads, rows))
 }
