@@ -1,4 +1,4 @@
-ghost use Rattle.std.specs.Prelude.{◌≡◌, ◌≢◌, ◌<◌, ◌≤◌, ◌^◌, ◌*◌, ◌++◌, ◌∷◌, [], length, map, IfOk, IfErr, OnOk};
+ghost use Rattle.std.specs.Prelude.{◌≡◌, ◌≢◌, ◌<◌, ◌≤◌, ◌^◌, ◌*◌, ◌++◌, ◌∷◌, [], Some, length, map, slice_get, IfOk, IfErr, OnOk};
 ghost use Rattle.uspec_lexer.specs.Spells.{Spells};
 ghost use Rattle.litmus_reader.specs.Lists.{case_by, AreLists};
 ghost use Rattle.litmus_reader.specs.declared.fault.CaseFault.TheVariants.{Memory as no_memory, Content};
@@ -66,9 +66,17 @@ fn pattern_of_lists(alloc: Global, lists: CaseLists, opens: &[Open]) -> Result<P
     let mut reads = Vec::new(alloc);
     let mut rows = 1;
     for k in 0..opens.len() {
-        rows = add_read(alloc, &lists, &mut reads, rows, opens[k])?;
+        rows = add_read(alloc, &lists, &mut reads, rows, nth(opens, k))?;
     }
     Ok(Pattern::new(lists, reads, rows))
+}
+
+/// The open value at place `k`.
+fn nth(opens: &[Open], k: usize) -> Open
+    requires { k < length opens.now }
+    ensures { slice_get opens.now k ≡ Some result }
+{
+    opens[k]
 }
 
 /// Puts a read behind the others.
