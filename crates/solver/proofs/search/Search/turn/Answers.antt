@@ -12,14 +12,13 @@ use Rattle.solver.proofs.search.Search.turn.Goals as goal
 pub advance-requires : goal.advance-requires
 advance-requires g c =
     let kept = c.self.invariant in
-    rw (c.deref.ensures.value, c.deref-2.ensures.value, c.deref-3.ensures.value) (record {
+    rw (c.deref.ensures.value, c.deref-2.ensures.value) (record {
       tree = kept.tree;
       few = kept.few;
       distinct = kept.distinct;
       below = kept.below;
       no_false = kept.no_false;
-      some = kept.some;
-      candidates = kept.all;
+      first = kept.candidate;
       small = kept.small;
       state = kept.state;
     })
@@ -28,7 +27,7 @@ pub settle-requires : goal.settle-requires
 settle-requires g c =
     let kept = c.self.invariant in
     let F : List NodeKey → List (Row ℕ) → Type 0 = λ ks rs.
-    IsStatus c.self.inside.version (map key_node ks) rs c.advance.new.graph c.advance.new.asserted.items c.advance.new.later.items c.advance.new.refutation c.in_ok-status.status in record {
+    IsStatus c.self.inside.version (map key_node ks) rs c.advance.new.graph c.advance.new.asserted c.advance.new.later.items c.advance.new.refutation c.in_ok-status.status in record {
       tree = kept.tree;
       few = kept.few;
       distinct = kept.distinct;
@@ -40,9 +39,9 @@ pub returns-clause-weight : goal.returns-clause-weight
 returns-clause-weight g c =
     let s = c.self.inside in
     let W : List (Row ℕ) → Type 0 = λ rs.
-    status_weight rs c.advance.new.asserted.items c.advance.new.later.items c.in_ok-status.status < 1 + weight (spelled rs) (branches_of rs s.asserted.items s.later.items) in
+    status_weight rs c.advance.new.asserted c.advance.new.later.items c.in_ok-status.status < 1 + weight (spelled rs) (branches_of rs s.asserted s.later.items) in
     let lighter : W s.rows.items = subst W c.deref-2.ensures.value c.in_ok-status.ensures.lighter in
-    let less : turn_weight c.settle.result < 1 + weight (spelled s.rows.items) (branches_of s.rows.items s.asserted.items s.later.items) =
+    let less : turn_weight c.settle.result < 1 + weight (spelled s.rows.items) (branches_of s.rows.items s.asserted s.later.items) =
     omega (arith, c.settle.ensures.weight, lighter) in
     let S : Searched → Type 0 = λ x. turn_weight c.settle.result < 1 + weight (spelled x.rows) x.branches in
     subst S c.self.view_is less

@@ -5,7 +5,7 @@ use Rattle.solver.specs.Places.{place_signed, IsDeniedIn}
 use Rattle.solver.specs.declared.side.Side.{Side}
 use Rattle.solver.proofs.AreTruths.{or_sides, or_inside, or_right_inside, denied_in}
 use Rattle.solver.proofs.HasAsserted.{length_spelled}
-use Rattle.solver.proofs.choose.sides.Goals as goal
+use Rattle.solver.proofs.ors.sides.Goals as goal
 
 pub row_at-requires : goal.row_at-requires
 row_at-requires c = (or_inside c.args.rows.now (place_signed c.args.place) c.requires.tree c.requires.is_or).0
