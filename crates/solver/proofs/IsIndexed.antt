@@ -95,10 +95,13 @@ pushed_new items new plain negated q indexed put pushed = subst (λ (xs : List P
 ])
 
 pub cut_indexed : (items new : List Place) (plain negated : List ℕ) (n : ℕ) → IsIndexed items plain negated → new ≡ take n items → IsIndexed new plain negated
-cut_indexed items new plain negated n indexed cut = subst (λ (xs : List Place). IsIndexed xs plain negated) (sym cut) (λ k x e.
-let before = taken_get n items k x e in
-let old = indexed k x (sym (get_taken n items k before) ∙ e) in
-(old.0, get_taken n items (index_of plain negated x) (omega (arith, before, old.0)) ∙ old.1))
+cut_indexed items new plain negated n indexed cut =
+    let P : List Place → Type 0 = λ xs. IsIndexed xs plain negated in
+    let front : IsIndexed (take n items) plain negated = λ k x e.
+      let before = taken_get n items k x e in
+      let old = indexed k x (sym (get_taken n items k before) ∙ e) in
+      (old.0, get_taken n items (index_of plain negated x) (omega (arith, before, old.0)) ∙ old.1) in
+    subst P (sym cut) front
 
 -- the index of a place, by that of its position
 pub put_plain : (plain negated plains : List ℕ) (q : Place) (n : ℕ) → q.negated ≡ false → IsPut plain q.position n plains → IsPlacePut plain negated q n plains negated

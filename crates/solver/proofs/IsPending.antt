@@ -10,7 +10,7 @@ use Rattle.pc_ground.specs.Refutes.{Signed, signed, subtree_at, part_at, literal
 use Rattle.pc_ground.proofs.Turned.{subtree_denied}
 use Rattle.solver.specs.Spelled.{spelled}
 use Rattle.solver.specs.Met.{IsMet, IsMetUnder}
-use Rattle.solver.specs.Places.{place_signed, left_side, right_side, IsOr, IsCandidate, AreSides}
+use Rattle.solver.specs.Places.{place_signed, left_side, right_side, IsOr, IsCandidate, IsUntaken, AreSides}
 use Rattle.solver.specs.Opens.{positions}
 use Rattle.solver.specs.declared.place.Place.{Place}
 use Rattle.solver.specs.declared.side.Side.{Side}
@@ -39,10 +39,9 @@ unmet false ls s b told e = λ h. no (sym e ∙ told.1 h)
 unmet true ls s b told e = λ h. h (told.0 e)
 
 pub pending_candidate : (t : Tree ℕ) (ls : List (Literal ℕ)) (xs : List Place) (q : Place) (sides : Side × Side) (truth : Bool)
-    → IsOr t (place_signed q) → AreSides One t (place_signed q) sides → ls ≡ literals_of t (positions xs) → Contains xs q
-    → (Contains xs (record { negated = q.negated; position = sides.0.root }) → ⊥) → (Contains xs (record { negated = q.negated; position = sides.1.root }) → ⊥)
+    → IsOr t (place_signed q) → AreSides One t (place_signed q) sides → ls ≡ literals_of t (positions xs) → IsUntaken xs q sides.0.root sides.1.root
     → ((s : Tree ℕ) → subtree_at t q.position ≡ Some s → IsTrue truth ↔ IsMet ls s) → truth ≡ q.negated → IsCandidate t (positions xs) (place_signed q)
-pending_candidate t ls xs q sides truth (a, b, is) are literals on no_left no_right told equal =
+pending_candidate t ls xs q sides truth (a, b, is) are literals untaken told equal =
     let n = q.negated in
     let p = q.position in
     let both = are a b is in
@@ -56,8 +55,8 @@ pending_candidate t ls xs q sides truth (a, b, is) are literals on no_left no_ri
       left = a;
       right = b;
       is_or = is;
-      on_branch = has_signed xs q on;
-      no_left = off (p + 1) (subst no left no_left);
-      no_right = off (p + 1 + size_of a) (subst no right no_right);
+      on_branch = has_signed xs q untaken.0;
+      no_left = off (p + 1) (subst no left untaken.1);
+      no_right = off (p + 1 + size_of a) (subst no right untaken.2);
       is_false = subst P literals (unmet n ls part truth (told part (plain_part t n p (either a b) is)) equal);
     }

@@ -46,13 +46,15 @@ pub(crate) struct Agenda {
 impl Agenda {
     /// That of a search over these rows and so many nodes, before the tree is asserted.
     pub(crate) fn new(alloc: Global, rows: &[Row<u32>], nodes: u32) -> Result<Agenda, Memory> {
+        let watch = Watch::new(alloc, rows, nodes)?;
+        let count = watch.end();
         Ok(Agenda {
-            watch: Watch::new(alloc, rows, nodes)?,
-            standings: vec![in alloc; Standing::none(); rows.len()]?,
-            pending: Bits::new(alloc, rows.len())?,
-            open: Bits::new(alloc, rows.len())?,
-            ready: Bits::new(alloc, rows.len())?,
-            truths: vec![in alloc; false; rows.len()]?,
+            watch,
+            standings: vec![in alloc; Standing::none(); count]?,
+            pending: Bits::new(alloc, count)?,
+            open: Bits::new(alloc, count)?,
+            ready: Bits::new(alloc, count)?,
+            truths: vec![in alloc; false; count]?,
             trail: Vec::new(alloc),
             marks: Vec::new(alloc),
             seen: 0,

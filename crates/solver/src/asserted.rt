@@ -1,5 +1,5 @@
 ghost use Rattle.std.specs.Prelude.{◌≡◌, ◌<◌, ◌^◌, ◌++◌, ◌∷◌, [], ◌↔◌, Contains, IsTrue, OnOk, OnErr, length, slice_index, take};
-ghost use Rattle.solver.specs.Indexed.{index_of, IsPut, IsPlacePut};
+ghost use Rattle.solver.specs.Indexed.{index_of, IsIndexed, IsPut, IsPlacePut};
 
 use super::place::Place;
 use pc_common::Memory;
@@ -33,7 +33,13 @@ impl Model for Asserted {
 fn is_same(a: Place, b: Place) -> bool
     ensures { IsTrue result ↔ (a ≡ b) }
 {
-    a.negated == b.negated && a.position == b.position
+    if a.position != b.position {
+        return false;
+    }
+    if a.negated != b.negated {
+        return false;
+    }
+    true
 }
 
 /// What the index says of a position: 0 past its end.
@@ -89,6 +95,87 @@ fn put(
     }
 }
 
+/// Whether the place is on the list.
+fn is_on(items: &Vec<Place>, plain: &Vec<usize>, negated: &Vec<usize>, place: Place) -> bool
+    requires { IsIndexed items.now.items plain.now.items negated.now.items }
+    ensures { IsTrue result ↔ Contains items.now.items place }
+{
+    let k = index_of(plain, negated, place);
+    if k < items.len() {
+        is_same(items[k], place)
+    } else {
+        false
+    }
+}
+
+/// Puts one last that is on the list.
+fn push_known(
+    items: &mut Vec<Place>,
+    plain: &Vec<usize>,
+    negated: &Vec<usize>,
+    place: Place,
+) -> Result<(), Memory>
+    requires indexed { IsIndexed items.old.items plain.now.items negated.now.items }
+    requires known { Contains items.old.items place }
+    ensures indexed { IsIndexed items.new.items plain.now.items negated.now.items }
+    ensures pushed { OnOk result (items.new.items ≡ items.old.items ++ place ∷ []) }
+{
+    items.push(place)?;
+    Ok(())
+}
+
+/// Puts into the index that the place, which is not on the list, is to be the next one.
+fn note_next(
+    items: &Vec<Place>,
+    plain: &mut Vec<usize>,
+    negated: &mut Vec<usize>,
+    place: Place,
+) -> Result<(), Memory>
+    requires small { place.position < 2 ^ 63 }
+    requires indexed { IsIndexed items.now.items plain.old.items negated.old.items }
+    requires absent { Contains items.now.items place → ⊥ }
+    ensures indexed { IsIndexed items.now.items plain.new.items negated.new.items }
+    ensures noted { OnOk result (index_of plain.new.items negated.new.items place ≡ length items.now.items) }
+{
+    put(plain, negated, place, items.len())?;
+    Ok(())
+}
+
+/// Puts one last of which the index says so.
+fn push_noted(
+    items: &mut Vec<Place>,
+    plain: &Vec<usize>,
+    negated: &Vec<usize>,
+    place: Place,
+) -> Result<(), Memory>
+    requires indexed { IsIndexed items.old.items plain.now.items negated.now.items }
+    requires noted { index_of plain.now.items negated.now.items place ≡ length items.old.items }
+    ensures indexed { IsIndexed items.new.items plain.now.items negated.now.items }
+    ensures pushed { OnOk result (items.new.items ≡ items.old.items ++ place ∷ []) }
+{
+    items.push(place)?;
+    Ok(())
+}
+
+/// Puts the place last.
+fn push_indexed(
+    items: &mut Vec<Place>,
+    plain: &mut Vec<usize>,
+    negated: &mut Vec<usize>,
+    place: Place,
+) -> Result<(), Memory>
+    requires small { place.position < 2 ^ 63 }
+    requires indexed { IsIndexed items.old.items plain.old.items negated.old.items }
+    ensures indexed { IsIndexed items.new.items plain.new.items negated.new.items }
+    ensures pushed { OnOk result (items.new.items ≡ items.old.items ++ place ∷ []) }
+{
+    if is_on(items, plain, negated, place) {
+        return push_known(items, plain, negated, place);
+    }
+    note_next(items, plain, negated, place)?;
+    push_noted(items, plain, negated, place)
+}
+
 impl Asserted {
     pub(crate) fn new(alloc: Global) -> Asserted
         ensures { result ≡ [] }
@@ -130,13 +217,7 @@ impl Asserted {
         requires { place.position < 2 ^ 63 }
         ensures { OnOk result (self.new ≡ self.old ++ place ∷ []) }
     {
-        let k = self.items.len();
-        self.items.reserve(1)?;
-        if !self.has(place) {
-            put(&mut self.plain, &mut self.negated, place, k)?;
-        }
-        self.items.push(place)?;
-        Ok(())
+        push_indexed(&mut self.items, &mut self.plain, &mut self.negated, place)
     }
 
     /// Keeps the first `count`.

@@ -2,7 +2,7 @@ ghost use Rattle.std.specs.Prelude.{◌≡◌, ◌<◌, ◌^◌, ℕ, All, IfOk,
 ghost use Rattle.pc_ground.specs.Refutes.{literals_of};
 ghost use Rattle.solver.specs.Spelled.{spelled, IsSpelled};
 ghost use Rattle.solver.specs.Below.{IsRowBelow};
-ghost use Rattle.solver.specs.Places.{place_signed, IsCandidate};
+ghost use Rattle.solver.specs.Places.{place_signed, IsCandidate, IsUntaken};
 ghost use Rattle.solver.specs.Opens.{positions};
 
 use super::asserted::Asserted;
@@ -14,8 +14,31 @@ use pc_common::Memory;
 use pc_ground::{Row, Version};
 use std::alloc::Global;
 
+/// Whether the place is asserted, and its sides at these positions are not.
+fn is_untaken(asserted: &Asserted, place: Place, left: usize, right: usize) -> bool
+    ensures { IsTrue result → IsUntaken asserted.now place left right }
+{
+    let negated = place.negated;
+    if !asserted.has(place) {
+        return false;
+    }
+    if asserted.has(Place {
+        negated,
+        position: left,
+    }) {
+        return false;
+    }
+    if asserted.has(Place {
+        negated,
+        position: right,
+    }) {
+        return false;
+    }
+    true
+}
+
 /// Whether the place is a candidate of the branch: an Or on it that is not true now and that has no side on
-/// it. It is not for good that this one says no.
+/// it.
 pub(crate) fn is_candidate_now(
     alloc: Global,
     rows: &[Row<u32>],
@@ -34,12 +57,12 @@ pub(crate) fn is_candidate_now(
         return Ok(false);
     }
     let (left, right) = sides(rows, Version::One, place);
-    let is_pending = asserted.has(place)
-        && !asserted.has(Place { negated: place.negated, position: left.root })
-        && !asserted.has(Place { negated: place.negated, position: right.root });
-    if !is_pending {
+    if !is_untaken(asserted, place, left.root, right.root) {
         return Ok(false);
     }
     let truth = truth_at(alloc, rows, graph, place.position)?;
-    Ok(truth == place.negated)
+    if truth != place.negated {
+        return Ok(false);
+    }
+    Ok(true)
 }

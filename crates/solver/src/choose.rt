@@ -34,8 +34,8 @@ fn row_clashes<L: Ledger>(
             return Ok(true);
         }
     }
-    let _kept = add_row(row, graph, steps)?;
-    Ok(false)
+    let added = add_row(row, graph, steps)?;
+    Ok(matches!(added, Added::Clash(_)))
 }
 
 /// Whether the literals that the part at `root` asserts under this sign clash, each of which is asked before
@@ -52,16 +52,19 @@ fn part_clashes<L: Ledger>(
     ensures { IfOk result (λ _. IsFurther graph.old graph.new) }
 {
     let end = root.saturating_add(row_at(rows, root).skip);
-    let mut at = root;
-    for _turn in root..end {
-        if at >= end || at >= rows.len() {
+    let mut next = root;
+    for at in root..end {
+        if at >= rows.len() {
             return Ok(false);
+        }
+        if at < next {
+            continue;
         }
         let row = row_at(rows, at).turned(negated);
         if row_clashes(row, graph, steps)? {
             return Ok(true);
         }
-        at = at.saturating_add(row.stride());
+        next = at.saturating_add(row.stride());
     }
     Ok(false)
 }
@@ -226,8 +229,7 @@ pub(crate) fn choose<L: Ledger>(
         return Ok(first);
     }
     if is_candidate_now(alloc, rows, graph, asserted, place)? {
-        Ok(place)
-    } else {
-        Ok(first)
+        return Ok(place);
     }
+    Ok(first)
 }

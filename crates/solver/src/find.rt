@@ -64,10 +64,9 @@ fn next_place(
         return Ok(None);
     };
     if is_candidate_now(alloc, rows, graph, asserted, place)? {
-        Ok(Some(place))
-    } else {
-        Ok(None)
+        return Ok(Some(place));
     }
+    Ok(None)
 }
 
 /// Descends into the side, and looks at the branch that is open then. With no candidate on it

@@ -80,7 +80,7 @@ impl Gains {
     /// The edges at the nodes that `a` comes to.
     fn add_reached(&mut self, graph: &OrderGraph, nodes: u32, a: u32) -> Result<(), Memory>
         requires all { nodes ≡ graph.now.nodes }
-        requires a_in { a < nodes }
+        requires a_in { a < graph.now.nodes }
     {
         for x in 0..nodes {
             if comes_to(graph, a, x) {
@@ -110,8 +110,8 @@ impl Gains {
         is_asserted: bool,
     ) -> Result<bool, Memory>
         requires all { nodes ≡ graph.now.nodes }
-        requires a_in { a < nodes }
-        requires b_in { b < nodes }
+        requires a_in { a < graph.now.nodes }
+        requires b_in { b < graph.now.nodes }
     {
         let mut denies = false;
         for x in 0..nodes {
@@ -132,8 +132,8 @@ impl Gains {
         is_asserted: bool,
     ) -> Result<(), Memory>
         requires all { nodes ≡ graph.now.nodes }
-        requires a_in { a < nodes }
-        requires b_in { b < nodes }
+        requires a_in { a < graph.now.nodes }
+        requires b_in { b < graph.now.nodes }
     {
         self.add_present(graph, a, is_asserted)?;
         self.add_present(graph, b, is_asserted)?;
@@ -145,7 +145,7 @@ impl Gains {
 
     fn add(&mut self, graph: &OrderGraph, nodes: u32, literal: Literal<u32>) -> Result<(), Memory>
         requires all { nodes ≡ graph.now.nodes }
-        requires below { IsBelow nodes literal }
+        requires below { IsBelow graph.now.nodes literal }
     {
         match literal {
             Literal::Node(a) => {
@@ -169,6 +169,24 @@ impl Gains {
         }
     }
 
+    fn foresee_literal(
+        &mut self,
+        graph: &OrderGraph,
+        nodes: u32,
+        literal: Literal<u32>,
+    ) -> Result<(), Memory>
+        requires all { nodes ≡ graph.now.nodes }
+        requires below { IsBelow graph.now.nodes literal }
+    {
+        match literal {
+            Literal::Edge(a, b) => {
+                self.foreseen = true;
+                self.add_edge(graph, nodes, a, b, false)
+            }
+            _ => Ok(()),
+        }
+    }
+
     /// Looks at the side before it is entered.
     pub(crate) fn foresee(
         &mut self,
@@ -184,14 +202,16 @@ impl Gains {
         self.known = graph.len();
         self.foreseen = false;
         let nodes = self.nodes;
-        if nodes as usize != keys.len() || side.denied.is_some() {
+        if nodes as usize != keys.len() {
             return Ok(());
         }
-        if let Some(Literal::Edge(a, b)) = literal_at(rows, side.negated, side.root) {
-            self.foreseen = true;
-            self.add_edge(graph, nodes, a, b, false)?;
+        if side.denied.is_some() {
+            return Ok(());
         }
-        Ok(())
+        match literal_at(rows, side.negated, side.root) {
+            Some(literal) => self.foresee_literal(graph, nodes, literal),
+            None => Ok(()),
+        }
     }
 
     /// Looks at the literals that were asserted since then. Where nothing was asked before, only at what
@@ -205,7 +225,10 @@ impl Gains {
         requires { graph.now.nodes ≡ length keys.now }
     {
         let nodes = self.nodes;
-        if nodes as usize != keys.len() || self.foreseen {
+        if nodes as usize != keys.len() {
+            return Ok(());
+        }
+        if self.foreseen {
             return Ok(());
         }
         for k in self.known..graph.len() {

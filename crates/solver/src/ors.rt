@@ -26,6 +26,7 @@ pub(crate) fn literal_at(rows: &[Row<u32>], negated: bool, p: usize) -> Option<L
 pub(crate) fn is_or(rows: &[Row<u32>], place: Place) -> bool
     requires tree { IsSpelled rows.now }
     ensures is_or { IsTrue result → IsOr (spelled rows.now) (place_signed place) }
+    ensures inside { IsTrue result → place.position < length rows.now }
     ensures small { IsTrue result → place.position < 2 ^ 63 }
 {
     if place.position >= rows.len() {

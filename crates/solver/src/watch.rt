@@ -20,6 +20,8 @@ pub(crate) struct Watch {
     /// the node itself one later.
     heads: Vec<usize>,
     literals: Vec<Watched>,
+    /// Where the last Or ends, or 0 where there is none.
+    end: usize,
 }
 
 /// The list of the edges that begin or end in a node.
@@ -38,23 +40,32 @@ impl Watch {
         let mut watch = Watch {
             heads: vec![in alloc; 0; 2 * nodes as usize]?,
             literals: Vec::new(alloc),
+            end: 0,
         };
         let mut outer = 0;
-        let mut end = 0;
         for p in 0..rows.len() {
             let row = rows[p];
-            if p >= end {
+            if p >= watch.end {
                 outer = p;
-                end = match row.kind {
-                    RowKind::Or => p.saturating_add(row.skip),
-                    _ => 0,
-                };
+                watch.begin(row, p);
             }
-            if p < end {
+            if p < watch.end {
                 watch.note(row, p, outer)?;
             }
         }
         Ok(watch)
+    }
+
+    /// Where the row is an Or, it is the next one that is within no other.
+    fn begin(&mut self, row: Row<u32>, position: usize) {
+        if let RowKind::Or = row.kind {
+            self.end = position.saturating_add(row.skip);
+        }
+    }
+
+    /// Where the last Or ends, or 0 where there is none.
+    pub(crate) fn end(&self) -> usize {
+        self.end
     }
 
     /// Puts the row's literal on its lists, if it is one's.

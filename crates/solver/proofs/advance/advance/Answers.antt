@@ -9,7 +9,7 @@ use Rattle.solver.specs.Weights.{weight}
 use Rattle.solver.specs.Descents.{IsLonger, HasMore}
 use Rattle.solver.specs.Statuses.{status_weight}
 use Rattle.solver.specs.declared.find.SearchStatus.{SearchStatus}
-use Rattle.solver.proofs.HasDescended.{one_open, candidates_ors, more_longer, advanced}
+use Rattle.solver.proofs.HasDescended.{one_open, more_longer, advanced}
 use Rattle.solver.proofs.advance.advance.Goals as goal
 
 pub push_split-requires : goal.push_split-requires

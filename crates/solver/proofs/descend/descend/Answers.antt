@@ -2,6 +2,7 @@ use Rattle.std.proofs.Common.{◌++◌, length, map, ap, subst, arith}
 use Rattle.std.specs.Prelude.{Option}
 use Rattle.std.proofs.lemmas.List.{nil_from_length}
 use Rattle.pc_ground.specs.Keys.{key_node}
+use Rattle.pc_ground.specs.Refutes.{literals_of}
 use Rattle.order_graph.specs.Clashes.{leaf_of}
 use Rattle.order_graph.specs.declared.clash.Clash.{Clash}
 use Rattle.solver.specs.Renamed.{node_at, renamed_leaf}
@@ -10,7 +11,7 @@ use Rattle.solver.specs.Places.{side_positions}
 use Rattle.solver.specs.Leaves.{clash_step}
 use Rattle.solver.specs.Opens.{positions, HasAsserted}
 use Rattle.solver.specs.Weights.{weight}
-use Rattle.solver.proofs.ClashLeaf.{clash_closes}
+use Rattle.solver.proofs.ClashLeaf.{clash_leaf, clash_closes}
 use Rattle.solver.proofs.IsState.{closed_kept, closed_all, entered_kept}
 use Rattle.solver.proofs.HasDescended.{clash_in, one_open, longer_push, lighter_closed, next_inside}
 use Rattle.solver.proofs.descend.descend.Goals as goal
@@ -22,6 +23,14 @@ close-requires-clause-below g c =
     let E : Option Clash → Type 0 = HasAsserted t (side_positions t c.loop-clash.side) here c.enter_next.new.graph c.enter_next.new.asserted in
     let clash = subst E c.in-Some.is c.in_ok-clash.ensures.entered in
     clash_in (length c.args.keys.now) c.args.rows.now (positions here ++ side_positions t c.loop-clash.side) c.in-Some.clash c.requires.tree c.requires.below clash
+
+pub close-requires-clause-leaf : goal.close-requires-clause-leaf
+close-requires-clause-leaf g c =
+    let t = spelled c.args.rows.now in
+    let here = c.loop-clash.asserted in
+    let E : Option Clash → Type 0 = HasAsserted t (side_positions t c.loop-clash.side) here c.enter_next.new.graph c.enter_next.new.asserted in
+    let clash = subst E c.in-Some.is c.in_ok-clash.ensures.entered in
+    clash_leaf (map key_node c.args.keys.now) (literals_of t (positions here ++ side_positions t c.loop-clash.side)) c.in-Some.clash clash
 
 pub close-requires-clause-open : goal.close-requires-clause-open
 close-requires-clause-open g c =
