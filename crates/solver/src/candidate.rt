@@ -37,6 +37,19 @@ fn is_untaken(asserted: &Asserted, place: Place, left: usize, right: usize) -> b
     true
 }
 
+/// Whether the two are one.
+fn is_one(a: bool, b: bool) -> bool
+    ensures { IsTrue result → a ≡ b }
+{
+    if a {
+        return b;
+    }
+    if b {
+        return false;
+    }
+    true
+}
+
 /// Whether the place is a candidate of the branch: an Or on it that is not true now and that has no side on
 /// it.
 pub(crate) fn is_candidate_now(
@@ -61,7 +74,7 @@ pub(crate) fn is_candidate_now(
         return Ok(false);
     }
     let truth = truth_at(alloc, rows, graph, place.position)?;
-    if truth != place.negated {
+    if !is_one(truth, place.negated) {
         return Ok(false);
     }
     Ok(true)

@@ -1,5 +1,5 @@
 use Rattle.std.proofs.Common.{◌≡◌, map, sym, ◌∙◌, subst, length, ap, arith, List, [], ℕ, Bool, false, eqb-true}
-use Rattle.std.specs.Prelude.{All}
+use Rattle.std.specs.Prelude.{All, Option, IfSome}
 use Rattle.std.proofs.lemmas.List.{nil_from_length, length-map, append-nil}
 use Rattle.pc_ground.specs.Keys.{key_node}
 use Rattle.pc_ground.proofs.FlatRows.{size_pos}
@@ -17,6 +17,53 @@ use Rattle.solver.proofs.find.find.Goals as goal
 
 pub row_at-root-requires : goal.row_at-root-requires
 row_at-root-requires g c = omega (arith, length_spelled c.args.rows.now c.requires.tree, size_pos (spelled c.args.rows.now))
+
+pub next_place-requires-clause-nodes : goal.next_place-requires-clause-nodes
+next_place-requires-clause-nodes g c =
+    let H : Bool → Type 0 = HasDescended c.args.version (map key_node c.args.keys.now) (spelled c.args.rows.now) _ c.descend.new.graph c.descend.new.asserted
+    c.descend.new.later.items c.descend.new.refutation in
+    let descended = subst H c.if-not-is_open.false c.in_ok-is_open.ensures.descended in
+    descended.0.all_nodes ∙ length-map c.args.keys.now key_node
+
+pub next_place-requires-clause-below : goal.next_place-requires-clause-below
+next_place-requires-clause-below g c =
+    let H : Bool → Type 0 = HasDescended c.args.version (map key_node c.args.keys.now) (spelled c.args.rows.now) _ c.descend.new.graph c.descend.new.asserted
+    c.descend.new.later.items c.descend.new.refutation in
+    let descended = subst H c.if-not-is_open.false c.in_ok-is_open.ensures.descended in
+    let P : ℕ → Type 0 = λ n. All (IsRowBelow n) c.args.rows.now in
+    subst P (sym (descended.0.all_nodes ∙ length-map c.args.keys.now key_node)) c.requires.below
+
+pub next_place-requires-clause-literals : goal.next_place-requires-clause-literals
+next_place-requires-clause-literals g c =
+    let H : Bool → Type 0 = HasDescended c.args.version (map key_node c.args.keys.now) (spelled c.args.rows.now) _ c.descend.new.graph c.descend.new.asserted
+    c.descend.new.later.items c.descend.new.refutation in
+    let descended = subst H c.if-not-is_open.false c.in_ok-is_open.ensures.descended in
+    descended.0.literals
+
+pub returns-in-Some-clause-found : goal.returns-in-Some-clause-found
+returns-in-Some-clause-found g c =
+    let H : Bool → Type 0 = HasDescended c.args.version (map key_node c.args.keys.now) (spelled c.args.rows.now) _ c.descend.new.graph c.descend.new.asserted
+    c.descend.new.later.items c.descend.new.refutation in
+    let descended = subst H c.if-not-is_open.false c.in_ok-is_open.ensures.descended in
+    let rows = c.args.rows.now in
+    let here = c.descend.new.asserted in
+    let C : Option Place → Type 0 = λ found. IfSome found (λ q. IsCandidate (spelled rows) (positions here) (place_signed q)) in
+    let candidate = subst C c.in-Some.is c.in_ok-place.ensures.candidate in record {
+      no_false = c.requires.no_false;
+      state = descended.0;
+      candidate = candidate;
+      small = candidate_small rows (positions here) c.in-Some.place c.requires.tree c.row_at-root.ensures.bound candidate;
+    }
+
+pub returns-in-Some-clause-lighter : goal.returns-in-Some-clause-lighter
+returns-in-Some-clause-lighter g c =
+    let H : Bool → Type 0 = HasDescended c.args.version (map key_node c.args.keys.now) (spelled c.args.rows.now) _ c.descend.new.graph c.descend.new.asserted
+    c.descend.new.later.items c.descend.new.refutation in
+    let descended = subst H c.if-not-is_open.false c.in_ok-is_open.ensures.descended in
+    let t = spelled c.args.rows.now in
+    let here = c.descend.new.asserted in
+    let same = ap (λ ps. weight t (opens t ps here c.descend.new.later.items)) (append-nil (positions here)) in
+    omega (arith, descended.1, same)
 
 pub candidates-requires-clause-below : goal.candidates-requires-clause-below
 candidates-requires-clause-below g c =
@@ -78,13 +125,13 @@ returns-clause-found g c =
     let found = c.in_ok-found.found.items in
     let A : List Place → Type 0 = λ xs. All (λ q. IsCandidate (spelled rows) (positions xs) (place_signed q)) found in
     let all = subst A c.as_slice.ensures c.in_ok-found.ensures.all in
-    let other : Place = record { negated = false; position = 0 } in
     let some = not_zero _ c.is_empty.result c.is_empty.ensures c.if-is_empty.false in
-    let candidate = all 0 other (omega (arith, some)) in record {
+    let C : Place → Type 0 = λ q. IsCandidate (spelled rows) (positions here) (place_signed q) in
+    let candidate : C c.index.result.now = subst C (sym c.index.ensures) (all 0 c.index.result.now (omega (arith, some))) in record {
       no_false = c.requires.no_false;
       state = descended.0;
       candidate = candidate;
-      small = candidate_small rows (positions here) _ c.requires.tree c.row_at-root.ensures.bound candidate;
+      small = candidate_small rows (positions here) c.index.result.now c.requires.tree c.row_at-root.ensures.bound candidate;
     }
 
 pub returns-clause-lighter : goal.returns-clause-lighter

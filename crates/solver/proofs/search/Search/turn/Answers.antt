@@ -1,4 +1,4 @@
-use Rattle.std.proofs.Common.{◌<◌, ◌+◌, map, subst, arith, List, ℕ}
+use Rattle.std.proofs.Common.{◌≡◌, ◌<◌, ◌+◌, sym, map, subst, arith, List, ℕ}
 use Rattle.pc_ground.specs.declared.node_key.NodeKey.{NodeKey}
 use Rattle.pc_ground.specs.declared.row.Row.{Row}
 use Rattle.pc_ground.specs.Keys.{key_node}
@@ -6,7 +6,12 @@ use Rattle.solver.specs.Spelled.{spelled}
 use Rattle.solver.specs.Weights.{weight}
 use Rattle.solver.specs.Searched.{Searched, branches_of}
 use Rattle.solver.specs.Statuses.{IsStatus, status_weight}
-use Rattle.solver.specs.Turns.{turn_weight}
+use Rattle.solver.specs.Turns.{turn_weight, GoesOn}
+use Rattle.solver.specs.Descents.{HasMore}
+use Rattle.solver.specs.declared.search.Turn.{Turn}
+use Rattle.solver.specs.declared.search.Turn.TheVariants.{More, Done}
+use Rattle.pc_common.specs.World.{Node}
+use Rattle.pc_common.specs.Steps.{Step}
 use Rattle.solver.proofs.search.Search.turn.Goals as goal
 
 pub advance-requires : goal.advance-requires
@@ -45,3 +50,13 @@ returns-clause-weight g c =
     omega (arith, c.settle.ensures.weight, lighter) in
     let S : Searched → Type 0 = λ x. turn_weight c.settle.result < 1 + weight (spelled x.rows) x.branches in
     subst S c.self.view_is less
+
+goes_more : (old mid : List (Step Node)) (turn : Turn) → GoesOn (λ a b. b ≡ a) mid turn → HasMore old mid → GoesOn HasMore old turn
+goes_more old mid (More s) same more = (let P : List (Step Node) → Type 0 = HasMore old in subst P (sym same) more)
+goes_more old mid (Done a) same more = tt
+
+pub returns-clause-steps : goal.returns-clause-steps
+returns-clause-steps g c =
+    let s = c.self.inside in
+    let S : Searched → Type 0 = λ x. GoesOn HasMore x.steps c.settle.result in
+    subst S c.self.view_is (goes_more s.refutation c.advance.new.refutation c.settle.result c.settle.ensures.steps c.in_ok-status.ensures.longer)
