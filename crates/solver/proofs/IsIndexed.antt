@@ -98,9 +98,9 @@ pub cut_indexed : (items new : List Place) (plain negated : List ℕ) (n : ℕ) 
 cut_indexed items new plain negated n indexed cut =
     let P : List Place → Type 0 = λ xs. IsIndexed xs plain negated in
     let front : IsIndexed (take n items) plain negated = λ k x e.
-      let before = taken_get n items k x e in
-      let old = indexed k x (sym (get_taken n items k before) ∙ e) in
-      (old.0, get_taken n items (index_of plain negated x) (omega (arith, before, old.0)) ∙ old.1) in
+    let before = taken_get n items k x e in
+    let old = indexed k x (sym (get_taken n items k before) ∙ e) in
+    (old.0, get_taken n items (index_of plain negated x) (omega (arith, before, old.0)) ∙ old.1) in
     subst P (sym cut) front
 
 -- the index of a place, by that of its position
@@ -109,6 +109,7 @@ put_plain plain negated plains q n sign put = (at q sign put.0, λ x apart. othe
   where
     at : (q : Place) → q.negated ≡ false → slice_index plains q.position ≡ n → index_of plains negated q ≡ n
     at q sign e = rw sign e
+
     other : (m : Bool) (p : ℕ) → (m ≡ false → p ≡ q.position → ⊥) → index_of plains negated (record { negated = m; position = p }) ≡ index_of plain negated (record { negated = m; position = p })
     other false p apart = put.1 p (λ e. apart refl e)
     other true p apart = refl
@@ -118,6 +119,7 @@ put_negated plain negated negateds q n sign put = (at q sign put.0, λ x apart. 
   where
     at : (q : Place) → q.negated ≡ true → slice_index negateds q.position ≡ n → index_of plain negateds q ≡ n
     at q sign e = rw sign e
+
     other : (m : Bool) (p : ℕ) → (m ≡ true → p ≡ q.position → ⊥) → index_of plain negateds (record { negated = m; position = p }) ≡ index_of plain negated (record { negated = m; position = p })
     other true p apart = put.1 p (λ e. apart refl e)
     other false p apart = refl

@@ -280,7 +280,7 @@ impl Search {
             first,
             &mut graph,
             &mut asserted,
-        &mut agenda,
+            &mut agenda,
             &mut later,
             &mut refutation,
             steps,
