@@ -7,6 +7,9 @@ import re
 from dataclasses import dataclass, replace
 from typing import Callable, Hashable, Iterable, Iterator
 
+# the types of a full fence: that of tests, and that of herd's X86 listings
+FULL = frozenset({"Full", "MFENCE"})
+
 FORMAT_2 = re.compile(r"\s*Litmus2\b")
 COMMENT = re.compile(r"\(\*.*?\*\)|%[^\n]*|//[^\n]*", re.DOTALL)
 MICROOP = re.compile(
@@ -44,7 +47,7 @@ class Op:
     @property
     def is_full_fence(self) -> bool:
         """Whether it orders all of its core before it and behind it."""
-        return self.kind == "Fence" and "Full" in self.types
+        return self.kind == "Fence" and not FULL.isdisjoint(self.types)
 
     @property
     def is_at_entry(self) -> bool:
