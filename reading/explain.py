@@ -9,8 +9,8 @@ is 0, or 125 where a file is none that a judge could have accepted.
 import signal
 import sys
 
-from second.cases import read_case
 from second.explaining import explain
+from second.listings import read_file_items
 from second.scopes import read_model
 from second.tokens import Fault
 
@@ -25,7 +25,7 @@ def main(model_path: str, test_path: str, certificate_path: str) -> int:
     """Writes what is said of the certificate."""
     try:
         text = contents(model_path)
-        model, case = read_model(text), read_case(contents(test_path))
+        model, (case, _) = read_model(text), read_file_items(test_path, contents(test_path))
         certificate = contents(certificate_path).decode("ascii").split("\n")[:-1]
     except (Fault, OSError, UnicodeDecodeError) as problem:
         print(f"explain: not explained: {problem}", file=sys.stderr)

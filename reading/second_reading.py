@@ -4,14 +4,16 @@
     second_reading.py check MODEL TEST         the verdict with its certificate
     second_reading.py check2 MODEL TEST        the same; a refutation is of version 2
     second_reading.py verify MODEL TEST CERT   whether CERT is a certificate of this model and test
+    second_reading.py check86 MODEL FILE       as check, of a listing of herd's for X86
+    second_reading.py verify86 MODEL FILE CERT as verify, of a listing
     second_reading.py dimacs MODEL TEST        the question for a SAT solver
     second_reading.py smt MODEL TEST           the question for an SMT solver
 
 The modules are in second/. All text goes to standard output, in the lines and with the exit statuses that the program
 has: 0 observable, 1 unobservable, 2 words that are no command, 3 a file with a fault, 4 a file that cannot be read, 6 a
-refused certificate. The verdict of `check` and `check2` is found in two ways, by a search of this reading's own and by one that makes
-the program's choices and gives the text; they have to agree, and the certificate is judged before it is written. `verify`
-judges certificates of version 1 and of version 2.
+refused certificate. The verdict of `check`, `check2` and `check86` is found in two ways, by a search of this reading's own and
+by one that makes the program's choices and gives the text; they have to agree, and the certificate is judged before it is
+written. `verify` and `verify86` judge certificates of version 1 and of version 2.
 """
 import signal
 import sys
@@ -24,6 +26,7 @@ from second.evaluating import false_axioms
 from second.grounding import ground
 from second.judging import Refused as CertificateRefused
 from second.judging import VERSION_2, judge
+from second.listings import read_listing
 from second.models import Model
 from second.positions import NodeNames, Positions
 from second.scopes import read_model
@@ -33,7 +36,7 @@ from second.tokens import Fault
 
 Read = TypeVar("Read", Model, Case)
 LIMIT = 1_048_576
-WORDS = {"check": 3, "check2": 3, "verify": 4, "dimacs": 3, "smt": 3}
+WORDS = {"check": 3, "check2": 3, "check86": 3, "verify": 4, "verify86": 4, "dimacs": 3, "smt": 3}
 
 
 class Refused(Exception):
@@ -58,11 +61,11 @@ def judged(kind: str, read: Callable[[bytes], Read], data: bytes) -> Read:
         raise Refused(f"refused {kind} {fault.word} at {len(lines)}:{len(lines[-1]) + 1}") from fault
 
 
-def read_both(model_path: str, test_path: str) -> tuple[Model, Case]:
-    """The model and the test, both of which are read whole before one is judged."""
+def read_both(model_path: str, test_path: str, read: Callable[[bytes], Case] = read_case) -> tuple[Model, Case]:
+    """The model and the test, by this reader. Both are read whole before one is judged."""
     model_data = file_bytes("model", model_path)
     test_data = file_bytes("test", test_path)
-    return judged("model", read_model, model_data), judged("test", read_case, test_data)
+    return judged("model", read_model, model_data), judged("test", read, test_data)
 
 
 def second_line(is_observable: bool, case: Case) -> str:
@@ -131,10 +134,10 @@ def run(words: list[str], out: TextIO) -> int:
         out.write("pipecheck: bad command line\n")
         return 2
     try:
-        model, case = read_both(words[1], words[2])
-        if words[0] in ("check", "check2"):
+        model, case = read_both(words[1], words[2], read_listing if words[0].endswith("86") else read_case)
+        if words[0].startswith("check"):
             text, status = check(model, case, 2 if words[0] == "check2" else 1)
-        elif words[0] == "verify":
+        elif words[0].startswith("verify"):
             with open(words[3], "rb") as file:
                 text, status = verify(model, case, file.read())
         else:

@@ -20,6 +20,16 @@ class Page:
 
 
 @dataclass(frozen=True)
+class Location(Page):
+    """An address that a listing names."""
+
+    name: str = field(default="", compare=False)
+
+    def __str__(self) -> str:
+        return self.name
+
+
+@dataclass(frozen=True)
 class EntryAddress:
     """The address of the page-table entry of a virtual tag."""
 

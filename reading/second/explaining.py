@@ -1,7 +1,7 @@
 """A certificate in the words of the model. The text has to be one that a judge accepted."""
 from typing import Iterator
 
-from .cases import Address, Case
+from .cases import Address, Case, Location
 from .grounding import Node
 from .judging import VERSION_2
 from .models import Model
@@ -26,8 +26,9 @@ class Names:
         self.nodes = NodeNames(model, case)
         self.text = model_text
         pages = dict.fromkeys([op.pa for op in case.ops if op.pa is not None] + [*case.initial, *case.final])
-        letters = LETTERS if len(pages) <= len(LETTERS) else ()
-        self.pages = {page: letters[k] if letters else str(page) for k, page in enumerate(pages)}
+        # those of a listing have names of their own
+        self.has_letters = 0 < len(pages) <= len(LETTERS) and not any(isinstance(page, Location) for page in pages)
+        self.pages = {page: LETTERS[k] if self.has_letters else str(page) for k, page in enumerate(pages)}
 
     def microop(self, op: int) -> str:
         """The name of a micro-op."""
@@ -100,7 +101,7 @@ def key(case: Case, names: Names) -> Iterator[str]:
     for word, values in (("at the start", case.initial), ("at the end", case.final)):
         for page, value in values.items():
             yield f"  {word} {names.page(page)} = {value}"
-    if names.pages and len(names.pages) <= len(LETTERS):
+    if names.has_letters:
         yield "  " + ", ".join(f"[{letter}] is {page}" for page, letter in names.pages.items())
 
 

@@ -9,13 +9,13 @@ from dataclasses import dataclass, replace
 from typing import Iterable, Iterator
 
 from .cases import Address, Case, DependencyItem, Entry, EntryAddress, Item, OpItem, Page, Value, ValueItem
-from .cases import read_items
+from .listings import read_file_items
 from .models import Arg, Axiom, Binary, Edges, Expand, Formula, Macro, Model, NodeTerm, Nodes, Not, Number, Quantified
 from .models import Static
 from .predicates import CORE, MICROOP, PLAIN, PREDICATES
 from .scopes import GREATEST_CORE, parts
 
-ALLOWS = re.compile(rb"(?:%|//)[ \t]*Lint allows:[ \t]*([a-z-]+)([^\r\n]*)", re.IGNORECASE)
+ALLOWS = re.compile(rb"(?:%|//|\(\*)[ \t]*Lint allows:[ \t]*([a-z-]+)([^\r\n*]*)", re.IGNORECASE)
 # of a name, that every name of the kind is meant
 ALL = "*"
 
@@ -43,7 +43,7 @@ class TestFile:
 
 def read_test(path: str, text: bytes) -> TestFile:
     """The test of a text, which may raise a fault."""
-    return TestFile(path, text, *read_items(text))
+    return TestFile(path, text, *read_file_items(path, text))
 
 
 def allowed(text: bytes) -> set[tuple[str, str]]:

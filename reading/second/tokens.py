@@ -1,4 +1,4 @@
-"""Bytes to tokens, for models and tests alike, and the faults of a file."""
+"""Bytes to tokens, for models and tests alike, and for listings by their own pieces; and the faults of a file."""
 import re
 from dataclasses import dataclass
 
@@ -40,12 +40,12 @@ class Token:
         return self.piece[1:-1]
 
 
-def tokens(data: bytes) -> list[Token]:
-    """The tokens of a file with the end as one more, or the fault `lexical`."""
+def tokens(data: bytes, piece: re.Pattern[bytes] = PIECE, start: int = 0) -> list[Token]:
+    """The tokens of a file from a place on, with the end as one more, or the fault `lexical`."""
     found = []
-    at = 0
+    at = start
     while at < len(data):
-        match = PIECE.match(data, at)
+        match = piece.match(data, at)
         if match is None or (match.lastgroup == "number" and int(match.group()) > GREATEST_NUMBER):
             raise Fault("lexical", at)
         if match.lastgroup not in ("blank", "comment"):
