@@ -1,0 +1,137 @@
+//! The search with signs: a model and a test, and the steps of the refutation that `solve` returns.
+ghost use Rattle.std.specs.Prelude.{◌≡◌, ◌<◌};
+
+use example_texts::{BOTH_OR_ONE, EITHER_AND, EITHER_ORDER, EMPTY, ONE, SOME_OP, TWO_FORBIDDEN};
+use pc_common::Memory;
+use pc_front::front;
+use pc_ground::{Front, Version};
+use refutation::{Refutation, Step};
+use solver::{Answer, solve};
+use std::alloc::Global;
+use std::marker::Brand;
+use std::sync::ledger::{Blank, Ledger};
+use std::test::Fail;
+use undo_trail::Steps;
+
+/// A step without its nodes.
+#[derive(Clone, Copy, PartialEq, Eq)]
+enum Shape {
+    Split(u64),
+    SplitDenied(u64),
+    Cycle,
+    Path,
+    Absent,
+    False,
+}
+
+use Shape::{Absent, Cycle, False, Path, Split, SplitDenied};
+
+/// A model, a test, and the steps of the refutation in version 1 and in version 2.
+type Row = (
+    &'static str,
+    &'static str,
+    &'static [Shape],
+    &'static [Shape],
+);
+
+const SOLVED: &[Row] = &[
+    (
+        BOTH_OR_ONE,
+        ONE,
+        &[Split(1), Absent, Absent],
+        &[Split(1), Absent, Absent],
+    ),
+    (
+        EITHER_ORDER,
+        TWO_FORBIDDEN,
+        &[Split(1), Path, Path],
+        &[Split(1), Path, Path],
+    ),
+    (SOME_OP, EMPTY, &[False], &[False]),
+];
+
+/// The one model here of which the search with signs splits an And that was denied.
+const SIGNED: &[Shape] = &[
+    Split(1),
+    Split(9),
+    Absent,
+    Path,
+    SplitDenied(2),
+    Absent,
+    Path,
+];
+
+fn shape_of(step: &Step) -> Shape {
+    match step {
+        Step::Split {
+            negated: true,
+            position,
+        } => SplitDenied(*position),
+        Step::Split {
+            negated: false,
+            position,
+        } => Split(*position),
+        Step::Cycle(_) => Cycle,
+        Step::Path(_) => Path,
+        Step::Absent(_) => Absent,
+        Step::False => False,
+    }
+}
+
+fn are(steps: &Refutation, shapes: &[Shape]) -> bool {
+    for k in 0..steps.len() {
+        if shapes.get(k).copied() != Some(shape_of(steps.step(k))) {
+            return false;
+        }
+    }
+    steps.len() == shapes.len()
+}
+
+/// What the search finds of a front.
+fn solved<L: Ledger>(
+    alloc: Global,
+    front: &Front,
+    version: Version,
+    blank: Blank,
+) -> Result<Answer, Memory>
+    requires name { blank.name ≡ L.name }
+    requires parts { blank.parts ≡ L.parts }
+    requires whole { 0 < L.parts }
+{
+    let mut steps: Steps<L> = Steps::open(blank);
+    solve(alloc, &front.tree, &front.numbering, version, &mut steps)
+}
+
+/// Whether the search refutes the model and the test by these steps.
+fn is_solved_so(
+    alloc: Global,
+    (model, test): (&str, &str),
+    version: Version,
+    shapes: &[Shape],
+) -> Result<bool, Memory> {
+    if model.len() > 10_000 || test.len() > 10_000 {
+        return Ok(false);
+    }
+    let Ok(front) = front(alloc, model.as_bytes(), test.as_bytes()) else {
+        return Ok(false);
+    };
+    match solved::<Brand>(alloc, &front, version, Blank::new(1))? {
+        Answer::Unobservable(steps) => Ok(are(&steps, shapes)),
+        Answer::Observable(_) => Ok(false),
+    }
+}
+
+#[test]
+fn the_search_returns_these_steps_in_each_version(rt: HostRuntime) -> Result<(), Fail> {
+    for (model, test, plain, signed) in SOLVED {
+        assert!(rt; is_solved_so(rt.alloc(), (*model, *test), Version::One, plain)?);
+        assert!(rt; is_solved_so(rt.alloc(), (*model, *test), Version::Two, signed)?);
+    }
+    Ok(())
+}
+
+#[test]
+fn an_and_that_was_denied_is_split(rt: HostRuntime) -> Result<(), Fail> {
+    assert!(rt; is_solved_so(rt.alloc(), (EITHER_AND, ONE), Version::Two, SIGNED)?);
+    Ok(())
+}
