@@ -1,0 +1,160 @@
+-- What the search finds of chosen axioms, as what the axioms allow or forbid; and one core by two choices that agree.
+use Rattle.std.proofs.Common.{◌≡◌, ℕ, zero, suc, ◌+◌, ◌<◌, Bool, true, false, ◌&&◌, not, eqb, List, [], ◌∷◌, ◌++◌, Result, Ok, Err, length, map, get_or, take, refl, sym, ◌∙◌, ap, subst, arith}
+use Rattle.std.specs.Prelude.{IsTrue, IfOk, ◌↔◌}
+use Rattle.std.specs.Bool.{MatchBool}
+use Rattle.std.proofs.lemmas.List.{take_more, length-map}
+use Rattle.pc_common.specs.Case.{Case}
+use Rattle.pc_common.specs.Steps.{Step}
+use Rattle.pc_common.specs.World.{Node, World}
+use Rattle.pc_syntax.specs.declared.closed.Closed.{Closed}
+use Rattle.pc_syntax.specs.Closed.{PlainClosed, closed_true, closed_satisfies}
+use Rattle.pc_ground.specs.declared.front.Front.{Front}
+use Rattle.pc_ground.specs.Tree.{Tree, tree_true}
+use Rattle.pc_ground.specs.Rows.{rows_of}
+use Rattle.pc_ground.specs.Folded.{IsFolded}
+use Rattle.pc_ground.specs.Numbers.{numbered}
+use Rattle.pc_ground.specs.GroundTree.{axioms_unfolded, closed_ground_tree}
+use Rattle.pc_ground.specs.Stages.{plain_axioms}
+use Rattle.pc_ground.proofs.FlatRows.{rows_injective}
+use Rattle.pc_ground.proofs.NormalForms.{normal_folded}
+use Rattle.pc_ground.proofs.UnfoldedTruth.{closed_ground_tree_true}
+use Rattle.graph_text.specs.declared.graph.Graph.{Graph}
+use Rattle.solver.specs.declared.answer.Answer.{Answer}
+use Rattle.solver.specs.declared.answer.Answer.TheVariants.{Observable, Unobservable}
+use Rattle.axiom_core.specs.Chosen.{Choice, taken, among, less, flagged, AreRising}
+use Rattle.axiom_core.specs.Choices.{is_refutation, places, IsTried}
+use Rattle.axiom_core.specs.Cores.{Allow, Forbid, IsMinimal, tree_of, IsFound, IsFrontWith, IsRefutedWith, IsShownWith, AreShownWithout, IsCore, IsCoreOf, HasNone}
+use Rattle.axiom_core.specs.declared.answer.Core.{Core}
+use Rattle.axiom_core.specs.declared.answer.Core.TheVariants.{None as no_core, Minimal}
+use Rattle.axiom_core.proofs.Taking.{same_taken, all_forbid, fewer_allow}
+use Rattle.axiom_core.proofs.Numbered.{among_flagged, places_rising}
+
+-- a front's numbering is of its tree, in which a constant is the whole tree
+pub front_numbered : (front : Front) (t : Tree Node) → front.tree ≡ rows_of t → front.numbering ≡ numbered t
+front_numbered front t is = front.counted ∙ ap numbered (rows_injective (tree_of front) t (sym front.grounded ∙ is))
+
+pub front_folded : (front : Front) (t : Tree Node) → front.tree ≡ rows_of t → IsFolded t
+front_folded front t is =
+    subst IsFolded (rows_injective (tree_of front) t (sym front.grounded ∙ is)) (normal_folded (axioms_unfolded front.case (plain_axioms front.axioms)))
+
+-- a graph shows that a front's axioms allow, and a refutation that they forbid
+pub found_allow : (front : Front) (graph : Graph) → IsFound front (Observable graph) → Allow front.case (plain_axioms front.axioms)
+found_allow front graph w = (w.world, w.is_world, closed_ground_tree_true front.case (plain_axioms front.axioms) w.world ∙ w.satisfied)
+
+pub found_forbid : (front : Front) (steps : List (Step Node)) → IsFound front (Unobservable steps) → Forbid front.case (plain_axioms front.axioms)
+found_forbid front steps r = λ w is h. r.1 w is (sym (closed_ground_tree_true front.case (plain_axioms front.axioms) w) ∙ h)
+
+module _ (front : Front) (keep : Choice) (part : Front) (is : IsFrontWith front keep part) where
+  -- what a part of a front allows and forbids is what the chosen axioms do
+  pub part_allow : Allow part.case (plain_axioms part.axioms) → Allow front.case (taken keep (plain_axioms front.axioms))
+  part_allow a =
+      let P : Case → Type 0 = λ d. Allow d (taken keep (plain_axioms front.axioms)) in
+      let Q : List PlainClosed → Type 0 = λ ps. Allow part.case ps in subst P is.case (subst Q is.axioms a)
+
+  pub part_forbid : Forbid part.case (plain_axioms part.axioms) → Forbid front.case (taken keep (plain_axioms front.axioms))
+  part_forbid f =
+      let P : Case → Type 0 = λ d. Forbid d (taken keep (plain_axioms front.axioms)) in
+      let Q : List PlainClosed → Type 0 = λ ps. Forbid part.case ps in subst P is.case (subst Q is.axioms f)
+
+  pub part_judged : (found : Answer) → IsFound part found
+      → MatchBool (is_refutation found) (Forbid front.case (taken keep (plain_axioms front.axioms))) (Allow front.case (taken keep (plain_axioms front.axioms)))
+  part_judged (Observable graph) w = part_allow (found_allow part graph w)
+  part_judged (Unobservable steps) r = part_forbid (found_forbid part steps r)
+
+-- never both
+pub never_both : (c : Case) (ps : List PlainClosed) → Allow c ps → Forbid c ps → ⊥
+never_both c ps (w, is, h) f = f w is h
+
+module _ (front : Front) (keep : Choice) where
+  -- one number more
+  pub shown_more : (i : ℕ) (s : Front × Graph) (numbers : List ℕ) (shown : List (Front × Graph)) → AreShownWithout front keep numbers shown
+      → IsShownWith front (less i keep) s → AreShownWithout front keep (numbers ++ i ∷ []) (shown ++ s ∷ [])
+  shown_more i s [] [] all last = (last, tt)
+  shown_more i s [] (t ∷ shown) all last = absurd all
+  shown_more i s (j ∷ numbers) [] all last = absurd all
+  shown_more i s (j ∷ numbers) (t ∷ shown) all last = (all.0, shown_more i s numbers shown all.1 last)
+
+  -- a loop that has the graphs of the first numbers, and comes to the next
+  pub shown_next : (numbers : List ℕ) (k : ℕ) (s : Front × Graph) (shown new : List (Front × Graph)) → k < length numbers
+      → AreShownWithout front keep (take k numbers) shown → IsShownWith front (less (get_or numbers k 0) keep) s → new ≡ shown ++ s ∷ []
+      → AreShownWithout front keep (take (k + 1) numbers) new
+  shown_next numbers k s shown new inside all next is =
+      let P : List ℕ → Type 0 = λ ks. AreShownWithout front keep ks new in
+      let Q : List (Front × Graph) → Type 0 = λ ss. AreShownWithout front keep (take k numbers ++ get_or numbers k 0 ∷ []) ss in
+      subst P (sym (take_more numbers k 0 inside)) (subst Q (sym is) (shown_more (get_or numbers k 0) s (take k numbers) shown all next))
+
+-- the front of copies of the chosen axioms
+pub part_is : {E : Type 0} (front : Front) (keep : Choice) (case : Case) (axioms : List Closed) (r : Result Front E) → case ≡ front.case
+    → plain_axioms axioms ≡ taken keep (plain_axioms front.axioms)
+    → IfOk r (λ f. f.case ≡ case) → IfOk r (λ f. f.stages ≡ front.stages) → IfOk r (λ f. f.axioms ≡ axioms) → IfOk r (IsFrontWith front keep)
+part_is front keep case axioms (Ok part) same chosen c s a = record { case = c ∙ same; stages = s; axioms = ap plain_axioms a ∙ chosen }
+part_is front keep case axioms (Err e) same chosen c s a = tt
+
+module _ (front : Front) (keep other : Choice) (same : (k : ℕ) → keep k ≡ other k) where
+  less_same : (i k : ℕ) → less i keep k ≡ less i other k
+  less_same i k = ap (λ b. b && not (eqb k i)) (same k)
+
+  front_same : (part : Front) → IsFrontWith front keep part → IsFrontWith front other part
+  front_same part is = record {
+    case = is.case;
+    stages = is.stages;
+    axioms = is.axioms ∙ same_taken keep other (plain_axioms front.axioms) (λ k h. same k);
+  }
+
+  pub refuted_same : (r : Front × List (Step Node)) → IsRefutedWith front keep r → IsRefutedWith front other r
+  refuted_same r is = (front_same r.0 is.0, is.1)
+
+module _ (front : Front) (keep other : Choice) (same : (k : ℕ) → keep k ≡ other k) where
+  shown_same : (i : ℕ) (s : Front × Graph) → IsShownWith front (less i keep) s → IsShownWith front (less i other) s
+  shown_same i s is = (front_same front (less i keep) (less i other) (less_same front keep other same i) s.0 is.0, is.1)
+
+  pub all_shown_same : (numbers : List ℕ) (shown : List (Front × Graph)) → AreShownWithout front keep numbers shown → AreShownWithout front other numbers shown
+  all_shown_same [] [] all = tt
+  all_shown_same [] (t ∷ shown) all = absurd all
+  all_shown_same (j ∷ numbers) [] all = absurd all
+  all_shown_same (j ∷ numbers) (t ∷ shown) all = (shown_same j t all.0, all_shown_same numbers shown all.1)
+
+  pub minimal_same : (c : Case) (ps : List PlainClosed) → IsMinimal c ps keep → IsMinimal c ps other
+  minimal_same c ps is = record {
+    forbidden =
+        let P : List PlainClosed → Type 0 = λ qs. Forbid c qs in
+        subst P (same_taken keep other ps (λ k h. same k)) is.forbidden;
+    needed = λ i inside kept.
+        let P : List PlainClosed → Type 0 = λ qs. Allow c qs in
+        subst P (same_taken (less i keep) (less i other) ps (λ k h. less_same front keep other same i k)) (is.needed i inside (same i ∙ kept));
+  }
+
+-- the core of the flags that a loop over all axioms left
+pub core_of_flags : (front : Front) (flags : List Bool) (kept : List ℕ) (refuted : Front × List (Step Node)) (without : List (Front × Graph))
+    → IsTried front.case (plain_axioms front.axioms) flags (length front.axioms)
+    → kept ≡ places (flagged flags) (length flags) → IsRefutedWith front (flagged flags) refuted → AreShownWithout front (flagged flags) kept without
+    → IsCore front kept refuted without
+core_of_flags front flags kept refuted without t is r s =
+    let axioms : length (plain_axioms front.axioms) ≡ length front.axioms = length-map front.axioms _ in
+    let size : length flags ≡ length front.axioms = t.size ∙ axioms in
+    let same : (k : ℕ) → flagged flags k ≡ among kept k = λ k. sym (ap (λ ks. among ks k) is ∙ among_flagged flags k) in
+    record {
+      rising =
+          let P : List ℕ → Type 0 = λ ks. AreRising 0 (length front.axioms) ks in
+          let Q : ℕ → Type 0 = λ n. AreRising 0 n (places (flagged flags) (length flags)) in
+          subst P (sym is) (subst Q size (places_rising (flagged flags) (length flags)));
+      minimal = minimal_same front (flagged flags) (among kept) same front.case (plain_axioms front.axioms) (record {
+        forbidden = t.forbidden;
+        needed = λ k inside flag. t.needed k (omega (arith, inside, axioms)) flag;
+      });
+      refuted = refuted_same front (flagged flags) (among kept) same refuted r;
+      without = all_shown_same front (flagged flags) (among kept) same kept without s;
+    }
+
+-- a core is none exactly where the axioms allow
+pub core_none : (front : Front) (found : Core) → IsCoreOf front found → HasNone found ↔ Allow front.case (plain_axioms front.axioms)
+core_none front (no_core graph) is = (λ none. found_allow front graph is, λ allow. tt)
+core_none front (Minimal kept refuted without) is = (
+  λ none. absurd none,
+  λ allow. never_both front.case (plain_axioms front.axioms) allow (all_forbid front.case (plain_axioms front.axioms) (among kept) is.minimal.forbidden),
+)
+
+pub core_none_ok : {E : Type 0} (front : Front) (r : Result Core E) → IfOk r (IsCoreOf front)
+    → IfOk r (λ found. HasNone found ↔ Allow front.case (plain_axioms front.axioms))
+core_none_ok front (Ok found) is = core_none front found is
+core_none_ok front (Err e) is = tt

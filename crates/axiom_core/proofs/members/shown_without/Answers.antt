@@ -1,0 +1,12 @@
+use Rattle.pc_ground.specs.Stages.{plain_axioms}
+use Rattle.axiom_core.specs.Chosen.{taken, less, flagged}
+use Rattle.axiom_core.proofs.SameCores.{found_forbid, part_forbid, never_both}
+use Rattle.axiom_core.proofs.members.shown_without.Goals as goal
+
+pub unreachable-requires : goal.unreachable-requires
+unreachable-requires c =
+    let front = c.args.front.now in
+    let keep = less c.args.at (flagged c.args.flags.now) in
+    never_both front.case (taken keep (plain_axioms front.axioms)) c.requires.allowed
+    (part_forbid front keep c.in_ok-part.part c.in_ok-part.ensures
+    (found_forbid c.in_ok-part.part c.in-Unobservable.field-0 (rw c.in-Unobservable.is at c.in_ok-graph.ensures)))

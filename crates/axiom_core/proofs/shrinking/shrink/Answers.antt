@@ -1,0 +1,16 @@
+use Rattle.std.proofs.Common.{◌≡◌, ◌∙◌, Bool, true, List, length, replicate, rules, sym, ap, subst}
+use Rattle.std.proofs.lemmas.List.{length-map}
+use Rattle.pc_ground.specs.Stages.{plain_axioms}
+use Rattle.axiom_core.specs.Choices.{IsTried}
+use Rattle.axiom_core.proofs.Tries.{tried_none}
+use Rattle.axiom_core.proofs.shrinking.shrink.Goals as goal
+
+pub loop-at-init : goal.loop-at-init
+loop-at-init c =
+    let front = c.args.front.now in
+    let ps = plain_axioms front.axioms in
+    let set : c.in_ok-flags.flags.items ≡ replicate c.len-count.result true = c.in_ok-flags.ensures.items_if_clones_equal (search rules) in
+    let size : length ps ≡ length front.axioms = length-map front.axioms _ in
+    let all : c.in_ok-flags.flags.items ≡ replicate (length ps) true =
+    set ∙ ap (λ n. replicate n true) (c.len-count.ensures.value ∙ sym size) in
+    let P : List Bool → Type 0 = λ flags. IsTried front.case ps flags 0 in subst P (sym all) (tried_none front.case ps c.requires)

@@ -1,0 +1,43 @@
+ghost use Rattle.std.specs.Prelude.{◌↔◌, IfOk};
+ghost use Rattle.pc_ground.specs.Stages.{plain_axioms};
+ghost use Rattle.axiom_core.specs.Cores.{Allow, Forbid, IsCoreOf, HasNone};
+
+use super::answer::Core;
+use super::judged::found_of;
+use super::members::{all_shown, refuted_by};
+use super::shrinking::{numbers_of, shrink};
+use pc_common::Memory;
+use pc_ground::Front;
+use solver::Answer;
+use std::alloc::Global;
+
+/// A minimal set of the axioms of a front that forbids the outcome.
+fn minimal_core(alloc: Global, front: &Front) -> Result<Core, Memory>
+    requires { Forbid front.now.case (plain_axioms front.now.axioms) }
+    ensures { IfOk result (IsCoreOf front.now) }
+{
+    let flags = shrink(alloc, front)?;
+    let kept = numbers_of(alloc, &flags)?;
+    let refuted = refuted_by(alloc, front, &flags)?;
+    let without = all_shown(alloc, front, &flags, &kept)?;
+    Ok(Core::Minimal {
+        kept,
+        refuted,
+        without,
+    })
+}
+
+/// Which axioms of a front forbid the outcome: none exactly where it is observable, or else a minimal set, in which
+/// each axiom in file order was taken out where the rest still forbade the outcome.
+///
+/// Makes one search for each axiom and one more, then one for the set and one for each of its members. The one error
+/// is that memory was refused; the front stays as it is.
+pub fn core(alloc: Global, front: &Front) -> Result<Core, Memory>
+    ensures core { IfOk result (IsCoreOf front.now) }
+    ensures none { IfOk result (λ found. HasNone found ↔ Allow front.now.case (plain_axioms front.now.axioms)) }
+{
+    match found_of(alloc, front)? {
+        Answer::Observable(graph) => Ok(Core::None(graph)),
+        Answer::Unobservable(_) => minimal_core(alloc, front),
+    }
+}

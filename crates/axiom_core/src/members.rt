@@ -1,0 +1,68 @@
+ghost use Rattle.std.specs.Prelude.{◌≡◌, ◌<◌, length, IfOk, All, IsTrue};
+ghost use Rattle.pc_ground.specs.Stages.{plain_axioms};
+ghost use Rattle.axiom_core.specs.Chosen.{taken, less, flagged};
+ghost use Rattle.axiom_core.specs.Choices.{IsTried};
+ghost use Rattle.axiom_core.specs.Cores.{Allow, Forbid, IsRefutedWith, IsShownWith, AreShownWithout};
+
+use super::answer::{AxiomNumbers, Shown};
+use super::chosen::part_of;
+use super::judged::found_of;
+use graph_text::Graph;
+use pc_common::Memory;
+use pc_ground::Front;
+use refutation::Refutation;
+use solver::Answer;
+use std::alloc::Global;
+
+/// The front of the axioms whose flags are set, and the refutation that the search finds of it.
+pub(crate) fn refuted_by(
+    alloc: Global,
+    front: &Front,
+    flags: &[bool],
+) -> Result<(Front, Refutation), Memory>
+    requires size { length flags.now ≡ length front.now.axioms }
+    requires forbidden { Forbid front.now.case (taken (flagged flags.now) (plain_axioms front.now.axioms)) }
+    ensures { IfOk result (IsRefutedWith front.now (flagged flags.now)) }
+{
+    let part = part_of(alloc, front, flags, None)?;
+    match found_of(alloc, &part)? {
+        Answer::Unobservable(steps) => Ok((part, steps)),
+        Answer::Observable(_) => unreachable!(),
+    }
+}
+
+/// The front of the axioms whose flags are set but for the one at `at`, and the graph that the search finds of it.
+fn shown_without(
+    alloc: Global,
+    front: &Front,
+    flags: &[bool],
+    at: usize,
+) -> Result<(Front, Graph), Memory>
+    requires size { length flags.now ≡ length front.now.axioms }
+    requires allowed { Allow front.now.case (taken (less at (flagged flags.now)) (plain_axioms front.now.axioms)) }
+    ensures { IfOk result (IsShownWith front.now (less at (flagged flags.now))) }
+{
+    let part = part_of(alloc, front, flags, Some(at))?;
+    match found_of(alloc, &part)? {
+        Answer::Observable(graph) => Ok((part, graph)),
+        Answer::Unobservable(_) => unreachable!(),
+    }
+}
+
+/// For each of these numbers, in order, what shows the outcome on the axioms whose flags are set, but for that one.
+pub(crate) fn all_shown(
+    alloc: Global,
+    front: &Front,
+    flags: &[bool],
+    kept: &AxiomNumbers,
+) -> Result<Shown, Memory>
+    requires tried { IsTried front.now.case (plain_axioms front.now.axioms) flags.now (length flags.now) }
+    requires flagged { All (λ k. k < length flags.now × IsTrue (flagged flags.now k)) kept.now }
+    ensures { IfOk result (AreShownWithout front.now (flagged flags.now) kept.now) }
+{
+    let mut shown = Shown::new(alloc);
+    for at in kept.as_slice() {
+        shown.push(shown_without(alloc, front, flags, *at)?)?;
+    }
+    Ok(shown)
+}

@@ -1,0 +1,4 @@
+pub mod PartFronts
+pub mod CertifiedCores
+pub mod CoreOutcomes
+pub mod BesideTexts

@@ -1,0 +1,15 @@
+//! The command `core MODEL TEST`: which axioms of the model forbid the outcome of the test?
+//!
+//! After the two files it reads nothing. It returns a `FoundCore`, whose status is `Done`; or the `Ending` of the two
+//! files, or `Memory`. Its text is `core none` with the certificate of a graph, where the outcome is observable. Where
+//! it is not, the text names a minimal set of axioms, with the certificate of a refutation of the model of just those
+//! axioms, and for each of them that of a graph on the model of the others. These certificates are those that `check`
+//! writes for these models.
+#![tactic(auto)]
+
+mod certificates;
+mod command;
+mod report;
+
+pub use command::{FoundCore, find_core};
+pub use report::write_core;

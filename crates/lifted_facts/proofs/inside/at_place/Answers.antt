@@ -1,0 +1,21 @@
+use Rattle.std.proofs.Common.{◌++◌, ◌∷◌, [], List, ap, sym, ◌∙◌, subst}
+use Rattle.std.proofs.lemmas.List.{map-append}
+use Rattle.pc_syntax.specs.declared.term.Sort.{Sort}
+use Rattle.pc_syntax.specs.declared.bound.Bound.{Bound}
+use Rattle.pc_syntax.specs.Closed.{plain_closed}
+use Rattle.pc_syntax.specs.IsClosed.{IsClosed}
+use Rattle.static_preds.specs.Slots.{AreInRange}
+use Rattle.static_preds.specs.Values.{sort_bound, scope_of}
+use Rattle.static_preds.proofs.SlotLaws.{slot_more}
+use Rattle.lifted_facts.proofs.inside.at_place.Goals as goal
+
+pub returns-clause-proper : goal.returns-clause-proper
+returns-clause-proper c =
+    let slots = c.args.said.now.env.items in
+    let v = c.in_ok-value.value in
+    let P : List Sort → Type 0 = λ ss. IsClosed ss (plain_closed c.args.body.now) in
+    let R : List Bound → Type 0 = λ bs. AreInRange c.args.case.now bs in
+    let scope = ap scope_of c.with_value.ensures ∙ map-append sort_bound slots (v ∷ []) ∙ ap (λ s. scope_of slots ++ s ∷ []) c.in_ok-value.ensures.sort in (
+      subst P (sym scope) c.requires.closed,
+      subst R (sym c.with_value.ensures) (slot_more c.args.case.now slots v c.requires.range c.in_ok-value.ensures.range),
+    )

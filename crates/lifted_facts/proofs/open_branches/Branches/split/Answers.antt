@@ -1,0 +1,30 @@
+use Rattle.std.proofs.Common.{◌≡◌, ◌∙◌, ap, subst, sym, refl, List, [], ◌∷◌, reverse, map, length, arith}
+use Rattle.lifted_facts.specs.declared.fact.Fact.{Fact}
+use Rattle.lifted_facts.specs.declared.waiting.Waiting.{Waiting}
+use Rattle.lifted_facts.specs.PlainFacts.{PlainFact, plain_fact}
+use Rattle.lifted_facts.specs.Lifted.{split as split_step, HasSides, HasAdvanced}
+use Rattle.lifted_facts.specs.OpenBranches.{opens_of}
+use Rattle.std.proofs.Common.{true}
+use Rattle.lifted_facts.proofs.KeptFacts.{reversed}
+use Rattle.lifted_facts.proofs.OpenFacts.{did_split, no_split}
+use Rattle.lifted_facts.proofs.open_branches.Branches.split.Goals as goal
+
+pub returns-in_ok-push-in-Some-2-clause-advanced : goal.returns-in_ok-push-in-Some-2-clause-advanced
+returns-in_ok-push-in-Some-2-clause-advanced c =
+    let me = c.args.self.now in
+    let x = c.in-Some.first in
+    let y = c.in-Some.second in
+    let same : c.len.result ≡ length me.facts.items = omega (arith, c.len.ensures) in
+    let w : Waiting = record { count = c.len.result; fact = y } in
+    let P : List Fact → Type 0 = λ fs. HasSides me.case.now (map plain_fact fs) c.args.number (plain_fact x) (plain_fact y) in
+    let Q : List Waiting → Type 0 = λ ls.
+    HasAdvanced me.case.now (split_step c.args.number) (opens_of me.is_open me.facts.items (reverse me.later.items)) (opens_of me.is_open c.push-in-Some.new.self.items ls) true in
+    subst Q (sym (ap reverse c.in_ok-push-in-Some.ensures.items ∙ reversed me.later.items w))
+    (did_split me.case.now c.args.number me.is_open me.facts.items c.push-in-Some.new.self.items x y (reverse me.later.items) w c.if-not-self.false
+    (subst P c.deref.ensures.value c.in-Some.ensures.is) c.in_ok-push-in-Some-2.ensures.items same refl me.kept.within)
+
+pub returns-in-None-clause-advanced : goal.returns-in-None-clause-advanced
+returns-in-None-clause-advanced c =
+    let me = c.args.self.now in
+    let P : List Fact → Type 0 = λ fs. (g h : PlainFact) → HasSides me.case.now (map plain_fact fs) c.args.number g h → ⊥ in
+    no_split me.case.now c.args.number me.is_open me.facts.items (reverse me.later.items) [] (subst P c.deref.ensures.value c.in-None.ensures.is)

@@ -1,0 +1,688 @@
+-- The table reads exactly the terminals of the listings.
+use Rattle.std.proofs.Common.{◌≡◌, ℕ, Bool, true, false, List, [], ◌∷◌, ◌++◌, Some, None, IsTrue, MatchOption, map, codes, refl, sym, ap, subst, ◌∙◌, append_assoc}
+use Rattle.std.proofs.lemmas.Bool.{eqb-true}
+use Rattle.std.proofs.lemmas.List.{append-nil, map-append}
+use Rattle.ll_grammar.specs.Rules.{Derives}
+use Rattle.ll_grammar.specs.Texts.{IsText}
+use Rattle.ll_grammar.specs.declared.grammar.Symbol.{Symbol}
+use Rattle.ll_grammar.specs.declared.grammar.Symbol.TheVariants.{Class, Part}
+use Rattle.ll_grammar.proofs.DerivesLaws.{Each, meaning, derives-begin, derives-end}
+use Rattle.ll_grammar.proofs.DerivesLaws.Each.{none, class, part}
+use Rattle.x86_tokens.specs.Token.{Token, Kind}
+use Rattle.x86_litmus.specs.Listing.{Named, Location, bare, bracketed, Stated, Block, no_values, values, Action, fence, store, load, Cell, empty, instruction, Row, Equation, of_register, of_location, Condition, Listing}
+use Rattle.x86_litmus.specs.Expected.{Expected, a_name, a_word, a_number, number_at, a_symbol, symbol_at, Is, Spell}
+use Rattle.x86_litmus.specs.Syntax.{word_at, spelled_location, spelled_stated, spelled_values, spelled_block, spelled_columns, spelled_action, spelled_cell, spelled_cells, spelled_row, spelled_equation, spelled_equations, spelled_conjunction, spelled_asked, spelled_denial, spelled_condition, spelled_rows, spelled_listing, IsListing}
+use Rattle.x86_litmus.specs.Terminals.{spelling, word_terminal, symbol_terminal, kind_terminal, terminal_of, is_name}
+use Rattle.x86_litmus.specs.Phrases.{number_and, bracketed_and, register_and, behind, may_end, deep, rules}
+use Rattle.x86_litmus.specs.declared.terminal.Terminal.{Terminal}
+use Rattle.x86_litmus.specs.declared.terminal.Terminal.TheVariants.{Mov, Mfence, Exists, Name, Number, OpenBrace, CloseBrace, Semicolon, Bar, OpenBracket, CloseBracket, Comma, Dollar, Colon, Equals, Open, Close, Tilde, And, Other}
+use Rattle.x86_litmus.specs.declared.phrase.Phrase.{Phrase}
+use Rattle.x86_litmus.specs.declared.phrase.Phrase.TheVariants.{Listing as ListingPart, Values, MoreValues, Columns, MoreColumns, Rows, Cells, MoreCells, Move, Asked, Equations, MoreEquations, AnyName}
+use Rattle.x86_litmus.proofs.Words.{sort_of, name-of_kind, number-of_kind, word-of_kind, symbol-of_kind, is_name-sort, word_is_name}
+use Rattle.x86_litmus.proofs.Spelling.{spell-append, map-head, map-part}
+
+-- From the table to the grammar: tokens of these terminals spell a listing.
+
+named_of : Token → Named
+named_of t = record { word = t.piece; at = t.at }
+
+-- what a phrase's tokens spell
+abbrev Spelled : Phrase → List Token → Type 0
+Spelled ListingPart ts = IsListing ts
+Spelled Values ts = (b : Block) × Spell (spelled_block b) ts
+Spelled MoreValues ts = (ss : List Stated) × (last : Bool) × Spell (spelled_values ss last) ts
+Spelled Columns ts = (n : Named) × (ns : List Named) × Spell (a_name n ∷ spelled_columns ns) ts
+Spelled MoreColumns ts = (ns : List Named) × Spell (spelled_columns ns) ts
+Spelled Rows ts = (rs : List Row) × (c : Condition) × Spell (spelled_rows rs c) ts
+Spelled Cells ts = (r : Row) × (rs : List Row) × (c : Condition) × Spell (spelled_row r ++ spelled_rows rs c) ts
+Spelled MoreCells ts =
+    (cs : List Cell) × (end : ℕ) × (rs : List Row) × (c : Condition) × Spell (spelled_cells cs end ++ spelled_rows rs c) ts
+Spelled Move ts = (a : Action) × ((m : Token) → Is (word_at (codes "MOV") m.at) m → Spell (spelled_action m.at a) (m ∷ ts))
+Spelled Asked ts = (b : Bool) × (e : Equation) × (es : List Equation) × Spell (spelled_asked b e es) ts
+Spelled Equations ts = (e : Equation) × (es : List Equation) × Spell (spelled_conjunction e es) ts
+Spelled MoreEquations ts = (es : List Equation) × Spell (spelled_equations es) ts
+Spelled AnyName ts = (n : Named) × Spell (a_name n ∷ []) ts
+
+abbrev Means : Phrase → List Terminal → List Bool → Type 0
+Means n cs marks = (ts : List Token) → map terminal_of ts ≡ cs → Spelled n ts
+
+means-end : (n : Phrase) → IsTrue (may_end n) → Means n [] []
+means-end MoreEquations h [] e = ([], tt)
+means-end MoreEquations h (t ∷ ts) e = absurd (cc)
+means-end ListingPart h ts e = absurd (cc)
+means-end Values h ts e = absurd (cc)
+means-end MoreValues h ts e = absurd (cc)
+means-end Columns h ts e = absurd (cc)
+means-end MoreColumns h ts e = absurd (cc)
+means-end Rows h ts e = absurd (cc)
+means-end Cells h ts e = absurd (cc)
+means-end MoreCells h ts e = absurd (cc)
+means-end Move h ts e = absurd (cc)
+means-end Asked h ts e = absurd (cc)
+means-end Equations h ts e = absurd (cc)
+means-end AnyName h ts e = absurd (cc)
+
+abbrev IsRule : Phrase → Terminal → List (Symbol Terminal Phrase) → Type 0
+IsRule n c body = (cs : List Terminal) (marks : List Bool) → Each Means body cs marks → Means n (c ∷ cs) (false ∷ marks)
+
+-- what a token of a terminal is
+is_word : (t : Token) (c : Terminal) → sort_of c ≡ 0 → (c ≡ Name → ⊥) → terminal_of t ≡ c → Is (a_word (spelling c)) t
+is_word t c s own e = word-of_kind t.kind t.piece c s own e
+
+is_word_at : (t : Token) (c : Terminal) → sort_of c ≡ 0 → (c ≡ Name → ⊥) → terminal_of t ≡ c → Is (word_at (spelling c) t.at) t
+is_word_at t c s own e = let w = word-of_kind t.kind t.piece c s own e in (w.0, w.1, refl)
+
+is_symbol : (t : Token) (c : Terminal) → sort_of c ≡ 3 → (c ≡ Other → ⊥) → terminal_of t ≡ c → Is (a_symbol (spelling c)) t
+is_symbol t c s own e = symbol-of_kind t.kind t.piece c s own e
+
+is_symbol_at : (t : Token) (c : Terminal) → sort_of c ≡ 3 → (c ≡ Other → ⊥) → terminal_of t ≡ c → Is (symbol_at (spelling c) t.at) t
+is_symbol_at t c s own e = let w = symbol-of_kind t.kind t.piece c s own e in (w.0, w.1, refl)
+
+is_number : (t : Token) → terminal_of t ≡ Number → (n : ℕ) × Is (a_number n) t
+is_number t e = number-of_kind t.kind t.piece e
+
+is_named : (t : Token) (c : Terminal) → is_name c ≡ true → c ≡ terminal_of t → Is (a_name (named_of t)) t
+unfolding named_of
+is_named t c h same =
+    let is : is_name (terminal_of t) ≡ true = ap is_name (sym same) ∙ h in
+    let s : sort_of (terminal_of t) ≡ 0 = eqb-true (sort_of (terminal_of t)) 0 (sym (is_name-sort (terminal_of t)) ∙ is) in
+    (name-of_kind t.kind t.piece (terminal_of t) s refl, refl, refl)
+
+-- what stands behind a token of the front
+behind_first : (t : Token) (ts : List Token) (c : Terminal) (cs : List Terminal) → map terminal_of (t ∷ ts) ≡ c ∷ (cs ++ []) → map terminal_of ts ≡ cs
+behind_first t ts c cs e = let rest : map terminal_of ts ≡ cs ++ [] = cc in rest ∙ append-nil cs
+
+-- "=" NUMBER, and whatever stands behind
+number_of : (ts : List Token) (cs : List Terminal) → map terminal_of ts ≡ Equals ∷ Number ∷ cs
+    → (v : ℕ) × (rest : List Token) × (map terminal_of rest ≡ cs)
+    × ((es : List Expected) → Spell es rest → Spell (a_symbol (codes "=") ∷ a_number v ∷ es) ts)
+number_of (q ∷ d ∷ rest) cs e =
+    let (v, is_v) = is_number d cc in
+    let equals : Is (a_symbol (codes "=")) q = is_symbol q Equals refl (λ h. cc) cc in
+    (v, rest, cc, λ es s. (equals, (is_v, s)))
+number_of (q ∷ []) cs e = absurd (cc)
+number_of [] cs e = absurd (cc)
+
+-- NAME "]" "=" NUMBER, and whatever stands behind
+bracketed_of : (xs : List Terminal) → ((us : List Token) → map terminal_of us ≡ xs → Spelled AnyName us) → (ts : List Token) (cs : List Terminal)
+    → map terminal_of ts ≡ xs ++ (CloseBracket ∷ Equals ∷ Number ∷ cs)
+    → (n : Named) × (v : ℕ) × (rest : List Token) × (map terminal_of rest ≡ cs)
+    × ((es : List Expected) → Spell es rest → Spell (a_name n ∷ a_symbol (codes "]") ∷ a_symbol (codes "=") ∷ a_number v ∷ es) ts)
+bracketed_of xs any ts cs e =
+    let (us, vs, same, here, behind) = map-part terminal_of ts xs (CloseBracket ∷ Equals ∷ Number ∷ cs) e in
+    let (n, s) = any us here in
+    let (z, zs, at, is_z, left) = map-head terminal_of vs CloseBracket (Equals ∷ Number ∷ cs) behind in
+    let (v, rest, more, spells) = number_of zs cs left in
+    let closes : Is (a_symbol (codes "]")) z = is_symbol z CloseBracket refl (λ h. cc) is_z in (
+      n,
+      v,
+      rest,
+      more,
+      λ es r. (let tail : List Expected = a_symbol (codes "]") ∷ a_symbol (codes "=") ∷ a_number v ∷ es in
+          let inner : Spell tail (z ∷ zs) = (closes, spells es r) in
+          let behind_ : Spell tail vs = subst (Spell tail) (sym at) inner in
+          subst (Spell (a_name n ∷ tail)) (sym same) (spell-append (a_name n ∷ []) tail us vs s behind_)),
+    )
+
+-- ":" NAME "=" NUMBER, and whatever stands behind
+register_of : (xs : List Terminal) → ((us : List Token) → map terminal_of us ≡ xs → Spelled AnyName us) → (ts : List Token) (cs : List Terminal)
+    → map terminal_of ts ≡ Colon ∷ (xs ++ (Equals ∷ Number ∷ cs))
+    → (n : Named) × (v : ℕ) × (rest : List Token) × (map terminal_of rest ≡ cs)
+    × ((es : List Expected) → Spell es rest → Spell (a_symbol (codes ":") ∷ a_name n ∷ a_symbol (codes "=") ∷ a_number v ∷ es) ts)
+register_of xs any (c ∷ ts) cs e =
+    let (us, vs, same, here, behind) = map-part terminal_of ts xs (Equals ∷ Number ∷ cs) cc in
+    let (n, s) = any us here in
+    let (v, rest, more, spells) = number_of vs cs behind in
+    let colon : Is (a_symbol (codes ":")) c = is_symbol c Colon refl (λ h. cc) cc in (
+      n,
+      v,
+      rest,
+      more,
+      λ es r. (let tail : List Expected = a_symbol (codes "=") ∷ a_number v ∷ es in
+          (colon, subst (Spell (a_name n ∷ tail)) (sym same) (spell-append (a_name n ∷ []) tail us vs s (spells es r)))),
+    )
+register_of xs any [] cs e = absurd (cc)
+
+-- the block
+block_ends : IsRule Values CloseBrace []
+block_ends _ _ none (t ∷ []) e = (no_values, (is_symbol t CloseBrace refl (λ h. cc) cc, tt))
+block_ends _ _ none (t ∷ u ∷ ts) e = absurd (cc)
+block_ends _ _ none [] e = absurd (cc)
+
+block_named : (c : Terminal) → is_name c ≡ true → IsRule Values c (number_and MoreValues)
+block_named c h _ _ (class (class (part {cs = cs} more none))) (n ∷ ts) e =
+    let (v, rest, left, spells) = number_of ts (cs ++ []) cc in
+    let (ss, last, s) = more rest (left ∙ append-nil cs) in
+    let named : Is (a_name (named_of n)) n = is_named n c h cc in
+    (values (record { location = bare (named_of n); value = v }) ss last, (named, spells (spelled_values ss last) s))
+block_named c h _ _ (class (class (part more none))) [] e = absurd (cc)
+
+block_bracketed : IsRule Values OpenBracket (bracketed_and MoreValues)
+block_bracketed _ _ (part {cs = xs} {ds = ys} any (class (class (class (part {cs = cs} more none))))) (o ∷ ts) e =
+    let (n, v, rest, left, spells) = bracketed_of xs any ts (cs ++ []) cc in
+    let (ss, last, s) = more rest (left ∙ append-nil cs) in
+    let opens : Is (a_symbol (codes "[")) o = is_symbol o OpenBracket refl (λ h. cc) cc in
+    (values (record { location = bracketed n; value = v }) ss last, (opens, spells (spelled_values ss last) s))
+block_bracketed _ _ (part any (class (class (class (part more none))))) [] e = absurd (cc)
+
+values_end : IsRule MoreValues CloseBrace []
+values_end _ _ none (t ∷ []) e = ([], false, (is_symbol t CloseBrace refl (λ h. cc) cc, tt))
+values_end _ _ none (t ∷ u ∷ ts) e = absurd (cc)
+values_end _ _ none [] e = absurd (cc)
+
+values_more : IsRule MoreValues Semicolon (Part Values ∷ [])
+values_more _ _ (part {cs = cs} inside none) (t ∷ ts) e =
+    let semicolon : Is (a_symbol (codes ";")) t = is_symbol t Semicolon refl (λ h. cc) cc in
+    by semicolon (inside ts (behind_first t ts Semicolon cs e))
+  where
+    by : Is (a_symbol (codes ";")) t → (b : Block) × Spell (spelled_block b) ts → Spelled MoreValues (t ∷ ts)
+    by semicolon (no_values, s) = ([], true, (semicolon, s))
+    by semicolon (values x ss last, s) = (x ∷ ss, last, (semicolon, s))
+values_more _ _ (part inside none) [] e = absurd (cc)
+
+-- the head
+columns_named : (c : Terminal) → is_name c ≡ true → IsRule Columns c (Part MoreColumns ∷ [])
+columns_named c h _ _ (part {cs = cs} more none) (n ∷ ts) e =
+    let (ns, s) = more ts (behind_first n ts c cs e) in
+    (named_of n, ns, (is_named n c h cc, s))
+columns_named c h _ _ (part more none) [] e = absurd (cc)
+
+columns_more : IsRule MoreColumns Bar (Part Columns ∷ [])
+columns_more _ _ (part {cs = cs} more none) (t ∷ ts) e =
+    let (n, ns, s) = more ts (behind_first t ts Bar cs e) in
+    (n ∷ ns, (is_symbol t Bar refl (λ h. cc) cc, s))
+columns_more _ _ (part more none) [] e = absurd (cc)
+
+columns_end : IsRule MoreColumns Semicolon []
+columns_end _ _ none (t ∷ []) e = ([], (is_symbol t Semicolon refl (λ h. cc) cc, tt))
+columns_end _ _ none (t ∷ u ∷ ts) e = absurd (cc)
+columns_end _ _ none [] e = absurd (cc)
+
+-- behind MOV
+store_move : IsRule Move OpenBracket (Part AnyName ∷ Class CloseBracket ∷ Class Comma ∷ Class Dollar ∷ Class Number ∷ [])
+store_move _ _ (part {cs = xs} any (class (class (class (class none))))) (o ∷ ts) e =
+    let (us, vs, same, here, behind) = map-part terminal_of ts xs (CloseBracket ∷ Comma ∷ Dollar ∷ Number ∷ []) cc in
+    let (n, s) = any us here in
+    by n (is_symbol o OpenBracket refl (λ h. cc) cc) us vs (sym same) s behind
+  where
+    by : (n : Named) → Is (a_symbol (codes "[")) o → (us vs : List Token) → us ++ vs ≡ ts → Spell (a_name n ∷ []) us
+        → map terminal_of vs ≡ CloseBracket ∷ Comma ∷ Dollar ∷ Number ∷ [] → Spelled Move (o ∷ ts)
+    by n opens us (z ∷ c ∷ d ∷ v ∷ []) same s f =
+        let (value, is_value) = is_number v cc in
+        let closes : Is (a_symbol (codes "]")) z = is_symbol z CloseBracket refl (λ h. cc) cc in
+        let comma : Is (a_symbol (codes ",")) c = is_symbol c Comma refl (λ h. cc) cc in
+        let dollar : Is (a_symbol (codes "$")) d = is_symbol d Dollar refl (λ h. cc) cc in
+        let tail : List Expected = a_symbol (codes "]") ∷ a_symbol (codes ",") ∷ a_symbol (codes "$") ∷ a_number value ∷ [] in
+        let spells : Spell (a_name n ∷ tail) ts = subst (Spell (a_name n ∷ tail)) same
+        (spell-append (a_name n ∷ []) tail us (z ∷ c ∷ d ∷ v ∷ []) s (closes, (comma, (dollar, (is_value, tt))))) in
+        (store n value, λ m moves. (moves, (opens, spells)))
+    by n opens us vs same s f = absurd (cc)
+store_move _ _ (part any (class (class (class (class none))))) [] e = absurd (cc)
+
+load_move : (c : Terminal) → is_name c ≡ true → IsRule Move c (Class Comma ∷ Class OpenBracket ∷ Part AnyName ∷ Class CloseBracket ∷ [])
+load_move c h _ _ (class (class (part {cs = xs} any (class none)))) (r ∷ k ∷ o ∷ ts) e =
+    let (us, vs, same, here, behind) = map-part terminal_of ts xs (CloseBracket ∷ []) cc in
+    let (n, s) = any us here in
+    by n (is_named r c h cc) (is_symbol k Comma refl (λ h. cc) cc) (is_symbol o OpenBracket refl (λ h. cc) cc) us vs (sym same) s behind
+  where
+    by : (n : Named) → Is (a_name (named_of r)) r → Is (a_symbol (codes ",")) k → Is (a_symbol (codes "[")) o → (us vs : List Token)
+        → us ++ vs ≡ ts → Spell (a_name n ∷ []) us → map terminal_of vs ≡ CloseBracket ∷ [] → Spelled Move (r ∷ k ∷ o ∷ ts)
+    by n named comma opens us (z ∷ []) same s f =
+        let closes : Is (a_symbol (codes "]")) z = is_symbol z CloseBracket refl (λ h. cc) cc in
+        let tail : List Expected = a_symbol (codes "]") ∷ [] in
+        let spells : Spell (a_name n ∷ tail) ts = subst (Spell (a_name n ∷ tail)) same
+        (spell-append (a_name n ∷ []) tail us (z ∷ []) s (closes, tt)) in
+        (load (named_of r) n, λ m moves. (moves, (named, (comma, (opens, spells)))))
+    by n named comma opens us vs same s f = absurd (cc)
+load_move c h _ _ (class (class (part any (class none)))) ts e = absurd (cc)
+
+-- a cell, and what stands behind it
+cells_move : IsRule Cells Mov (Part Move ∷ Part MoreCells ∷ [])
+cells_move _ _ (part {cs = xs} move (part {cs = cs} more none)) (m ∷ ts) e =
+    let (us, vs, same, here, behind) = map-part terminal_of ts xs (cs ++ []) cc in
+    let (a, spells) = move us here in
+    let (cells, end, rs, c, s) = more vs (behind ∙ append-nil cs) in
+    let moves : Is (word_at (codes "MOV") m.at) m = is_word_at m Mov refl (λ h. cc) cc in
+    let front : List Expected = spelled_action m.at a in
+    let all : m ∷ (us ++ vs) ≡ m ∷ ts = ap (λ (xs : List Token). m ∷ xs) (sym same) in (
+      record { first = instruction m.at a; others = cells; end = end },
+      rs,
+      c,
+      subst (λ (es : List Expected). Spell es (m ∷ ts)) (sym (append_assoc front (spelled_cells cells end) (spelled_rows rs c)))
+          (subst (Spell (front ++ (spelled_cells cells end ++ spelled_rows rs c))) all
+          (spell-append front (spelled_cells cells end ++ spelled_rows rs c) (m ∷ us) vs (spells m moves) s)),
+    )
+cells_move _ _ (part move (part more none)) [] e = absurd (cc)
+
+cells_fence : IsRule Cells Mfence (Part MoreCells ∷ [])
+cells_fence _ _ (part {cs = cs} more none) (m ∷ ts) e =
+    let (cells, end, rs, c, s) = more ts (behind_first m ts Mfence cs e) in
+    (record { first = instruction m.at fence; others = cells; end = end }, rs, c, (is_word_at m Mfence refl (λ h. cc) cc, s))
+cells_fence _ _ (part more none) [] e = absurd (cc)
+
+cells_bar : IsRule Cells Bar (Part Cells ∷ [])
+cells_bar _ _ (part {cs = cs} more none) (t ∷ ts) e =
+    let (r, rs, c, s) = more ts (behind_first t ts Bar cs e) in
+    (record { first = empty; others = r.first ∷ r.others; end = r.end }, rs, c, (is_symbol t Bar refl (λ h. cc) cc, s))
+cells_bar _ _ (part more none) [] e = absurd (cc)
+
+cells_end : IsRule Cells Semicolon (Part Rows ∷ [])
+cells_end _ _ (part {cs = cs} more none) (t ∷ ts) e =
+    let (rs, c, s) = more ts (behind_first t ts Semicolon cs e) in
+    (record { first = empty; others = []; end = t.at }, rs, c, (is_symbol_at t Semicolon refl (λ h. cc) cc, s))
+cells_end _ _ (part more none) [] e = absurd (cc)
+
+more_bar : IsRule MoreCells Bar (Part Cells ∷ [])
+more_bar _ _ (part {cs = cs} more none) (t ∷ ts) e =
+    let (r, rs, c, s) = more ts (behind_first t ts Bar cs e) in
+    (r.first ∷ r.others, r.end, rs, c, (is_symbol t Bar refl (λ h. cc) cc, s))
+more_bar _ _ (part more none) [] e = absurd (cc)
+
+more_end : IsRule MoreCells Semicolon (Part Rows ∷ [])
+more_end _ _ (part {cs = cs} more none) (t ∷ ts) e =
+    let (rs, c, s) = more ts (behind_first t ts Semicolon cs e) in
+    ([], t.at, rs, c, (is_symbol_at t Semicolon refl (λ h. cc) cc, s))
+more_end _ _ (part more none) [] e = absurd (cc)
+
+-- a line begins as a cell does
+row_of : (body : List (Symbol Terminal Phrase)) (c : Terminal) → IsRule Cells c body → IsRule Rows c body
+row_of body k cells cs marks each ts e = let (r, rs, c, s) = cells cs marks each ts e in (r ∷ rs, c, s)
+
+denied_condition : IsRule Rows Tilde (Class Exists ∷ Part Asked ∷ [])
+denied_condition _ _ (class (part {cs = cs} asked none)) (t ∷ x ∷ ts) e =
+    let (b, q, qs, s) = asked ts (let rest : map terminal_of ts ≡ cs ++ [] = cc in rest ∙ append-nil cs) in
+    let tilde : Is (a_symbol (codes "~")) t = is_symbol t Tilde refl (λ h. cc) cc in
+    let exists_ : Is (a_word (codes "exists")) x = is_word x Exists refl (λ h. cc) cc in
+    ([], record { denied = true; in_brackets = b; first = q; others = qs }, (tilde, (exists_, s)))
+denied_condition _ _ (class (part asked none)) (t ∷ []) e = absurd (cc)
+denied_condition _ _ (class (part asked none)) [] e = absurd (cc)
+
+plain_condition : IsRule Rows Exists (Part Asked ∷ [])
+plain_condition _ _ (part {cs = cs} asked none) (x ∷ ts) e =
+    let (b, q, qs, s) = asked ts (behind_first x ts Exists cs e) in
+    ([], record { denied = false; in_brackets = b; first = q; others = qs }, (is_word x Exists refl (λ h. cc) cc, s))
+plain_condition _ _ (part asked none) [] e = absurd (cc)
+
+-- equations
+equation_register : IsRule Equations Number (register_and MoreEquations)
+equation_register _ _ (class (part {cs = xs} {ds = ys} any (class (class (part {cs = cs} more none))))) (t ∷ ts) e =
+    let (n, v, rest, left, spells) = register_of xs any ts (cs ++ []) cc in
+    let (es, s) = more rest (left ∙ append-nil cs) in
+    let (thread, is_thread) = is_number t cc in
+    (of_register thread t.at n v, es, ((is_thread, refl), spells (spelled_equations es) s))
+equation_register _ _ (class (part any (class (class (part more none))))) [] e = absurd (cc)
+
+equation_bracketed : IsRule Equations OpenBracket (bracketed_and MoreEquations)
+equation_bracketed _ _ (part {cs = xs} {ds = ys} any (class (class (class (part {cs = cs} more none))))) (o ∷ ts) e =
+    let (n, v, rest, left, spells) = bracketed_of xs any ts (cs ++ []) cc in
+    let (es, s) = more rest (left ∙ append-nil cs) in
+    let opens : Is (a_symbol (codes "[")) o = is_symbol o OpenBracket refl (λ h. cc) cc in
+    (of_location (record { location = bracketed n; value = v }), es, (opens, spells (spelled_equations es) s))
+equation_bracketed _ _ (part any (class (class (class (part more none))))) [] e = absurd (cc)
+
+equation_named : (c : Terminal) → is_name c ≡ true → IsRule Equations c (number_and MoreEquations)
+equation_named c h _ _ (class (class (part {cs = cs} more none))) (n ∷ ts) e =
+    let (v, rest, left, spells) = number_of ts (cs ++ []) cc in
+    let (es, s) = more rest (left ∙ append-nil cs) in
+    let named : Is (a_name (named_of n)) n = is_named n c h cc in
+    (of_location (record { location = bare (named_of n); value = v }), es, (named, spells (spelled_equations es) s))
+equation_named c h _ _ (class (class (part more none))) [] e = absurd (cc)
+
+-- behind exists stand equations, in brackets or not
+asked_of : (body : List (Symbol Terminal Phrase)) (c : Terminal) → IsRule Equations c body → IsRule Asked c body
+asked_of body k equations cs marks each ts e = let (q, qs, s) = equations cs marks each ts e in (false, q, qs, s)
+
+asked_brackets : IsRule Asked Open (Part Equations ∷ Class Close ∷ [])
+asked_brackets _ _ (part {cs = xs} equations (class none)) (o ∷ ts) e =
+    let (us, vs, same, here, behind) = map-part terminal_of ts xs (Close ∷ []) cc in
+    let (q, qs, s) = equations us here in
+    by q qs (is_symbol o Open refl (λ h. cc) cc) us vs (sym same) s behind
+  where
+    by : (q : Equation) (qs : List Equation) → Is (a_symbol (codes "(")) o → (us vs : List Token) → us ++ vs ≡ ts
+        → Spell (spelled_conjunction q qs) us → map terminal_of vs ≡ Close ∷ [] → Spelled Asked (o ∷ ts)
+    by q qs opens us (z ∷ []) same s f =
+        let closes : Is (a_symbol (codes ")")) z = is_symbol z Close refl (λ h. cc) cc in (
+          true,
+          q,
+          qs,
+          (
+            opens,
+            subst (Spell (spelled_conjunction q qs ++ a_symbol (codes ")") ∷ [])) same
+                (spell-append (spelled_conjunction q qs) (a_symbol (codes ")") ∷ []) us (z ∷ []) s (closes, tt)),
+          ),
+        )
+    by q qs opens us vs same s f = absurd (cc)
+asked_brackets _ _ (part equations (class none)) [] e = absurd (cc)
+
+equations_more : IsRule MoreEquations And (Part Equations ∷ [])
+equations_more _ _ (part {cs = cs} more none) (t ∷ ts) e =
+    let (q, qs, s) = more ts (behind_first t ts And cs e) in
+    (q ∷ qs, (is_symbol t And refl (λ h. cc) cc, s))
+equations_more _ _ (part more none) [] e = absurd (cc)
+
+any_name : (c : Terminal) → is_name c ≡ true → IsRule AnyName c []
+any_name c h _ _ none (t ∷ []) e = (named_of t, (is_named t c h cc, tt))
+any_name c h _ _ none (t ∷ u ∷ ts) e = absurd (cc)
+any_name c h _ _ none [] e = absurd (cc)
+
+listing_rule : IsRule ListingPart OpenBrace (Part Values ∷ Part Columns ∷ Part Rows ∷ [])
+listing_rule _ _ (part {cs = xs} {ds = ys} block (part {cs = zs} {ds = ws} columns (part {cs = cs} rows none))) (o ∷ ts) e =
+    let (us, vs, same, here, behind) = map-part terminal_of ts xs (zs ++ (cs ++ [])) cc in
+    let (vs1, vs2, same1, here1, behind1) = map-part terminal_of vs zs (cs ++ []) behind in
+    let (b, s) = block us here in
+    let (n, ns, s1) = columns vs1 here1 in
+    let (rs, c, s2) = rows vs2 (behind1 ∙ append-nil cs) in
+    let all : us ++ (vs1 ++ vs2) ≡ ts = cc in
+    let opens : Is (a_symbol (codes "{")) o = is_symbol o OpenBrace refl (λ h. cc) cc in
+    let head : List Expected = a_name n ∷ spelled_columns ns in (
+      record { block = b; first_column = n; columns = ns; rows = rs; condition = c },
+      (
+        opens,
+        subst (Spell (spelled_block b ++ (head ++ spelled_rows rs c))) all
+            (spell-append (spelled_block b) (head ++ spelled_rows rs c) us (vs1 ++ vs2) s
+            (spell-append head (spelled_rows rs c) vs1 vs2 s1 s2)),
+      ),
+    )
+listing_rule _ _ (part block (part columns (part rows none))) [] e = absurd (cc)
+
+rule : (n : Phrase) (c : Terminal) → MatchOption (behind n c) (Unit {0})
+    (λ body. (cs : List Terminal) (marks : List Bool) → Each Means body cs marks → Means n (c ∷ cs) (rules.deep n c ∷ marks))
+rule ListingPart OpenBrace = listing_rule
+rule ListingPart _ = tt
+rule Values CloseBrace = block_ends
+rule Values OpenBracket = block_bracketed
+rule Values Mov = block_named Mov refl
+rule Values Mfence = block_named Mfence refl
+rule Values Exists = block_named Exists refl
+rule Values Name = block_named Name refl
+rule Values _ = tt
+rule MoreValues CloseBrace = values_end
+rule MoreValues Semicolon = values_more
+rule MoreValues _ = tt
+rule Columns Mov = columns_named Mov refl
+rule Columns Mfence = columns_named Mfence refl
+rule Columns Exists = columns_named Exists refl
+rule Columns Name = columns_named Name refl
+rule Columns _ = tt
+rule MoreColumns Bar = columns_more
+rule MoreColumns Semicolon = columns_end
+rule MoreColumns _ = tt
+rule Rows Tilde = denied_condition
+rule Rows Exists = plain_condition
+rule Rows Mov = row_of _ Mov cells_move
+rule Rows Mfence = row_of _ Mfence cells_fence
+rule Rows Bar = row_of _ Bar cells_bar
+rule Rows Semicolon = row_of _ Semicolon cells_end
+rule Rows _ = tt
+rule Cells Mov = cells_move
+rule Cells Mfence = cells_fence
+rule Cells Bar = cells_bar
+rule Cells Semicolon = cells_end
+rule Cells _ = tt
+rule MoreCells Bar = more_bar
+rule MoreCells Semicolon = more_end
+rule MoreCells _ = tt
+rule Move OpenBracket = store_move
+rule Move Mov = load_move Mov refl
+rule Move Mfence = load_move Mfence refl
+rule Move Exists = load_move Exists refl
+rule Move Name = load_move Name refl
+rule Move _ = tt
+rule Asked Open = asked_brackets
+rule Asked Number = asked_of _ Number equation_register
+rule Asked OpenBracket = asked_of _ OpenBracket equation_bracketed
+rule Asked Mov = asked_of _ Mov (equation_named Mov refl)
+rule Asked Mfence = asked_of _ Mfence (equation_named Mfence refl)
+rule Asked Exists = asked_of _ Exists (equation_named Exists refl)
+rule Asked Name = asked_of _ Name (equation_named Name refl)
+rule Asked _ = tt
+rule Equations Number = equation_register
+rule Equations OpenBracket = equation_bracketed
+rule Equations Mov = equation_named Mov refl
+rule Equations Mfence = equation_named Mfence refl
+rule Equations Exists = equation_named Exists refl
+rule Equations Name = equation_named Name refl
+rule Equations _ = tt
+rule MoreEquations And = equations_more
+rule MoreEquations _ = tt
+rule AnyName Mov = any_name Mov refl
+rule AnyName Mfence = any_name Mfence refl
+rule AnyName Exists = any_name Exists refl
+rule AnyName Name = any_name Name refl
+rule AnyName _ = tt
+
+-- tokens whose terminals the table reads are a listing
+pub listing_of_derives : (ts : List Token) (marks : List Bool) → Derives rules ListingPart (map terminal_of ts) marks → IsListing ts
+listing_of_derives ts marks reads =
+    meaning rules Means (record { empty = means-end; rule = rule }) ListingPart (map terminal_of ts) marks reads ts refl
+
+-- From the grammar to the table: the terminals of a listing are read.
+
+-- the terminal of what is expected
+abbrev terminal : Expected → Terminal
+terminal (a_name n) = word_terminal n.word
+terminal (a_word w) = word_terminal w
+terminal (a_number n) = Number
+terminal (number_at n at) = Number
+terminal (a_symbol s) = symbol_terminal s
+terminal (symbol_at s at) = symbol_terminal s
+
+terminal-of_token : (e : Expected) (t : Token) → Is e t → terminal_of t ≡ terminal e
+terminal-of_token (a_name n) t h = ap (λ (k : Kind). kind_terminal k t.piece) h.0 ∙ ap word_terminal h.1
+terminal-of_token (a_word w) t h = ap (λ (k : Kind). kind_terminal k t.piece) h.0 ∙ ap word_terminal h.1
+terminal-of_token (a_number n) t h = ap (λ (k : Kind). kind_terminal k t.piece) h
+terminal-of_token (number_at n at) t h = ap (λ (k : Kind). kind_terminal k t.piece) h.0
+terminal-of_token (a_symbol s) t h = ap (λ (k : Kind). kind_terminal k t.piece) h.0 ∙ ap symbol_terminal h.1
+terminal-of_token (symbol_at s at) t h = ap (λ (k : Kind). kind_terminal k t.piece) h.0 ∙ ap symbol_terminal h.1
+
+terminals-of_tokens : (es : List Expected) (ts : List Token) → Spell es ts → map terminal_of ts ≡ map terminal es
+terminals-of_tokens [] [] s = refl
+terminals-of_tokens [] (t ∷ ts) s = absurd s
+terminals-of_tokens (e ∷ es) [] s = absurd s
+terminals-of_tokens (e ∷ es) (t ∷ ts) s =
+    let here = terminal-of_token e t s.0 in
+    let others = terminals-of_tokens es ts s.1 in
+    λ i. here i ∷ others i
+
+abbrev Reads : Phrase → List Terminal → Type 0
+Reads n cs = IsText (Derives rules n) cs
+
+begin : (n : Phrase) (c : Terminal) (body : List (Symbol Terminal Phrase)) → behind n c ≡ Some body
+    → {cs : List Terminal} {marks : List Bool} → Each (Derives rules) body cs marks → (ds : List Terminal) → ds ≡ c ∷ cs → Reads n ds
+begin n c body e {marks = marks} each ds same = (deep n c ∷ marks, derives-begin n c body e each same refl)
+
+-- a token, and behind it one part
+lead : (n : Phrase) (c : Terminal) (m : Phrase) → behind n c ≡ Some (Part m ∷ []) → (cs : List Terminal) → Reads m cs → Reads n (c ∷ cs)
+lead n c m e cs (_, d) =
+    begin n c (Part m ∷ []) e (part d none) (c ∷ cs) (ap (λ (ds : List Terminal). c ∷ ds) (sym (append-nil cs)))
+
+abbrev TakesNames : Phrase → List (Symbol Terminal Phrase) → Type 0
+TakesNames n body = (c : Terminal) → is_name c ≡ true → behind n c ≡ Some body
+
+values_names : TakesNames Values (number_and MoreValues)
+values_names Mov h = refl
+values_names Mfence h = refl
+values_names Exists h = refl
+values_names Name h = refl
+values_names c h = absurd (cc)
+
+columns_names : TakesNames Columns (Part MoreColumns ∷ [])
+columns_names Mov h = refl
+columns_names Mfence h = refl
+columns_names Exists h = refl
+columns_names Name h = refl
+columns_names c h = absurd (cc)
+
+move_names : TakesNames Move (Class Comma ∷ Class OpenBracket ∷ Part AnyName ∷ Class CloseBracket ∷ [])
+move_names Mov h = refl
+move_names Mfence h = refl
+move_names Exists h = refl
+move_names Name h = refl
+move_names c h = absurd (cc)
+
+asked_names : TakesNames Asked (number_and MoreEquations)
+asked_names Mov h = refl
+asked_names Mfence h = refl
+asked_names Exists h = refl
+asked_names Name h = refl
+asked_names c h = absurd (cc)
+
+equations_names : TakesNames Equations (number_and MoreEquations)
+equations_names Mov h = refl
+equations_names Mfence h = refl
+equations_names Exists h = refl
+equations_names Name h = refl
+equations_names c h = absurd (cc)
+
+any_names : TakesNames AnyName []
+any_names Mov h = refl
+any_names Mfence h = refl
+any_names Exists h = refl
+any_names Name h = refl
+any_names c h = absurd (cc)
+
+read_any : (w : List ℕ) → Reads AnyName (word_terminal w ∷ [])
+read_any w = begin AnyName (word_terminal w) [] (any_names (word_terminal w) (word_is_name w)) none (word_terminal w ∷ []) refl
+
+-- loc "=" NUMBER, and what stands behind
+read_stated : (n m : Phrase) → behind n OpenBracket ≡ Some (bracketed_and m) → TakesNames n (number_and m) → (s : Stated)
+    → (es : List Expected) → Reads m (map terminal es) → Reads n (map terminal (spelled_stated s ++ es))
+unfolding symbol_terminal
+read_stated n m bracket names s es (_, q) = by s.location
+  where
+    by : (l : Location) → Reads n (map terminal ((spelled_location l ++ (a_symbol (codes "=") ∷ a_number s.value ∷ [])) ++ es))
+    by (bare x) =
+        begin n (word_terminal x.word) (number_and m) (names (word_terminal x.word) (word_is_name x.word)) (class (class (part q none)))
+        (word_terminal x.word ∷ Equals ∷ Number ∷ map terminal es)
+        (ap (λ (cs : List Terminal). word_terminal x.word ∷ Equals ∷ Number ∷ cs) (sym (append-nil (map terminal es))))
+    by (bracketed x) =
+        let (_, a) = read_any x.word in
+        begin n OpenBracket (bracketed_and m) bracket (part a (class (class (class (part q none)))))
+        (OpenBracket ∷ word_terminal x.word ∷ CloseBracket ∷ Equals ∷ Number ∷ map terminal es)
+        (ap (λ (cs : List Terminal). OpenBracket ∷ word_terminal x.word ∷ CloseBracket ∷ Equals ∷ Number ∷ cs) (sym (append-nil (map terminal es))))
+
+read_values : (ss : List Stated) (last : Bool) → Reads MoreValues (map terminal (spelled_values ss last))
+unfolding symbol_terminal
+read_values [] false = begin MoreValues CloseBrace [] refl none (CloseBrace ∷ []) refl
+read_values [] true = lead MoreValues Semicolon Values refl (CloseBrace ∷ []) (begin Values CloseBrace [] refl none (CloseBrace ∷ []) refl)
+read_values (s ∷ ss) last =
+    lead MoreValues Semicolon Values refl (map terminal (spelled_stated s ++ spelled_values ss last))
+    (read_stated Values MoreValues refl values_names s (spelled_values ss last) (read_values ss last))
+
+read_block : (b : Block) → Reads Values (map terminal (spelled_block b))
+unfolding symbol_terminal
+read_block no_values = begin Values CloseBrace [] refl none (CloseBrace ∷ []) refl
+read_block (values s ss last) = read_stated Values MoreValues refl values_names s (spelled_values ss last) (read_values ss last)
+
+read_columns_of : (n : Named) (es : List Expected) → Reads MoreColumns (map terminal es) → Reads Columns (word_terminal n.word ∷ map terminal es)
+read_columns_of n es q = lead Columns (word_terminal n.word) MoreColumns (columns_names (word_terminal n.word) (word_is_name n.word)) (map terminal es) q
+
+read_columns : (ns : List Named) → Reads MoreColumns (map terminal (spelled_columns ns))
+unfolding symbol_terminal
+read_columns [] = begin MoreColumns Semicolon [] refl none (Semicolon ∷ []) refl
+read_columns (n ∷ ns) =
+    lead MoreColumns Bar Columns refl (word_terminal n.word ∷ map terminal (spelled_columns ns)) (read_columns_of n (spelled_columns ns) (read_columns ns))
+
+read_store : (location : Named) → Reads Move (OpenBracket ∷ word_terminal location.word ∷ CloseBracket ∷ Comma ∷ Dollar ∷ Number ∷ [])
+read_store location =
+    let (_, a) = read_any location.word in
+    begin Move OpenBracket (Part AnyName ∷ Class CloseBracket ∷ Class Comma ∷ Class Dollar ∷ Class Number ∷ []) refl
+    (part a (class (class (class (class none)))))
+    (OpenBracket ∷ word_terminal location.word ∷ CloseBracket ∷ Comma ∷ Dollar ∷ Number ∷ []) refl
+
+read_load : (register location : Named) → Reads Move (word_terminal register.word ∷ Comma ∷ OpenBracket ∷ word_terminal location.word ∷ CloseBracket ∷ [])
+read_load register location =
+    let (_, a) = read_any location.word in
+    begin Move (word_terminal register.word) (Class Comma ∷ Class OpenBracket ∷ Part AnyName ∷ Class CloseBracket ∷ [])
+    (move_names (word_terminal register.word) (word_is_name register.word)) (class (class (part a (class none))))
+    (word_terminal register.word ∷ Comma ∷ OpenBracket ∷ word_terminal location.word ∷ CloseBracket ∷ []) refl
+
+-- MOV, what it moves, and what stands behind
+read_move : (n : Phrase) → behind n Mov ≡ Some (Part Move ∷ Part MoreCells ∷ []) → (cs ds : List Terminal) → Reads Move cs → Reads MoreCells ds
+    → Reads n (Mov ∷ (cs ++ ds))
+read_move n moves cs ds (_, a) (_, q) =
+    begin n Mov (Part Move ∷ Part MoreCells ∷ []) moves (part a (part q none)) (Mov ∷ (cs ++ ds))
+    (ap (λ (es : List Terminal). Mov ∷ (cs ++ es)) (sym (append-nil ds)))
+
+-- a cell and what stands behind it, where that is read behind an instruction and where the cell is empty
+read_cell : (n : Phrase) → behind n Mov ≡ Some (Part Move ∷ Part MoreCells ∷ []) → behind n Mfence ≡ Some (Part MoreCells ∷ [])
+    → (c : Cell) (es : List Expected) → Reads MoreCells (map terminal es) → Reads n (map terminal es)
+    → Reads n (map terminal (spelled_cell c ++ es))
+unfolding word_terminal symbol_terminal
+read_cell n moves fences empty es more plain = plain
+read_cell n moves fences (instruction at fence) es more plain = lead n Mfence MoreCells fences (map terminal es) more
+read_cell n moves fences (instruction at (store location value)) es more plain =
+    read_move n moves (OpenBracket ∷ word_terminal location.word ∷ CloseBracket ∷ Comma ∷ Dollar ∷ Number ∷ []) (map terminal es) (read_store location) more
+read_cell n moves fences (instruction at (load register location)) es more plain =
+    read_move n moves (word_terminal register.word ∷ Comma ∷ OpenBracket ∷ word_terminal location.word ∷ CloseBracket ∷ []) (map terminal es)
+    (read_load register location) more
+
+read_cells : (n : Phrase) → behind n Bar ≡ Some (Part Cells ∷ []) → behind n Semicolon ≡ Some (Part Rows ∷ []) → (cs : List Cell) (end : ℕ)
+    → (es : List Expected) → Reads Rows (map terminal es) → Reads n (map terminal (spelled_cells cs end ++ es))
+unfolding symbol_terminal
+read_cells n bar ends [] end es q = lead n Semicolon Rows ends (map terminal es) q
+read_cells n bar ends (c ∷ cs) end es q =
+    lead n Bar Cells bar (map terminal ((spelled_cell c ++ spelled_cells cs end) ++ es))
+    (subst (λ (fs : List Expected). Reads Cells (map terminal fs)) (sym (append_assoc (spelled_cell c) (spelled_cells cs end) es))
+    (read_cell Cells refl refl c (spelled_cells cs end ++ es) (read_cells MoreCells refl refl cs end es q) (read_cells Cells refl refl cs end es q)))
+
+read_row : (r : Row) (es : List Expected) → Reads Rows (map terminal es) → Reads Rows (map terminal (spelled_row r ++ es))
+read_row r es q =
+    subst (λ (fs : List Expected). Reads Rows (map terminal fs)) (sym (append_assoc (spelled_cell r.first) (spelled_cells r.others r.end) es))
+    (read_cell Rows refl refl r.first (spelled_cells r.others r.end ++ es)
+    (read_cells MoreCells refl refl r.others r.end es q) (read_cells Rows refl refl r.others r.end es q))
+
+-- an equation, and what stands behind
+read_equation : (n : Phrase) → behind n Number ≡ Some (register_and MoreEquations) → behind n OpenBracket ≡ Some (bracketed_and MoreEquations)
+    → TakesNames n (number_and MoreEquations) → (e : Equation) (es : List Expected) → Reads MoreEquations (map terminal es)
+    → Reads n (map terminal (spelled_equation e ++ es))
+unfolding symbol_terminal
+read_equation n number bracket names (of_register thread at register value) es (_, q) =
+    let (_, a) = read_any register.word in
+    begin n Number (register_and MoreEquations) number (class (part a (class (class (part q none)))))
+    (Number ∷ Colon ∷ word_terminal register.word ∷ Equals ∷ Number ∷ map terminal es)
+    (ap (λ (cs : List Terminal). Number ∷ Colon ∷ word_terminal register.word ∷ Equals ∷ Number ∷ cs) (sym (append-nil (map terminal es))))
+read_equation n number bracket names (of_location s) es q = read_stated n MoreEquations bracket names s es q
+
+read_equations : (es : List Equation) → Reads MoreEquations (map terminal (spelled_equations es))
+unfolding symbol_terminal
+read_equations [] = ([], derives-end MoreEquations refl)
+read_equations (e ∷ es) =
+    lead MoreEquations And Equations refl (map terminal (spelled_equation e ++ spelled_equations es))
+    (read_equation Equations refl refl equations_names e (spelled_equations es) (read_equations es))
+
+read_asked : (b : Bool) (e : Equation) (es : List Equation) → Reads Asked (map terminal (spelled_asked b e es))
+unfolding symbol_terminal
+read_asked false e es = read_equation Asked refl refl asked_names e (spelled_equations es) (read_equations es)
+read_asked true e es =
+    let (_, q) = read_equation Equations refl refl equations_names e (spelled_equations es) (read_equations es) in
+    begin Asked Open (Part Equations ∷ Class Close ∷ []) refl (part q (class none))
+    (map terminal (spelled_asked true e es))
+    (ap (λ (cs : List Terminal). Open ∷ cs) (map-append terminal (spelled_conjunction e es) (a_symbol (codes ")") ∷ [])))
+
+read_condition : (denied in_brackets : Bool) (e : Equation) (es : List Equation)
+    → Reads Rows (map terminal (spelled_denial denied ++ (a_word (codes "exists") ∷ spelled_asked in_brackets e es)))
+unfolding word_terminal symbol_terminal
+read_condition false b e es = lead Rows Exists Asked refl (map terminal (spelled_asked b e es)) (read_asked b e es)
+read_condition true b e es =
+    let (_, q) = read_asked b e es in
+    begin Rows Tilde (Class Exists ∷ Part Asked ∷ []) refl (class (part q none)) (Tilde ∷ Exists ∷ map terminal (spelled_asked b e es))
+    (ap (λ (cs : List Terminal). Tilde ∷ Exists ∷ cs) (sym (append-nil (map terminal (spelled_asked b e es)))))
+
+read_rows : (rs : List Row) (c : Condition) → Reads Rows (map terminal (spelled_rows rs c))
+read_rows [] c = read_condition c.denied c.in_brackets c.first c.others
+read_rows (r ∷ rs) c = read_row r (spelled_rows rs c) (read_rows rs c)
+
+read_listing : (l : Listing) → Reads ListingPart (map terminal (spelled_listing l))
+unfolding symbol_terminal
+read_listing l =
+    let (_, b) = read_block l.block in
+    let (_, h) = read_columns_of l.first_column (spelled_columns l.columns) (read_columns l.columns) in
+    let (_, q) = read_rows l.rows l.condition in
+    begin ListingPart OpenBrace (Part Values ∷ Part Columns ∷ Part Rows ∷ []) refl (part b (part h (part q none)))
+    (map terminal (spelled_listing l)) (ap (λ (cs : List Terminal). OpenBrace ∷ cs) (simp (map-append, append-nil)))
+
+-- the terminals of a listing are read
+pub derives_of_listing : (ts : List Token) → IsListing ts → IsText (Derives rules ListingPart) (map terminal_of ts)
+derives_of_listing ts (l, s) =
+    subst (Reads ListingPart) (sym (terminals-of_tokens (spelled_listing l) ts s)) (read_listing l)

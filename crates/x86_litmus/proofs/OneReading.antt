@@ -1,0 +1,65 @@
+-- A text has one case at most, and none where it has a first fault.
+use Rattle.std.proofs.Common.{◌≡◌, ◌≢◌, ℕ, ◌+◌, ◌≤◌, ◌⊎◌, inl, inr, List, length, drop, refl, sym, ap, subst, ◌∙◌, arith}
+use Rattle.std.proofs.lemmas.List.{take-append-drop}
+use Rattle.pc_common.specs.Case.{Case}
+use Rattle.ll_grammar.specs.FirstFault.{IsFaultAt}
+use Rattle.x86_tokens.specs.Token.{Token}
+use Rattle.x86_tokens.specs.Spells.{Spells, IsLexicalFault}
+use Rattle.x86_tokens.specs.Header.{Header, body, fault, header_of}
+use Rattle.x86_tokens.proofs.SpellsLaws.{spells-unique, spells-no_fault}
+use Rattle.x86_litmus.specs.Syntax.{IsListingOf, IsListing}
+use Rattle.x86_litmus.specs.Said.{Said}
+use Rattle.x86_litmus.specs.Faults.{Outcome, faulty, says, found, outcome_of}
+use Rattle.x86_litmus.specs.Cases.{case_of}
+use Rattle.x86_litmus.specs.Reading.{items_in}
+use Rattle.x86_litmus.specs.Answer.{IsBody, ComesTo, CaseOf, IsTokenFault, IsX86Fault}
+use Rattle.x86_litmus.specs.declared.fault.X86Fault.{X86Fault}
+use Rattle.x86_litmus.specs.declared.fault.X86Fault.TheVariants.{Lexical, Syntax, Content, Memory}
+use Rattle.x86_litmus.proofs.Readings.{read_listing}
+
+pub one_body : (bytes : List ℕ) {j k : ℕ} → header_of bytes ≡ body j → header_of bytes ≡ body k → j ≡ k
+one_body bytes {j} {k} e f = let same : body j ≡ body k = sym e ∙ f in cc
+
+pub no_body : (bytes : List ℕ) {j k : ℕ} → header_of bytes ≡ body j → header_of bytes ≡ fault k → ⊥
+no_body bytes {j} {k} e f = let same : body j ≡ fault k = sym e ∙ f in cc
+
+-- a text has one list of tokens behind its header
+pub one_list : {bytes : List ℕ} {ts us : List Token} → IsBody bytes ts → IsBody bytes us → ts ≡ us
+one_list {bytes} {ts} {us} s t =
+    spells-unique s.spelled (subst (λ (from : ℕ). Spells bytes from us) (one_body bytes t.header s.header) t.spelled)
+
+-- and comes to one thing
+pub one_outcome : {bytes : List ℕ} {x y : Outcome} → ComesTo bytes x → ComesTo bytes y → x ≡ y
+one_outcome s t =
+    sym s.comes
+    ∙ ap outcome_of (sym (read_listing s.listing s.tokens s.is_listing) ∙ ap items_in (one_list s.spelled t.spelled) ∙ read_listing t.listing t.tokens t.is_listing)
+    ∙ t.comes
+
+pub one_case : (bytes : List ℕ) (c d : Case) → CaseOf bytes c → CaseOf bytes d → c ≡ d
+one_case bytes c d (s, x, e) (t, y, f) =
+    let both : says s ≡ says t = one_outcome x y in
+    let same : s ≡ t = cc in
+    e ∙ ap case_of same ∙ sym f
+
+pub no_syntax_fault : (ts : List Token) (k : ℕ) → IsListing ts → IsFaultAt IsListing ts k → ⊥
+no_syntax_fault ts k l f =
+    let within : k ≤ length ts = f.within in
+    let not_end : k ≡ length ts → ⊥ = λ end. f.at_end end l in
+    f.through (omega arith) (drop (k + 1) ts, subst IsListing (sym (take-append-drop (k + 1) ts)) l)
+
+-- a text that is a listing has no fault but one of content
+pub no_lexical : {bytes : List ℕ} {x : Outcome} {from k : ℕ} → ComesTo bytes x → header_of bytes ≡ body from → IsLexicalFault bytes from k → ⊥
+no_lexical {bytes} {k = k} s e f =
+    spells-no_fault s.spelled.spelled (subst (λ (i : ℕ). IsLexicalFault bytes i k) (one_body bytes e s.spelled.header) f)
+
+pub no_token_fault : {bytes : List ℕ} {x : Outcome} (s : ComesTo bytes x) → (f : (k : ℕ) × (ts : List Token) × IsBody bytes ts × IsFaultAt IsListing ts k) → ⊥
+no_token_fault s (k, ts, spelled, f) =
+    no_syntax_fault ts k (s.listing, subst (IsListingOf s.listing) (one_list s.spelled spelled) s.is_listing) f
+
+pub no_fault : (bytes : List ℕ) (c : Case) (f : X86Fault) → CaseOf bytes c → f ≢ Memory → IsX86Fault bytes f → ⊥
+no_fault bytes c (Lexical place) (s, x, e) not (from, header, f) = no_lexical x header f
+no_fault bytes c (Syntax place) (s, x, e) not (inl header) = no_body bytes x.spelled.header header
+no_fault bytes c (Syntax place) (s, x, e) not (inr f) = no_token_fault x (f.k, f.tokens, f.spelled, f.fault_at)
+no_fault bytes c (Content kind place) (s, x, e) not f =
+    let both : says s ≡ faulty (found kind place.offset) = one_outcome x f in cc
+no_fault bytes c Memory x not f = not refl

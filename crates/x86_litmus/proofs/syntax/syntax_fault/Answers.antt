@@ -1,0 +1,16 @@
+use Rattle.std.proofs.Common.{◌≡◌, map, List, subst, ◌∙◌}
+use Rattle.ll_grammar.specs.Rules.{Derives}
+use Rattle.ll_grammar.specs.FirstFault.{IsAnswer}
+use Rattle.x86_litmus.specs.Terminals.{terminal_of as terminal_spec}
+use Rattle.x86_litmus.specs.Phrases.{rules}
+use Rattle.x86_litmus.specs.declared.terminal.Terminal.{Terminal}
+use Rattle.x86_litmus.specs.declared.phrase.Phrase.TheVariants.{Listing}
+use Rattle.x86_litmus.proofs.SyntaxFaults.{answer}
+use Rattle.x86_litmus.proofs.syntax.syntax_fault.Goals as goal
+
+pub returns : goal.returns
+returns c =
+    let read : c.deref.result.now ≡ map terminal_spec c.args.tokens.now = c.deref.ensures.value ∙ c.in_ok-terminals.ensures in
+    rw c.place_in.ensures
+    (answer c.args.tokens.now c.in_ok-first_fault.field-0
+    (subst (λ (cs : List Terminal). IsAnswer (Derives rules Listing) cs c.in_ok-first_fault.field-0) read c.in_ok-first_fault.ensures))

@@ -1,0 +1,50 @@
+-- What a listing's bytes say: a case, or the first fault. Faults of the header are judged first, then the lexical ones,
+-- those of syntax, and those of content.
+use Rattle.std.specs.Prelude.{◌≡◌, ℕ, ⊤, ◌⊎◌, List}
+use Rattle.ll_grammar.specs.FirstFault.{IsFaultAt}
+use Rattle.pc_common.specs.Case.{Case}
+use Rattle.pc_common.specs.declared.place.Place.{Place}
+use Rattle.x86_tokens.specs.Token.{Token, token_place}
+use Rattle.x86_tokens.specs.Spells.{Spells, IsLexicalFault}
+use Rattle.x86_tokens.specs.Header.{header_of, body, fault}
+use Rattle.x86_litmus.specs.Listing.{Listing}
+use Rattle.x86_litmus.specs.Syntax.{IsListingOf, IsListing}
+use Rattle.x86_litmus.specs.Items.{items_of}
+use Rattle.x86_litmus.specs.Said.{Said}
+use Rattle.x86_litmus.specs.Faults.{Outcome, faulty, says, found, outcome_of}
+use Rattle.x86_litmus.specs.Cases.{case_of}
+use Rattle.x86_litmus.specs.declared.fault.X86Fault.{X86Fault}
+use Rattle.x86_litmus.specs.declared.fault.X86Fault.TheVariants.{Lexical, Syntax, Content, Memory}
+
+-- behind their header the bytes spell these tokens
+pub record IsBody (bytes : List ℕ) (tokens : List Token) : Type 0 where
+  pub from : ℕ
+  pub header : header_of bytes ≡ body from
+  pub spelled : Spells bytes from tokens
+
+-- the bytes are a listing that comes to this
+pub record ComesTo (bytes : List ℕ) (outcome : Outcome) : Type 0 where
+  pub tokens : List Token
+  pub spelled : IsBody bytes tokens
+  pub listing : Listing
+  pub is_listing : IsListingOf listing tokens
+  pub comes : outcome_of (items_of listing) ≡ outcome
+
+-- the bytes say this case
+abbrev pub CaseOf : List ℕ → Case → Type 0
+CaseOf bytes case = (s : Said) × ComesTo bytes (says s) × (case ≡ case_of s)
+
+-- the bytes spell tokens behind their header, and no listing goes on at the one at this place
+pub record IsTokenFault (bytes : List ℕ) (place : Place) : Type 0 where
+  pub tokens : List Token
+  pub spelled : IsBody bytes tokens
+  pub k : ℕ
+  pub fault_at : IsFaultAt IsListing tokens k
+  pub at : place.offset ≡ token_place bytes tokens k
+
+-- the first fault of a listing; want of memory is tied to nothing
+abbrev pub IsX86Fault : List ℕ → X86Fault → Type 0
+IsX86Fault bytes (Lexical place) = (from : ℕ) × (header_of bytes ≡ body from) × IsLexicalFault bytes from place.offset
+IsX86Fault bytes (Syntax place) = (header_of bytes ≡ fault place.offset) ⊎ IsTokenFault bytes place
+IsX86Fault bytes (Content kind place) = ComesTo bytes (faulty (found kind place.offset))
+IsX86Fault bytes Memory = ⊤

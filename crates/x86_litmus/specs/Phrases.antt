@@ -1,0 +1,214 @@
+-- The grammar of listings as a table: what stands behind a token where a phrase begins with it.
+use Rattle.std.specs.Prelude.{◌≡◌, ℕ, Bool, true, false, List, [], ◌∷◌, Option, Some, None, refl, slice_get, if◌then◌else◌}
+use Rattle.ll_grammar.specs.Rules.{Rules}
+use Rattle.ll_grammar.specs.Steps.{IsStep}
+use Rattle.ll_grammar.specs.Predictable.{IsPredictable, HasTexts}
+use Rattle.ll_grammar.specs.Tables.{predictable_by, texts_by, is_predictable_part, is_ranked_part}
+use Rattle.ll_grammar.specs.declared.grammar.Symbol.{Symbol}
+use Rattle.ll_grammar.specs.declared.grammar.Step.{Step}
+use Rattle.ll_grammar.specs.declared.grammar.Symbol.TheVariants.{Class, Part}
+use Rattle.x86_litmus.specs.Terminals.{is_name}
+use Rattle.x86_litmus.specs.declared.terminal.Terminal.{Terminal}
+use Rattle.x86_litmus.specs.declared.terminal.Terminal.TheVariants.{Mov, Mfence, Exists, Name, Number, OpenBrace, CloseBrace, Semicolon, Bar, OpenBracket, CloseBracket, Comma, Dollar, Colon, Equals, Open, Close, Tilde, And, Other}
+use Rattle.x86_litmus.specs.declared.phrase.Phrase.{Phrase}
+use Rattle.x86_litmus.specs.declared.phrase.Phrase.TheVariants.{Listing, Values, MoreValues, Columns, MoreColumns, Rows, Cells, MoreCells, Move, Asked, Equations, MoreEquations, AnyName}
+
+-- "=" NUMBER, and what stands behind
+abbrev pub number_and : Phrase → List (Symbol Terminal Phrase)
+number_and n = Class Equals ∷ Class Number ∷ Part n ∷ []
+
+-- a location behind its bracket, "=" NUMBER, and what stands behind
+abbrev pub bracketed_and : Phrase → List (Symbol Terminal Phrase)
+bracketed_and n = Part AnyName ∷ Class CloseBracket ∷ number_and n
+
+-- a register behind its thread, "=" NUMBER, and what stands behind
+abbrev pub register_and : Phrase → List (Symbol Terminal Phrase)
+register_and n = Class Colon ∷ Part AnyName ∷ number_and n
+
+abbrev pub behind : Phrase → Terminal → Option (List (Symbol Terminal Phrase))
+behind Listing OpenBrace = Some (Part Values ∷ Part Columns ∷ Part Rows ∷ [])
+behind Values CloseBrace = Some []
+behind Values OpenBracket = Some (bracketed_and MoreValues)
+behind Values c = if is_name c then Some (number_and MoreValues) else None
+behind MoreValues CloseBrace = Some []
+behind MoreValues Semicolon = Some (Part Values ∷ [])
+behind Columns c = if is_name c then Some (Part MoreColumns ∷ []) else None
+behind MoreColumns Bar = Some (Part Columns ∷ [])
+behind MoreColumns Semicolon = Some []
+behind Rows Tilde = Some (Class Exists ∷ Part Asked ∷ [])
+behind Rows Exists = Some (Part Asked ∷ [])
+behind Rows Mov = Some (Part Move ∷ Part MoreCells ∷ [])
+behind Rows Mfence = Some (Part MoreCells ∷ [])
+behind Rows Bar = Some (Part Cells ∷ [])
+behind Rows Semicolon = Some (Part Rows ∷ [])
+behind Cells Mov = Some (Part Move ∷ Part MoreCells ∷ [])
+behind Cells Mfence = Some (Part MoreCells ∷ [])
+behind Cells Bar = Some (Part Cells ∷ [])
+behind Cells Semicolon = Some (Part Rows ∷ [])
+behind MoreCells Bar = Some (Part Cells ∷ [])
+behind MoreCells Semicolon = Some (Part Rows ∷ [])
+behind Move OpenBracket = Some (Part AnyName ∷ Class CloseBracket ∷ Class Comma ∷ Class Dollar ∷ Class Number ∷ [])
+behind Move c =
+    if is_name c then Some (Class Comma ∷ Class OpenBracket ∷ Part AnyName ∷ Class CloseBracket ∷ []) else None
+behind Asked Open = Some (Part Equations ∷ Class Close ∷ [])
+behind Asked Number = Some (register_and MoreEquations)
+behind Asked OpenBracket = Some (bracketed_and MoreEquations)
+behind Asked c = if is_name c then Some (number_and MoreEquations) else None
+behind Equations Number = Some (register_and MoreEquations)
+behind Equations OpenBracket = Some (bracketed_and MoreEquations)
+behind Equations c = if is_name c then Some (number_and MoreEquations) else None
+behind MoreEquations And = Some (Part Equations ∷ [])
+behind AnyName c = if is_name c then Some [] else None
+behind _ _ = None
+
+abbrev pub may_end : Phrase → Bool
+may_end MoreEquations = true
+may_end _ = false
+
+-- nothing nests, so no token stands too deep
+abbrev pub deep : Phrase → Terminal → Bool
+deep n c = false
+
+-- what the phrase makes of the stack at a token of this class
+abbrev pub IsPush : Phrase → Terminal → List (Symbol Terminal Phrase) → List (Symbol Terminal Phrase) → Step → Type 0
+IsPush n c old new step = IsStep (behind n c) (deep n c) old step new
+
+abbrev pub rules : Rules Terminal Phrase
+rules = record { behind = behind; may_end = may_end; deep = deep }
+
+-- which terminals may come next after a phrase
+abbrev pub follow : Phrase → Terminal → Bool
+follow Values c = is_name c
+follow MoreValues c = is_name c
+follow Columns Tilde = true
+follow Columns Exists = true
+follow Columns Mov = true
+follow Columns Mfence = true
+follow Columns Bar = true
+follow Columns Semicolon = true
+follow MoreColumns Tilde = true
+follow MoreColumns Exists = true
+follow MoreColumns Mov = true
+follow MoreColumns Mfence = true
+follow MoreColumns Bar = true
+follow MoreColumns Semicolon = true
+follow Move Bar = true
+follow Move Semicolon = true
+follow Equations Close = true
+follow MoreEquations Close = true
+follow AnyName CloseBracket = true
+follow AnyName Equals = true
+follow _ _ = false
+
+abbrev pub terminals : List Terminal
+terminals =
+    Mov ∷ Mfence ∷ Exists ∷ Name ∷ Number ∷ OpenBrace ∷ CloseBrace ∷ Semicolon ∷ Bar ∷ OpenBracket ∷ CloseBracket
+    ∷ Comma ∷ Dollar ∷ Colon ∷ Equals ∷ Open ∷ Close ∷ Tilde ∷ And ∷ Other ∷ []
+
+abbrev pub place : Terminal → ℕ
+place Mov = 0
+place Mfence = 1
+place Exists = 2
+place Name = 3
+place Number = 4
+place OpenBrace = 5
+place CloseBrace = 6
+place Semicolon = 7
+place Bar = 8
+place OpenBracket = 9
+place CloseBracket = 10
+place Comma = 11
+place Dollar = 12
+place Colon = 13
+place Equals = 14
+place Open = 15
+place Close = 16
+place Tilde = 17
+place And = 18
+place Other = 19
+
+pub listed : (c : Terminal) → slice_get terminals (place c) ≡ Some c
+listed Mov = refl
+listed Mfence = refl
+listed Exists = refl
+listed Name = refl
+listed Number = refl
+listed OpenBrace = refl
+listed CloseBrace = refl
+listed Semicolon = refl
+listed Bar = refl
+listed OpenBracket = refl
+listed CloseBracket = refl
+listed Comma = refl
+listed Dollar = refl
+listed Colon = refl
+listed Equals = refl
+listed Open = refl
+listed Close = refl
+listed Tilde = refl
+listed And = refl
+listed Other = refl
+
+predictable_part : (n : Phrase) → is_predictable_part rules follow terminals n ≡ true
+predictable_part Listing = refl
+predictable_part Values = refl
+predictable_part MoreValues = refl
+predictable_part Columns = refl
+predictable_part MoreColumns = refl
+predictable_part Rows = refl
+predictable_part Cells = refl
+predictable_part MoreCells = refl
+predictable_part Move = refl
+predictable_part Asked = refl
+predictable_part Equations = refl
+predictable_part MoreEquations = refl
+predictable_part AnyName = refl
+
+pub rules_predictable : IsPredictable rules follow
+rules_predictable = predictable_by rules follow terminals place listed predictable_part
+
+-- a terminal that leads to shorter phrases
+abbrev first : Phrase → Terminal
+first Listing = OpenBrace
+first Values = CloseBrace
+first MoreValues = CloseBrace
+first Columns = Name
+first MoreColumns = Semicolon
+first Rows = Exists
+first Cells = Semicolon
+first MoreCells = Semicolon
+first Move = OpenBracket
+first Asked = Name
+first Equations = Name
+first MoreEquations = And
+first AnyName = Name
+
+abbrev rank : Phrase → ℕ
+rank Listing = 5
+rank Columns = 1
+rank Rows = 3
+rank Cells = 4
+rank MoreCells = 4
+rank Move = 1
+rank Asked = 2
+rank Equations = 2
+rank MoreEquations = 1
+rank _ = 0
+
+ranked_part : (n : Phrase) → is_ranked_part rules first rank n ≡ true
+ranked_part Listing = refl
+ranked_part Values = refl
+ranked_part MoreValues = refl
+ranked_part Columns = refl
+ranked_part MoreColumns = refl
+ranked_part Rows = refl
+ranked_part Cells = refl
+ranked_part MoreCells = refl
+ranked_part Move = refl
+ranked_part Asked = refl
+ranked_part Equations = refl
+ranked_part MoreEquations = refl
+ranked_part AnyName = refl
+
+pub rules_texts : HasTexts rules
+rules_texts = texts_by rules first rank ranked_part

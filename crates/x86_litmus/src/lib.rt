@@ -1,0 +1,46 @@
+//! herd's X86 listings to cases.
+//!
+//! ```text
+//! body = "{" [init (";" init)* [";"]] "}" head ";" (line ";")* cond
+//! init = loc "=" NUMBER          loc = NAME | "[" NAME "]"
+//! head = NAME ("|" NAME)*        line = cell ("|" cell)*
+//! cell = (nothing) | MFENCE | MOV "[" NAME "]" "," "$" NUMBER
+//!      | MOV NAME "," "[" NAME "]"
+//! cond = ["~"] exists (conj | "(" conj ")")
+//! conj = eq ("/\" eq)*           eq = NUMBER ":" NAME "=" NUMBER | loc "=" NUMBER
+//! ```
+//!
+//! The body stands behind a header (`x86_tokens`). Words are names by their spelling and none is reserved: a
+//! cell that begins with `MOV` or `MFENCE` is an instruction, and what stands behind the lines begins with `exists` or `~`.
+//!
+//! Column k is thread k on core k. Instructions are numbered column by column, from top to bottom; a load reads
+//! the value that the condition gives its register. Location k, as first named, is the page (k, 0).
+//!
+//! A file is judged in passes, each over what the one before has found to be well-formed: the header, the tokens
+//! (`x86_tokens`), the grammar (`ll_grammar`, over the table of `phrase`), and what the text says from its start
+//! to its end (`spot` gives it item by item, `said` judges and keeps it). So a fault of content is never named
+//! before one of syntax.
+//!
+//! `specs/Syntax.antt` has the productions, `specs/Items.antt` what a listing says, `specs/Faults.antt` the faults
+//! of content, `specs/Cases.antt` the case and `specs/Answer.antt` the whole. The laws in `laws.rt` say that a text
+//! has a case or a first fault, one at most of each, and not both.
+#![tactic(auto)]
+
+mod case_of;
+mod content_fault;
+mod fault;
+mod faults;
+mod item;
+mod laws;
+mod locations;
+mod phrase;
+mod read;
+mod said;
+mod spot;
+mod syntax;
+mod terminal;
+mod values;
+
+pub use fault::X86Fault;
+pub use laws::{case_or_fault, no_fault, one_case, one_fault};
+pub use read::read_x86;

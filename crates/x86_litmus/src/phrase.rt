@@ -1,0 +1,219 @@
+ghost use Rattle.std.specs.Prelude.{◌≡◌, IfOk};
+ghost use Rattle.x86_litmus.specs.Terminals.{is_name as is_name_spec};
+ghost use Rattle.x86_litmus.specs.Phrases.{rules, follow, rules_predictable, rules_texts, IsPush};
+
+use self::Phrase::*;
+use super::terminal::Terminal::{self, *};
+use ll_grammar::{Grammar, Step, Symbol, push};
+use std::alloc::AllocError;
+
+/// The parts of a listing. Each goes on to the end of what it begins: the block to its brace, a line to the condition.
+#[derive(Clone, Copy)]
+pub(crate) enum Phrase {
+    Listing,
+    /// The block behind its brace or behind a `;`.
+    Values,
+    /// Behind a value of the block.
+    MoreValues,
+    /// A column's name, and what stands behind it in the head.
+    Columns,
+    /// Behind a column's name.
+    MoreColumns,
+    /// The lines and the condition.
+    Rows,
+    /// A cell behind a `|`, and what stands behind it.
+    Cells,
+    /// Behind an instruction.
+    MoreCells,
+    /// Behind `MOV`.
+    Move,
+    /// Behind `exists`.
+    Asked,
+    /// Equations, at least one.
+    Equations,
+    /// Behind an equation.
+    MoreEquations,
+    AnyName,
+}
+
+/// What waits on the recogniser's stack.
+type Waiting = Symbol<Terminal, Phrase>;
+
+/// Whether a token of this class is a name.
+fn is_name(terminal: Terminal) -> bool
+    ensures { result ≡ is_name_spec terminal }
+{
+    matches!(terminal, Mov | Mfence | Exists | Name)
+}
+
+impl Grammar<Terminal> for Phrase {
+    ghost rules = { rules };
+
+    ghost follow = { follow };
+
+    ghost predictable = { rules_predictable };
+
+    ghost has_texts = { rules_texts };
+
+    fn may_end(self) -> bool {
+        matches!(self, MoreEquations)
+    }
+
+    fn push(
+        self,
+        class: Terminal,
+        stack: &mut Vec<Symbol<Terminal, Phrase>>,
+    ) -> Result<Step, AllocError> {
+        match self {
+            Listing => push_listing(class, stack),
+            Values => push_values(class, stack),
+            MoreValues => push_more_values(class, stack),
+            Columns => push_columns(class, stack),
+            MoreColumns => push_more_columns(class, stack),
+            Rows => push_rows(class, stack),
+            Cells => push_cells(class, stack),
+            MoreCells => push_more_cells(class, stack),
+            Move => push_move(class, stack),
+            Asked => push_asked(class, stack),
+            Equations => push_equations(class, stack),
+            MoreEquations => push_more_equations(class, stack),
+            AnyName => push_any_name(class, stack),
+        }
+    }
+}
+
+fn push_listing(class: Terminal, stack: &mut Vec<Waiting>) -> Result<Step, AllocError>
+    ensures { IfOk result (IsPush Phrase.Listing class stack.old.items stack.new.items) }
+{
+    match class {
+        OpenBrace => push!(stack; [Values] [Columns] [Rows]),
+        _ => Ok(Step::Absent),
+    }
+}
+
+fn push_values(class: Terminal, stack: &mut Vec<Waiting>) -> Result<Step, AllocError>
+    ensures { IfOk result (IsPush Phrase.Values class stack.old.items stack.new.items) }
+{
+    match class {
+        CloseBrace => push!(stack;),
+        OpenBracket => push!(stack; [AnyName] CloseBracket Equals Number [MoreValues]),
+        name if is_name(name) => push!(stack; Equals Number [MoreValues]),
+        _ => Ok(Step::Absent),
+    }
+}
+
+fn push_more_values(class: Terminal, stack: &mut Vec<Waiting>) -> Result<Step, AllocError>
+    ensures { IfOk result (IsPush Phrase.MoreValues class stack.old.items stack.new.items) }
+{
+    match class {
+        CloseBrace => push!(stack;),
+        Semicolon => push!(stack; [Values]),
+        _ => Ok(Step::Absent),
+    }
+}
+
+fn push_columns(class: Terminal, stack: &mut Vec<Waiting>) -> Result<Step, AllocError>
+    ensures { IfOk result (IsPush Phrase.Columns class stack.old.items stack.new.items) }
+{
+    match class {
+        name if is_name(name) => push!(stack; [MoreColumns]),
+        _ => Ok(Step::Absent),
+    }
+}
+
+fn push_more_columns(class: Terminal, stack: &mut Vec<Waiting>) -> Result<Step, AllocError>
+    ensures { IfOk result (IsPush Phrase.MoreColumns class stack.old.items stack.new.items) }
+{
+    match class {
+        Bar => push!(stack; [Columns]),
+        Semicolon => push!(stack;),
+        _ => Ok(Step::Absent),
+    }
+}
+
+fn push_rows(class: Terminal, stack: &mut Vec<Waiting>) -> Result<Step, AllocError>
+    ensures { IfOk result (IsPush Phrase.Rows class stack.old.items stack.new.items) }
+{
+    match class {
+        Tilde => push!(stack; Exists [Asked]),
+        Exists => push!(stack; [Asked]),
+        Mov => push!(stack; [Move] [MoreCells]),
+        Mfence => push!(stack; [MoreCells]),
+        Bar => push!(stack; [Cells]),
+        Semicolon => push!(stack; [Rows]),
+        _ => Ok(Step::Absent),
+    }
+}
+
+fn push_cells(class: Terminal, stack: &mut Vec<Waiting>) -> Result<Step, AllocError>
+    ensures { IfOk result (IsPush Phrase.Cells class stack.old.items stack.new.items) }
+{
+    match class {
+        Mov => push!(stack; [Move] [MoreCells]),
+        Mfence => push!(stack; [MoreCells]),
+        Bar => push!(stack; [Cells]),
+        Semicolon => push!(stack; [Rows]),
+        _ => Ok(Step::Absent),
+    }
+}
+
+fn push_more_cells(class: Terminal, stack: &mut Vec<Waiting>) -> Result<Step, AllocError>
+    ensures { IfOk result (IsPush Phrase.MoreCells class stack.old.items stack.new.items) }
+{
+    match class {
+        Bar => push!(stack; [Cells]),
+        Semicolon => push!(stack; [Rows]),
+        _ => Ok(Step::Absent),
+    }
+}
+
+fn push_move(class: Terminal, stack: &mut Vec<Waiting>) -> Result<Step, AllocError>
+    ensures { IfOk result (IsPush Phrase.Move class stack.old.items stack.new.items) }
+{
+    match class {
+        OpenBracket => push!(stack; [AnyName] CloseBracket Comma Dollar Number),
+        name if is_name(name) => push!(stack; Comma OpenBracket [AnyName] CloseBracket),
+        _ => Ok(Step::Absent),
+    }
+}
+
+fn push_asked(class: Terminal, stack: &mut Vec<Waiting>) -> Result<Step, AllocError>
+    ensures { IfOk result (IsPush Phrase.Asked class stack.old.items stack.new.items) }
+{
+    match class {
+        Open => push!(stack; [Equations] Close),
+        Number => push!(stack; Colon [AnyName] Equals Number [MoreEquations]),
+        OpenBracket => push!(stack; [AnyName] CloseBracket Equals Number [MoreEquations]),
+        name if is_name(name) => push!(stack; Equals Number [MoreEquations]),
+        _ => Ok(Step::Absent),
+    }
+}
+
+fn push_equations(class: Terminal, stack: &mut Vec<Waiting>) -> Result<Step, AllocError>
+    ensures { IfOk result (IsPush Phrase.Equations class stack.old.items stack.new.items) }
+{
+    match class {
+        Number => push!(stack; Colon [AnyName] Equals Number [MoreEquations]),
+        OpenBracket => push!(stack; [AnyName] CloseBracket Equals Number [MoreEquations]),
+        name if is_name(name) => push!(stack; Equals Number [MoreEquations]),
+        _ => Ok(Step::Absent),
+    }
+}
+
+fn push_more_equations(class: Terminal, stack: &mut Vec<Waiting>) -> Result<Step, AllocError>
+    ensures { IfOk result (IsPush Phrase.MoreEquations class stack.old.items stack.new.items) }
+{
+    match class {
+        And => push!(stack; [Equations]),
+        _ => Ok(Step::Absent),
+    }
+}
+
+fn push_any_name(class: Terminal, stack: &mut Vec<Waiting>) -> Result<Step, AllocError>
+    ensures { IfOk result (IsPush Phrase.AnyName class stack.old.items stack.new.items) }
+{
+    match class {
+        name if is_name(name) => push!(stack;),
+        _ => Ok(Step::Absent),
+    }
+}

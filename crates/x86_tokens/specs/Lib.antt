@@ -1,0 +1,11 @@
+pub mod Token
+pub mod Bytes
+pub mod Piece
+pub mod Spells
+pub mod Span
+pub mod View
+pub mod Scan
+pub mod Fault
+pub mod Header
+pub mod Lines
+pub mod Laws

@@ -1,0 +1,48 @@
+ghost use Rattle.std.specs.Prelude.{◌≡◌, ◌^◌, ◌<◌, ◌≤◌, ◌++◌, length, IfOk, IfErr, OnOk};
+ghost use Rattle.x86_tokens.specs.Spells.{Spells};
+ghost use Rattle.x86_tokens.specs.Scan.{spans_of_piece};
+ghost use Rattle.x86_tokens.specs.Fault.{IsRefusal};
+
+use super::fault::LexFault;
+use super::list::{Span, Tokens};
+use super::scan::{Form, Piece, piece_at};
+use pc_common::{Memory, Place};
+use std::alloc::Global;
+
+/// The tokens of `bytes` from `from` on, in the order in which they stand there.
+///
+/// Blanks and comments are left out. `Lexical` is the first place where no piece begins or the piece
+/// that begins can't be completed. Takes time linear in the bytes, and memory for one span a token.
+pub fn tokens<'a>(alloc: Global, bytes: &'a [u8], from: usize) -> Result<Tokens<'a>, LexFault>
+    requires few { length bytes.now < 2 ^ 32 }
+    requires within { from ≤ length bytes.now }
+    ensures ok { IfOk result (λ ts. Spells bytes.now from ts) }
+    ensures err { IfErr result (λ e. IsRefusal bytes.now from e) }
+{
+    let mut spans = Vec::new(alloc);
+    let mut at = from;
+    while at < bytes.len() {
+        let Some(piece) = piece_at(bytes, at) else {
+            return Err(LexFault::Lexical(Place { offset: at as u32 }));
+        };
+        keep(&mut spans, at, piece)?;
+        at = piece.end;
+    }
+    Ok(Tokens::over(bytes, spans))
+}
+
+/// Puts the token that the piece at `at` is behind the earlier ones, if it is one.
+fn keep(spans: &mut Vec<Span>, at: usize, piece: Piece) -> Result<(), Memory>
+    requires rises { at ≤ piece.end }
+    requires few { piece.end < 2 ^ 32 }
+    ensures { OnOk result (spans.new.items ≡ spans.old.items ++ spans_of_piece at piece) }
+{
+    if let Form::Token(kind) = piece.form {
+        spans.push(Span {
+            kind,
+            at: at as u32,
+            len: (piece.end - at) as u32,
+        })?;
+    }
+    Ok(())
+}
