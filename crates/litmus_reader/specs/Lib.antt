@@ -3,6 +3,7 @@ pub mod Syntax
 pub mod Items
 pub mod Content
 pub mod Answer
+pub mod Lists
 pub mod Terminals
 pub mod Phrases
 pub mod Answers

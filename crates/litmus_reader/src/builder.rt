@@ -6,6 +6,7 @@ ghost use Rattle.pc_common.specs.declared.limits.TheConstants.{MAX_CORE, MAX_OPS
 ghost use Rattle.litmus_reader.specs.Items.{op_of, dependency_of, expectation_among, case_of};
 ghost use Rattle.litmus_reader.specs.Content.{Never, AgainStated, ValueFault, AgainExpected, IsFaultOf, IsClean};
 ghost use Rattle.litmus_reader.specs.Rows.{Answers};
+ghost use Rattle.litmus_reader.specs.Lists.{case_by, AreLists};
 ghost use Rattle.litmus_reader.specs.Builder.{stated_of, word_of, stated_expectations, HasLines, AddsMicroop, AddsRelationship, IsLineFault};
 ghost use Rattle.litmus_reader.specs.declared.item.ValueLine.{ValueLine as ValueLineText};
 ghost use Rattle.litmus_reader.specs.declared.item.Item.{Item as ItemText};
@@ -13,10 +14,11 @@ ghost use Rattle.litmus_reader.specs.declared.item.Item.{Item as ItemText};
 use super::content_fault::ContentFault;
 use super::fault::CaseFault;
 use super::item::{Action, Head, Item, Microop, Relationship, ValueLine};
+use super::lists::CaseLists;
 use super::marks::mark_fault;
 use super::rows::{microop_fault, place_of, relationship_fault};
 use super::values::Values;
-use pc_case::{Access, Case, Dependencies, Dependency, Expect, Op, OpId, Ops, StatedValues};
+use pc_case::{Access, Dependencies, Dependency, Expect, Op, OpId, Ops, StatedValues};
 use pc_common::{FaultKind, Listed, Memory, Place, Value};
 use std::alloc::Global;
 
@@ -234,21 +236,21 @@ impl CaseBuilder {
         ))
     }
 
-    /// The case that the lines say.
-    pub(crate) fn finish(self, alloc: Global) -> Result<Case, Memory>
+    /// The lists that the lines say.
+    pub(crate) fn lists(self, alloc: Global) -> Result<CaseLists, Memory>
         requires { (items : List ItemText) × HasLines self items × IsClean items }
-        ensures { IfOk result (λ c. (items : List ItemText) → HasLines self items → IsClean items
-            → c ≡ case_of items) }
+        ensures said { IfOk result (λ l. (items : List ItemText) → HasLines self items → IsClean items
+            → case_by l ≡ case_of items) }
+        ensures kept { IfOk result AreLists }
     {
         let (initial, final_values) = self.values(alloc)?;
         let expect = expect_of(self.expected);
-        Case::full(
-            alloc,
-            self.ops,
-            self.dependencies,
+        Ok(CaseLists {
+            ops: self.ops,
+            dependencies: self.dependencies,
             initial,
             final_values,
             expect,
-        )
+        })
     }
 }

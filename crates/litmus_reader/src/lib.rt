@@ -35,6 +35,7 @@ mod fault;
 mod format;
 mod item;
 mod laws;
+mod lists;
 mod marks;
 mod phrase;
 mod read;
@@ -46,4 +47,5 @@ mod values;
 
 pub use fault::CaseFault;
 pub use laws::{case_or_fault, faults_within, no_fault, one_case, one_fault};
-pub use read::read_case;
+pub use lists::CaseLists;
+pub use read::{read_case, read_lists};

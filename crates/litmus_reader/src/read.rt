@@ -2,10 +2,12 @@ ghost use Rattle.std.specs.Prelude.{◌<◌, ◌^◌, [], length, IfOk, IfErr, O
 ghost use Rattle.uspec_lexer.specs.Spells.{Spells};
 ghost use Rattle.litmus_reader.specs.Syntax.{IsTest};
 ghost use Rattle.litmus_reader.specs.Builder.{HasLines, HasTest};
+ghost use Rattle.litmus_reader.specs.Lists.{case_by, AreLists};
 ghost use Rattle.litmus_reader.specs.Answer.{CaseOf, IsCaseFault, CaseIn, IsContentFaultIn};
 
 use super::builder::CaseBuilder;
 use super::fault::CaseFault;
+use super::lists::CaseLists;
 use super::reading::item_at;
 use super::syntax::syntax_fault;
 use pc_case::Case;
@@ -22,32 +24,45 @@ pub fn read_case(alloc: Global, bytes: &[u8]) -> Result<Case, CaseFault>
     ensures ok { IfOk result (CaseOf bytes.now) }
     ensures err { IfErr result (IsCaseFault bytes.now) }
 {
-    let tokens = tokens(alloc, bytes)?;
-    case_of_tokens(alloc, bytes, &tokens)
+    let lists = read_lists(alloc, bytes)?;
+    Ok(lists.into_case(alloc)?)
 }
 
-/// The case of the tokens of these bytes.
-fn case_of_tokens(alloc: Global, bytes: &[u8], tokens: &Tokens<'_>) -> Result<Case, CaseFault>
+/// The lists of the case that a test file says, with the faults of `read_case`.
+pub fn read_lists(alloc: Global, bytes: &[u8]) -> Result<CaseLists, CaseFault>
+    requires { length bytes.now < 2 ^ 32 }
+    ensures ok { IfOk result (λ l. CaseOf bytes.now (case_by l)) }
+    ensures kept { IfOk result AreLists }
+    ensures err { IfErr result (IsCaseFault bytes.now) }
+{
+    let tokens = tokens(alloc, bytes)?;
+    lists_of_tokens(alloc, bytes, &tokens)
+}
+
+/// The lists of the tokens of these bytes.
+fn lists_of_tokens(alloc: Global, bytes: &[u8], tokens: &Tokens<'_>) -> Result<CaseLists, CaseFault>
     requires spelled { Spells bytes.now tokens.now }
     requires few { length bytes.now < 2 ^ 32 }
-    ensures ok { IfOk result (CaseOf bytes.now) }
+    ensures ok { IfOk result (λ l. CaseOf bytes.now (case_by l)) }
+    ensures kept { IfOk result AreLists }
     ensures err { IfErr result (IsCaseFault bytes.now) }
 {
     if let Some(k) = syntax_fault(alloc, tokens)? {
         return Err(CaseFault::Syntax(tokens.place(bytes, k)));
     }
-    case_of_test(alloc, tokens)
+    lists_of_test(alloc, tokens)
 }
 
-/// The case of tokens that are a test.
-fn case_of_test(alloc: Global, tokens: &Tokens<'_>) -> Result<Case, CaseFault>
+/// The lists of tokens that are a test.
+fn lists_of_test(alloc: Global, tokens: &Tokens<'_>) -> Result<CaseLists, CaseFault>
     requires { IsTest tokens.now }
-    ensures ok { IfOk result (CaseIn tokens.now) }
+    ensures ok { IfOk result (λ l. CaseIn tokens.now (case_by l)) }
+    ensures kept { IfOk result AreLists }
     ensures err { IfErr result (IsContentFaultIn tokens.now) }
 {
     let mut builder = CaseBuilder::new(alloc);
     read_lines(alloc, tokens, &mut builder)?;
-    Ok(builder.finish(alloc)?)
+    Ok(builder.lists(alloc)?)
 }
 
 /// How many tokens stand before the first line: the word of the format, a text and a dot.

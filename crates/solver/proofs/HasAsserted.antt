@@ -104,6 +104,10 @@ further_same g = record { same_nodes = refl; same_marks = refl; literals = take_
     take_all [] = refl
     take_all (x ∷ xs) = ap (λ ys. x ∷ ys) (take_all xs)
 
+pub added_further : (r : Row ℕ) (g h : Graph) (a : Added) → HasAddedRow r g h a → IsFurther g h
+added_further r g h was_kept added = added.0
+added_further r g h (clashed k) added = added.0
+
 pub take_through : {X : Type 0} (xs ys zs : List X) → take (length xs) ys ≡ xs → take (length ys) zs ≡ ys → take (length xs) zs ≡ xs
 take_through [] ys zs e f = refl
 take_through (x ∷ xs) [] zs e f = absurd (no_cons x xs e)

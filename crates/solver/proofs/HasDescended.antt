@@ -58,9 +58,6 @@ next_inside v nodes t g here ls ms ss l more kept popped =
     reverse_push : {X : Type 0} (xs : List X) (x : X) → reverse (xs ++ x ∷ []) ≡ x ∷ reverse xs
     reverse_push xs x = reverse-append xs (x ∷ [])
 
-pub candidates_ors : (t : Tree ℕ) (ps : Branch) (xs : List Place) → All (λ q. IsCandidate t ps (place_signed q)) xs → All (λ q. IsOr t (place_signed q)) xs
-candidates_ors t ps xs all = λ k d inside. (let c = all k d inside in (c.left, c.right, c.is_or))
-
 -- once the mark is made and the trials are over
 pub same_after : (g h i : Graph) → h ≡ record g { marks = g.marks ++ length g.literals ∷ [] } → IsSame h i
     → (i.literals ≡ g.literals) × (i.nodes ≡ g.nodes) × (i.marks ≡ g.marks ++ length g.literals ∷ [])

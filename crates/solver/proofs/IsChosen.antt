@@ -37,7 +37,7 @@ off n ps p b e f h = false_true (sym f ∙ e ∙ on_from_in (under n ps) p (in_u
 on : (n : Bool) (ps : Branch) (p : ℕ) (b : Bool) → b ≡ is_on (under n ps) p → b ≡ true → Contains ps (signed n p)
 on n ps p b e f = contains_from_in (signed n p) ps (from_under n ps p (in_from_on (under n ps) p (sym e ∙ f)))
 
-length_turned : (n : Bool) (rows : List (Row ℕ)) → length (turned_rows n rows) ≡ length rows
+pub length_turned : (n : Bool) (rows : List (Row ℕ)) → length (turned_rows n rows) ≡ length rows
 length_turned n [] = refl
 length_turned n (r ∷ rs) = (let rest = length_turned n rs in omega (arith, rest))
 

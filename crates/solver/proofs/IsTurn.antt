@@ -161,15 +161,14 @@ plain_part t false p s e = e
 plain_part t true p s e = subtree_denied t true p s e
 
 -- what the type of a search keeps, as its clauses say it
-pub searching : (v : Version) (keys : List NodeKey) (rows : List (Row ℕ)) (g : Graph) (here : List Place) (ls : List Later) (ss : List (Step Node)) (candidates : List Place)
-    → IsSearch v keys rows g here ls ss candidates
+pub searching : (v : Version) (keys : List NodeKey) (rows : List (Row ℕ)) (g : Graph) (here : List Place) (ls : List Later) (ss : List (Step Node)) (first : Place)
+    → IsSearch v keys rows g here ls ss first
     → IsSearching (record { version = v; nodes = map key_node keys; rows = rows; graph = g; steps = ss; branches = branches_of rows here ls })
-searching v keys rows g here ls ss candidates s =
+searching v keys rows g here ls ss first s =
     let nodes = map key_node keys in
     let t = spelled rows in
-    let other : Place = record { negated = false; position = 0 } in
-    let q = place_signed (get_or candidates 0 other) in
-    let candidate = s.all 0 other s.some in
+    let q = place_signed first in
+    let candidate = s.candidate in
     let part = turned q.negated (either candidate.left candidate.right) in
     let P : List (Literal ℕ) → Type 0 = λ xs. IsMetUnder q.negated xs part in record {
       first = positions here;
@@ -185,11 +184,9 @@ searching v keys rows g here ls ss candidates s =
       not_met = λ h. candidate.is_false (subst P s.state.literals h);
     }
 
-pub candidates_small : (rows : List (Row ℕ)) (ps : Branch) (xs : List Place) → IsSpelled rows → length rows < 2 ^ 63
-    → All (λ q. IsCandidate (spelled rows) ps (place_signed q)) xs → All (λ q. q.position < 2 ^ 63) xs
-candidates_small rows ps xs flat bound all = λ k d inside.
-    let c = all k d inside in
-    let q = get_or xs k d in
+pub candidate_small : (rows : List (Row ℕ)) (ps : Branch) (q : Place) → IsSpelled rows → length rows < 2 ^ 63
+    → IsCandidate (spelled rows) ps (place_signed q) → q.position < 2 ^ 63
+candidate_small rows ps q flat bound c =
     let size = subtree_size (turned q.negated (spelled rows)) q.position (either c.left c.right) c.is_or in
     omega (arith, size, size_pos (either c.left c.right), size_turned q.negated (spelled rows), length_spelled rows flat, bound)
 

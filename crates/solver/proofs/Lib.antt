@@ -15,3 +15,6 @@ pub mod ShownWorld
 pub mod ConsistentWorld
 pub mod Shown
 pub mod IsTurn
+pub mod IsTreePart
+pub mod IsIndexed
+pub mod IsPending

@@ -1,7 +1,9 @@
 -- Lists of flags, one for each position.
 use Rattle.std.specs.Prelude.{ℕ, Bool, true, false, List, ◌≡◌, ◌+◌, ◌≤◌, ◌↔◌, Some, slice_index_or}
 use Rattle.pc_ground.specs.declared.literal.Literal.{Literal}
+use Rattle.pc_ground.specs.declared.row.Row.{Row}
 use Rattle.pc_ground.specs.Tree.{Tree, both, either, size_of}
+use Rattle.pc_ground.specs.Rows.{rows_of}
 use Rattle.pc_ground.specs.Refutes.{subtree_at}
 use Rattle.solver.specs.Met.{IsMet}
 
@@ -25,3 +27,7 @@ SomeChildren t p = (right : ℕ) × HasChildren t p right
 -- the flags of the children
 abbrev pub AreChildFlags : {N : Type 0} → Tree N → List Bool → ℕ → Bool × Bool → Type 0
 AreChildFlags t flags p pair = (right : ℕ) → HasChildren t p right → (pair.0 ≡ flag flags (p + 1)) × (pair.1 ≡ flag flags right)
+
+-- these rows are those of the subtree there
+abbrev pub IsTreePart : {N : Type 0} → Tree N → ℕ → List (Row N) → Type 0
+IsTreePart {N} t p part = (s : Tree N) × (subtree_at t p ≡ Some s) × (part ≡ rows_of s)

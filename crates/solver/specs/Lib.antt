@@ -15,3 +15,4 @@ pub mod Answers
 pub mod Turns
 pub mod Statuses
 pub mod Laws
+pub mod Indexed

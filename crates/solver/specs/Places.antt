@@ -92,3 +92,8 @@ AreChosen t ps = (q : Signed) → IsChosen t ps q
 abbrev pub IsNoted : {N : Type 0} → Tree N → Branch → Place → List Place → List Place → Type 0
 IsNoted t ps q old new =
     ((new ≡ old ++ q ∷ []) × IsCandidate t ps (place_signed q)) ⊎ ((new ≡ old) × IsChosen t ps (place_signed q))
+
+-- the place is among these, and its sides at these positions are not
+abbrev pub IsUntaken : List Place → Place → ℕ → ℕ → Type 0
+IsUntaken xs q left right = Contains xs q
+    × (Contains xs (record { negated = q.negated; position = left }) → ⊥) × (Contains xs (record { negated = q.negated; position = right }) → ⊥)

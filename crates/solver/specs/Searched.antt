@@ -15,7 +15,7 @@ use Rattle.solver.specs.Spelled.{spelled, IsSpelled}
 use Rattle.solver.specs.Renamed.{tree_over}
 use Rattle.solver.specs.Below.{IsRowBelow}
 use Rattle.solver.specs.Met.{IsMetUnder}
-use Rattle.solver.specs.Places.{AreCandidates}
+use Rattle.solver.specs.Places.{place_signed, IsCandidate}
 use Rattle.solver.specs.Opens.{positions, opens, IsState}
 use Rattle.solver.specs.declared.place.Place.{Place}
 use Rattle.solver.specs.declared.later.Later.{Later}
@@ -57,16 +57,15 @@ pub record IsSearching (s : Searched) : Type 0 where
   pub not_met : IsMetUnder place.negated s.graph.literals part → ⊥
 
 -- what the fields of a search keep
-pub record IsSearch (v : Version) (keys : List NodeKey) (rows : List (Row ℕ)) (graph : Graph) (asserted : List Place) (later : List Later) (steps : List (Step Node)) (candidates : List Place) : Type 0 where
+pub record IsSearch (v : Version) (keys : List NodeKey) (rows : List (Row ℕ)) (graph : Graph) (asserted : List Place) (later : List Later) (steps : List (Step Node)) (place : Place) : Type 0 where
   pub tree : IsSpelled rows
   pub few : length keys ≤ MAX_NODES
   pub distinct : AreDistinct (map key_node keys)
   pub below : All (IsRowBelow (length keys)) rows
   pub no_false : (p : ℕ) → subtree_at (spelled rows) p ≡ Some never → ⊥
   pub state : IsState v (map key_node keys) (spelled rows) graph asserted later steps []
-  pub some : 0 < length candidates
-  pub all : AreCandidates (spelled rows) (positions asserted) candidates
-  pub small : All (λ q. q.position < 2 ^ 63) candidates
+  pub candidate : IsCandidate (spelled rows) (positions asserted) (place_signed place)
+  pub small : place.position < 2 ^ 63
 
 abbrev pub branches_of : List (Row ℕ) → List Place → List Later → List Branch
 branches_of rows asserted later = opens (spelled rows) (positions asserted) asserted later

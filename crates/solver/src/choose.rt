@@ -1,63 +1,117 @@
-ghost use Rattle.std.specs.Prelude.{◌≡◌, ◌<◌, ◌+◌, ◌^◌, ℕ, All, Contains, IfOk, IfSome, length, slice_index};
+ghost use Rattle.std.specs.Prelude.{◌≡◌, ◌<◌, ◌+◌, ◌^◌, ℕ, All, IfOk, length};
 ghost use Rattle.pc_ground.specs.Refutes.{literals_of};
-ghost use Rattle.order_graph.specs.Ways.{IsBelow};
 ghost use Rattle.solver.specs.Spelled.{spelled, IsSpelled};
 ghost use Rattle.solver.specs.Below.{IsRowBelow};
-ghost use Rattle.solver.specs.Places.{place_signed, denied_left as left_of_right, IsOr, IsSideIn, AreSides};
-ghost use Rattle.solver.specs.Opens.{positions, IsSame, IsMarked};
+ghost use Rattle.solver.specs.Places.{place_signed, IsCandidate, IsSideIn};
+ghost use Rattle.solver.specs.Opens.{positions, IsFurther, IsSame, IsMarked};
 
-use super::enter::{enter_side, go_back};
+use super::agenda::Agenda;
+use super::asserted::Asserted;
+use super::candidate::is_candidate_now;
+use super::enter::add_row;
+use super::ors::{is_or, literal_at, sides};
 use super::place::Place;
 use super::rows::row_at;
 use super::side::Side;
-use order_graph::{Mark, OrderGraph};
+use order_graph::{Added, Mark, OrderGraph};
 use pc_common::Memory;
-use pc_ground::{Literal, Row, RowKind, Version};
+use pc_ground::{Row, RowKind, Version};
+use std::alloc::Global;
 use std::sync::ledger::Ledger;
 use undo_trail::Steps;
 
-/// The literal, where it is all that the side asserts.
-fn only_literal(rows: &[Row<u32>], side: Side) -> Option<Literal<u32>>
-    requires tree { IsSpelled rows.now }
-    requires side { IsSideIn (spelled rows.now) side }
-    ensures { IfSome result (λ l. (n : ℕ) → All (IsRowBelow n) rows.now → IsBelow n l) }
+/// Whether the row is a literal that would clash. Asserts it where it would not.
+fn row_clashes<L: Ledger>(
+    row: Row<u32>,
+    graph: &mut OrderGraph,
+    steps: &mut Steps<L>,
+) -> Result<bool, Memory>
+    requires below { IsRowBelow graph.old.nodes row }
+    ensures { IfOk result (λ _. IsFurther graph.old graph.new) }
 {
-    if side.denied.is_some() {
-        return None;
+    if let RowKind::Lit(literal) = row.kind {
+        if graph.would_clash(literal) {
+            return Ok(true);
+        }
     }
-    match row_at(rows, side.root).turned(side.negated).kind {
-        RowKind::Lit(literal) => Some(literal),
-        _ => None,
-    }
+    let added = add_row(row, graph, steps)?;
+    Ok(matches!(added, Added::Clash(_)))
 }
 
-/// Whether the side is closed at once: whether its literals clash with those asserted. A side of one
-/// literal is not entered. Graph and positions are as before.
-// Inlined, since most sides are one literal, for which no side has to be made.
-#[inline(always)]
-fn is_closed<L: Ledger>(
+/// Whether the literals that the part at `root` asserts under this sign clash, each of which is asked before
+/// it is asserted.
+fn part_clashes<L: Ledger>(
+    rows: &[Row<u32>],
+    negated: bool,
+    root: usize,
+    graph: &mut OrderGraph,
+    steps: &mut Steps<L>,
+) -> Result<bool, Memory>
+    requires below { All (IsRowBelow graph.old.nodes) rows.now }
+    requires root { root < length rows.now }
+    ensures { IfOk result (λ _. IsFurther graph.old graph.new) }
+{
+    let end = root.saturating_add(row_at(rows, root).skip);
+    let mut next = root;
+    for at in root..end {
+        if at >= rows.len() {
+            return Ok(false);
+        }
+        if at < next {
+            continue;
+        }
+        let row = row_at(rows, at).turned(negated);
+        if row_clashes(row, graph, steps)? {
+            return Ok(true);
+        }
+        next = at.saturating_add(row.stride());
+    }
+    Ok(false)
+}
+
+/// Whether the literals that the side asserts clash.
+fn side_clashes<L: Ledger>(
     rows: &[Row<u32>],
     side: Side,
-    mark: Mark,
     graph: &mut OrderGraph,
-    asserted: &mut Vec<Place>,
     steps: &mut Steps<L>,
 ) -> Result<bool, Memory>
     requires tree { IsSpelled rows.now }
     requires side { IsSideIn (spelled rows.now) side }
     requires below { All (IsRowBelow graph.old.nodes) rows.now }
-    requires literals { graph.old.literals ≡ literals_of (spelled rows.now) (positions asserted.old.items) }
+    ensures { IfOk result (λ _. IsFurther graph.old graph.new) }
+{
+    if let Some(left) = side.denied {
+        if part_clashes(rows, !side.negated, left, graph, steps)? {
+            return Ok(true);
+        }
+    }
+    part_clashes(rows, side.negated, side.root, graph, steps)
+}
+
+/// Whether the side is closed at once: whether its literals clash with those asserted. A side of one literal
+/// is not asserted. The graph is as before.
+fn is_closed<L: Ledger>(
+    rows: &[Row<u32>],
+    side: Side,
+    mark: Mark,
+    graph: &mut OrderGraph,
+    steps: &mut Steps<L>,
+) -> Result<bool, Memory>
+    requires tree { IsSpelled rows.now }
+    requires side { IsSideIn (spelled rows.now) side }
+    requires below { All (IsRowBelow graph.old.nodes) rows.now }
     requires marked { IsMarked graph.old mark }
     ensures graph { IfOk result (λ _. IsSame graph.old graph.new) }
-    ensures asserted { IfOk result (λ _. asserted.new.items ≡ asserted.old.items) }
 {
-    if let Some(literal) = only_literal(rows, side) {
-        return Ok(graph.would_clash(literal));
+    if side.denied.is_none() {
+        if let Some(literal) = literal_at(rows, side.negated, side.root) {
+            return Ok(graph.would_clash(literal));
+        }
     }
-    let count = asserted.len();
-    let clash = enter_side(rows, side, graph, asserted, steps)?;
-    go_back(count, mark, graph, asserted, steps);
-    Ok(clash.is_some())
+    let clashes = side_clashes(rows, side, graph, steps)?;
+    graph.undo(mark, steps);
+    Ok(clashes)
 }
 
 /// Whether the Or has a side that is closed at once. The left side is tried first.
@@ -67,88 +121,115 @@ fn has_closed_side<L: Ledger>(
     place: Place,
     mark: Mark,
     graph: &mut OrderGraph,
-    asserted: &mut Vec<Place>,
     steps: &mut Steps<L>,
 ) -> Result<bool, Memory>
     requires tree { IsSpelled rows.now }
-    requires is_or { IsOr (spelled rows.now) (place_signed place) }
-    requires small { place.position < 2 ^ 63 }
     requires below { All (IsRowBelow graph.old.nodes) rows.now }
-    requires literals { graph.old.literals ≡ literals_of (spelled rows.now) (positions asserted.old.items) }
     requires marked { IsMarked graph.old mark }
     ensures graph { IfOk result (λ _. IsSame graph.old graph.new) }
-    ensures asserted { IfOk result (λ _. asserted.new.items ≡ asserted.old.items) }
 {
+    if !is_or(rows, place) {
+        return Ok(false);
+    }
     let (left, right) = sides(rows, version, place);
-    if is_closed(rows, left, mark, graph, asserted, steps)? {
+    if is_closed(rows, left, mark, graph, steps)? {
         return Ok(true);
     }
-    is_closed(rows, right, mark, graph, asserted, steps)
+    is_closed(rows, right, mark, graph, steps)
 }
 
-/// The left side, where the right one asserts that it is false: in version 2.
-fn denied_left(version: Version, left: usize) -> Option<usize>
-    ensures { result ≡ left_of_right version left }
-{
-    match version {
-        Version::One => None,
-        Version::Two => Some(left),
-    }
-}
-
-/// The sides of an Or: of the tree, or of its negation. In version 2 the right side asserts first that the
-/// left one is false.
-pub(crate) fn sides(rows: &[Row<u32>], version: Version, place: Place) -> (Side, Side)
-    requires tree { IsSpelled rows.now }
-    requires is_or { IsOr (spelled rows.now) (place_signed place) }
-    requires small { place.position < 2 ^ 63 }
-    ensures sides { AreSides version (spelled rows.now) (place_signed place) result }
-    ensures left_in { IsSideIn (spelled rows.now) result.0 }
-    ensures right_in { IsSideIn (spelled rows.now) result.1 }
-{
-    let Place { negated, position } = place;
-    let left = position + 1;
-    let root = left + row_at(rows, left).skip;
-    let denied = denied_left(version, left);
-    (
-        Side {
-            negated,
-            root: left,
-            denied: None,
-        },
-        Side {
-            negated,
-            root,
-            denied,
-        },
-    )
-}
-
-/// The candidate to split: the first with a side that is closed at once, and where none has one the first.
-pub(crate) fn choose<L: Ledger>(
+/// The place, where it is a choice with a side that is closed at once, as far as the agenda knows.
+fn with_closed_side<L: Ledger>(
     rows: &[Row<u32>],
     version: Version,
-    candidates: &[Place],
+    position: usize,
     mark: Mark,
     graph: &mut OrderGraph,
-    asserted: &mut Vec<Place>,
+    agenda: &mut Agenda,
+    steps: &mut Steps<L>,
+) -> Result<Option<Place>, Memory>
+    requires tree { IsSpelled rows.now }
+    requires below { All (IsRowBelow graph.old.nodes) rows.now }
+    requires marked { IsMarked graph.old mark }
+    ensures graph { IfOk result (λ _. IsSame graph.old graph.new) }
+{
+    let standing = agenda.refresh(rows, graph, position)?;
+    let place = Place {
+        negated: standing.negated,
+        position,
+    };
+    if !standing.is_ready() {
+        return Ok(None);
+    }
+    if standing.closed {
+        return Ok(Some(place));
+    }
+    let closed = has_closed_side(rows, version, place, mark, graph, steps)?;
+    agenda.change(position, standing.asked(closed))?;
+    Ok(if closed { Some(place) } else { None })
+}
+
+/// The first choice with a side that is closed at once, as far as the agenda knows.
+fn first_closed<L: Ledger>(
+    rows: &[Row<u32>],
+    version: Version,
+    mark: Mark,
+    graph: &mut OrderGraph,
+    agenda: &mut Agenda,
+    steps: &mut Steps<L>,
+) -> Result<Option<Place>, Memory>
+    requires tree { IsSpelled rows.now }
+    requires below { All (IsRowBelow graph.old.nodes) rows.now }
+    requires marked { IsMarked graph.old mark }
+    ensures graph { IfOk result (λ _. IsSame graph.old graph.new) }
+{
+    let mut from = 0;
+    for _turn in 0..rows.len() {
+        let Some(position) = agenda.next_ready(from) else {
+            return Ok(None);
+        };
+        let found = with_closed_side(rows, version, position, mark, graph, agenda, steps)?;
+        if found.is_some() {
+            return Ok(found);
+        }
+        from = position.saturating_add(1);
+    }
+    Ok(None)
+}
+
+/// The candidate to split: the first with a side that is closed at once, and where none has one the first,
+/// which is given. What the agenda proposes is tested.
+pub(crate) fn choose<L: Ledger>(
+    alloc: Global,
+    rows: &[Row<u32>],
+    version: Version,
+    first: Place,
+    mark: Mark,
+    graph: &mut OrderGraph,
+    asserted: &Asserted,
+    agenda: &mut Agenda,
     steps: &mut Steps<L>,
 ) -> Result<Place, Memory>
     requires tree { IsSpelled rows.now }
-    requires some { 0 < length candidates.now }
-    requires ors { All (λ q. IsOr (spelled rows.now) (place_signed q)) candidates.now }
-    requires small { All (λ q. q.position < 2 ^ 63) candidates.now }
+    requires first { IsCandidate (spelled rows.now) (positions asserted.now) (place_signed first) }
+    requires small { first.position < 2 ^ 63 }
     requires below { All (IsRowBelow graph.old.nodes) rows.now }
-    requires literals { graph.old.literals ≡ literals_of (spelled rows.now) (positions asserted.old.items) }
+    requires literals { graph.old.literals ≡ literals_of (spelled rows.now) (positions asserted.now) }
     requires marked { IsMarked graph.old mark }
-    ensures found { IfOk result (λ q. Contains candidates.now q) }
+    ensures found { IfOk result (λ q.
+        IsCandidate (spelled rows.now) (positions asserted.now) (place_signed q)) }
+    ensures small { IfOk result (λ q. q.position < 2 ^ 63) }
     ensures graph { IfOk result (λ _. IsSame graph.old graph.new) }
-    ensures asserted { IfOk result (λ _. asserted.new.items ≡ asserted.old.items) }
 {
-    for place in candidates {
-        if has_closed_side(rows, version, *place, mark, graph, asserted, steps)? {
-            return Ok(*place);
-        }
+    let found = first_closed(rows, version, mark, graph, agenda, steps)?;
+    let Some(place) = found else {
+        return Ok(first);
+    };
+    if place.position == first.position {
+        return Ok(first);
     }
-    Ok(candidates[0])
+    if is_candidate_now(alloc, rows, graph, asserted, place)? {
+        return Ok(place);
+    }
+    Ok(first)
 }

@@ -7,10 +7,11 @@ ghost use Rattle.solver.specs.Opens.{positions, opens, IsState};
 ghost use Rattle.solver.specs.Weights.{weight};
 ghost use Rattle.solver.specs.Descents.{HasDescended, IsLonger};
 
-use super::enter::{enter_side, go_back};
+use super::agenda::Agenda;
+use super::asserted::Asserted;
+use super::enter::{enter_next, go_back};
 use super::later::Later;
 use super::leaf::close;
-use super::place::Place;
 use super::side::Side;
 use order_graph::OrderGraph;
 use pc_common::Memory;
@@ -29,7 +30,8 @@ pub(crate) fn descend<L: Ledger>(
     version: Version,
     side: Side,
     graph: &mut OrderGraph,
-    asserted: &mut Vec<Place>,
+    asserted: &mut Asserted,
+    agenda: &mut Agenda,
     later: &mut Vec<Later>,
     refutation: &mut Refutation,
     steps: &mut Steps<L>,
@@ -37,23 +39,23 @@ pub(crate) fn descend<L: Ledger>(
     requires tree { IsSpelled rows.now }
     requires side { IsSideIn (spelled rows.now) side }
     requires below { All (IsRowBelow (length keys.now)) rows.now }
-    requires state { IsState version (map key_node keys.now) (spelled rows.now) graph.old asserted.old.items
+    requires state { IsState version (map key_node keys.now) (spelled rows.now) graph.old asserted.old
         later.old.items refutation.old (side_positions (spelled rows.now) side) }
     ensures descended { IfOk result (λ is_open. HasDescended version (map key_node keys.now) (spelled rows.now)
         (weight (spelled rows.now) (opens (spelled rows.now)
-        (positions asserted.old.items ++ side_positions (spelled rows.now) side)
-        asserted.old.items later.old.items) + 1)
-        graph.new asserted.new.items later.new.items refutation.new is_open) }
+        (positions asserted.old ++ side_positions (spelled rows.now) side)
+        asserted.old later.old.items) + 1)
+        graph.new asserted.new later.new.items refutation.new is_open) }
     ensures longer { IfOk result (λ _. IsLonger refutation.old refutation.new) }
 {
     let _version = version; // only the contract speaks of it
     let mut side = side;
-    while let Some(clash) = enter_side(rows, side, graph, asserted, steps)? {
+    while let Some(clash) = enter_next(keys, rows, side, graph, asserted, agenda, steps)? {
         close(alloc, keys, clash, refutation)?;
         let Some(next) = later.pop() else {
             return Ok(false);
         };
-        go_back(next.count, next.mark, graph, asserted, steps);
+        go_back(next.count, next.mark, graph, asserted, agenda, steps);
         side = next.side;
     }
     Ok(true)

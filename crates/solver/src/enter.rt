@@ -1,4 +1,4 @@
-ghost use Rattle.std.specs.Prelude.{◌≡◌, ◌<◌, ◌≤◌, ℕ, not, All, length, take, slice_index, IfOk};
+ghost use Rattle.std.specs.Prelude.{◌≡◌, ◌<◌, ◌≤◌, ◌^◌, ℕ, not, All, length, take, slice_index, IfOk};
 ghost use Rattle.pc_ground.specs.Tree.{size_of};
 ghost use Rattle.pc_ground.specs.Refutes.{literals_of};
 ghost use Rattle.order_graph.specs.State.{IsCut};
@@ -7,17 +7,19 @@ ghost use Rattle.solver.specs.Below.{IsRowBelow};
 ghost use Rattle.solver.specs.Places.{asserted_at, denied_positions, side_positions, IsDeniedIn, IsSideIn};
 ghost use Rattle.solver.specs.Opens.{positions, IsFurther, HasAsserted, HasAddedRow, HasAssertedRow};
 
+use super::agenda::Agenda;
+use super::asserted::Asserted;
 use super::place::Place;
 use super::rows::row_at;
 use super::side::Side;
 use order_graph::{Added, Clash, Mark, OrderGraph};
 use pc_common::Memory;
-use pc_ground::{Row, RowKind};
+use pc_ground::{NodeKey, Row, RowKind};
 use std::sync::ledger::Ledger;
 use undo_trail::Steps;
 
 /// Asserts the literal of a row, if it is one's.
-fn add_row<L: Ledger>(
+pub(crate) fn add_row<L: Ledger>(
     row: Row<u32>,
     graph: &mut OrderGraph,
     steps: &mut Steps<L>,
@@ -36,13 +38,14 @@ fn enter_row<L: Ledger>(
     row: Row<u32>,
     place: Place,
     graph: &mut OrderGraph,
-    asserted: &mut Vec<Place>,
+    asserted: &mut Asserted,
     steps: &mut Steps<L>,
 ) -> Result<Option<Clash>, Memory>
     requires below { IsRowBelow graph.old.nodes row }
+    requires small { place.position < 2 ^ 63 }
     ensures further { IfOk result (λ _. IsFurther graph.old graph.new) }
     ensures entered { IfOk result (λ found.
-        HasAssertedRow row place graph.old asserted.old.items graph.new asserted.new.items found) }
+        HasAssertedRow row place graph.old asserted.old graph.new asserted.new found) }
 {
     if let Added::Clash(clash) = add_row(row, graph, steps)? {
         return Ok(Some(clash));
@@ -58,18 +61,18 @@ fn enter_part<L: Ledger>(
     negated: bool,
     root: usize,
     graph: &mut OrderGraph,
-    asserted: &mut Vec<Place>,
+    asserted: &mut Asserted,
     steps: &mut Steps<L>,
 ) -> Result<Option<Clash>, Memory>
     requires tree { IsSpelled rows.now }
     requires root { root < size_of (spelled rows.now) }
     requires below { All (IsRowBelow graph.old.nodes) rows.now }
-    requires literals { graph.old.literals ≡ literals_of (spelled rows.now) (positions asserted.old.items) }
+    requires literals { graph.old.literals ≡ literals_of (spelled rows.now) (positions asserted.old) }
     ensures further { IfOk result (λ _. IsFurther graph.old graph.new) }
-    ensures kept { IfOk result (λ _. take (length asserted.old.items) asserted.new.items ≡ asserted.old.items) }
+    ensures kept { IfOk result (λ _. take (length asserted.old) asserted.new ≡ asserted.old) }
     ensures entered { IfOk result (λ found. HasAsserted (spelled rows.now)
         (asserted_at (spelled rows.now) negated root)
-        asserted.old.items graph.new asserted.new.items found) }
+        asserted.old graph.new asserted.new found) }
 {
     let end = root + row_at(rows, root).skip;
     let mut at = root;
@@ -92,18 +95,18 @@ fn enter_denied<L: Ledger>(
     rows: &[Row<u32>],
     side: Side,
     graph: &mut OrderGraph,
-    asserted: &mut Vec<Place>,
+    asserted: &mut Asserted,
     steps: &mut Steps<L>,
 ) -> Result<Option<Clash>, Memory>
     requires tree { IsSpelled rows.now }
     requires denied { IsDeniedIn (spelled rows.now) side.denied }
     requires below { All (IsRowBelow graph.old.nodes) rows.now }
-    requires literals { graph.old.literals ≡ literals_of (spelled rows.now) (positions asserted.old.items) }
+    requires literals { graph.old.literals ≡ literals_of (spelled rows.now) (positions asserted.old) }
     ensures further { IfOk result (λ _. IsFurther graph.old graph.new) }
-    ensures kept { IfOk result (λ _. take (length asserted.old.items) asserted.new.items ≡ asserted.old.items) }
+    ensures kept { IfOk result (λ _. take (length asserted.old) asserted.new ≡ asserted.old) }
     ensures entered { IfOk result (λ found. HasAsserted (spelled rows.now)
         (denied_positions (spelled rows.now) side.negated side.denied)
-        asserted.old.items graph.new asserted.new.items found) }
+        asserted.old graph.new asserted.new found) }
 {
     match side.denied {
         Some(left) => enter_part(rows, !side.negated, left, graph, asserted, steps),
@@ -113,21 +116,21 @@ fn enter_denied<L: Ledger>(
 
 /// Asserts what the side asserts, up to the first clash: first that the left side is false, where it says
 /// so, then its own part.
-pub(crate) fn enter_side<L: Ledger>(
+fn enter_side<L: Ledger>(
     rows: &[Row<u32>],
     side: Side,
     graph: &mut OrderGraph,
-    asserted: &mut Vec<Place>,
+    asserted: &mut Asserted,
     steps: &mut Steps<L>,
 ) -> Result<Option<Clash>, Memory>
     requires tree { IsSpelled rows.now }
     requires side { IsSideIn (spelled rows.now) side }
     requires below { All (IsRowBelow graph.old.nodes) rows.now }
-    requires literals { graph.old.literals ≡ literals_of (spelled rows.now) (positions asserted.old.items) }
+    requires literals { graph.old.literals ≡ literals_of (spelled rows.now) (positions asserted.old) }
     ensures further { IfOk result (λ _. IsFurther graph.old graph.new) }
-    ensures kept { IfOk result (λ _. take (length asserted.old.items) asserted.new.items ≡ asserted.old.items) }
+    ensures kept { IfOk result (λ _. take (length asserted.old) asserted.new ≡ asserted.old) }
     ensures entered { IfOk result (λ found. HasAsserted (spelled rows.now) (side_positions (spelled rows.now) side)
-        asserted.old.items graph.new asserted.new.items found) }
+        asserted.old graph.new asserted.new found) }
 {
     if let Some(clash) = enter_denied(rows, side, graph, asserted, steps)? {
         return Ok(Some(clash));
@@ -135,18 +138,44 @@ pub(crate) fn enter_side<L: Ledger>(
     enter_part(rows, side.negated, side.root, graph, asserted, steps)
 }
 
+/// Asserts what the side asserts, as `enter_side` does, once the agenda has looked at it.
+pub(crate) fn enter_next<L: Ledger>(
+    keys: &[NodeKey],
+    rows: &[Row<u32>],
+    side: Side,
+    graph: &mut OrderGraph,
+    asserted: &mut Asserted,
+    agenda: &mut Agenda,
+    steps: &mut Steps<L>,
+) -> Result<Option<Clash>, Memory>
+    requires tree { IsSpelled rows.now }
+    requires side { IsSideIn (spelled rows.now) side }
+    requires nodes { graph.old.nodes ≡ length keys.now }
+    requires below { All (IsRowBelow graph.old.nodes) rows.now }
+    requires literals { graph.old.literals ≡ literals_of (spelled rows.now) (positions asserted.old) }
+    ensures further { IfOk result (λ _. IsFurther graph.old graph.new) }
+    ensures kept { IfOk result (λ _. take (length asserted.old) asserted.new ≡ asserted.old) }
+    ensures entered { IfOk result (λ found. HasAsserted (spelled rows.now) (side_positions (spelled rows.now) side)
+        asserted.old graph.new asserted.new found) }
+{
+    agenda.foresee(rows, side, graph, keys)?;
+    enter_side(rows, side, graph, asserted, steps)
+}
+
 /// Goes back to the first `count` asserted positions and to the literals at `mark`.
 pub(crate) fn go_back<L: Ledger>(
     count: usize,
     mark: Mark,
     graph: &mut OrderGraph,
-    asserted: &mut Vec<Place>,
+    asserted: &mut Asserted,
+    agenda: &mut Agenda,
     steps: &mut Steps<L>,
 )
     requires live { mark < length graph.old.marks }
     ensures cut { IsCut graph.old (slice_index graph.old.marks mark) mark graph.new }
-    ensures positions { asserted.new.items ≡ take count asserted.old.items }
+    ensures positions { asserted.new ≡ take count asserted.old }
 {
-    asserted.truncate(count);
+    asserted.cut(count);
+    agenda.go_back(count);
     graph.undo(mark, steps);
 }

@@ -15,23 +15,32 @@
 #![tactic(auto)]
 
 mod advance;
+mod agenda;
 mod answer;
+mod asserted;
+mod bits;
+mod candidate;
 mod candidates;
 mod choose;
 mod descend;
 mod enter;
 mod find;
 mod flags;
+mod gains;
+mod hints;
 mod later;
 mod laws;
 mod leaf;
 mod numbers;
+mod ors;
 mod place;
 mod rows;
 mod search;
 mod side;
 mod solving;
+mod standing;
 mod truths;
+mod watch;
 
 pub use answer::Answer;
 pub use laws::consistent_literals_have_a_world;

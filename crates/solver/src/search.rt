@@ -18,7 +18,9 @@ ghost use Rattle.solver.specs.Statuses.{IsStatus, status_weight};
 ghost use Rattle.solver.specs.Turns.{IsTurn, IsTurnOf, GoesOn, turn_weight};
 
 use super::advance::advance;
+use super::agenda::Agenda;
 use super::answer::Answer;
+use super::asserted::Asserted;
 use super::find::{SearchStatus, find};
 use super::later::Later;
 use super::numbers::{keys_by_number, number_rows};
@@ -42,10 +44,11 @@ pub struct Search {
     keys: Vec<NodeKey>,
     rows: Vec<Row<u32>>,
     graph: OrderGraph,
-    asserted: Vec<Place>,
+    asserted: Asserted,
+    agenda: Agenda,
     later: Vec<Later>,
     refutation: Refutation,
-    candidates: Vec<Place>,
+    first: Place,
 }
 
 impl Model for Search {
@@ -61,11 +64,11 @@ impl Model for Search {
       rows = s.rows.items;
       graph = s.graph;
       steps = s.refutation;
-      branches = branches_of s.rows.items s.asserted.items s.later.items;
+      branches = branches_of s.rows.items s.asserted s.later.items;
     } };
 
-    ghost invariant = { λ s. IsSearch s.version s.keys.items s.rows.items s.graph s.asserted.items s.later.items
-        s.refutation s.candidates.items };
+    ghost invariant = { λ s. IsSearch s.version s.keys.items s.rows.items s.graph s.asserted s.later.items
+        s.refutation s.first };
 }
 
 /// What a turn hands out.
@@ -83,7 +86,8 @@ fn settle(
     keys: Vec<NodeKey>,
     rows: Vec<Row<u32>>,
     graph: OrderGraph,
-    asserted: Vec<Place>,
+    asserted: Asserted,
+    agenda: Agenda,
     later: Vec<Later>,
     refutation: Refutation,
     status: SearchStatus,
@@ -92,25 +96,26 @@ fn settle(
     requires few { length keys.items ≤ MAX_NODES }
     requires distinct { AreDistinct (map key_node keys.items) }
     requires below { All (IsRowBelow (length keys.items)) rows.items }
-    requires status { IsStatus version (map key_node keys.items) rows.items graph asserted.items later.items refutation
+    requires status { IsStatus version (map key_node keys.items) rows.items graph asserted later.items refutation
         status }
     ensures turn { IsTurn version (map key_node keys.items) rows.items result }
-    ensures weight { turn_weight result ≡ status_weight rows.items asserted.items later.items status }
+    ensures weight { turn_weight result ≡ status_weight rows.items asserted later.items status }
     ensures steps { GoesOn (λ old new. new ≡ old) refutation result }
 {
     match status {
         SearchStatus::Refuted => Turn::Done(Answer::Unobservable(refutation)),
         SearchStatus::Satisfied(shown) => Turn::Done(Answer::Observable(shown)),
-        SearchStatus::Undecided(candidates) => Turn::More(Search {
+        SearchStatus::Undecided(first) => Turn::More(Search {
             alloc,
             version,
             keys,
             rows,
             graph,
             asserted,
+            agenda,
             later,
             refutation,
-            candidates,
+            first,
         }),
     }
 }
@@ -122,7 +127,8 @@ fn find_first<L: Ledger>(
     rows: &[Row<u32>],
     version: Version,
     graph: &mut OrderGraph,
-    asserted: &mut Vec<Place>,
+    asserted: &mut Asserted,
+    agenda: &mut Agenda,
     later: &mut Vec<Later>,
     refutation: &mut Refutation,
     steps: &mut Steps<L>,
@@ -135,10 +141,10 @@ fn find_first<L: Ledger>(
     requires nodes { graph.old.nodes ≡ length keys.now }
     requires literals { graph.old.literals ≡ [] }
     requires marks { graph.old.marks ≡ [] }
-    requires asserted { asserted.old.items ≡ [] }
+    requires asserted { asserted.old ≡ [] }
     requires later { later.old.items ≡ [] }
     requires steps { refutation.old ≡ [] }
-    ensures { IfOk result (IsStatus version (map key_node keys.now) rows.now graph.new asserted.new.items
+    ensures { IfOk result (IsStatus version (map key_node keys.now) rows.now graph.new asserted.new
         later.new.items refutation.new) }
 {
     let root = row_at(rows, 0);
@@ -152,7 +158,7 @@ fn find_first<L: Ledger>(
         denied: None,
     };
     find(
-        alloc, keys, rows, version, whole, graph, asserted, later, refutation, steps,
+        alloc, keys, rows, version, whole, graph, asserted, agenda, later, refutation, steps,
     )
 }
 
@@ -163,6 +169,7 @@ fn start<L: Ledger>(
     rows: Vec<Row<u32>>,
     version: Version,
     mut graph: OrderGraph,
+    mut agenda: Agenda,
     mut refutation: Refutation,
     steps: &mut Steps<L>,
 ) -> Result<Turn, Memory>
@@ -177,7 +184,7 @@ fn start<L: Ledger>(
     requires steps { refutation ≡ [] }
     ensures { IfOk result (IsTurn version (map key_node keys.items) rows.items) }
 {
-    let mut asserted = Vec::new(alloc);
+    let mut asserted = Asserted::new(alloc);
     let mut later = Vec::new(alloc);
     let status = find_first(
         alloc,
@@ -186,12 +193,13 @@ fn start<L: Ledger>(
         version,
         &mut graph,
         &mut asserted,
+        &mut agenda,
         &mut later,
         &mut refutation,
         steps,
     )?;
     Ok(settle(
-        alloc, version, keys, rows, graph, asserted, later, refutation, status,
+        alloc, version, keys, rows, graph, asserted, agenda, later, refutation, status,
     ))
 }
 
@@ -215,12 +223,14 @@ impl Search {
         let keys = keys_by_number(alloc, numbering)?;
         let rows = number_rows(alloc, tree, numbering)?;
         let graph = OrderGraph::new(alloc, count)?;
+        let agenda = Agenda::new(alloc, &rows, count)?;
         let turn = start(
             alloc,
             keys,
             rows,
             version,
             graph,
+            agenda,
             Refutation::new(alloc),
             steps,
         )?;
@@ -257,24 +267,26 @@ impl Search {
             rows,
             mut graph,
             mut asserted,
+            mut agenda,
             mut later,
             mut refutation,
-            candidates,
+            first,
         } = self;
         let status = advance(
             alloc,
             &keys,
             &rows,
             version,
-            &candidates,
+            first,
             &mut graph,
             &mut asserted,
+            &mut agenda,
             &mut later,
             &mut refutation,
             steps,
         )?;
         Ok(settle(
-            alloc, version, keys, rows, graph, asserted, later, refutation, status,
+            alloc, version, keys, rows, graph, asserted, agenda, later, refutation, status,
         ))
     }
 }

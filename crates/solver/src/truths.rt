@@ -1,10 +1,10 @@
-ghost use Rattle.std.specs.Prelude.{◌≡◌, ◌<◌, ◌+◌, ◌^◌, ◌↔◌, ℕ, true, All, IfOk, IsTrue, Some, length, slice_get};
+ghost use Rattle.std.specs.Prelude.{◌≡◌, ◌<◌, ◌≤◌, ◌+◌, ◌^◌, ◌↔◌, ℕ, true, All, IfOk, IsTrue, Some, length, slice_get, slice_range};
 ghost use Rattle.pc_ground.specs.Tree.{Tree};
 ghost use Rattle.pc_ground.specs.Refutes.{subtree_at};
 ghost use Rattle.solver.specs.Spelled.{spelled, IsSpelled};
 ghost use Rattle.solver.specs.Below.{IsRowBelow};
 ghost use Rattle.solver.specs.Met.{IsMet};
-ghost use Rattle.solver.specs.Flags.{flag, AreTruths, SomeChildren, AreChildFlags};
+ghost use Rattle.solver.specs.Flags.{flag, AreTruths, SomeChildren, AreChildFlags, IsTreePart};
 
 use super::rows::row_at;
 use order_graph::OrderGraph;
@@ -67,4 +67,43 @@ pub(crate) fn truths(
         truths[p] = is_true_at(rows, &truths, graph, p);
     }
     Ok(truths)
+}
+
+/// Where the tree at `p` ends.
+fn end_of(rows: &[Row<u32>], p: usize) -> usize
+    requires tree { IsSpelled rows.now }
+    requires inside { p < length rows.now }
+    ensures part { IsTreePart (spelled rows.now) p (slice_range rows.now p result) }
+    ensures low { p ≤ result }
+    ensures high { result ≤ length rows.now }
+{
+    p + row_at(rows, p).skip
+}
+
+/// Whether the tree of these rows is true now.
+fn whole_truth(alloc: Global, rows: &[Row<u32>], graph: &OrderGraph) -> Result<bool, Memory>
+    requires tree { IsSpelled rows.now }
+    requires below { All (IsRowBelow graph.now.nodes) rows.now }
+    ensures { IfOk result (λ truth. IsTrue truth ↔ IsMet graph.now.literals (spelled rows.now)) }
+{
+    let _root = row_at(rows, 0);
+    let flags = truths(alloc, rows, graph)?;
+    Ok(flags[0])
+}
+
+/// Whether the subtree at `p` is true in the world that the graph's literals generate.
+pub(crate) fn truth_at(
+    alloc: Global,
+    rows: &[Row<u32>],
+    graph: &OrderGraph,
+    p: usize,
+) -> Result<bool, Memory>
+    requires tree { IsSpelled rows.now }
+    requires below { All (IsRowBelow graph.now.nodes) rows.now }
+    requires inside { p < length rows.now }
+    ensures { IfOk result (λ truth. (s : Tree ℕ) → subtree_at (spelled rows.now) p ≡ Some s
+        → IsTrue truth ↔ IsMet graph.now.literals s) }
+{
+    let end = end_of(rows, p);
+    whole_truth(alloc, &rows[p..end], graph)
 }

@@ -1,5 +1,4 @@
 use Rattle.std.proofs.Common.{◌≤◌, ◌<◌, ◌+◌, ◌++◌, ℕ, [], length, map, refl, ap, arith}
-use Rattle.std.proofs.lemmas.List.Elements.{All-contains}
 use Rattle.pc_ground.specs.Keys.{key_node}
 use Rattle.pc_common.specs.Steps.{split}
 use Rattle.solver.specs.Spelled.{spelled}
@@ -10,32 +9,28 @@ use Rattle.solver.specs.Weights.{weight}
 use Rattle.solver.specs.Descents.{IsLonger, HasMore}
 use Rattle.solver.specs.Statuses.{status_weight}
 use Rattle.solver.specs.declared.find.SearchStatus.{SearchStatus}
-use Rattle.solver.proofs.HasDescended.{one_open, candidates_ors, more_longer, advanced}
+use Rattle.solver.proofs.HasDescended.{one_open, more_longer, advanced}
 use Rattle.solver.proofs.advance.advance.Goals as goal
-
-pub choose-requires-clause-ors : goal.choose-requires-clause-ors
-choose-requires-clause-ors g c = candidates_ors (spelled c.args.rows.now) (positions c.args.asserted.now.items) c.args.candidates.now c.requires.candidates
 
 pub push_split-requires : goal.push_split-requires
 push_split-requires g c =
-    one_open c.args.version (map key_node c.args.keys.now) (spelled c.args.rows.now) c.args.graph.now c.args.asserted.now.items c.args.later.now.items c.args.refutation.now [] c.requires.state
+    one_open c.args.version (map key_node c.args.keys.now) (spelled c.args.rows.now) c.args.graph.now c.args.asserted.now c.args.later.now.items c.args.refutation.now [] c.requires.state
 
 pub sides-requires-clause-is_or : goal.sides-requires-clause-is_or
 sides-requires-clause-is_or g c =
-    let candidate = All-contains (λ q. IsCandidate (spelled c.args.rows.now) (positions c.args.asserted.now.items) (place_signed q)) c.args.candidates.now c.in_ok-place.place
-    c.requires.candidates c.in_ok-place.ensures.found in
+    let candidate = c.in_ok-place.ensures.found in
     (candidate.left, candidate.right, candidate.is_or)
 
 pub find-requires : goal.find-requires
 find-requires g c =
     let t = spelled c.args.rows.now in
-    let here = c.args.asserted.now.items in
+    let here = c.args.asserted.now in
     let next =
-    advanced c.args.version (map key_node c.args.keys.now) t c.args.graph.now c.mark-mark.new.self c.choose.new.graph here c.choose.new.asserted.items c.args.later.now.items
+    advanced c.args.version (map key_node c.args.keys.now) t c.args.graph.now c.mark-mark.new.self c.choose.new.graph here here c.args.later.now.items
     c.push.new.self.items c.args.refutation.now c.push_split.new.self _ (place_signed c.in_ok-place.place) c.sides.result c.requires.state
-    (All-contains (λ q. IsCandidate t (positions here) (place_signed q)) c.args.candidates.now c.in_ok-place.place c.requires.candidates c.in_ok-place.ensures.found)
-    c.mark-mark.ensures.graph c.in_ok-place.ensures.graph c.in_ok-place.ensures.asserted c.sides.ensures.sides
-    (omega (arith, c.len-count.ensures, ap length c.in_ok-place.ensures.asserted)) c.mark-mark.ensures.place refl c.in_ok-push.ensures.items c.in_ok-push_split.ensures in record {
+    c.in_ok-place.ensures.found
+    c.mark-mark.ensures.graph c.in_ok-place.ensures.graph refl c.sides.ensures.sides
+    c.len-count.ensures c.mark-mark.ensures.place refl c.in_ok-push.ensures.items c.in_ok-push_split.ensures in record {
       tree = c.requires.tree;
       side = c.sides.ensures.left_in;
       few = c.requires.few;
@@ -49,15 +44,15 @@ pub returns-clause-lighter : goal.returns-clause-lighter
 returns-clause-lighter g c =
     let rows = c.args.rows.now in
     let t = spelled rows in
-    let here = c.args.asserted.now.items in
+    let here = c.args.asserted.now in
     let next =
-    advanced c.args.version (map key_node c.args.keys.now) t c.args.graph.now c.mark-mark.new.self c.choose.new.graph here c.choose.new.asserted.items c.args.later.now.items
+    advanced c.args.version (map key_node c.args.keys.now) t c.args.graph.now c.mark-mark.new.self c.choose.new.graph here here c.args.later.now.items
     c.push.new.self.items c.args.refutation.now c.push_split.new.self _ (place_signed c.in_ok-place.place) c.sides.result c.requires.state
-    (All-contains (λ q. IsCandidate t (positions here) (place_signed q)) c.args.candidates.now c.in_ok-place.place c.requires.candidates c.in_ok-place.ensures.found)
-    c.mark-mark.ensures.graph c.in_ok-place.ensures.graph c.in_ok-place.ensures.asserted c.sides.ensures.sides
-    (omega (arith, c.len-count.ensures, ap length c.in_ok-place.ensures.asserted)) c.mark-mark.ensures.place refl c.in_ok-push.ensures.items c.in_ok-push_split.ensures in
-    let W : SearchStatus → ℕ = status_weight rows c.find.new.asserted.items c.find.new.later.items in
-    if_ok (λ found. W found ≤ 1 + weight t (opens t (positions c.choose.new.asserted.items ++ side_positions t c.sides.result.0) c.choose.new.asserted.items c.push.new.self.items))
+    c.in_ok-place.ensures.found
+    c.mark-mark.ensures.graph c.in_ok-place.ensures.graph refl c.sides.ensures.sides
+    c.len-count.ensures c.mark-mark.ensures.place refl c.in_ok-push.ensures.items c.in_ok-push_split.ensures in
+    let W : SearchStatus → ℕ = status_weight rows c.find.new.asserted c.find.new.later.items in
+    if_ok (λ found. W found ≤ 1 + weight t (opens t (positions here ++ side_positions t c.sides.result.0) here c.push.new.self.items))
     (λ found. W found < 1 + weight t (opens t (positions here) here c.args.later.now.items)) c.find.result c.find.ensures.lighter (λ found h. omega (arith, h, next.1))
 
 pub returns-clause-longer : goal.returns-clause-longer

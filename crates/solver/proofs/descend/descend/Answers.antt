@@ -2,6 +2,7 @@ use Rattle.std.proofs.Common.{◌++◌, length, map, ap, subst, arith}
 use Rattle.std.specs.Prelude.{Option}
 use Rattle.std.proofs.lemmas.List.{nil_from_length}
 use Rattle.pc_ground.specs.Keys.{key_node}
+use Rattle.pc_ground.specs.Refutes.{literals_of}
 use Rattle.order_graph.specs.Clashes.{leaf_of}
 use Rattle.order_graph.specs.declared.clash.Clash.{Clash}
 use Rattle.solver.specs.Renamed.{node_at, renamed_leaf}
@@ -10,7 +11,7 @@ use Rattle.solver.specs.Places.{side_positions}
 use Rattle.solver.specs.Leaves.{clash_step}
 use Rattle.solver.specs.Opens.{positions, HasAsserted}
 use Rattle.solver.specs.Weights.{weight}
-use Rattle.solver.proofs.ClashLeaf.{clash_closes}
+use Rattle.solver.proofs.ClashLeaf.{clash_leaf, clash_closes}
 use Rattle.solver.proofs.IsState.{closed_kept, closed_all, entered_kept}
 use Rattle.solver.proofs.HasDescended.{clash_in, one_open, longer_push, lighter_closed, next_inside}
 use Rattle.solver.proofs.descend.descend.Goals as goal
@@ -18,23 +19,31 @@ use Rattle.solver.proofs.descend.descend.Goals as goal
 pub close-requires-clause-below : goal.close-requires-clause-below
 close-requires-clause-below g c =
     let t = spelled c.args.rows.now in
-    let here = c.loop-clash.asserted.items in
-    let E : Option Clash → Type 0 = HasAsserted t (side_positions t c.loop-clash.side) here c.enter_side.new.graph c.enter_side.new.asserted.items in
+    let here = c.loop-clash.asserted in
+    let E : Option Clash → Type 0 = HasAsserted t (side_positions t c.loop-clash.side) here c.enter_next.new.graph c.enter_next.new.asserted in
     let clash = subst E c.in-Some.is c.in_ok-clash.ensures.entered in
     clash_in (length c.args.keys.now) c.args.rows.now (positions here ++ side_positions t c.loop-clash.side) c.in-Some.clash c.requires.tree c.requires.below clash
+
+pub close-requires-clause-leaf : goal.close-requires-clause-leaf
+close-requires-clause-leaf g c =
+    let t = spelled c.args.rows.now in
+    let here = c.loop-clash.asserted in
+    let E : Option Clash → Type 0 = HasAsserted t (side_positions t c.loop-clash.side) here c.enter_next.new.graph c.enter_next.new.asserted in
+    let clash = subst E c.in-Some.is c.in_ok-clash.ensures.entered in
+    clash_leaf (map key_node c.args.keys.now) (literals_of t (positions here ++ side_positions t c.loop-clash.side)) c.in-Some.clash clash
 
 pub close-requires-clause-open : goal.close-requires-clause-open
 close-requires-clause-open g c =
     let t = spelled c.args.rows.now in
-    one_open c.args.version (map key_node c.args.keys.now) t c.loop-clash.graph c.loop-clash.asserted.items c.loop-clash.later.items c.loop-clash.refutation
+    one_open c.args.version (map key_node c.args.keys.now) t c.loop-clash.graph c.loop-clash.asserted c.loop-clash.later.items c.loop-clash.refutation
     (side_positions t c.loop-clash.side) c.loop-clash.invariant.state
 
 pub returns-in_default-pop-clause-descended : goal.returns-in_default-pop-clause-descended
 returns-in_default-pop-clause-descended g c =
     let nodes = map key_node c.args.keys.now in
     let t = spelled c.args.rows.now in
-    let here = c.loop-clash.asserted.items in
-    let E : Option Clash → Type 0 = HasAsserted t (side_positions t c.loop-clash.side) here c.enter_side.new.graph c.enter_side.new.asserted.items in
+    let here = c.loop-clash.asserted in
+    let E : Option Clash → Type 0 = HasAsserted t (side_positions t c.loop-clash.side) here c.enter_next.new.graph c.enter_next.new.asserted in
     let clash = subst E c.in-Some.is c.in_ok-clash.ensures.entered in
     closed_all c.args.version nodes t c.loop-clash.graph here c.loop-clash.later.items c.loop-clash.refutation c.close.new.refutation (renamed_leaf (node_at nodes) (leaf_of c.in-Some.clash)) (side_positions t c.loop-clash.side)
     c.loop-clash.invariant.state (clash_closes nodes t (positions here ++ side_positions t c.loop-clash.side) c.in-Some.clash clash) c.in_ok-close.ensures
@@ -48,7 +57,7 @@ returns-in_default-pop-clause-longer g c =
 pub go_back-requires : goal.go_back-requires
 go_back-requires g c =
     let t = spelled c.args.rows.now in
-    let is_later = next_inside c.args.version (map key_node c.args.keys.now) t c.loop-clash.graph c.loop-clash.asserted.items c.loop-clash.later.items c.pop.new.self.items
+    let is_later = next_inside c.args.version (map key_node c.args.keys.now) t c.loop-clash.graph c.loop-clash.asserted c.loop-clash.later.items c.pop.new.self.items
     c.loop-clash.refutation c.in-Some-pop.next (side_positions t c.loop-clash.side) c.loop-clash.invariant.state c.in-Some-pop.ensures.items in
     omega (arith, is_later.live, ap length c.in_ok-clash.ensures.further.same_marks)
 
@@ -56,15 +65,15 @@ pub loop-clash-preserved : goal.loop-clash-preserved
 loop-clash-preserved g c =
     let nodes = map key_node c.args.keys.now in
     let t = spelled c.args.rows.now in
-    let here = c.loop-clash.asserted.items in
+    let here = c.loop-clash.asserted in
     let next = c.in-Some-pop.next in
-    let E : Option Clash → Type 0 = HasAsserted t (side_positions t c.loop-clash.side) here c.enter_side.new.graph c.enter_side.new.asserted.items in
+    let E : Option Clash → Type 0 = HasAsserted t (side_positions t c.loop-clash.side) here c.enter_next.new.graph c.enter_next.new.asserted in
     let clash = subst E c.in-Some.is c.in_ok-clash.ensures.entered in
     let closes = clash_closes nodes t (positions here ++ side_positions t c.loop-clash.side) c.in-Some.clash clash in
     let is_later = next_inside c.args.version nodes t c.loop-clash.graph here c.loop-clash.later.items c.pop.new.self.items c.loop-clash.refutation next
     (side_positions t c.loop-clash.side) c.loop-clash.invariant.state c.in-Some-pop.ensures.items in
     let gone =
-    closed_kept c.args.version nodes t c.loop-clash.graph c.enter_side.new.graph c.go_back.new.graph here c.enter_side.new.asserted.items c.go_back.new.asserted.items
+    closed_kept c.args.version nodes t c.loop-clash.graph c.enter_next.new.graph c.go_back.new.graph here c.enter_next.new.asserted c.go_back.new.asserted
     c.loop-clash.later.items c.pop.new.self.items c.loop-clash.refutation c.close.new.refutation (renamed_leaf (node_at nodes) (leaf_of c.in-Some.clash)) next (side_positions t c.loop-clash.side)
     c.loop-clash.invariant.state closes c.in_ok-close.ensures c.in-Some-pop.ensures.items c.in_ok-clash.ensures.further c.in_ok-clash.ensures.kept
     c.go_back.ensures.cut c.go_back.ensures.positions in record {
@@ -78,10 +87,10 @@ pub returns-clause-descended : goal.returns-clause-descended
 returns-clause-descended g c =
     let nodes = map key_node c.args.keys.now in
     let t = spelled c.args.rows.now in
-    let here = c.loop-clash.asserted.items in
-    let E : Option Clash → Type 0 = HasAsserted t (side_positions t c.loop-clash.side) here c.enter_side.new.graph c.enter_side.new.asserted.items in
+    let here = c.loop-clash.asserted in
+    let E : Option Clash → Type 0 = HasAsserted t (side_positions t c.loop-clash.side) here c.enter_next.new.graph c.enter_next.new.asserted in
     let entered = subst E c.in_default.is c.in_ok-clash.ensures.entered in
     let kept =
-    entered_kept c.args.version nodes t c.loop-clash.graph c.enter_side.new.graph here c.enter_side.new.asserted.items c.loop-clash.later.items c.loop-clash.refutation (side_positions t c.loop-clash.side)
+    entered_kept c.args.version nodes t c.loop-clash.graph c.enter_next.new.graph here c.enter_next.new.asserted c.loop-clash.later.items c.loop-clash.refutation (side_positions t c.loop-clash.side)
     c.loop-clash.invariant.state entered.0 entered.1 c.in_ok-clash.ensures.further in
     (kept.0, omega (arith, ap (weight t) kept.1, c.loop-clash.invariant.lighter))

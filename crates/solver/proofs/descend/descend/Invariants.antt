@@ -10,9 +10,9 @@ use Rattle.solver.proofs.descend.descend.Given as goal
 abbrev pub invariant-loop-clash : goal.invariant-loop-clash
 invariant-loop-clash g l = record {
   inside : IsSideIn (spelled l.rows) l.side;
-  state : IsState l.fn.version (map key_node l.keys) (spelled l.rows) l.graph l.asserted.items l.later.items l.refutation (side_positions (spelled l.rows) l.side);
-  lighter : weight (spelled l.rows) (opens (spelled l.rows) (positions l.asserted.items ++ side_positions (spelled l.rows) l.side) l.asserted.items l.later.items)
-      ≤ weight (spelled l.rows) (opens (spelled l.rows) (positions l.fn.asserted.items ++ side_positions (spelled l.rows) l.fn.side) l.fn.asserted.items l.fn.later.items);
+  state : IsState l.fn.version (map key_node l.keys) (spelled l.rows) l.graph l.asserted l.later.items l.refutation (side_positions (spelled l.rows) l.side);
+  lighter : weight (spelled l.rows) (opens (spelled l.rows) (positions l.asserted ++ side_positions (spelled l.rows) l.side) l.asserted l.later.items)
+      ≤ weight (spelled l.rows) (opens (spelled l.rows) (positions l.fn.asserted ++ side_positions (spelled l.rows) l.fn.side) l.fn.asserted l.fn.later.items);
   longer : IsLonger l.fn.refutation l.refutation;
 }
 

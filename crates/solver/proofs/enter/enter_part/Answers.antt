@@ -40,7 +40,7 @@ loop-at-init g c =
       walk = (asserted_in (subtree_at (turned n t) c.args.root) c.args.root, start.1, refl);
       literals = c.requires.literals;
       further = further_same c.args.graph.now;
-      kept = kept_same c.args.asserted.now.items;
+      kept = kept_same c.args.asserted.now;
     }
 
 pub enter_row-requires : goal.enter_row-requires
@@ -50,6 +50,7 @@ enter_row-requires g c =
     let below = subst B (sym here.further.same_nodes) c.requires.below in record {
       below = turned_below c.loop-at.graph.nodes c.args.negated c.row_at-in-loop-at.result c.turned-row.result
           (row_below c.loop-at.graph.nodes c.args.rows.now c.loop-at.at c.row_at-in-loop-at.result below c.row_at-in-loop-at.ensures.row) c.turned-row.ensures;
+      small = omega (arith, c.loop-at-test.true, here.end, c.row_at-in-loop-at.ensures.bound);
     }
 
 pub returns-in-Some-clause-further : goal.returns-in-Some-clause-further
@@ -63,10 +64,10 @@ returns-in-Some-clause-entered g c =
     let here = c.loop-at.invariant in
     let at = turned_at n rows c.loop-at.at c.row_at-in-loop-at.result row c.row_at-in-loop-at.ensures.row c.turned-row.ensures in
     let step = walk_step (turned_rows n rows) _ c.loop-at.at here.walk.0 row here.walk.1 c.loop-at-test.true at in
-    let old = positions c.loop-at.asserted.items in
-    let P : Option Clash → Type 0 = HasAssertedRow row _ c.loop-at.graph c.loop-at.asserted.items c.enter_row.new.graph c.enter_row.new.asserted.items in
+    let old = positions c.loop-at.asserted in
+    let P : Option Clash → Type 0 = HasAssertedRow row _ c.loop-at.graph c.loop-at.asserted c.enter_row.new.graph c.enter_row.new.asserted in
     let entered = subst P c.in-Some.is c.in_ok-clash.ensures.entered in
-    let whole = positions c.args.asserted.now.items ++ asserted_at (spelled rows) n c.args.root in
+    let whole = positions c.args.asserted.now ++ asserted_at (spelled rows) n c.args.root in
     part_clash rows (signed n c.loop-at.at) row old (all_signed n step.0) whole c.loop-at.graph.literals c.in-Some.clash c.requires.tree at here.literals
     (ap (λ ps. old ++ all_signed n ps) (sym step.1) ∙ here.walk.2) entered.1
 
@@ -87,8 +88,8 @@ loop-at-preserved g c =
     let here = c.loop-at.invariant in
     let at = turned_at n rows c.loop-at.at c.row_at-in-loop-at.result row c.row_at-in-loop-at.ensures.row c.turned-row.ensures in
     let step = walk_step (turned_rows n rows) _ c.loop-at.at here.walk.0 row here.walk.1 c.loop-at-test.true at in
-    let old = c.loop-at.asserted.items in
-    let new = c.enter_row.new.asserted.items in
+    let old = c.loop-at.asserted in
+    let new = c.enter_row.new.asserted in
     let E : Option Clash → Type 0 = HasAssertedRow row _ c.loop-at.graph old c.enter_row.new.graph new in
     let entered = subst E c.in_default.is c.in_ok-clash.ensures.entered in
     let P : ℕ → Type 0 = λ k. Walk (turned_rows n rows) (c.args.root + c.row_at.result.skip) (c.loop-at.at + k) step.0 in record {

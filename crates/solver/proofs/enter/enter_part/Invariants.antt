@@ -12,10 +12,10 @@ abbrev pub invariant-loop-at : goal.invariant-loop-at
 invariant-loop-at g l = record {
   end : l.end ≤ length l.rows;
   walk : (ps : List ℕ) × Walk (turned_rows l.negated l.rows) l.end l.at ps
-      × (positions l.asserted.items ++ all_signed l.negated ps ≡ positions l.fn.asserted.items ++ asserted_at (spelled l.rows) l.negated l.root);
-  literals : l.graph.literals ≡ literals_of (spelled l.rows) (positions l.asserted.items);
+      × (positions l.asserted ++ all_signed l.negated ps ≡ positions l.fn.asserted ++ asserted_at (spelled l.rows) l.negated l.root);
+  literals : l.graph.literals ≡ literals_of (spelled l.rows) (positions l.asserted);
   further : IsFurther l.fn.graph l.graph;
-  kept : take (length l.fn.asserted.items) l.asserted.items ≡ l.fn.asserted.items;
+  kept : take (length l.fn.asserted) l.asserted ≡ l.fn.asserted;
 }
 
 abbrev pub decreases-loop-at : goal.decreases-loop-at

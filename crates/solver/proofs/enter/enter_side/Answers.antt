@@ -13,17 +13,17 @@ pub returns-in-Some-clause-entered : goal.returns-in-Some-clause-entered
 returns-in-Some-clause-entered g c =
     let t = spelled c.args.rows.now in
     let side = c.args.side in
-    let old = c.args.asserted.now.items in
+    let old = c.args.asserted.now in
     let first = denied_positions t side.negated side.denied in
-    let E : Option Clash → Type 0 = HasAsserted t first old c.enter_denied.new.graph c.enter_denied.new.asserted.items in
+    let E : Option Clash → Type 0 = HasAsserted t first old c.enter_denied.new.graph c.enter_denied.new.asserted in
     asserted_clash t first (asserted_at t side.negated side.root) old c.in-Some.clash (subst E c.in-Some.is c.in_ok-clash.ensures.entered)
 
 pub enter_part-requires : goal.enter_part-requires
 enter_part-requires g c =
     let t = spelled c.args.rows.now in
     let side = c.args.side in
-    let old = c.args.asserted.now.items in
-    let E : Option Clash → Type 0 = HasAsserted t (denied_positions t side.negated side.denied) old c.enter_denied.new.graph c.enter_denied.new.asserted.items in
+    let old = c.args.asserted.now in
+    let E : Option Clash → Type 0 = HasAsserted t (denied_positions t side.negated side.denied) old c.enter_denied.new.graph c.enter_denied.new.asserted in
     let B : ℕ → Type 0 = λ n. All (IsRowBelow n) c.args.rows.now in record {
       tree = c.requires.tree;
       root = c.requires.side.0;
@@ -38,9 +38,9 @@ returns-clause-further g c =
 
 pub returns-clause-kept : goal.returns-clause-kept
 returns-clause-kept g c =
-    let old = c.args.asserted.now.items in
-    let mid = c.enter_denied.new.asserted.items in
-    let new = c.enter_part.new.asserted.items in
+    let old = c.args.asserted.now in
+    let mid = c.enter_denied.new.asserted in
+    let new = c.enter_part.new.asserted in
     if_ok (λ _. take (length mid) new ≡ mid) (λ _. take (length old) new ≡ old) c.enter_part.result c.enter_part.ensures.kept
     (λ _ h. take_through old mid new c.in_ok-clash.ensures.kept h)
 
@@ -48,9 +48,9 @@ pub returns-clause-entered : goal.returns-clause-entered
 returns-clause-entered g c =
     let t = spelled c.args.rows.now in
     let side = c.args.side in
-    let old = c.args.asserted.now.items in
-    let mid = c.enter_denied.new.asserted.items in
-    let new = c.enter_part.new.asserted.items in
+    let old = c.args.asserted.now in
+    let mid = c.enter_denied.new.asserted in
+    let new = c.enter_part.new.asserted in
     let first = denied_positions t side.negated side.denied in
     let more = asserted_at t side.negated side.root in
     let E : Option Clash → Type 0 = HasAsserted t first old c.enter_denied.new.graph mid in

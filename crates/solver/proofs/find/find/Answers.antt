@@ -1,5 +1,5 @@
-use Rattle.std.proofs.Common.{◌≡◌, map, sym, ◌∙◌, subst, length, ap, arith, List, [], ℕ, Bool, eqb-true}
-use Rattle.std.specs.Prelude.{All}
+use Rattle.std.proofs.Common.{◌≡◌, map, sym, ◌∙◌, subst, length, ap, arith, List, [], ℕ, Bool, false, eqb-true}
+use Rattle.std.specs.Prelude.{All, Option, IfSome}
 use Rattle.std.proofs.lemmas.List.{nil_from_length, length-map, append-nil}
 use Rattle.pc_ground.specs.Keys.{key_node}
 use Rattle.pc_ground.proofs.FlatRows.{size_pos}
@@ -12,15 +12,62 @@ use Rattle.solver.specs.Opens.{positions, opens}
 use Rattle.solver.specs.Weights.{weight}
 use Rattle.solver.specs.Descents.{HasDescended}
 use Rattle.solver.proofs.HasAsserted.{length_spelled}
-use Rattle.solver.proofs.IsTurn.{positions_inside, kept_signs, witness, candidates_small, not_zero}
+use Rattle.solver.proofs.IsTurn.{positions_inside, kept_signs, witness, candidate_small, not_zero}
 use Rattle.solver.proofs.find.find.Goals as goal
 
 pub row_at-root-requires : goal.row_at-root-requires
 row_at-root-requires g c = omega (arith, length_spelled c.args.rows.now c.requires.tree, size_pos (spelled c.args.rows.now))
 
+pub next_place-requires-clause-nodes : goal.next_place-requires-clause-nodes
+next_place-requires-clause-nodes g c =
+    let H : Bool → Type 0 = HasDescended c.args.version (map key_node c.args.keys.now) (spelled c.args.rows.now) _ c.descend.new.graph c.descend.new.asserted
+    c.descend.new.later.items c.descend.new.refutation in
+    let descended = subst H c.if-not-is_open.false c.in_ok-is_open.ensures.descended in
+    descended.0.all_nodes ∙ length-map c.args.keys.now key_node
+
+pub next_place-requires-clause-below : goal.next_place-requires-clause-below
+next_place-requires-clause-below g c =
+    let H : Bool → Type 0 = HasDescended c.args.version (map key_node c.args.keys.now) (spelled c.args.rows.now) _ c.descend.new.graph c.descend.new.asserted
+    c.descend.new.later.items c.descend.new.refutation in
+    let descended = subst H c.if-not-is_open.false c.in_ok-is_open.ensures.descended in
+    let P : ℕ → Type 0 = λ n. All (IsRowBelow n) c.args.rows.now in
+    subst P (sym (descended.0.all_nodes ∙ length-map c.args.keys.now key_node)) c.requires.below
+
+pub next_place-requires-clause-literals : goal.next_place-requires-clause-literals
+next_place-requires-clause-literals g c =
+    let H : Bool → Type 0 = HasDescended c.args.version (map key_node c.args.keys.now) (spelled c.args.rows.now) _ c.descend.new.graph c.descend.new.asserted
+    c.descend.new.later.items c.descend.new.refutation in
+    let descended = subst H c.if-not-is_open.false c.in_ok-is_open.ensures.descended in
+    descended.0.literals
+
+pub returns-in-Some-clause-found : goal.returns-in-Some-clause-found
+returns-in-Some-clause-found g c =
+    let H : Bool → Type 0 = HasDescended c.args.version (map key_node c.args.keys.now) (spelled c.args.rows.now) _ c.descend.new.graph c.descend.new.asserted
+    c.descend.new.later.items c.descend.new.refutation in
+    let descended = subst H c.if-not-is_open.false c.in_ok-is_open.ensures.descended in
+    let rows = c.args.rows.now in
+    let here = c.descend.new.asserted in
+    let C : Option Place → Type 0 = λ found. IfSome found (λ q. IsCandidate (spelled rows) (positions here) (place_signed q)) in
+    let candidate = subst C c.in-Some.is c.in_ok-place.ensures.candidate in record {
+      no_false = c.requires.no_false;
+      state = descended.0;
+      candidate = candidate;
+      small = candidate_small rows (positions here) c.in-Some.place c.requires.tree c.row_at-root.ensures.bound candidate;
+    }
+
+pub returns-in-Some-clause-lighter : goal.returns-in-Some-clause-lighter
+returns-in-Some-clause-lighter g c =
+    let H : Bool → Type 0 = HasDescended c.args.version (map key_node c.args.keys.now) (spelled c.args.rows.now) _ c.descend.new.graph c.descend.new.asserted
+    c.descend.new.later.items c.descend.new.refutation in
+    let descended = subst H c.if-not-is_open.false c.in_ok-is_open.ensures.descended in
+    let t = spelled c.args.rows.now in
+    let here = c.descend.new.asserted in
+    let same = ap (λ ps. weight t (opens t ps here c.descend.new.later.items)) (append-nil (positions here)) in
+    omega (arith, descended.1, same)
+
 pub candidates-requires-clause-below : goal.candidates-requires-clause-below
 candidates-requires-clause-below g c =
-    let H : Bool → Type 0 = HasDescended c.args.version (map key_node c.args.keys.now) (spelled c.args.rows.now) _ c.descend.new.graph c.descend.new.asserted.items
+    let H : Bool → Type 0 = HasDescended c.args.version (map key_node c.args.keys.now) (spelled c.args.rows.now) _ c.descend.new.graph c.descend.new.asserted
     c.descend.new.later.items c.descend.new.refutation in
     let descended = subst H c.if-not-is_open.false c.in_ok-is_open.ensures.descended in
     let P : ℕ → Type 0 = λ n. All (IsRowBelow n) c.args.rows.now in
@@ -28,25 +75,25 @@ candidates-requires-clause-below g c =
 
 pub candidates-requires-clause-inside : goal.candidates-requires-clause-inside
 candidates-requires-clause-inside g c =
-    let H : Bool → Type 0 = HasDescended c.args.version (map key_node c.args.keys.now) (spelled c.args.rows.now) _ c.descend.new.graph c.descend.new.asserted.items
+    let H : Bool → Type 0 = HasDescended c.args.version (map key_node c.args.keys.now) (spelled c.args.rows.now) _ c.descend.new.graph c.descend.new.asserted
     c.descend.new.later.items c.descend.new.refutation in
     let descended = subst H c.if-not-is_open.false c.in_ok-is_open.ensures.descended in
-    rw c.deref.ensures.value
-    (positions_inside c.args.version (map key_node c.args.keys.now) c.args.rows.now c.descend.new.graph c.descend.new.asserted.items c.descend.new.later.items c.descend.new.refutation
+    rw c.as_slice.ensures
+    (positions_inside c.args.version (map key_node c.args.keys.now) c.args.rows.now c.descend.new.graph c.descend.new.asserted c.descend.new.later.items c.descend.new.refutation
     c.requires.tree descended.0)
 
 pub candidates-requires-clause-signs : goal.candidates-requires-clause-signs
 candidates-requires-clause-signs g c =
-    let H : Bool → Type 0 = HasDescended c.args.version (map key_node c.args.keys.now) (spelled c.args.rows.now) _ c.descend.new.graph c.descend.new.asserted.items
+    let H : Bool → Type 0 = HasDescended c.args.version (map key_node c.args.keys.now) (spelled c.args.rows.now) _ c.descend.new.graph c.descend.new.asserted
     c.descend.new.later.items c.descend.new.refutation in
     let descended = subst H c.if-not-is_open.false c.in_ok-is_open.ensures.descended in
-    rw c.deref.ensures.value
-    (kept_signs c.args.version (map key_node c.args.keys.now) (spelled c.args.rows.now) c.descend.new.graph c.descend.new.asserted.items c.descend.new.later.items c.descend.new.refutation
+    rw c.as_slice.ensures
+    (kept_signs c.args.version (map key_node c.args.keys.now) (spelled c.args.rows.now) c.descend.new.graph c.descend.new.asserted c.descend.new.later.items c.descend.new.refutation
     descended.0)
 
 pub graph_of-requires : goal.graph_of-requires
 graph_of-requires g c =
-    let H : Bool → Type 0 = HasDescended c.args.version (map key_node c.args.keys.now) (spelled c.args.rows.now) _ c.descend.new.graph c.descend.new.asserted.items
+    let H : Bool → Type 0 = HasDescended c.args.version (map key_node c.args.keys.now) (spelled c.args.rows.now) _ c.descend.new.graph c.descend.new.asserted
     c.descend.new.later.items c.descend.new.refutation in
     let descended = subst H c.if-not-is_open.false c.in_ok-is_open.ensures.descended in
     let all = descended.0.all_nodes ∙ length-map c.args.keys.now key_node in
@@ -55,42 +102,44 @@ graph_of-requires g c =
 
 pub returns-then-is_empty-clause-found : goal.returns-then-is_empty-clause-found
 returns-then-is_empty-clause-found g c =
-    let H : Bool → Type 0 = HasDescended c.args.version (map key_node c.args.keys.now) (spelled c.args.rows.now) _ c.descend.new.graph c.descend.new.asserted.items
+    let H : Bool → Type 0 = HasDescended c.args.version (map key_node c.args.keys.now) (spelled c.args.rows.now) _ c.descend.new.graph c.descend.new.asserted
     c.descend.new.later.items c.descend.new.refutation in
     let descended = subst H c.if-not-is_open.false c.in_ok-is_open.ensures.descended in
     let nodes = map key_node c.args.keys.now in
     let rows = c.args.rows.now in
-    let here = c.descend.new.asserted.items in
+    let here = c.descend.new.asserted in
     let empty : c.in_ok-found.found.items ≡ [] = nil_from_length c.in_ok-found.found.items
     (let e = eqb-true _ 0 (sym c.is_empty.ensures ∙ c.if-is_empty.true) in omega (arith, e)) in
     let A : List Place → Type 0 = λ xs. AreChosen (spelled rows) (positions xs) in
     witness c.args.version nodes (length c.args.keys.now) rows c.descend.new.graph here c.descend.new.later.items c.descend.new.refutation c.in_ok-shown.shown
     (sym (length-map c.args.keys.now key_node)) c.requires.tree c.requires.distinct c.requires.below c.requires.no_false descended.0
-    c.len-asserted_so_far.ensures.graph (subst A c.deref.ensures.value (c.in_ok-found.ensures.none empty)) c.in_ok-shown.ensures.nodes c.in_ok-shown.ensures.edges
+    c.len-asserted_so_far.ensures.graph (subst A c.as_slice.ensures (c.in_ok-found.ensures.none empty)) c.in_ok-shown.ensures.nodes c.in_ok-shown.ensures.edges
 
 pub returns-clause-found : goal.returns-clause-found
 returns-clause-found g c =
-    let H : Bool → Type 0 = HasDescended c.args.version (map key_node c.args.keys.now) (spelled c.args.rows.now) _ c.descend.new.graph c.descend.new.asserted.items
+    let H : Bool → Type 0 = HasDescended c.args.version (map key_node c.args.keys.now) (spelled c.args.rows.now) _ c.descend.new.graph c.descend.new.asserted
     c.descend.new.later.items c.descend.new.refutation in
     let descended = subst H c.if-not-is_open.false c.in_ok-is_open.ensures.descended in
     let rows = c.args.rows.now in
-    let here = c.descend.new.asserted.items in
+    let here = c.descend.new.asserted in
     let found = c.in_ok-found.found.items in
     let A : List Place → Type 0 = λ xs. All (λ q. IsCandidate (spelled rows) (positions xs) (place_signed q)) found in
-    let all = subst A c.deref.ensures.value c.in_ok-found.ensures.all in record {
+    let all = subst A c.as_slice.ensures c.in_ok-found.ensures.all in
+    let some = not_zero _ c.is_empty.result c.is_empty.ensures c.if-is_empty.false in
+    let C : Place → Type 0 = λ q. IsCandidate (spelled rows) (positions here) (place_signed q) in
+    let candidate : C c.index.result.now = subst C (sym c.index.ensures) (all 0 c.index.result.now (omega (arith, some))) in record {
       no_false = c.requires.no_false;
       state = descended.0;
-      some = (let some = not_zero _ c.is_empty.result c.is_empty.ensures c.if-is_empty.false in omega (arith, some));
-      all = all;
-      small = candidates_small rows (positions here) found c.requires.tree c.row_at-root.ensures.bound all;
+      candidate = candidate;
+      small = candidate_small rows (positions here) c.index.result.now c.requires.tree c.row_at-root.ensures.bound candidate;
     }
 
 pub returns-clause-lighter : goal.returns-clause-lighter
 returns-clause-lighter g c =
-    let H : Bool → Type 0 = HasDescended c.args.version (map key_node c.args.keys.now) (spelled c.args.rows.now) _ c.descend.new.graph c.descend.new.asserted.items
+    let H : Bool → Type 0 = HasDescended c.args.version (map key_node c.args.keys.now) (spelled c.args.rows.now) _ c.descend.new.graph c.descend.new.asserted
     c.descend.new.later.items c.descend.new.refutation in
     let descended = subst H c.if-not-is_open.false c.in_ok-is_open.ensures.descended in
     let t = spelled c.args.rows.now in
-    let here = c.descend.new.asserted.items in
+    let here = c.descend.new.asserted in
     let same = ap (λ ps. weight t (opens t ps here c.descend.new.later.items)) (append-nil (positions here)) in
     omega (arith, descended.1, same)

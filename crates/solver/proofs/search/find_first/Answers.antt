@@ -23,6 +23,6 @@ find-requires g c =
       distinct = c.requires.distinct;
       below = c.requires.below;
       no_false = no_false (spelled rows) c.requires.folded (not_false rows c.row_at-root.result c.requires.tree c.row_at-root.ensures.row c.in_default.not-False);
-      state = first_kept c.args.version (map key_node keys) (spelled rows) c.args.graph.now c.args.asserted.now.items c.args.later.now.items c.args.refutation.now
+      state = first_kept c.args.version (map key_node keys) (spelled rows) c.args.graph.now c.args.asserted.now c.args.later.now.items c.args.refutation.now
           (c.requires.nodes ∙ sym (length-map keys key_node)) c.requires.literals c.requires.marks c.requires.asserted c.requires.later c.requires.steps;
     }

@@ -13,18 +13,18 @@ pub returns-in-Refuted-clause-turn : goal.returns-in-Refuted-clause-turn
 returns-in-Refuted-clause-turn c =
     let nodes = map key_node c.args.keys.items in
     let rows = c.args.rows.items in
-    let F : SearchStatus → Type 0 = IsStatus c.args.version nodes rows c.args.graph c.args.asserted.items c.args.later.items c.args.refutation in
+    let F : SearchStatus → Type 0 = IsStatus c.args.version nodes rows c.args.graph c.args.asserted c.args.later.items c.args.refutation in
     let closed : IsPartial c.args.version (tree_over nodes (spelled rows)) c.args.refutation [] = subst F c.in-Refuted.is c.requires.status in
     (closed, refutation_sound c.args.version (tree_over nodes (spelled rows)) c.args.refutation closed)
 
 pub returns-in-Satisfied-clause-turn : goal.returns-in-Satisfied-clause-turn
 returns-in-Satisfied-clause-turn c =
-    let F : SearchStatus → Type 0 = IsStatus c.args.version (map key_node c.args.keys.items) c.args.rows.items c.args.graph c.args.asserted.items c.args.later.items c.args.refutation in
+    let F : SearchStatus → Type 0 = IsStatus c.args.version (map key_node c.args.keys.items) c.args.rows.items c.args.graph c.args.asserted c.args.later.items c.args.refutation in
     subst F c.in-Satisfied.is c.requires.status
 
 pub invariant_of-result : goal.invariant_of-result
 invariant_of-result c =
-    let F : SearchStatus → Type 0 = IsStatus c.args.version (map key_node c.args.keys.items) c.args.rows.items c.args.graph c.args.asserted.items c.args.later.items c.args.refutation in
+    let F : SearchStatus → Type 0 = IsStatus c.args.version (map key_node c.args.keys.items) c.args.rows.items c.args.graph c.args.asserted c.args.later.items c.args.refutation in
     let open_now = subst F c.in-Undecided.is c.requires.status in record {
       tree = c.requires.tree;
       few = c.requires.few;
@@ -32,27 +32,25 @@ invariant_of-result c =
       below = c.requires.below;
       no_false = open_now.no_false;
       state = open_now.state;
-      some = open_now.some;
-      all = open_now.all;
+      candidate = open_now.candidate;
       small = open_now.small;
     }
 
 pub returns-in-Undecided-clause-turn : goal.returns-in-Undecided-clause-turn
 returns-in-Undecided-clause-turn c =
-    let F : SearchStatus → Type 0 = IsStatus c.args.version (map key_node c.args.keys.items) c.args.rows.items c.args.graph c.args.asserted.items c.args.later.items c.args.refutation in
+    let F : SearchStatus → Type 0 = IsStatus c.args.version (map key_node c.args.keys.items) c.args.rows.items c.args.graph c.args.asserted c.args.later.items c.args.refutation in
     let open_now = subst F c.in-Undecided.is c.requires.status in (
       refl,
       refl,
       refl,
-      searching c.args.version c.args.keys.items c.args.rows.items c.args.graph c.args.asserted.items c.args.later.items c.args.refutation c.in-Undecided.candidates.items (record {
+      searching c.args.version c.args.keys.items c.args.rows.items c.args.graph c.args.asserted c.args.later.items c.args.refutation c.in-Undecided.first (record {
         tree = c.requires.tree;
         few = c.requires.few;
         distinct = c.requires.distinct;
         below = c.requires.below;
         no_false = open_now.no_false;
         state = open_now.state;
-        some = open_now.some;
-        all = open_now.all;
+        candidate = open_now.candidate;
         small = open_now.small;
       }),
     )

@@ -15,7 +15,7 @@ find_first-requires g c = rw (c.deref.ensures.value, c.deref-2.ensures.value) (r
   nodes = c.requires.nodes;
   literals = c.requires.literals;
   marks = c.requires.marks;
-  asserted = c.new-asserted.ensures.items;
+  asserted = c.new-asserted.ensures;
   later = c.new-later.ensures.items;
   steps = c.requires.steps;
 })
@@ -23,7 +23,7 @@ find_first-requires g c = rw (c.deref.ensures.value, c.deref-2.ensures.value) (r
 pub settle-requires : goal.settle-requires
 settle-requires g c =
     let F : List NodeKey → List (Row ℕ) → Type 0 = λ ks rs.
-    IsStatus c.args.version (map key_node ks) rs c.find_first.new.graph c.find_first.new.asserted.items c.find_first.new.later.items c.find_first.new.refutation c.in_ok-status.status in record {
+    IsStatus c.args.version (map key_node ks) rs c.find_first.new.graph c.find_first.new.asserted c.find_first.new.later.items c.find_first.new.refutation c.in_ok-status.status in record {
       tree = c.requires.tree;
       few = c.requires.few;
       distinct = c.requires.distinct;

@@ -37,7 +37,7 @@ start-requires g c =
       nodes = ap (λ (x : Graph). x.nodes) c.in_ok-graph.ensures ∙ c.len-count.ensures.count ∙ sym same;
       literals = ap (λ (x : Graph). x.literals) c.in_ok-graph.ensures;
       marks = ap (λ (x : Graph). x.marks) c.in_ok-graph.ensures;
-      steps = c.new-2.ensures;
+      steps = c.new-3.ensures;
     }
 
 pub returns : goal.returns

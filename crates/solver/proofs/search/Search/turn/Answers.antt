@@ -1,4 +1,4 @@
-use Rattle.std.proofs.Common.{◌<◌, ◌+◌, map, subst, arith, List, ℕ}
+use Rattle.std.proofs.Common.{◌≡◌, ◌<◌, ◌+◌, sym, map, subst, arith, List, ℕ}
 use Rattle.pc_ground.specs.declared.node_key.NodeKey.{NodeKey}
 use Rattle.pc_ground.specs.declared.row.Row.{Row}
 use Rattle.pc_ground.specs.Keys.{key_node}
@@ -6,20 +6,24 @@ use Rattle.solver.specs.Spelled.{spelled}
 use Rattle.solver.specs.Weights.{weight}
 use Rattle.solver.specs.Searched.{Searched, branches_of}
 use Rattle.solver.specs.Statuses.{IsStatus, status_weight}
-use Rattle.solver.specs.Turns.{turn_weight}
+use Rattle.solver.specs.Turns.{turn_weight, GoesOn}
+use Rattle.solver.specs.Descents.{HasMore}
+use Rattle.solver.specs.declared.search.Turn.{Turn}
+use Rattle.solver.specs.declared.search.Turn.TheVariants.{More, Done}
+use Rattle.pc_common.specs.World.{Node}
+use Rattle.pc_common.specs.Steps.{Step}
 use Rattle.solver.proofs.search.Search.turn.Goals as goal
 
 pub advance-requires : goal.advance-requires
 advance-requires g c =
     let kept = c.self.invariant in
-    rw (c.deref.ensures.value, c.deref-2.ensures.value, c.deref-3.ensures.value) (record {
+    rw (c.deref.ensures.value, c.deref-2.ensures.value) (record {
       tree = kept.tree;
       few = kept.few;
       distinct = kept.distinct;
       below = kept.below;
       no_false = kept.no_false;
-      some = kept.some;
-      candidates = kept.all;
+      first = kept.candidate;
       small = kept.small;
       state = kept.state;
     })
@@ -28,7 +32,7 @@ pub settle-requires : goal.settle-requires
 settle-requires g c =
     let kept = c.self.invariant in
     let F : List NodeKey → List (Row ℕ) → Type 0 = λ ks rs.
-    IsStatus c.self.inside.version (map key_node ks) rs c.advance.new.graph c.advance.new.asserted.items c.advance.new.later.items c.advance.new.refutation c.in_ok-status.status in record {
+    IsStatus c.self.inside.version (map key_node ks) rs c.advance.new.graph c.advance.new.asserted c.advance.new.later.items c.advance.new.refutation c.in_ok-status.status in record {
       tree = kept.tree;
       few = kept.few;
       distinct = kept.distinct;
@@ -40,9 +44,19 @@ pub returns-clause-weight : goal.returns-clause-weight
 returns-clause-weight g c =
     let s = c.self.inside in
     let W : List (Row ℕ) → Type 0 = λ rs.
-    status_weight rs c.advance.new.asserted.items c.advance.new.later.items c.in_ok-status.status < 1 + weight (spelled rs) (branches_of rs s.asserted.items s.later.items) in
+    status_weight rs c.advance.new.asserted c.advance.new.later.items c.in_ok-status.status < 1 + weight (spelled rs) (branches_of rs s.asserted s.later.items) in
     let lighter : W s.rows.items = subst W c.deref-2.ensures.value c.in_ok-status.ensures.lighter in
-    let less : turn_weight c.settle.result < 1 + weight (spelled s.rows.items) (branches_of s.rows.items s.asserted.items s.later.items) =
+    let less : turn_weight c.settle.result < 1 + weight (spelled s.rows.items) (branches_of s.rows.items s.asserted s.later.items) =
     omega (arith, c.settle.ensures.weight, lighter) in
     let S : Searched → Type 0 = λ x. turn_weight c.settle.result < 1 + weight (spelled x.rows) x.branches in
     subst S c.self.view_is less
+
+goes_more : (old mid : List (Step Node)) (turn : Turn) → GoesOn (λ a b. b ≡ a) mid turn → HasMore old mid → GoesOn HasMore old turn
+goes_more old mid (More s) same more = (let P : List (Step Node) → Type 0 = HasMore old in subst P (sym same) more)
+goes_more old mid (Done a) same more = tt
+
+pub returns-clause-steps : goal.returns-clause-steps
+returns-clause-steps g c =
+    let s = c.self.inside in
+    let S : Searched → Type 0 = λ x. GoesOn HasMore x.steps c.settle.result in
+    subst S c.self.view_is (goes_more s.refutation c.advance.new.refutation c.settle.result c.settle.ensures.steps c.in_ok-status.ensures.longer)

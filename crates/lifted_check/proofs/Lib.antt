@@ -1,0 +1,9 @@
+pub mod SpacedWords
+pub mod DecodedSteps
+pub mod OneStep
+pub mod NumberRow
+pub mod ValueWords
+pub mod TakenLines
+pub mod LineRuns
+pub mod Texts
+pub mod Outcomes

@@ -1,0 +1,13 @@
+//! herd's X86 listings as the second file of a command.
+//!
+//! A command that is written for a form of second files, as `check` and `verify` are, takes a listing in place of
+//! a test where it is used at `ListingFile`. The order of faults is as for tests: the model's, and where it has
+//! none, the listing's.
+#![tactic(auto)]
+
+mod laws;
+mod listing_file;
+mod two_files;
+
+pub use laws::{case_or_first_fault, no_first_fault, one_first_fault, one_model_and_case};
+pub use listing_file::ListingFile;

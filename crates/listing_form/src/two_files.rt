@@ -1,0 +1,79 @@
+ghost use Rattle.std.specs.Prelude.{◌≡◌, ◌^◌, ◌<◌, length, map, IfOk, IfErr};
+ghost use Rattle.pc_ground.specs.Stages.{plain_stage, plain_axioms, numbers_of, AreStages, AxiomsWithin};
+ghost use Rattle.pc_common.specs.declared.fault.Which.TheVariants.{Test};
+ghost use Rattle.pc_front.specs.declared.model_front.FrontEnd.TheVariants.{Refused};
+ghost use Rattle.pc_front.specs.Front.{fault_at};
+ghost use Rattle.listing_form.specs.Listings.{SayParts, SayFront, IsEnd, listing_end};
+
+use front_parts::front_of;
+use pc_case::Case;
+use pc_common::{FaultKind, InputFault, Place, Which};
+use pc_front::{FrontEnd, ModelFront, read_model};
+use pc_ground::{Front, Parts};
+use std::alloc::Global;
+use x86_litmus::{X86Fault, read_x86};
+
+fn in_listing(kind: FaultKind, place: Place) -> FrontEnd
+    ensures { result ≡ Refused (fault_at Test kind place) }
+{
+    FrontEnd::Refused(InputFault {
+        file: Which::Test,
+        place,
+        kind,
+    })
+}
+
+/// How the fault of a listing ends the reading.
+fn end_of(fault: X86Fault) -> FrontEnd
+    ensures { result ≡ listing_end fault }
+{
+    match fault {
+        X86Fault::Lexical(place) => in_listing(FaultKind::Lexical, place),
+        X86Fault::Syntax(place) => in_listing(FaultKind::Syntax, place),
+        X86Fault::Content(kind, place) => in_listing(kind, place),
+        X86Fault::Memory => FrontEnd::Memory,
+    }
+}
+
+/// The parts of a case and a model.
+fn parts_of(case: Case, model: ModelFront) -> Parts
+    requires named { AreStages (map plain_stage model.stages) }
+    requires within { AxiomsWithin (numbers_of (map plain_stage model.stages)) (plain_axioms model.axioms) }
+    ensures { (result.case ≡ case) × (result.stages ≡ model.stages) × (result.axioms ≡ model.axioms) }
+{
+    let ModelFront { stages, axioms } = model;
+    Parts {
+        case,
+        stages,
+        axioms,
+    }
+}
+
+/// What the bytes of a model and of a listing say, without a ground tree.
+fn read_parts(alloc: Global, model_bytes: &[u8], bytes: &[u8]) -> Result<Parts, FrontEnd>
+    requires model_short { length model_bytes.now < 2 ^ 32 }
+    requires short { length bytes.now < 2 ^ 32 }
+    ensures ok { IfOk result (SayParts model_bytes.now bytes.now) }
+    ensures err { IfErr result (IsEnd model_bytes.now bytes.now) }
+{
+    let model = read_model(alloc, model_bytes)?;
+    match read_x86(alloc, bytes) {
+        Ok(case) => Ok(parts_of(case, model)),
+        Err(fault) => Err(end_of(fault)),
+    }
+}
+
+/// What the bytes of a model and of a listing say together: the listing's case, the model's stages, its axioms
+/// closed, their ground tree in the case, and the numbers of the tree's nodes.
+///
+/// `Refused` comes with the first fault of the two files: the model's, and where it has none, the listing's.
+/// The sizes of the files aren't judged.
+pub(crate) fn front(alloc: Global, model_bytes: &[u8], bytes: &[u8]) -> Result<Front, FrontEnd>
+    requires model_short { length model_bytes.now < 2 ^ 32 }
+    requires short { length bytes.now < 2 ^ 32 }
+    ensures ok { IfOk result (SayFront model_bytes.now bytes.now) }
+    ensures err { IfErr result (IsEnd model_bytes.now bytes.now) }
+{
+    let parts = read_parts(alloc, model_bytes, bytes)?;
+    Ok(front_of(alloc, parts)?)
+}

@@ -1,0 +1,6 @@
+pub mod Opens
+pub mod Closing
+pub mod Rows
+pub mod Reads
+pub mod Answer
+pub mod Laws

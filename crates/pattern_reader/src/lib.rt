@@ -1,0 +1,26 @@
+//! Patterns: tests in which reads may leave their value open, and the case of each combination of values.
+//!
+//! A pattern is a test file of either format in which a read may have `(Data Any)`. With a 0 in place of each such
+//! `Any` it is a test, which `litmus_reader` judges: a pattern has the faults of that test, at the same places, and so
+//! an `Any` anywhere else is a fault of syntax. Last of all faults is too many rows.
+//!
+//! An open read may read the initial value at its physical address, then each value that a write writes there, in
+//! test order, each once. A row is one combination, and rows are numbered from 0, the last open read changing fastest.
+//!
+//! `specs/Opens.antt` says which values are open, `specs/Rows.antt` what the rows are, and `specs/Answer.antt` what
+//! bytes say. The laws in `laws.rt` say that bytes say a pattern or have a first fault, one at most of each, and not
+//! both.
+#![tactic(auto)]
+
+mod closing;
+mod laws;
+mod opens;
+mod pattern;
+mod read;
+mod rows;
+mod values;
+
+pub use laws::{limits_are, no_fault, one_fault, one_pattern, pattern_or_fault};
+pub use litmus_reader::CaseFault;
+pub use pattern::{MAX_ROWS, Pattern, row_case};
+pub use read::read_pattern;

@@ -1,0 +1,50 @@
+-- The rows of a subtree, by themselves.
+use Rattle.std.proofs.Common.{◌≡◌, ◌≤◌, ◌<◌, ℕ, ◌+◌, ◌-◌, Bool, List, [], ◌∷◌, ◌++◌, Some, take, drop, length, refl, sym, ap, ◌∙◌, subst, arith}
+use Rattle.std.specs.Prelude.{slice_get, slice_range, All, IsTrue, ◌↔◌}
+use Rattle.std.proofs.lemmas.List.Elements.{All-take, All-drop}
+use Rattle.pc_ground.specs.declared.literal.Literal.{Literal}
+use Rattle.pc_ground.specs.declared.row.Row.{Row}
+use Rattle.pc_ground.specs.Tree.{Tree, size_of}
+use Rattle.pc_ground.specs.Rows.{rows_of}
+use Rattle.pc_ground.specs.Refutes.{subtree_at}
+use Rattle.pc_ground.proofs.FlatRows.{IsPart, subtree_part, subtree_size, length_rows}
+use Rattle.pc_ground.proofs.StageWalks.{some_same}
+use Rattle.solver.specs.Spelled.{spelled, IsSpelled}
+use Rattle.solver.specs.Below.{IsRowBelow}
+use Rattle.solver.specs.Met.{IsMet}
+use Rattle.solver.specs.Flags.{IsTreePart}
+use Rattle.solver.proofs.IsSpelled.{spelled_is, is_spelled}
+use Rattle.solver.proofs.HasAsserted.{row_root, length_spelled}
+
+take_first : {X : Type 0} (xs ys : List X) → take (length xs) (xs ++ ys) ≡ xs
+take_first [] ys = refl
+take_first (x ∷ xs) ys = ap (λ zs. x ∷ zs) (take_first xs ys)
+
+pub tree_part : (rows : List (Row ℕ)) (p end : ℕ) (r : Row ℕ) → IsSpelled rows → p < length rows → slice_get rows p ≡ Some r → end ≡ p + r.skip
+    → IsTreePart (spelled rows) p (slice_range rows p end) × (end ≤ length rows)
+tree_part rows p end r flat inside at e =
+    let t = spelled rows in
+    let len = length_spelled rows flat in
+    let there = row_root rows t p r flat (omega (arith, inside, len)) at in
+    let s = there.0 in
+    let skip : r.skip ≡ size_of s = ap (λ (x : Row ℕ). x.skip) there.2 in
+    let size = subtree_size t p s there.1 in
+    let P : List (Row ℕ) → Type 0 = λ xs. IsPart xs p s in
+    let part : IsPart rows p s = subst P (sym flat) (subtree_part t p s there.1) in
+    let long : end - p ≡ length (rows_of s) = omega (arith, e, skip, length_rows s) in
+    let same : slice_range rows p end ≡ rows_of s = ap (λ n. take n (drop p rows)) long ∙ ap (take (length (rows_of s))) part.1 ∙ take_first (rows_of s) part.0 in
+    ((s, there.1, same), omega (arith, e, skip, size, len))
+
+pub part_spelled : (t : Tree ℕ) (p : ℕ) (part : List (Row ℕ)) → IsTreePart t p part → IsSpelled part
+part_spelled t p part (s, at, e) = is_spelled part s e
+
+pub part_below : (n : ℕ) (rows : List (Row ℕ)) (a b : ℕ) → All (IsRowBelow n) rows → All (IsRowBelow n) (slice_range rows a b)
+part_below n rows a b all = All-take (IsRowBelow n) (b - a) (drop a rows) (All-drop (IsRowBelow n) a rows all)
+
+-- what is so of the part by itself is so of the subtree there
+pub part_met : (t : Tree ℕ) (p : ℕ) (part : List (Row ℕ)) (ls : List (Literal ℕ)) (b : Bool) (s : Tree ℕ) → IsTreePart t p part → subtree_at t p ≡ Some s
+    → IsTrue b ↔ IsMet ls (spelled part) → IsTrue b ↔ IsMet ls s
+part_met t p part ls b s (x, at, e) there told =
+    let same : spelled part ≡ s = spelled_is part x e ∙ some_same (sym at ∙ there) in
+    let P : Tree ℕ → Type 0 = λ y. IsTrue b ↔ IsMet ls y in
+    subst P same told

@@ -1,0 +1,244 @@
+ghost use Rattle.std.specs.Prelude.{◌≡◌, All, length};
+ghost use Rattle.solver.specs.Spelled.{IsSpelled};
+ghost use Rattle.solver.specs.Below.{IsRowBelow};
+
+use super::bits::Bits;
+use super::gains::Gains;
+use super::hints::{Truth, or_truth};
+use super::ors::is_or;
+use super::place::Place;
+use super::rows::skip_at;
+use super::side::Side;
+use super::standing::Standing;
+use super::watch::{Watch, Watched};
+use order_graph::OrderGraph;
+use pc_common::Memory;
+use pc_ground::{NodeKey, Row};
+use std::alloc::Global;
+
+/// What stood at a position before a change.
+#[derive(Clone, Copy)]
+struct Change {
+    position: usize,
+    standing: Standing,
+}
+
+/// Where the search looks next: the pending Ors of the first open branch, with what is known of each, so that
+/// a turn looks only where something changed. All of it are hints. No clause speaks of them, since what they
+/// propose is tested, and where they propose nothing all rows are looked at.
+#[derive(Drop)]
+pub(crate) struct Agenda {
+    watch: Watch,
+    standings: Vec<Standing>,
+    pending: Bits,
+    open: Bits,
+    ready: Bits,
+    /// Room for the truth of a part's positions.
+    truths: Vec<bool>,
+    /// What the branch changed, the newest last, and how much of it there was at each split that waits.
+    trail: Vec<Change>,
+    marks: Vec<usize>,
+    /// How many asserted positions were looked at.
+    seen: usize,
+    gains: Gains,
+}
+
+impl Agenda {
+    /// That of a search over these rows and so many nodes, before the tree is asserted.
+    pub(crate) fn new(alloc: Global, rows: &[Row<u32>], nodes: u32) -> Result<Agenda, Memory> {
+        let watch = Watch::new(alloc, rows, nodes)?;
+        let count = watch.end();
+        Ok(Agenda {
+            watch,
+            standings: vec![in alloc; Standing::none(); count]?,
+            pending: Bits::new(alloc, count)?,
+            open: Bits::new(alloc, count)?,
+            ready: Bits::new(alloc, count)?,
+            truths: vec![in alloc; false; count]?,
+            trail: Vec::new(alloc),
+            marks: Vec::new(alloc),
+            seen: 0,
+            gains: Gains::new(alloc, nodes)?,
+        })
+    }
+
+    /// What is known of the position.
+    pub(crate) fn standing(&self, position: usize) -> Standing {
+        if position < self.standings.len() {
+            self.standings[position]
+        } else {
+            Standing::none()
+        }
+    }
+
+    fn set(&mut self, position: usize, standing: Standing) {
+        if position < self.standings.len() {
+            self.standings[position] = standing;
+            self.pending.put(position, standing.pending);
+            self.open.put(position, standing.is_open());
+            self.ready.put(position, standing.is_ready());
+        }
+    }
+
+    /// Sets what is known of the position, and puts what was on the trail.
+    pub(crate) fn change(&mut self, position: usize, standing: Standing) -> Result<(), Memory> {
+        let before = self.standing(position);
+        if !self.marks.is_empty() {
+            self.trail.push(Change {
+                position,
+                standing: before,
+            })?;
+        }
+        self.set(position, standing);
+        Ok(())
+    }
+
+    /// The Or is split, and its right side waits.
+    pub(crate) fn split(&mut self, position: usize) -> Result<(), Memory> {
+        self.change(position, Standing::none())?;
+        self.marks.push(self.trail.len())?;
+        Ok(())
+    }
+
+    /// Takes back what came behind the last split that waits, before which so many positions were asserted.
+    pub(crate) fn go_back(&mut self, count: usize) {
+        let Some(length) = self.marks.pop() else {
+            return;
+        };
+        for _ in length..self.trail.len() {
+            if let Some(change) = self.trail.pop() {
+                self.set(change.position, change.standing);
+            }
+        }
+        self.seen = count;
+    }
+
+    /// Looks at the positions that were asserted since the last call: each Or is a choice.
+    fn take(&mut self, rows: &[Row<u32>], asserted: &[Place]) -> Result<(), Memory>
+        requires { IsSpelled rows.now }
+    {
+        for k in self.seen..asserted.len() {
+            let place = asserted[k];
+            if is_or(rows, place) {
+                self.change(place.position, Standing::fresh(place.negated))?;
+            }
+        }
+        self.seen = asserted.len();
+        Ok(())
+    }
+
+    /// Looks at what is asserted on this branch since the side was to be entered.
+    pub(crate) fn note(
+        &mut self,
+        rows: &[Row<u32>],
+        graph: &OrderGraph,
+        keys: &[NodeKey],
+        asserted: &[Place],
+    ) -> Result<(), Memory>
+        requires tree { IsSpelled rows.now }
+        requires nodes { graph.now.nodes ≡ length keys.now }
+    {
+        self.gains.note(graph, keys, self.seen > 0)?;
+        self.touch_gained(rows)?;
+        self.take(rows, asserted)
+    }
+
+    /// Looks at what the side would change, before it is entered.
+    pub(crate) fn foresee(
+        &mut self,
+        rows: &[Row<u32>],
+        side: Side,
+        graph: &OrderGraph,
+        keys: &[NodeKey],
+    ) -> Result<(), Memory>
+        requires nodes { graph.now.nodes ≡ length keys.now }
+        requires below { All (IsRowBelow graph.now.nodes) rows.now }
+    {
+        self.gains.foresee(rows, side, graph, keys)
+    }
+
+    /// What is known of the pending Or that the literal is within may have changed.
+    fn touch(&mut self, rows: &[Row<u32>], literal: Watched) -> Result<(), Memory> {
+        let Some(p) = self.pending.last_up_to(literal.position, literal.outer) else {
+            return Ok(());
+        };
+        let standing = self.standing(p);
+        if standing.is_stale() || literal.position >= p.saturating_add(skip_at(rows, p)) {
+            return Ok(());
+        }
+        self.change(p, standing.stale())
+    }
+
+    /// The same of each literal on the list.
+    fn touch_list(&mut self, rows: &[Row<u32>], list: usize) -> Result<(), Memory> {
+        let mut at = self.watch.head(list);
+        for _ in 0..self.watch.len() {
+            let Some(literal) = self.watch.literal_before(at) else {
+                return Ok(());
+            };
+            self.touch(rows, literal)?;
+            at = literal.before;
+        }
+        Ok(())
+    }
+
+    fn touch_gained(&mut self, rows: &[Row<u32>]) -> Result<(), Memory> {
+        for k in 0..self.gains.len() {
+            let list = self.gains.list(k);
+            self.touch_list(rows, list)?;
+        }
+        Ok(())
+    }
+
+    /// Asks whether the Or is true now, where that may have changed. What is known of it then.
+    pub(crate) fn refresh(
+        &mut self,
+        rows: &[Row<u32>],
+        graph: &OrderGraph,
+        p: usize,
+    ) -> Result<Standing, Memory>
+        requires { All (IsRowBelow graph.now.nodes) rows.now }
+    {
+        let before = self.standing(p);
+        if !before.truth_stale {
+            return Ok(before);
+        }
+        let standing = match or_truth(rows, graph, &mut self.truths, before.negated, p) {
+            Truth::No => before.told(false),
+            Truth::Now => before.told(true),
+            Truth::ForGood => Standing::none(),
+        };
+        self.change(p, standing)?;
+        Ok(standing)
+    }
+
+    /// The first position from `from` on that may be a choice with a side that is closed at once.
+    pub(crate) fn next_ready(&self, from: usize) -> Option<usize> {
+        self.ready.first_from(from)
+    }
+
+    /// The first choice.
+    pub(crate) fn first_open(
+        &mut self,
+        rows: &[Row<u32>],
+        graph: &OrderGraph,
+    ) -> Result<Option<Place>, Memory>
+        requires { All (IsRowBelow graph.now.nodes) rows.now }
+    {
+        let mut from = 0;
+        for _ in 0..rows.len() {
+            let Some(position) = self.open.first_from(from) else {
+                return Ok(None);
+            };
+            let standing = self.refresh(rows, graph, position)?;
+            if standing.is_open() {
+                return Ok(Some(Place {
+                    negated: standing.negated,
+                    position,
+                }));
+            }
+            from = position.saturating_add(1);
+        }
+        Ok(None)
+    }
+}

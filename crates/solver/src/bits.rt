@@ -1,0 +1,74 @@
+use pc_common::Memory;
+use std::alloc::Global;
+
+/// A set of numbers below a bound, as bits. It is asked for hints alone, and so no clause speaks of it.
+#[derive(Drop)]
+pub(crate) struct Bits {
+    words: Vec<u64>,
+}
+
+/// The lowest number of a word that is not 0, where the word is the one at `at`.
+fn lowest(word: u64, at: usize) -> usize {
+    at.wrapping_mul(64)
+        .wrapping_add(word.trailing_zeros() as usize)
+}
+
+/// The highest number of a word that is not 0, where the word is the one at `at`.
+fn highest(word: u64, at: usize) -> usize {
+    at.wrapping_mul(64)
+        .wrapping_add(63)
+        .wrapping_sub(word.leading_zeros() as usize)
+}
+
+impl Bits {
+    /// None of the numbers below `count`.
+    pub(crate) fn new(alloc: Global, count: usize) -> Result<Bits, Memory> {
+        let words = vec![in alloc; 0; count / 64 + 1]?;
+        Ok(Bits { words })
+    }
+
+    /// Puts `k` in, or takes it out.
+    pub(crate) fn put(&mut self, k: usize, is_in: bool) {
+        let at = k / 64;
+        if at < self.words.len() {
+            let bit = 1u64 << (k % 64);
+            let word = self.words[at];
+            self.words[at] = if is_in { word | bit } else { word & !bit };
+        }
+    }
+
+    pub(crate) fn has(&self, k: usize) -> bool {
+        let at = k / 64;
+        at < self.words.len() && self.words[at] >> (k % 64) & 1 == 1
+    }
+
+    /// The lowest number from `from` on.
+    pub(crate) fn first_from(&self, from: usize) -> Option<usize> {
+        let mut mask = u64::MAX << (from % 64);
+        for at in from / 64..self.words.len() {
+            let word = self.words[at] & mask;
+            if word != 0 {
+                return Some(lowest(word, at));
+            }
+            mask = u64::MAX;
+        }
+        None
+    }
+
+    /// The highest number up to `k`, among those in the words from that of `low` on.
+    pub(crate) fn last_up_to(&self, k: usize, low: usize) -> Option<usize> {
+        let mut mask = u64::MAX >> (63 - k % 64);
+        let top = k / 64;
+        for back in 0..=top.saturating_sub(low / 64) {
+            let at = top.saturating_sub(back);
+            if at < self.words.len() {
+                let word = self.words[at] & mask;
+                if word != 0 {
+                    return Some(highest(word, at));
+                }
+            }
+            mask = u64::MAX;
+        }
+        None
+    }
+}

@@ -1,0 +1,167 @@
+#!/usr/bin/env python3
+"""integrate.py ROOT COMMAND..: adds these commands to ROOT/crates/pipecheck_run. Idempotent only on the base files."""
+import re, sys, os
+root, wanted = sys.argv[1], sys.argv[2:]
+base = os.path.join(root, 'crates/pipecheck_run')
+
+def rd(p): return open(os.path.join(base, p), encoding='utf-8').read()
+def wr(p, s):
+    p = os.path.join(base, p); os.makedirs(os.path.dirname(p), exist_ok=True); open(p, 'w', encoding='utf-8').write(s)
+def sub(p, old, new, count=1):
+    s = rd(p); assert s.count(old) >= 1, (p, old); s = s.replace(old, new, count); wr(p, s)
+
+def imp(p, c):
+    s = rd(p); t = re.sub(r'(Command\.\{Command, check, verify(?:, \w+)*), gen', r'\1, ' + c + ', gen', s, count=1); assert s != t, p; wr(p, t)
+
+# name: what it is in the code and the definitions
+T = {
+ 'core': dict(variant='Core', ctor='find_core', word='core', third=False, doc='`core MODEL TEST`', crate='core_command',
+    fn='find_core', generic='::<TestFile, F>', use='use core_command::find_core;', ans='Core', anstype='FoundCore',
+    ansdoc='`core` finds these axioms to forbid the outcome.', ansuse='use core_command::{FoundCore, write_core};', write='write_core(out, found)', status='Status::Done',
+    writable='IsCoreWritable f', bind='found', fields=True,
+    answers='AnswersCore CaseOf IsTestFault holds i', answers_use='use Rattle.core_command.specs.CoreAnswers.{AnswersCore}',
+    due='IsCoreDue CaseOf IsTestFault holds i', due_use='use Rattle.core_command.specs.CoreAnswers.{IsCoreDue}', true='⊤',
+    text='found_text f', text_use='use Rattle.core_command.specs.Found.{found_text, IsCoreWritable}', var='f', stat='Done', antt='a_core',
+    due_proof='core_due test_form a', due_proof_use='use Rattle.core_command.proofs.CoreOutcomes.{core_due}', true_proof='tt', silent='tt', lacks='LacksInput holds i'),
+ 'sweep': dict(variant='Sweep', ctor='sweep_rows', fname='sweep', word='sweep', third=False, doc='`sweep MODEL PATTERN`', crate='sweep_command',
+    fn='sweep_files', generic='::<F>', use='use sweep_command::sweep_files;', ans='Swept', anstype='Swept',
+    ansdoc='`sweep` finds this of the rows of a pattern.', ansuse='use sweep_command::{Swept, write_sweep};', write='write_sweep(out, swept)', status='Status::Done',
+    writable='length s.answers.items ≡ rows_of s.pattern', bind='swept',
+    answers='AnswersSweep holds i', answers_use='use Rattle.sweep_command.specs.SweepAnswers.{AnswersSweep}',
+    due='IsSweepDue holds i', due_use='use Rattle.sweep_command.specs.SweepAnswers.{IsSweepDue}', true='⊤',
+    text='swept_text s', text_use='use Rattle.sweep_command.specs.Texts.{swept_text}\nuse Rattle.pattern_reader.specs.Rows.{rows_of}', var='s', stat='Done', antt='a_sweep',
+    due_proof='sweep_due a', due_proof_use='use Rattle.sweep_command.proofs.SweepOutcomes.{sweep_due}', true_proof='tt', silent='tt', lacks='LacksInput holds i'),
+ 'check86': dict(variant='CheckListing', ctor='check_listing', word='check86', third=False, doc='`check86 MODEL FILE`', crate=None,
+    fn='check', generic='::<ListingFile, F>', use='', ans=None, args='alloc, inputs, Version::One, files', wrap='Checked',
+    answers='AnswersCheck ListingCase IsListingFault holds i One', answers_use='X86CASES', due='IsCheckDue ListingCase IsListingFault holds i', due_use='', 
+    true='(m : WrittenModel) (c : Case) → Says ListingCase holds i m c → IsTrueStatus m c status', true_proof='check_true listing_form a', due_proof='check_due listing_form a', due_proof_use='',
+    silent='λ m k says. (λ e. absurd (no_o e), λ e. absurd (no_u e))', lacks='LacksInput holds i'),
+ 'verify86': dict(variant='VerifyListing', ctor='verify_listing', word='verify86', third=True, doc='`verify86 MODEL FILE CERT`', crate=None,
+    fn='verify', generic='::<ListingFile, F>', use='', ans=None, wrap='Verified',
+    answers='AnswersVerify ListingCase IsListingFault holds i certificate', answers_use='', due='IsVerifyDue ListingCase IsListingFault holds i certificate', due_use='',
+    true='(m : WrittenModel) (c : Case) → Says ListingCase holds i m c → IsTrueStatus m c status', true_proof='verify_true listing_form a', due_proof='verify_due listing_form a', due_proof_use='',
+    silent='λ m k says. (λ e. absurd (no_o e), λ e. absurd (no_u e))', lacks='LacksInput holds i ⊎ LacksThird ListingCase holds i certificate'),
+ 'lifted': dict(variant='VerifyLifted', ctor='verify_lifted', word='verify-lifted', third=True, doc='`verify-lifted MODEL TEST CERT`', crate='lifted_command',
+    fn='verify_lifted', generic='::<TestFile, F>', use='use lifted_command::verify_lifted;', ans='Lifted', anstype='Lifted',
+    ansdoc='`verify-lifted` finds the third file to be this.', ansuse='use lifted_command::{lifted_status, write_lifted};', write='write_lifted(out, *lifted)', status='lifted_status(*lifted)',
+    writable='⊤', bind='lifted',
+    answers='AnswersLifted CaseOf IsTestFault holds i certificate', answers_use='use Rattle.lifted_command.specs.LiftedAnswers.{AnswersLifted}',
+    due='IsLiftedDue CaseOf IsTestFault holds i certificate', due_use='use Rattle.lifted_command.specs.LiftedAnswers.{IsLiftedDue}',
+    true='(m : WrittenModel) (c : Case) → Says CaseOf holds i m c → IsTrueStatus m c status',
+    text='lifted_text l', text_use='use Rattle.lifted_command.specs.LiftedTexts.{lifted_status, lifted_text}', var='l', stat='lifted_status l', antt='a_lifted',
+    due_proof='lifted_due test_form a', due_proof_use='use Rattle.lifted_command.proofs.LiftedOutcomes.{lifted_true, lifted_due}', true_proof='lifted_true test_form a',
+    silent='λ m k says. (λ e. absurd (no_o e), λ e. absurd (no_u e))', lacks='LacksInput holds i ⊎ LacksThird CaseOf holds i certificate'),
+}
+exec(open(os.path.join(os.path.dirname(os.path.abspath(__file__)), 'names.py')).read())  # overrides
+
+for k in wanted:
+    t = T[k]; third = t['third']; v, c = t['variant'], t['ctor']
+    pat = f'{c} i certificate' if third else f'{c} i'
+    # --- src/command.rt
+    fields = ' {\n        inputs: Inputs<\'a>,\n        certificate: &\'a str,\n    }' if third else "(Inputs<'a>)"
+    sub('src/command.rt', '    /// `gen N`, with N from 2 to 16\n', f'    /// {t["doc"]}\n    {v}{fields},\n    /// `gen N`, with N from 2 to 16\n')
+    if third:
+        p = f'''    if let Some((inputs, certificate)) = three_behind("{t['word']}", words) {{
+        return Some(Command::{v} {{
+            inputs,
+            certificate,
+        }});
+    }}
+'''
+    else:
+        p = f'''    if let Some(inputs) = inputs_behind("{t['word']}", words) {{
+        return Some(Command::{v}(inputs));
+    }}
+'''
+    sub('src/command.rt', '    let n = cores_behind(words)?;', p + '    let n = cores_behind(words)?;')
+    # --- specs/Command.antt
+    sub('specs/Command.antt', '  -- a number of cores\n', f'  {c} : Inputs → {"List ℕ → " if third else ""}Command\n  -- a number of cores\n')
+    sub('specs/Command.antt', ', Gen}', f', {v}, Gen}}')
+    sub('specs/Command.antt', 'plain_command (Gen n) = gen n', (f'plain_command ({v} i certificate) = {c} (plain_inputs i) certificate.now' if third else f'plain_command ({v} i) = {c} (plain_inputs i)') + '\nplain_command (Gen n) = gen n')
+    sub('specs/Command.antt', 'words_of (gen n) =', f'words_of ({pat}) = codes "{t["word"]}" ∷ i.model ∷ i.test ∷ ' + ('certificate ∷ []' if third else '[]') + '\nwords_of (gen n) =')
+    sub('specs/Command.antt', 'IsWithin (gen n) =', f'IsWithin ({pat}) = ⊤\nIsWithin (gen n) =')
+    sub('specs/Command.antt', 'inputs_of (gen n) = None', f'inputs_of ({pat}) = Some i\ninputs_of (gen n) = None')
+    # --- specs/Answers.antt
+    imp('specs/Answers.antt', c)
+    if t['answers_use']: sub('specs/Answers.antt', 'use Rattle.gen_command.specs.GenAnswers', t['answers_use'] + '\nuse Rattle.gen_command.specs.GenAnswers')
+    sub('specs/Answers.antt', 'AnswersCommand holds (gen n)', f'AnswersCommand holds ({pat}) = {t["answers"]}\nAnswersCommand holds (gen n)')
+    sub('specs/Answers.antt', 'Lacks holds (gen n)', f'Lacks holds ({pat}) = {t["lacks"]}\nLacks holds (gen n)')
+    # --- specs/Headline.antt
+    imp('specs/Headline.antt', c)
+    if t['due_use']: sub('specs/Headline.antt', 'use Rattle.gen_command.specs.GenAnswers', t['due_use'] + '\nuse Rattle.gen_command.specs.GenAnswers')
+    sub('specs/Headline.antt', 'IsTrueTo holds (gen n) status', f'IsTrueTo holds ({pat}) status = {t["true"]}\nIsTrueTo holds (gen n) status')
+    sub('specs/Headline.antt', 'IsDueTo holds (gen n)', f'IsDueTo holds ({pat}) = {t["due"]}\nIsDueTo holds (gen n)')
+    # --- proofs/OneCommand.antt
+    imp('proofs/OneCommand.antt', c)
+    built = f'{c} (inputs_at words) (name_at 3 words)' if third else f'{c} (inputs_at words)'
+    sub('proofs/OneCommand.antt', '    (gen (number_in 16 (name_at 1 words)))', f'    (cond (pointwise nat_eq (name_at 0 words) (codes "{t["word"]}")) ({built})\n    (gen (number_in 16 (name_at 1 words)))')
+    s = rd('proofs/OneCommand.antt'); i = s.index('(gen (number_in 16 (name_at 1 words)))'); j = s.index('\n', i); s = s[:j] + ')' + s[j:]; wr('proofs/OneCommand.antt', s)
+    sub('proofs/OneCommand.antt', 'spelt (gen n) within =', f'spelt ({pat}) within = refl\nspelt (gen n) within =')
+    # --- proofs/Headline.antt
+    imp('proofs/Headline.antt', c)
+    if t['due_proof_use']: sub('proofs/Headline.antt', 'use Rattle.gen_command.proofs.GenOutcomes', t['due_proof_use'] + '\nuse Rattle.gen_command.proofs.GenOutcomes')
+    sub('proofs/Headline.antt', 'true_to holds status text (gen n) a', f'true_to holds status text ({pat}) a = {t["true_proof"]}\ntrue_to holds status text (gen n) a')
+    sub('proofs/Headline.antt', 'due_to holds status text (gen n) a', f'due_to holds status text ({pat}) a = {t["due_proof"]}\ndue_to holds status text (gen n) a')
+    sub('proofs/Headline.antt', 'silent_true holds status no_o no_u (gen n)', f'silent_true holds status no_o no_u ({pat}) = {t["silent"]}\nsilent_true holds status no_o no_u (gen n)')
+    # --- answers
+    if t['ans']:
+        a = t['ans']
+        sub('src/answer.rt', '    /// `gen` finds this', f'    /// {t["ansdoc"]}\n    {a}({t["anstype"]}),\n    /// `gen` finds this')
+        s = rd('src/answer.rt'); s = s.replace('use gen_command::', t['ansuse'] + '\nuse gen_command::', 1)
+        s = s.replace('        Answer::Generated(report) => write_report', f'        Answer::{a}({t["bind"]}) => {t["write"]},\n        Answer::Generated(report) => write_report', 1)
+        st = t['status']; b = t['bind'] if '*' in st else '_'
+        s = s.replace('        Answer::Generated(_) => Status::Done', f'        Answer::{a}({b}) => {st},\n        Answer::Generated(_) => Status::Done', 1)
+        wr('src/answer.rt', s)
+        sub('specs/AnswerTexts.antt', 'Generated as a_report', f'{a} as {t["antt"]}, Generated as a_report')
+        sub('specs/AnswerTexts.antt', 'use Rattle.gen_command.specs.Reports', t['text_use'] + '\nuse Rattle.gen_command.specs.Reports')
+        x = t['var']
+        sub('specs/AnswerTexts.antt', 'answer_text (a_report r)', f'answer_text ({t["antt"]} {x}) = {t["text"]}\nanswer_text (a_report r)')
+        sub('specs/AnswerTexts.antt', 'answer_status (a_report r)', f'answer_status ({t["antt"]} {x}) = {t["stat"]}\nanswer_status (a_report r)')
+        sub('specs/AnswerTexts.antt', 'CanBeWritten (a_report r)', f'CanBeWritten ({t["antt"]} {x}) = {t["writable"]}\nCanBeWritten (a_report r)')
+    wrap = t['ans'] or t['wrap']
+    name = t.get('fname', t['ctor'] if t['ctor'] != 'find_core' else 'core') + '_answer'
+    args = t.get('args') or ('alloc, inputs, certificate, files' if third else 'alloc, inputs, files')
+    params = '    inputs: Inputs<\'_>,\n' + ('    certificate: &str,\n' if third else '')
+    of = f'({c}_of (plain_inputs inputs.entry){" certificate.now" if third else ""})'
+    f = f'''/// The answer to {t["doc"]}.
+fn {name}<F: Files>(
+    alloc: Global,
+{params}    files: &mut F,
+) -> Answer
+    ensures outcome {{ IsCommandOutcome F.view {of}
+        files.old files.new (answer_status result) (answer_text result) }}
+    ensures writable {{ CanBeWritten result }}
+{{
+    match {t["fn"]}{t["generic"]}({args}) {{
+        Ok({(t.get("bind") or "found")}) => Answer::{wrap}({(t.get("bind") or "found")}),
+        Err(ending) => Answer::Ended(ending),
+    }}
+}}
+
+/// The answer to `gen N`, which touches no file.'''
+    sub('src/top.rt', '/// The answer to `gen N`, which touches no file.', f)
+    call = f'{name}(alloc, inputs, {"certificate, " if third else ""}files)'
+    arm = f'''        Command::{v} {{
+            inputs,
+            certificate,
+        }} => {call},
+''' if third else f'        Command::{v}(inputs) => {call},\n'
+    sub('src/top.rt', '        Command::Gen(n) => gen_answer', arm + '        Command::Gen(n) => gen_answer')
+    sub('src/top.rt', 'verify as verify_of,', f'verify as verify_of, {c} as {c}_of,')
+    if t['use']: sub('src/top.rt', 'use gen_command::generate;', t['use'] + '\nuse gen_command::generate;')
+    sub('proofs/top/answer_to/Answers.antt', 'pub returns-in-Check-clause-outcome :', f'''pub returns-in-{v}-clause-outcome : goal.returns-in-{v}-clause-outcome
+returns-in-{v}-clause-outcome g c = rw c.in-{v}.is c.{name}.ensures.outcome
+
+pub returns-in-Check-clause-outcome :''')
+    ens = 'ensures.outcome' if t.get('named', True) else 'ensures'
+    wr(f'proofs/top/{name}/Answers.antt', f'''use Rattle.std.proofs.Common.{{refl}}
+use Rattle.command_base.specs.Inputs.{{plain_inputs}}
+use Rattle.pipecheck_run.proofs.WordsOutcomes.{{known_outcome}}
+use Rattle.pipecheck_run.proofs.top.{name}.Goals as goal
+
+pub returns-in-Ok-clause-outcome : goal.returns-in-Ok-clause-outcome
+returns-in-Ok-clause-outcome g c = known_outcome (λ known. known (plain_inputs c.args.inputs) refl) c.in-Ok.{ens}
+
+pub returns-in-Err-clause-outcome : goal.returns-in-Err-clause-outcome
+returns-in-Err-clause-outcome g c = known_outcome (λ known. known (plain_inputs c.args.inputs) refl) c.in-Err.{ens}
+''')

@@ -1,0 +1,3 @@
+T['check86']['named'] = True
+T['verify86']['named'] = False
+T['lifted']['named'] = False
