@@ -40,7 +40,12 @@ impl Model for OrderGraph {
 
     ghost Value = { Graph };
 
-    ghost view = { λ s. record { nodes = s.nodes; literals = s.literals.items; marks = marks_from 0 s.counts.items; recorded = s.moments.items } };
+    ghost view = { λ s. record {
+      nodes = s.nodes;
+      literals = s.literals.items;
+      marks = marks_from 0 s.counts.items;
+      recorded = s.moments.items;
+    } };
 
     ghost invariant = { λ s. IsOrder s.nodes s.table s.literals.items s.moments.items s.counts.items s.live };
 }
@@ -63,7 +68,8 @@ fn keep<L: Ledger>(
     ensures literals { OnOk result (literals.new.items ≡ literals.old.items ++ literal ∷ []) }
     ensures moments { OnOk result (moments.new.items ≡ moments.old.items ++ length table.new.past ∷ []) }
     ensures counts { OnOk result (counts.new.items ≡ counts.old.items ++ 0 ∷ []) }
-    ensures err { OnErr result ((table.new ≡ table.old) × (literals.new.items ≡ literals.old.items) × (moments.new.items ≡ moments.old.items) × (counts.new.items ≡ counts.old.items)) }
+    ensures err { OnErr result ((table.new ≡ table.old) × (literals.new.items ≡ literals.old.items)
+        × (moments.new.items ≡ moments.old.items) × (counts.new.items ≡ counts.old.items)) }
     ensures cost { steps.new ≤ steps.old + nodes }
 {
     literals.reserve(1)?;
@@ -142,7 +148,8 @@ impl OrderGraph {
     /// Whether the literal would clash: whether the literals with it are not consistent. Takes no memory.
     pub fn would_clash(&self, literal: Literal<u32>) -> bool
         requires { IsBelow self.now.nodes literal }
-        ensures { MatchBool result (IsConsistent (self.now.literals ++ literal ∷ []) → ⊥) (IsConsistent (self.now.literals ++ literal ∷ [])) }
+        ensures { MatchBool result (IsConsistent (self.now.literals ++ literal ∷ []) → ⊥)
+            (IsConsistent (self.now.literals ++ literal ∷ [])) }
     {
         would_clash(&self.table, self.nodes, literal)
     }
@@ -202,7 +209,8 @@ impl OrderGraph {
         ensures cut { IsCut self.old (slice_index self.old.marks mark) mark self.new }
         ensures count { slice_index self.old.marks mark ≤ length self.old.literals }
         ensures cost { steps.new ≡ steps.old + recorded_since self.old (slice_index self.old.marks mark) }
-        ensures bound { steps.new ≤ steps.old + (length self.old.literals - slice_index self.old.marks mark) * most_words self.old.nodes }
+        ensures bound { steps.new ≤ steps.old + (length self.old.literals - slice_index self.old.marks mark)
+            * most_words self.old.nodes }
     {
         let (count, marks) = count_at(&self.counts, self.live, mark.place());
         self.table.undo(self.moments[count], steps);

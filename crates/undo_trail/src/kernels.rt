@@ -17,8 +17,11 @@ pub fn or_words(dst: &mut [u64], src: &[u64])
 pub fn meets_words(a: &[u64], b: &[u64]) -> bool
     requires { length a.now ≡ length b.now }
     // some word has a bit in common with the word at the same place
-    ensures words { MatchBool result (SomeIndex a.now (λ k. bit_and (slice_index a.now k) (slice_index b.now k) ≢ 0)) (EachIndex a.now (λ k. bit_and (slice_index a.now k) (slice_index b.now k) ≡ 0)) }
-    ensures columns { MatchBool result ((c : ℕ) × (c < 64 * length a.now) × (column a.now c ≡ true) × (column b.now c ≡ true)) ((c : ℕ) → c < 64 * length a.now → column a.now c ≡ true → column b.now c ≡ false) }
+    ensures words { MatchBool result (SomeIndex a.now (λ k. bit_and (slice_index a.now k) (slice_index b.now k) ≢ 0))
+        (EachIndex a.now (λ k. bit_and (slice_index a.now k) (slice_index b.now k) ≡ 0)) }
+    ensures columns { MatchBool result
+        ((c : ℕ) × (c < 64 * length a.now) × (column a.now c ≡ true) × (column b.now c ≡ true))
+        ((c : ℕ) → c < 64 * length a.now → column a.now c ≡ true → column b.now c ≡ false) }
 {
     let mut met = 0;
     for k in 0..a.len() {
