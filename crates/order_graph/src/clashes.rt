@@ -129,7 +129,8 @@ fn joined_pair(
     }
 }
 
-/// The first denied pair, in order of assertion, that the edge from `a` to `b` would join.
+/// The first denied pair, in order of assertion, that the edge from `a` to `b` would join. Asked only where the bit
+/// rows say that some pair would be joined.
 fn first_joined(
     table: &UndoTable,
     nodes: u32,

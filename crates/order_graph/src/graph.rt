@@ -28,7 +28,7 @@ pub struct OrderGraph {
     literals: Vec<Literal<u32>>,
     /// The table's moment when the first k literals stood, for each k.
     moments: Vec<Moment>,
-    /// How many marks there are at each number of literals.
+    /// How many marks there are at each number of literals. So `mark` has no answer for want of memory.
     counts: Vec<u64>,
     live: u64,
 }
@@ -84,7 +84,7 @@ fn keep<L: Ledger>(
 
 impl OrderGraph {
     /// A graph over the nodes from 0 to one below `nodes`, of which there are at most 262,144, with no
-    /// literal and no mark. Takes memory for two bit rows a node.
+    /// literal and no mark. Takes memory for two bit rows a node and three more.
     pub fn new(alloc: Global, nodes: u32) -> Result<OrderGraph, Memory>
         requires { nodes ≤ MAX_NODES }
         ensures { IfOk result (λ g. g ≡ record { nodes = nodes; literals = []; marks = []; recorded = 0 ∷ [] }) }

@@ -2,6 +2,8 @@ ghost use Rattle.std.specs.Prelude.{◌≡◌, ◌≢◌, ◌<◌, ◌*◌, ℕ,
 ghost use Rattle.undo_trail.specs.Bits.{column};
 
 /// Puts the bits of `src` into `dst`, which has as many words. Takes no memory.
+///
+/// `or_row` does not call it, since it has to record each word before it changes.
 pub fn or_words(dst: &mut [u64], src: &[u64])
     requires { length dst.old ≡ length src.now }
     ensures { EachIndex dst.new (λ k. slice_index dst.new k ≡ bit_or (slice_index dst.old k) (slice_index src.now k)) }

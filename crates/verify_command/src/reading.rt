@@ -32,7 +32,7 @@ impl From<Memory> for FeedEnd {
     }
 }
 
-/// How many bytes are asked for in one call.
+/// How many bytes are asked for in one call. Each certificate pays for the room once, and most are shorter.
 const PIECE: usize = 2048;
 
 /// How many bytes of a file are read at most: one more than a certificate may have.
