@@ -3,8 +3,8 @@
 //! A certificate is a graph whose world makes every axiom true, or a refutation of the ground tree, of version 1
 //! or, where its third line says so, of version 2; the lines are those of docs/certificates.md, and
 //! `specs/Certificates.antt` states what each has to be. `Checker` takes a text in pieces and judges each line when
-//! it is whole; `check_text` takes a whole text. The answer is the verdict, or the first line that no certificate
-//! goes on with; and what it says of the outcome holds.
+//! it is whole; `check_text` takes a whole text. The answer is the verdict, or the first line with
+//! which no certificate can continue; and what it says of the outcome holds.
 //!
 //! The check shares neither the search nor its graph: a graph is judged by `graph_check`, which evaluates the
 //! closed axioms, and a refutation by `tree_check`, step by step.

@@ -1,4 +1,5 @@
-//! What the commands of `pipecheck` share: a model's file and a second one are read and judged, and a refusal is one line.
+//! What the commands of `pipecheck` share: a model's file and a second one are read and judged, and a refusal is one
+//! line.
 //!
 //! A command reads the model, then its second file, at most 1,048,576 bytes each: `read_inputs` returns what both
 //! say together as a `Front`, or the `Ending` of the command, which is a failed call, refused memory, or the first

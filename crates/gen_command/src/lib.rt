@@ -1,7 +1,7 @@
 //! The command `gen N`: what is found of the ring of N cores?
 //!
-//! It reads no file. It makes the two texts of the ring, and searches as `check` does. It returns a `Report`, whose text
-//! has six lines and whose status is `Done`; or the refusal of the first fault of the two texts, or `Memory`.
+//! It reads no file. It makes the two texts of the ring, and searches as `check` does. It returns a `Report`, whose
+//! text has six lines and whose status is `Done`; or the refusal of the first fault of the two texts, or `Memory`.
 #![tactic(auto)]
 
 mod command;

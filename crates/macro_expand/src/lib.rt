@@ -1,5 +1,11 @@
-//! Macros: which fault of its stages, its macros and its sizes is a model's first, and its axioms with
-//! each macro in its place.
+//! Macros: the first fault of a model's stages, and that of its macros and its sizes; and its axioms with each macro in
+//! its place.
+//!
+//! `stage_faults` judges the stages. `expand` judges the macros and the expansions in the text's order, measures each
+//! macro's body once, judges the sizes, and only then expands: in place of each `ExpandMacro` stands a binding of the
+//! macro's parameters over a copy of its body, which shares the names and lists of the text. The laws say that
+//! expansion keeps truth. `specs/` of `pc_syntax` has the faults (`StageFaults`, `MacroFaults`, `Sizes`) and
+//! `expansion_of`.
 #![tactic(auto)]
 
 mod calls;

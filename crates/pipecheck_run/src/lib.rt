@@ -1,8 +1,8 @@
 //! The top call: from the words of a command and the bytes of its files to the bytes of the answer.
 //!
-//! `parse` takes the words, `answer_to` hands a command to the crate of its own, and `tell` writes the text of what that
-//! returned. A command's crate says what it reads and what it returns; here are the words, and a line for each command
-//! in each table.
+//! `parse` takes the words, `answer_to` hands a command to the crate of its own, and `tell` writes the text of what
+//! that returned. A command's crate says what it reads and what it returns; here are the words, and a line for each
+//! command in each table.
 #![tactic(auto)]
 
 mod answer;

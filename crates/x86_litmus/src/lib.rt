@@ -11,7 +11,8 @@
 //! ```
 //!
 //! The body stands behind a header (`x86_tokens`). Words are names by their spelling and none is reserved: a
-//! cell that begins with `MOV` or `MFENCE` is an instruction, and what stands behind the lines begins with `exists` or `~`.
+//! cell that begins with `MOV` or `MFENCE` is an instruction, and what stands behind the lines begins with `exists` or
+//! `~`.
 //!
 //! Column k is thread k on core k. Instructions are numbered column by column, from top to bottom; a load reads
 //! the value that the condition gives its register. Location k, as first named, is the page (k, 0).
