@@ -1,5 +1,13 @@
 //! Macros: which fault of its stages, its macros and its sizes is a model's first, and its axioms with
 //! each macro in its place.
+//!
+//! ```rust
+//! let text = b"DefineMacro \"m\": ~True. Axiom \"x\": ExpandMacro m.";
+//! let model = parse_model(alloc, &tokens(alloc, text)?)?;
+//! assert!(rt; stage_faults(&model).is_none());
+//! let axioms = expand(alloc, &model)?;
+//! assert!(rt; axioms.len() == 1 && matches!(axioms[0].body, Formula::Bind { .. }));
+//! ```
 #![tactic(auto)]
 
 mod calls;
