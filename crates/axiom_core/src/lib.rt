@@ -2,7 +2,7 @@
 //!
 //! ```rust
 //! // the axioms are `True` and `exists microop "i", True`, and the test has no micro-op
-//! if let Core::Minimal { kept, .. } = core(alloc, &front)? {
+//! if let Core::Minimal { kept, .. } = &core(alloc, &front)? {
 //!     assert!(rt; kept.len() == 1 && *kept.get(0) == 1);
 //! }
 //! ```
