@@ -1,6 +1,8 @@
 //! An independent check of certificates: it judges any text against a model and a test, whoever made it.
 //!
 //! ```rust
+//! use pc_front::front;
+//!
 //! let model = b"StageName 0 \"S\". Axiom \"x\": forall microop \"i\", NodeExists (i, S).";
 //! let front = front(alloc, model, b"Litmus \"o\". Microop 0 0 0 0 (Fence).")?;
 //! let text = b"observable\ntest unstated\nnode 0.0@0:S\nend\n";

@@ -1,6 +1,8 @@
 //! The command `check MODEL TEST`: is the outcome of the test observable on the model?
 //!
 //! ```rust
+//! use verdicts::verdict_status;
+//!
 //! // m.uspec is `Axiom "x": exists microop "i", True.`, and t.test is `Litmus "e".`
 //! let inputs = Inputs { model: "m.uspec", test: "t.test" };
 //! let verdict = check::<TestFile, MemFiles>(alloc, inputs, Version::One, &mut files)?;

@@ -1,6 +1,8 @@
 //! The texts of a workload that grows with its number of cores: the ring.
 //!
 //! ```rust
+//! use pc_front::front;
+//!
 //! let (model, test) = gen_texts(alloc, 2)?;
 //! let front = front(alloc, &model, &test)?;
 //! assert!(rt; front.case.cores() == 2 && front.case.ops() == 4);

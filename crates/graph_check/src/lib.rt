@@ -1,6 +1,9 @@
 //! Judging a graph: whether the pair that it generates is a world in which each closed axiom is true.
 //!
 //! ```rust
+//! use graph_text::read_graph;
+//! use pc_front::front;
+//!
 //! let model = b"StageName 0 \"S\". Axiom \"x\": forall microop \"i\", NodeExists (i, S).";
 //! let front = front(alloc, model, b"Litmus \"o\". Microop 0 0 0 0 (Fence).")?;
 //! let names = NodeText::of(&front);

@@ -2,6 +2,9 @@
 //! each macro in its place.
 //!
 //! ```rust
+//! use uspec_lexer::tokens;
+//! use uspec_parser::parse_model;
+//!
 //! let text = b"DefineMacro \"m\": ~True. Axiom \"x\": ExpandMacro m.";
 //! let model = parse_model(alloc, &tokens(alloc, text)?)?;
 //! assert!(rt; stage_faults(&model).is_none());

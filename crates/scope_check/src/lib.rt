@@ -2,6 +2,10 @@
 //! for its predicates.
 //!
 //! ```rust
+//! use macro_expand::expand;
+//! use uspec_lexer::tokens;
+//! use uspec_parser::parse_model;
+//!
 //! let text = b"Axiom \"x\": forall microop \"i\", IsAnyRead j.";
 //! let model = parse_model(alloc, &tokens(alloc, text)?)?;
 //! let axioms = expand(alloc, &model)?;

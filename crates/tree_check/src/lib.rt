@@ -1,6 +1,8 @@
 //! A checker of refutations of a ground tree, step by step.
 //!
 //! ```rust
+//! use normal_form::normalise;
+//!
 //! let tree = normalise(alloc, &Ground::False)?;
 //! let mut branches = Branches::new(alloc, &tree)?;
 //! assert!(rt; !branches.is_closed());

@@ -38,6 +38,8 @@
 //! no tokens have two trees, and that all have an answer.
 //!
 //! ```rust
+//! use uspec_lexer::tokens;
+//!
 //! let whole = tokens(alloc, b"~True")?;
 //! assert!(rt; matches!(parse_formula(alloc, &whole)?, Formula::Not(_)));
 //! let cut = tokens(alloc, b"~")?;
