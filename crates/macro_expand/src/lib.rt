@@ -6,6 +6,17 @@
 //! macro's parameters over a copy of its body, which shares the names and lists of the text. The laws say that
 //! expansion keeps truth. `specs/` of `pc_syntax` has the faults (`StageFaults`, `MacroFaults`, `Sizes`) and
 //! `expansion_of`.
+//!
+//! ```rust
+//! use uspec_lexer::tokens;
+//! use uspec_parser::parse_model;
+//!
+//! let text = b"DefineMacro \"m\": ~True. Axiom \"x\": ExpandMacro m.";
+//! let model = parse_model(alloc, &tokens(alloc, text)?)?;
+//! assert!(rt; stage_faults(&model).is_none());
+//! let axioms = expand(alloc, &model)?;
+//! assert!(rt; axioms.len() == 1 && matches!(axioms[0].body, Formula::Bind { .. }));
+//! ```
 #![tactic(auto)]
 
 mod calls;

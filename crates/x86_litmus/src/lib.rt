@@ -25,6 +25,17 @@
 //! `specs/Syntax.antt` has the productions, `specs/Items.antt` what a listing says, `specs/Faults.antt` the faults
 //! of content, `specs/Cases.antt` the case and `specs/Answer.antt` the whole. The laws in `laws.rt` say that a text
 //! has a case or a first fault, one at most of each, and not both.
+//!
+//! ```rust
+//! let case = read_x86(alloc, b"X86 W
+//! { }
+//!  P0         ;
+//!  MOV [x],$1 ;
+//! exists (x=1)
+//! ")?;
+//! let x = Address::Page { tag: 0, index: 0 };
+//! assert!(rt; case.ops() == 1 && case.final_of(x) == Some(Value::Number(1)));
+//! ```
 #![tactic(auto)]
 
 mod case_of;
