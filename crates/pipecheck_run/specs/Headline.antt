@@ -13,11 +13,14 @@ use Rattle.core_command.specs.CoreAnswers.{IsCoreDue}
 use Rattle.gen_command.specs.GenAnswers.{IsGenDue}
 use Rattle.pipecheck_run.specs.Command.{Command, check, verify, find_core, gen, IsCommand}
 
--- what the statuses of a verdict say to a command: observable only where some choice of nodes with some strict order makes every axiom
--- true of the case, and unobservable only where none does; whatever a third file holds. `gen` has no such status
+-- what the statuses of a verdict say to a command: observable only where some choice of nodes with some strict order
+-- makes every axiom true of the case, and unobservable only where none does; whatever a third file holds. `core` and
+-- `gen` have no such status
 abbrev pub IsTrueTo : Contents → Command → Status → Type 0
-IsTrueTo holds (check version i) status = (m : WrittenModel) (c : Case) → Says CaseOf holds i m c → IsTrueStatus m c status
-IsTrueTo holds (verify i certificate) status = (m : WrittenModel) (c : Case) → Says CaseOf holds i m c → IsTrueStatus m c status
+IsTrueTo holds (check version i) status = (m : WrittenModel) (c : Case) → Says CaseOf holds i m c
+    → IsTrueStatus m c status
+IsTrueTo holds (verify i certificate) status = (m : WrittenModel) (c : Case) → Says CaseOf holds i m c
+    → IsTrueStatus m c status
 IsTrueTo holds (find_core i) status = ⊤
 IsTrueTo holds (gen n) status = ⊤
 
