@@ -9,8 +9,11 @@ use Rattle.command_base.specs.Outcomes.{LacksThird}
 use Rattle.check_command.specs.CheckAnswers.{AnswersCheck}
 use Rattle.verify_command.specs.VerifyAnswers.{AnswersVerify}
 use Rattle.core_command.specs.CoreAnswers.{AnswersCore}
+use Rattle.x86_litmus.specs.Answer.{CaseOf as ListingCase}
+use Rattle.listing_form.specs.Listings.{IsFirstFault as IsListingFault}
+use Rattle.pc_ground.specs.declared.version.Version.TheVariants.{One}
 use Rattle.gen_command.specs.GenAnswers.{AnswersGen}
-use Rattle.pipecheck_run.specs.Command.{Command, check, verify, find_core, gen, IsCommand, IsNoCommand}
+use Rattle.pipecheck_run.specs.Command.{Command, check, verify, find_core, check_listing, verify_listing, gen, IsCommand, IsNoCommand}
 
 abbrev pub usage_text : List ℕ
 usage_text = codes "pipecheck: bad command line\n"
@@ -20,6 +23,8 @@ abbrev pub AnswersCommand : Contents → Command → Status → List ℕ → Typ
 AnswersCommand holds (check version i) = AnswersCheck CaseOf IsTestFault holds i version
 AnswersCommand holds (verify i certificate) = AnswersVerify CaseOf IsTestFault holds i certificate
 AnswersCommand holds (find_core i) = AnswersCore CaseOf IsTestFault holds i
+AnswersCommand holds (check_listing i) = AnswersCheck ListingCase IsListingFault holds i One
+AnswersCommand holds (verify_listing i certificate) = AnswersVerify ListingCase IsListingFault holds i certificate
 AnswersCommand holds (gen n) = AnswersGen n
 
 -- the answer to the words, where the names hold these contents, with its text
@@ -33,6 +38,8 @@ abbrev pub Lacks : Contents → Command → Type 0
 Lacks holds (check version i) = LacksInput holds i
 Lacks holds (verify i certificate) = LacksInput holds i ⊎ LacksThird CaseOf holds i certificate
 Lacks holds (find_core i) = LacksInput holds i
+Lacks holds (check_listing i) = LacksInput holds i
+Lacks holds (verify_listing i certificate) = LacksInput holds i ⊎ LacksThird ListingCase holds i certificate
 Lacks holds (gen n) = ⊥
 
 -- so it is with the command that the words are

@@ -5,7 +5,7 @@ use Rattle.pc_ground.specs.declared.version.Version.{Version}
 use Rattle.pc_ground.specs.declared.version.Version.TheVariants.{One, Two}
 use Rattle.command_base.specs.Inputs.{Inputs, plain_inputs}
 use Rattle.pipecheck_run.specs.declared.command.Command.{Command as CodeCommand}
-use Rattle.pipecheck_run.specs.declared.command.Command.TheVariants.{Check, Verify, Core, Gen}
+use Rattle.pipecheck_run.specs.declared.command.Command.TheVariants.{Check, Verify, Core, CheckListing, VerifyListing, Gen}
 
 pub data Command : Type 0 where
   -- with refutations of this version
@@ -14,6 +14,10 @@ pub data Command : Type 0 where
   verify : Inputs → List ℕ → Command
   -- which axioms forbid the outcome
   find_core : Inputs → Command
+  -- the second file is a listing of herd's
+  check_listing : Inputs → Command
+  -- so, with the name of a certificate
+  verify_listing : Inputs → List ℕ → Command
   -- a number of cores
   gen : ℕ → Command
 
@@ -22,6 +26,8 @@ abbrev pub plain_command : CodeCommand → Command
 plain_command (Check version i) = check version (plain_inputs i)
 plain_command (Verify i certificate) = verify (plain_inputs i) certificate.now
 plain_command (Core i) = find_core (plain_inputs i)
+plain_command (CheckListing i) = check_listing (plain_inputs i)
+plain_command (VerifyListing i certificate) = verify_listing (plain_inputs i) certificate.now
 plain_command (Gen n) = gen n
 
 -- the words by which a command is spelt; no two commands have one first word
@@ -30,6 +36,8 @@ words_of (check One i) = codes "check" ∷ i.model ∷ i.test ∷ []
 words_of (check Two i) = codes "check2" ∷ i.model ∷ i.test ∷ []
 words_of (verify i certificate) = codes "verify" ∷ i.model ∷ i.test ∷ certificate ∷ []
 words_of (find_core i) = codes "core" ∷ i.model ∷ i.test ∷ []
+words_of (check_listing i) = codes "check86" ∷ i.model ∷ i.test ∷ []
+words_of (verify_listing i certificate) = codes "verify86" ∷ i.model ∷ i.test ∷ certificate ∷ []
 words_of (gen n) = codes "gen" ∷ decimal n ∷ []
 
 -- the command is within its limits
@@ -37,6 +45,8 @@ abbrev pub IsWithin : Command → Type 0
 IsWithin (check version i) = ⊤
 IsWithin (verify i certificate) = ⊤
 IsWithin (find_core i) = ⊤
+IsWithin (check_listing i) = ⊤
+IsWithin (verify_listing i certificate) = ⊤
 IsWithin (gen n) = (2 ≤ n) × (n ≤ 16)
 
 abbrev pub IsCommand : List (List ℕ) → Command → Type 0
@@ -50,6 +60,8 @@ abbrev pub inputs_of : Command → Option Inputs
 inputs_of (check version i) = Some i
 inputs_of (verify i certificate) = Some i
 inputs_of (find_core i) = Some i
+inputs_of (check_listing i) = Some i
+inputs_of (verify_listing i certificate) = Some i
 inputs_of (gen n) = None
 
 -- the command reads files only if clauses say what they hold

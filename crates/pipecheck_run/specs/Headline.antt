@@ -10,8 +10,10 @@ use Rattle.command_base.specs.VerdictStatus.{IsTrueStatus}
 use Rattle.check_command.specs.CheckAnswers.{IsCheckDue}
 use Rattle.verify_command.specs.VerifyAnswers.{IsVerifyDue}
 use Rattle.core_command.specs.CoreAnswers.{IsCoreDue}
+use Rattle.x86_litmus.specs.Answer.{CaseOf as ListingCase}
+use Rattle.listing_form.specs.Listings.{IsFirstFault as IsListingFault}
 use Rattle.gen_command.specs.GenAnswers.{IsGenDue}
-use Rattle.pipecheck_run.specs.Command.{Command, check, verify, find_core, gen, IsCommand}
+use Rattle.pipecheck_run.specs.Command.{Command, check, verify, find_core, check_listing, verify_listing, gen, IsCommand}
 
 -- what the statuses of a verdict say to a command: observable only where some choice of nodes with some strict order
 -- makes every axiom true of the case, and unobservable only where none does; whatever a third file holds. `core` and
@@ -22,6 +24,10 @@ IsTrueTo holds (check version i) status = (m : WrittenModel) (c : Case) → Says
 IsTrueTo holds (verify i certificate) status = (m : WrittenModel) (c : Case) → Says CaseOf holds i m c
     → IsTrueStatus m c status
 IsTrueTo holds (find_core i) status = ⊤
+IsTrueTo holds (check_listing i) status = (m : WrittenModel) (c : Case) → Says ListingCase holds i m c
+    → IsTrueStatus m c status
+IsTrueTo holds (verify_listing i certificate) status = (m : WrittenModel) (c : Case) → Says ListingCase holds i m c
+    → IsTrueStatus m c status
 IsTrueTo holds (gen n) status = ⊤
 
 abbrev pub IsTrueOf : List (List ℕ) → Contents → Status → Type 0
@@ -32,6 +38,8 @@ abbrev pub IsDueTo : Contents → Command → Status → Type 0
 IsDueTo holds (check version i) = IsCheckDue CaseOf IsTestFault holds i
 IsDueTo holds (verify i certificate) = IsVerifyDue CaseOf IsTestFault holds i certificate
 IsDueTo holds (find_core i) = IsCoreDue CaseOf IsTestFault holds i
+IsDueTo holds (check_listing i) = IsCheckDue ListingCase IsListingFault holds i
+IsDueTo holds (verify_listing i certificate) = IsVerifyDue ListingCase IsListingFault holds i certificate
 IsDueTo holds (gen n) = IsGenDue n
 
 abbrev pub IsDue : List (List ℕ) → Contents → Status → Type 0

@@ -19,6 +19,13 @@ pub(crate) enum Command<'a> {
     },
     /// `core MODEL TEST`
     Core(Inputs<'a>),
+    /// `check86 MODEL FILE`
+    CheckListing(Inputs<'a>),
+    /// `verify86 MODEL FILE CERT`
+    VerifyListing {
+        inputs: Inputs<'a>,
+        certificate: &'a str,
+    },
     /// `gen N`, with N from 2 to 16
     Gen(u8),
 }
@@ -79,6 +86,15 @@ pub(crate) fn parse<'a>(words: &'a [String]) -> Option<Command<'a>>
     }
     if let Some(inputs) = inputs_behind("core", words) {
         return Some(Command::Core(inputs));
+    }
+    if let Some(inputs) = inputs_behind("check86", words) {
+        return Some(Command::CheckListing(inputs));
+    }
+    if let Some((inputs, certificate)) = three_behind("verify86", words) {
+        return Some(Command::VerifyListing {
+            inputs,
+            certificate,
+        });
     }
     let n = cores_behind(words)?;
     Some(Command::Gen(n))

@@ -8,7 +8,8 @@ pub fn one_command()
     ensures { (words : List (List ℕ)) → IsOneCommand words }
 {}
 
-/// A certificate that `check` or `check2` writes, `verify` takes, with the same verdict, unless it is too long.
+/// A certificate that `check` or `check2` writes, `verify` takes, and one that `check86` writes, `verify86` takes, with
+/// the same verdict, unless it is too long.
 pub fn written_is_verified()
     ensures { (holds later : Contents) → HasOneStatus holds later }
 {}

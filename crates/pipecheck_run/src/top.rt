@@ -6,7 +6,7 @@ ghost use Rattle.pc_common.specs.Pieces.{IsCutShort};
 ghost use Rattle.pc_common.specs.declared.status.Status.TheVariants.{Usage as SUsage, ReadFault as SReadFault, WriteFault as SWriteFault, Memory as SMemory};
 ghost use Rattle.command_base.specs.Inputs.{plain_inputs};
 ghost use Rattle.gen_command.specs.GenAnswers.{IsGenOutcome};
-ghost use Rattle.pipecheck_run.specs.Command.{plain_command, check as check_of, verify as verify_of, find_core as find_core_of, IsNoCommand, IsIdle, IsKnown, IsWithin, inputs_of};
+ghost use Rattle.pipecheck_run.specs.Command.{plain_command, check as check_of, verify as verify_of, verify_listing as verify_listing_of, check_listing as check_listing_of, find_core as find_core_of, IsNoCommand, IsIdle, IsKnown, IsWithin, inputs_of};
 ghost use Rattle.pipecheck_run.specs.Answers.{Answers, usage_text, WordsLack};
 ghost use Rattle.pipecheck_run.specs.Headline.{IsTrueOf, IsDue};
 ghost use Rattle.pipecheck_run.specs.AnswerTexts.{answer_text, answer_status, CanBeWritten};
@@ -18,6 +18,7 @@ use check_command::check;
 use command_base::{Ending, Inputs, TestFile};
 use core_command::find_core;
 use gen_command::generate;
+use listing_form::ListingFile;
 use pc_common::{Failed, Files, Sink, Status};
 use pc_ground::Version;
 use std::alloc::Global;
@@ -69,6 +70,35 @@ fn core_answer<F: Files>(alloc: Global, inputs: Inputs<'_>, files: &mut F) -> An
     }
 }
 
+/// The answer to `check86 MODEL FILE`.
+fn check_listing_answer<F: Files>(alloc: Global, inputs: Inputs<'_>, files: &mut F) -> Answer
+    ensures outcome { IsCommandOutcome F.view (check_listing_of (plain_inputs inputs.entry))
+        files.old files.new (answer_status result) (answer_text result) }
+    ensures writable { CanBeWritten result }
+{
+    match check::<ListingFile, F>(alloc, inputs, Version::One, files) {
+        Ok(found) => Answer::Checked(found),
+        Err(ending) => Answer::Ended(ending),
+    }
+}
+
+/// The answer to `verify86 MODEL FILE CERT`.
+fn verify_listing_answer<F: Files>(
+    alloc: Global,
+    inputs: Inputs<'_>,
+    certificate: &str,
+    files: &mut F,
+) -> Answer
+    ensures outcome { IsCommandOutcome F.view (verify_listing_of (plain_inputs inputs.entry) certificate.now)
+        files.old files.new (answer_status result) (answer_text result) }
+    ensures writable { CanBeWritten result }
+{
+    match verify::<ListingFile, F>(alloc, inputs, certificate, files) {
+        Ok(found) => Answer::Verified(found),
+        Err(ending) => Answer::Ended(ending),
+    }
+}
+
 /// The answer to `gen N`, which touches no file.
 fn gen_answer(alloc: Global, n: u8) -> Answer
     requires { 2 ≤ n × n ≤ 16 }
@@ -97,6 +127,11 @@ fn answer_to<F: Files>(alloc: Global, command: Command<'_>, files: &mut F) -> An
             certificate,
         } => verify_answer(alloc, inputs, certificate, files),
         Command::Core(inputs) => core_answer(alloc, inputs, files),
+        Command::CheckListing(inputs) => check_listing_answer(alloc, inputs, files),
+        Command::VerifyListing {
+            inputs,
+            certificate,
+        } => verify_listing_answer(alloc, inputs, certificate, files),
         Command::Gen(n) => gen_answer(alloc, n),
     }
 }

@@ -11,6 +11,12 @@ returns-in-Gen-clause-outcome g c =
 pub returns-in-Core-clause-outcome : goal.returns-in-Core-clause-outcome
 returns-in-Core-clause-outcome g c = rw c.in-Core.is c.core_answer.ensures.outcome
 
+pub returns-in-CheckListing-clause-outcome : goal.returns-in-CheckListing-clause-outcome
+returns-in-CheckListing-clause-outcome g c = rw c.in-CheckListing.is c.check_listing_answer.ensures.outcome
+
+pub returns-in-VerifyListing-clause-outcome : goal.returns-in-VerifyListing-clause-outcome
+returns-in-VerifyListing-clause-outcome g c = rw c.in-VerifyListing.is c.verify_listing_answer.ensures.outcome
+
 pub returns-in-Check-clause-outcome : goal.returns-in-Check-clause-outcome
 returns-in-Check-clause-outcome g c = rw c.in-Check.is c.check_answer.ensures.outcome
 
