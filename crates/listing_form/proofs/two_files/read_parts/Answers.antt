@@ -12,12 +12,12 @@ returns-in-Err-clause-err c =
     rw c.end_of.ensures
     (fault_end c.args.model_bytes.now c.args.bytes.now ok.0 c.in-Err.fault (record { model = ok.1; no_fault = ok.2.no_fault }) c.in-Err.ensures.err)
 
-pub parts_of-requires-in-Ok-clause-named : goal.parts_of-requires-in-Ok-clause-named
-parts_of-requires-in-Ok-clause-named c =
+pub parts_of-requires-clause-named : goal.parts_of-requires-clause-named
+parts_of-requires-clause-named c =
     let ok = c.in_ok-model.ensures.ok in are_stages ok.0 ok.2.no_fault c.in_ok-model.model ok.2 ok.1
 
-pub parts_of-requires-in-Ok-clause-within : goal.parts_of-requires-in-Ok-clause-within
-parts_of-requires-in-Ok-clause-within c =
+pub parts_of-requires-clause-within : goal.parts_of-requires-clause-within
+parts_of-requires-clause-within c =
     let ok = c.in_ok-model.ensures.ok in axioms_within ok.0 ok.2.no_fault c.in_ok-model.model ok.2
 
 pub returns-in-Ok-clause-ok : goal.returns-in-Ok-clause-ok
