@@ -1,5 +1,5 @@
 -- How the first fault of two files ends the reading.
-use Rattle.std.proofs.Common.{◌≡◌, ℕ, List, refl, sym, subst}
+use Rattle.std.proofs.Common.{ℕ, List, refl, sym, subst}
 use Rattle.pc_common.specs.declared.fault.Which.{Which}
 use Rattle.pc_syntax.specs.Written.{WrittenModel}
 use Rattle.pc_front.specs.declared.model_front.FrontEnd.{FrontEnd}

@@ -1,0 +1,32 @@
+use Rattle.std.proofs.Common.{rules}
+use Rattle.pc_front.proofs.PartsOf.{axioms_within, are_stages, parts_are}
+use Rattle.listing_form.proofs.Ends.{model_end, fault_end}
+use Rattle.listing_form.proofs.two_files.read_parts.Goals as goal
+
+pub returns-in_err-model-clause-err : goal.returns-in_err-model-clause-err
+returns-in_err-model-clause-err c = search (rules, model_end)
+
+pub returns-in-Err-clause-err : goal.returns-in-Err-clause-err
+returns-in-Err-clause-err c =
+    let ok = c.in_ok-model.ensures.ok in
+    rw c.end_of.ensures
+    (fault_end c.args.model_bytes.now c.args.bytes.now ok.0 c.in-Err.fault (record { model = ok.1; no_fault = ok.2.no_fault }) c.in-Err.ensures.err)
+
+pub parts_of-requires-clause-named : goal.parts_of-requires-clause-named
+parts_of-requires-clause-named c =
+    let ok = c.in_ok-model.ensures.ok in are_stages ok.0 ok.2.no_fault c.in_ok-model.model ok.2 ok.1
+
+pub parts_of-requires-clause-within : goal.parts_of-requires-clause-within
+parts_of-requires-clause-within c =
+    let ok = c.in_ok-model.ensures.ok in axioms_within ok.0 ok.2.no_fault c.in_ok-model.model ok.2
+
+pub returns-in-Ok-clause-ok : goal.returns-in-Ok-clause-ok
+returns-in-Ok-clause-ok c =
+    let ok = c.in_ok-model.ensures.ok in
+    let is = c.parts_of.ensures in record {
+      m = ok.0;
+      c = c.in-Ok.case;
+      says_model = record { model = ok.1; no_fault = ok.2.no_fault };
+      says_listing = c.in-Ok.ensures.ok;
+      parts_of = parts_are ok.0 c.in-Ok.case c.in_ok-model.model c.parts_of.result ok.2 is.0 is.1 is.2;
+    }
