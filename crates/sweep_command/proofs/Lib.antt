@@ -1,4 +1,0 @@
-pub mod PatternFiles
-pub mod SweepOutcomes
-pub mod Shown
-pub mod SweepTexts
