@@ -1,5 +1,5 @@
 -- The axioms and the macros of a model with some of its axioms.
-use Rattle.std.proofs.Common.{◌≡◌, zero, suc, Bool, true, false, List, [], ◌∷◌, reverse, refl, ◌∙◌, ap}
+use Rattle.std.proofs.Common.{◌≡◌, zero, Bool, true, false, List, [], ◌∷◌, reverse, refl, ◌∙◌, ap}
 use Rattle.std.specs.Prelude.{if◌then◌else◌}
 use Rattle.std.specs.List.{flat_map}
 use Rattle.pc_common.specs.Case.{Case}

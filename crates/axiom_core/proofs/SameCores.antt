@@ -1,19 +1,19 @@
 -- What the search finds of chosen axioms, as what the axioms allow or forbid; and one core by two choices that agree.
-use Rattle.std.proofs.Common.{◌≡◌, ℕ, zero, suc, ◌+◌, ◌<◌, Bool, true, false, ◌&&◌, not, eqb, List, [], ◌∷◌, ◌++◌, Result, Ok, Err, length, map, get_or, take, refl, sym, ◌∙◌, ap, subst, arith}
-use Rattle.std.specs.Prelude.{IsTrue, IfOk, ◌↔◌}
+use Rattle.std.proofs.Common.{◌≡◌, ℕ, ◌+◌, ◌<◌, Bool, ◌&&◌, not, eqb, List, [], ◌∷◌, ◌++◌, Result, Ok, Err, length, get_or, take, sym, ◌∙◌, ap, subst, arith}
+use Rattle.std.specs.Prelude.{IfOk, ◌↔◌}
 use Rattle.std.specs.Bool.{MatchBool}
 use Rattle.std.proofs.lemmas.List.{take_more, length-map}
 use Rattle.pc_common.specs.Case.{Case}
 use Rattle.pc_common.specs.Steps.{Step}
-use Rattle.pc_common.specs.World.{Node, World}
+use Rattle.pc_common.specs.World.{Node}
 use Rattle.pc_syntax.specs.declared.closed.Closed.{Closed}
-use Rattle.pc_syntax.specs.Closed.{PlainClosed, closed_true, closed_satisfies}
+use Rattle.pc_syntax.specs.Closed.{PlainClosed}
 use Rattle.pc_ground.specs.declared.front.Front.{Front}
-use Rattle.pc_ground.specs.Tree.{Tree, tree_true}
+use Rattle.pc_ground.specs.Tree.{Tree}
 use Rattle.pc_ground.specs.Rows.{rows_of}
 use Rattle.pc_ground.specs.Folded.{IsFolded}
 use Rattle.pc_ground.specs.Numbers.{numbered}
-use Rattle.pc_ground.specs.GroundTree.{axioms_unfolded, closed_ground_tree}
+use Rattle.pc_ground.specs.GroundTree.{axioms_unfolded}
 use Rattle.pc_ground.specs.Stages.{plain_axioms}
 use Rattle.pc_ground.proofs.FlatRows.{rows_injective}
 use Rattle.pc_ground.proofs.NormalForms.{normal_folded}
@@ -26,7 +26,7 @@ use Rattle.axiom_core.specs.Choices.{is_refutation, places, IsTried}
 use Rattle.axiom_core.specs.Cores.{Allow, Forbid, IsMinimal, tree_of, IsFound, IsFrontWith, IsRefutedWith, IsShownWith, AreShownWithout, IsCore, IsCoreOf, HasNone}
 use Rattle.axiom_core.specs.declared.answer.Core.{Core}
 use Rattle.axiom_core.specs.declared.answer.Core.TheVariants.{None as no_core, Minimal}
-use Rattle.axiom_core.proofs.Taking.{same_taken, all_forbid, fewer_allow}
+use Rattle.axiom_core.proofs.Taking.{same_taken, all_forbid}
 use Rattle.axiom_core.proofs.Numbered.{among_flagged, places_rising}
 
 -- a front's numbering is of its tree, in which a constant is the whole tree

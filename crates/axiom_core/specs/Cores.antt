@@ -1,5 +1,5 @@
 -- A minimal set of axioms that forbids an outcome, with a certificate of each of its claims.
-use Rattle.std.specs.Prelude.{ℕ, ◌≡◌, ◌<◌, Bool, List, [], ◌∷◌, length, IsTrue}
+use Rattle.std.specs.Prelude.{ℕ, ◌≡◌, ◌<◌, List, [], ◌∷◌, length, IsTrue}
 use Rattle.pc_common.specs.Case.{Case}
 use Rattle.pc_common.specs.World.{Node, World, IsWorld}
 use Rattle.pc_common.specs.Steps.{Step}

@@ -1,5 +1,5 @@
 -- The table reads exactly the terminals of the listings.
-use Rattle.std.proofs.Common.{◌≡◌, ℕ, Bool, true, false, List, [], ◌∷◌, ◌++◌, Some, None, IsTrue, MatchOption, map, codes, refl, sym, ap, subst, ◌∙◌, append_assoc}
+use Rattle.std.proofs.Common.{◌≡◌, ℕ, Bool, true, false, List, [], ◌∷◌, ◌++◌, Some, IsTrue, MatchOption, map, codes, refl, sym, ap, subst, ◌∙◌, append_assoc}
 use Rattle.std.proofs.lemmas.Bool.{eqb-true}
 use Rattle.std.proofs.lemmas.List.{append-nil, map-append}
 use Rattle.ll_grammar.specs.Rules.{Derives}
@@ -11,7 +11,7 @@ use Rattle.ll_grammar.proofs.DerivesLaws.Each.{none, class, part}
 use Rattle.x86_tokens.specs.Token.{Token, Kind}
 use Rattle.x86_litmus.specs.Listing.{Named, Location, bare, bracketed, Stated, Block, no_values, values, Action, fence, store, load, Cell, empty, instruction, Row, Equation, of_register, of_location, Condition, Listing}
 use Rattle.x86_litmus.specs.Expected.{Expected, a_name, a_word, a_number, number_at, a_symbol, symbol_at, Is, Spell}
-use Rattle.x86_litmus.specs.Syntax.{word_at, spelled_location, spelled_stated, spelled_values, spelled_block, spelled_columns, spelled_action, spelled_cell, spelled_cells, spelled_row, spelled_equation, spelled_equations, spelled_conjunction, spelled_asked, spelled_denial, spelled_condition, spelled_rows, spelled_listing, IsListing}
+use Rattle.x86_litmus.specs.Syntax.{word_at, spelled_location, spelled_stated, spelled_values, spelled_block, spelled_columns, spelled_action, spelled_cell, spelled_cells, spelled_row, spelled_equation, spelled_equations, spelled_conjunction, spelled_asked, spelled_denial, spelled_rows, spelled_listing, IsListing}
 use Rattle.x86_litmus.specs.Terminals.{spelling, word_terminal, symbol_terminal, kind_terminal, terminal_of, is_name}
 use Rattle.x86_litmus.specs.Phrases.{number_and, bracketed_and, register_and, behind, may_end, deep, rules}
 use Rattle.x86_litmus.specs.declared.terminal.Terminal.{Terminal}

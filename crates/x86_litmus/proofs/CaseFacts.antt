@@ -1,20 +1,19 @@
 -- The case of what is sound: its micro-ops and its stated values are what the type of a case asks for.
-use Rattle.std.proofs.Common.{◌≡◌, ℕ, zero, suc, ◌+◌, ◌<◌, ◌≤◌, Bool, true, false, not, List, [], ◌∷◌, ◌++◌, Option, Some, None, length, map, slice_get, get_or, if◌then◌else◌, cond, refl, sym, ap, subst, ◌∙◌, ◌⊎◌, inl, inr, arith}
+use Rattle.std.proofs.Common.{◌≡◌, ℕ, zero, suc, ◌+◌, ◌<◌, ◌≤◌, Bool, true, false, not, List, [], ◌∷◌, ◌++◌, Some, length, map, slice_get, get_or, if◌then◌else◌, cond, refl, sym, ap, subst, ◌∙◌, ◌⊎◌, inl, inr, arith}
 use Rattle.std.specs.Prelude.{◌↔◌, IsNone, filter, fold, ◌==◌, ◌||◌}
-use Rattle.std.specs.List.{list_any, prefix_len}
+use Rattle.std.specs.List.{list_any}
 use Rattle.std.proofs.lemmas.Bool.{eqb-true}
 use Rattle.std.proofs.lemmas.List.{length-append}
 use Rattle.std.proofs.lemmas.List.Folds.{list_any-append}
 use Rattle.pc_common.specs.Names.{same_name}
-use Rattle.pc_common.specs.Case.{PageAt, Address, page, Value, number, MicroOp, Kind, fence as a_fence, read, write}
-use Rattle.pc_common.specs.declared.limits.TheConstants.{MAX_CORE, MAX_OPS}
+use Rattle.pc_common.specs.Case.{PageAt, Address, Value, number, MicroOp, fence as a_fence}
 use Rattle.pc_case.specs.MicroOps.{AreMicroOps}
 use Rattle.pc_case.specs.Stated.{IsStatedOnce}
-use Rattle.x86_litmus.specs.Listing.{Named, Action, fence, store, load}
+use Rattle.x86_litmus.specs.Listing.{Action, fence, store, load}
 use Rattle.x86_litmus.specs.Said.{Instruction, Asked, Said}
 use Rattle.x86_litmus.specs.Cases.{seen, seen_value, seen_in, seen_by, locations, number_of, test_order, address_of, kind_of, touched, op_of, numbered, stated, case_of}
 use Rattle.x86_litmus.specs.Sound.{IsOnce, IsSound}
-use Rattle.x86_litmus.proofs.Bytes.{same_is, is_same, same_self}
+use Rattle.x86_litmus.proofs.Bytes.{same_is, same_self}
 
 in_column : ℕ → List Instruction → List Instruction
 in_column k is = filter (λ (i : Instruction). i.thread == k) is

@@ -1,5 +1,5 @@
 -- A listing that says a case keeps to what the type of a case asks of its micro-ops.
-use Rattle.std.proofs.Common.{◌≡◌, ℕ, List, sym, subst}
+use Rattle.std.proofs.Common.{ℕ, List, sym, subst}
 use Rattle.pc_common.specs.Case.{Case}
 use Rattle.pc_case.specs.MicroOps.{AreMicroOps}
 use Rattle.x86_litmus.specs.Items.{items_of}

@@ -1,6 +1,5 @@
 -- What the loops over what is said keep.
-use Rattle.std.proofs.Common.{◌≡◌, ℕ, zero, suc, ◌+◌, ◌<◌, Bool, true, false, List, [], ◌∷◌, ◌++◌, map, length, take, drop, get_or, slice_get, Option, Some, None, cond, fold, filter, ◌==◌, append_assoc, refl, sym, ap, subst, ◌∙◌, arith}
-use Rattle.std.specs.List.{list_any}
+use Rattle.std.proofs.Common.{◌≡◌, ℕ, zero, suc, ◌+◌, ◌<◌, Bool, true, false, List, [], ◌∷◌, ◌++◌, map, length, take, drop, get_or, slice_get, Some, cond, fold, filter, ◌==◌, append_assoc, refl, sym, ap, subst, ◌∙◌, arith}
 use Rattle.std.proofs.lemmas.List.{append-nil, drop_more, map-append, map_more, length-map}
 use Rattle.std.proofs.lemmas.Option.{slice_get_within, get_or_from_slice_get}
 use Rattle.std.proofs.lemmas.List.Sums.{fold_more}

@@ -1,15 +1,15 @@
 -- A text has one first fault at most.
-use Rattle.std.proofs.Common.{◌≡◌, ◌≢◌, ℕ, ◌+◌, ◌<◌, ◌≤◌, ◌⊎◌, inl, inr, List, length, refl, sym, ap, subst, ◌∙◌, arith}
+use Rattle.std.proofs.Common.{◌≡◌, ◌≢◌, ℕ, ◌+◌, ◌<◌, ◌≤◌, inl, inr, List, length, refl, sym, ap, subst, ◌∙◌, arith}
 use Rattle.pc_common.specs.declared.place.Place.{Place}
 use Rattle.pc_common.specs.declared.fault.FaultKind.{FaultKind}
 use Rattle.ll_grammar.specs.FirstFault.{IsFaultAt}
 use Rattle.ll_grammar.proofs.Faults.{viable-take}
 use Rattle.x86_tokens.specs.Token.{Token, token_place}
 use Rattle.x86_tokens.specs.Spells.{IsLexicalFault}
-use Rattle.x86_tokens.specs.Header.{body, fault, header_of}
+use Rattle.x86_tokens.specs.Header.{fault}
 use Rattle.x86_tokens.proofs.SpellsLaws.{spells-no_fault, lexical_fault-unique}
 use Rattle.x86_litmus.specs.Syntax.{IsListing}
-use Rattle.x86_litmus.specs.Faults.{Found, Outcome, faulty, found}
+use Rattle.x86_litmus.specs.Faults.{Found, faulty, found}
 use Rattle.x86_litmus.specs.Answer.{IsTokenFault, IsX86Fault}
 use Rattle.x86_litmus.specs.declared.fault.X86Fault.{X86Fault}
 use Rattle.x86_litmus.specs.declared.fault.X86Fault.TheVariants.{Lexical, Syntax, Content, Memory}

@@ -1,18 +1,17 @@
 -- A text has one case at most, and none where it has a first fault.
-use Rattle.std.proofs.Common.{◌≡◌, ◌≢◌, ℕ, ◌+◌, ◌≤◌, ◌⊎◌, inl, inr, List, length, drop, refl, sym, ap, subst, ◌∙◌, arith}
+use Rattle.std.proofs.Common.{◌≡◌, ◌≢◌, ℕ, ◌+◌, ◌≤◌, inl, inr, List, length, drop, refl, sym, ap, subst, ◌∙◌, arith}
 use Rattle.std.proofs.lemmas.List.{take-append-drop}
 use Rattle.pc_common.specs.Case.{Case}
 use Rattle.ll_grammar.specs.FirstFault.{IsFaultAt}
 use Rattle.x86_tokens.specs.Token.{Token}
 use Rattle.x86_tokens.specs.Spells.{Spells, IsLexicalFault}
-use Rattle.x86_tokens.specs.Header.{Header, body, fault, header_of}
+use Rattle.x86_tokens.specs.Header.{body, fault, header_of}
 use Rattle.x86_tokens.proofs.SpellsLaws.{spells-unique, spells-no_fault}
 use Rattle.x86_litmus.specs.Syntax.{IsListingOf, IsListing}
-use Rattle.x86_litmus.specs.Said.{Said}
 use Rattle.x86_litmus.specs.Faults.{Outcome, faulty, says, found, outcome_of}
 use Rattle.x86_litmus.specs.Cases.{case_of}
 use Rattle.x86_litmus.specs.Reading.{items_in}
-use Rattle.x86_litmus.specs.Answer.{IsBody, ComesTo, CaseOf, IsTokenFault, IsX86Fault}
+use Rattle.x86_litmus.specs.Answer.{IsBody, ComesTo, CaseOf, IsX86Fault}
 use Rattle.x86_litmus.specs.declared.fault.X86Fault.{X86Fault}
 use Rattle.x86_litmus.specs.declared.fault.X86Fault.TheVariants.{Lexical, Syntax, Content, Memory}
 use Rattle.x86_litmus.proofs.Readings.{read_listing}

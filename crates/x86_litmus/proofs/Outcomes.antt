@@ -1,13 +1,12 @@
 -- What is read of a listing's tokens, as a case or a fault of its bytes.
-use Rattle.std.proofs.Common.{◌≡◌, ℕ, List, [], Option, Some, None, refl, sym, ap, ◌∙◌}
+use Rattle.std.proofs.Common.{◌≡◌, ℕ, List, Option, Some, None, sym, ap, ◌∙◌}
 use Rattle.pc_common.specs.Case.{Case}
 use Rattle.pc_common.specs.declared.place.Place.{Place}
 use Rattle.pc_common.specs.declared.fault.FaultKind.{FaultKind}
 use Rattle.x86_tokens.specs.Token.{Token}
-use Rattle.x86_litmus.specs.Listing.{Listing}
 use Rattle.x86_litmus.specs.Syntax.{IsListing}
 use Rattle.x86_litmus.specs.Said.{Said}
-use Rattle.x86_litmus.specs.Faults.{Found, found, open_fault, Outcome, faulty, says, unless, judged, outcome_of}
+use Rattle.x86_litmus.specs.Faults.{Found, found, open_fault, says, unless, outcome_of}
 use Rattle.x86_litmus.specs.Cases.{case_of}
 use Rattle.x86_litmus.specs.Reading.{items_in, IsReadTo, IsFaultIn, CaseIn, IsListingFault}
 use Rattle.x86_litmus.specs.Answer.{IsBody, CaseOf, IsX86Fault}

@@ -1,6 +1,5 @@
 -- What a listing without a fault says is sound.
-use Rattle.std.proofs.Common.{◌≡◌, ℕ, zero, suc, ◌+◌, ◌<◌, ◌≤◌, Bool, true, false, List, [], ◌∷◌, ◌++◌, Option, Some, None, length, slice_get, if◌then◌else◌, nat_lt, refl, sym, ap, subst, ◌∙◌, ◌⊎◌, inl, inr, arith}
-use Rattle.std.specs.Map.{lookup}
+use Rattle.std.proofs.Common.{◌≡◌, ℕ, zero, suc, ◌<◌, ◌≤◌, Bool, true, false, List, [], ◌∷◌, ◌++◌, Option, Some, None, length, slice_get, if◌then◌else◌, nat_lt, refl, sym, ap, subst, ◌∙◌, ◌⊎◌, inl, inr, arith}
 use Rattle.std.specs.Option.{option_map}
 use Rattle.std.proofs.lemmas.Bool.{ltb-true, ltb-false}
 use Rattle.std.proofs.lemmas.List.{length-append}
@@ -13,7 +12,7 @@ use Rattle.pc_common.specs.declared.limits.TheConstants.{MAX_CORE, MAX_OPS}
 use Rattle.x86_litmus.specs.Listing.{Named, Action}
 use Rattle.x86_litmus.specs.Items.{Item, initial, column, instructed, row_ended, denied, register_is, final}
 use Rattle.x86_litmus.specs.Said.{Instruction, Said, nothing, add}
-use Rattle.x86_litmus.specs.Faults.{Found, found, value_at, again, thread_name, column_fault, reload, instruction_fault, fault_of, open_fault, Outcome, faulty, says, unless, judged}
+use Rattle.x86_litmus.specs.Faults.{Found, found, value_at, again, thread_name, column_fault, reload, instruction_fault, fault_of, open_fault, says, unless, judged}
 use Rattle.x86_litmus.specs.Sound.{IsOnce, IsSound}
 use Rattle.x86_litmus.proofs.Bytes.{same_self}
 

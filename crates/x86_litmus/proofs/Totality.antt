@@ -1,15 +1,14 @@
 -- Each text has a case or a first fault that is no want of memory.
-use Rattle.std.proofs.Common.{◌≡◌, ◌≢◌, ℕ, zero, suc, ◌+◌, ◌≤◌, Bool, true, false, ◌⊎◌, ⊎_elim, inl, inr, List, [], ◌∷◌, length, if◌then◌else◌, refl, sym, ◌∙◌, arith}
-use Rattle.std.specs.List.{slice_split, onto_first}
+use Rattle.std.proofs.Common.{◌≡◌, ◌≢◌, ℕ, ◌+◌, ◌≤◌, Bool, true, false, ◌⊎◌, ⊎_elim, inl, inr, List, [], ◌∷◌, length, if◌then◌else◌, refl, arith}
+use Rattle.std.specs.List.{onto_first}
 use Rattle.pc_common.specs.Case.{Case}
 use Rattle.x86_tokens.specs.Token.{Token, token_place}
-use Rattle.x86_tokens.specs.Spells.{Spells}
 use Rattle.x86_tokens.specs.Header.{Header, body, fault, is_line_end, lines, indent, opens_body, has_no_meaning, is_title, header_behind, header_of_lines, header_of}
 use Rattle.x86_tokens.proofs.Totality.{spells-or_fault}
 use Rattle.x86_litmus.specs.Listing.{Listing}
 use Rattle.x86_litmus.specs.Syntax.{IsListingOf}
 use Rattle.x86_litmus.specs.Items.{items_of}
-use Rattle.x86_litmus.specs.Faults.{Found, Outcome, faulty, says, found, outcome_of}
+use Rattle.x86_litmus.specs.Faults.{Outcome, faulty, says, outcome_of}
 use Rattle.x86_litmus.specs.Cases.{case_of}
 use Rattle.x86_litmus.specs.Answer.{IsBody, ComesTo, CaseOf, IsX86Fault}
 use Rattle.x86_litmus.specs.declared.fault.X86Fault.{X86Fault}

@@ -1,14 +1,14 @@
 -- A reader's steps over the tokens of a listing.
-use Rattle.std.proofs.Common.{◌≡◌, ℕ, zero, suc, ◌+◌, ◌<◌, ◌≤◌, Bool, true, false, List, [], ◌∷◌, length, drop, slice_get, Option, Some, None, codes, if◌then◌else◌, refl, sym, ap, subst, ◌∙◌, arith}
+use Rattle.std.proofs.Common.{◌≡◌, ℕ, ◌+◌, ◌<◌, ◌≤◌, Bool, true, false, List, [], ◌∷◌, length, drop, slice_get, Option, Some, None, codes, if◌then◌else◌, refl, sym, ap, ◌∙◌, arith}
 use Rattle.std.proofs.lemmas.List.{drop_more}
 use Rattle.std.proofs.lemmas.Option.{get_or_from_slice_get}
 use Rattle.pc_common.specs.Names.{same_name}
 use Rattle.x86_tokens.specs.Token.{Token, Kind, name, number, symbol}
-use Rattle.x86_litmus.specs.Listing.{Named, Action, fence, store, load}
-use Rattle.x86_litmus.specs.Items.{Item, initial, column, instructed, row_ended, denied, register_is, final}
+use Rattle.x86_litmus.specs.Listing.{Named, fence}
+use Rattle.x86_litmus.specs.Items.{Item, instructed, row_ended, denied}
 use Rattle.x86_litmus.specs.Said.{Said, add}
-use Rattle.x86_litmus.specs.Spots.{Spot, block, valued, head, row, moving, storing, stored, loading, asking, thread, register, behind, Step, goes, tells, after_word, after_name, after_number, after_row_symbol, after_symbol, after_kind, after, with_item, items_from, column_of}
-use Rattle.x86_litmus.specs.Faults.{Found, found, fault_of, open_fault, Outcome, faulty, says, unless, judged, outcome_of}
+use Rattle.x86_litmus.specs.Spots.{Spot, block, valued, head, row, moving, storing, stored, loading, asking, thread, register, behind, goes, tells, after_word, after_name, after_number, after_row_symbol, after_symbol, after_kind, after, with_item, items_from, column_of}
+use Rattle.x86_litmus.specs.Faults.{Found, found, fault_of, faulty, unless, judged, outcome_of}
 use Rattle.x86_litmus.specs.Reading.{items_in, IsFaultIn}
 use Rattle.x86_litmus.specs.Takes.{IsRefusal}
 use Rattle.x86_litmus.specs.declared.fault.X86Fault.{X86Fault}

@@ -1,6 +1,5 @@
 -- What a listing says, in the order of its text.
 use Rattle.std.specs.Prelude.{ℕ, ◌+◌, Bool, true, false, List, [], ◌∷◌, ◌++◌, map}
-use Rattle.std.specs.List.{flat_map}
 use Rattle.x86_litmus.specs.Listing.{Named, Location, bare, bracketed, Stated, Block, no_values, values, Action, Cell, empty, instruction, Row, Equation, of_register, of_location, Condition, Listing}
 
 pub data Item : Type 0 where

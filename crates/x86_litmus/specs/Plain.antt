@@ -1,5 +1,5 @@
 -- What the code's names, items, spots and lists are as plain data.
-use Rattle.std.specs.Prelude.{◌≡◌, ℕ, List, Option, Some, None, map}
+use Rattle.std.specs.Prelude.{Option, Some, None, map}
 use Rattle.x86_litmus.specs.Listing.{Named as PlainNamed, Action as PlainAction, fence, store, load}
 use Rattle.x86_litmus.specs.Items.{Item as PlainItem, initial, column, instructed, row_ended, denied, register_is, final}
 use Rattle.x86_litmus.specs.Said.{Instruction as PlainInstruction, Asked as PlainAsked, Said as PlainSaid}
@@ -9,7 +9,6 @@ use Rattle.x86_litmus.specs.declared.item.Named.{Named}
 use Rattle.x86_litmus.specs.declared.item.Action.{Action}
 use Rattle.x86_litmus.specs.declared.item.Action.TheVariants.{Fence, Store, Load}
 use Rattle.x86_litmus.specs.declared.item.Instruction.{Instruction}
-use Rattle.x86_litmus.specs.declared.item.ThreadNumber.{ThreadNumber}
 use Rattle.x86_litmus.specs.declared.item.Item.{Item}
 use Rattle.x86_litmus.specs.declared.item.Item.TheVariants.{Initial, Column, Instructed, RowEnded, Denied, RegisterIs, Final}
 use Rattle.x86_litmus.specs.declared.spot.Spot.{Spot}

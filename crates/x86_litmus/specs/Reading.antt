@@ -5,9 +5,9 @@ use Rattle.x86_tokens.specs.Token.{Token}
 use Rattle.x86_litmus.specs.Listing.{Listing}
 use Rattle.x86_litmus.specs.Syntax.{IsListingOf}
 use Rattle.x86_litmus.specs.Items.{Item, items_of}
-use Rattle.x86_litmus.specs.Said.{Said, nothing}
+use Rattle.x86_litmus.specs.Said.{Said}
 use Rattle.x86_litmus.specs.Spots.{block, items_from}
-use Rattle.x86_litmus.specs.Faults.{Outcome, faulty, says, found, outcome_of, judged}
+use Rattle.x86_litmus.specs.Faults.{faulty, says, found, outcome_of, judged}
 use Rattle.x86_litmus.specs.Cases.{case_of}
 use Rattle.x86_litmus.specs.declared.fault.X86Fault.{X86Fault}
 use Rattle.x86_litmus.specs.declared.fault.X86Fault.TheVariants.{Lexical, Syntax, Content, Memory}

@@ -2,7 +2,7 @@
 use Rattle.std.specs.Prelude.{ℕ, ◌+◌, ◌==◌, Bool, true, false, ◌&&◌, List, [], ◌∷◌, ◌++◌}
 use Rattle.std.specs.List.{list_any}
 use Rattle.pc_common.specs.Names.{same_name}
-use Rattle.x86_litmus.specs.Listing.{Named, Action, fence, store, load}
+use Rattle.x86_litmus.specs.Listing.{Action, fence, store, load}
 use Rattle.x86_litmus.specs.Items.{Item, initial, column, instructed, row_ended, denied, register_is, final}
 
 -- an instruction of a thread, whose word stands at a place

@@ -1,9 +1,9 @@
 -- Where a reader of a listing's tokens stands, and what it says at each token. It takes the tokens to be a listing: on
 -- others what it says has no meaning.
-use Rattle.std.specs.Prelude.{ℕ, ◌+◌, Bool, List, [], ◌∷◌, Option, Some, None, codes, if◌then◌else◌}
+use Rattle.std.specs.Prelude.{ℕ, ◌+◌, List, [], ◌∷◌, Option, Some, None, codes, if◌then◌else◌}
 use Rattle.pc_common.specs.Names.{same_name}
 use Rattle.x86_tokens.specs.Token.{Token, Kind, name, number, symbol}
-use Rattle.x86_litmus.specs.Listing.{Named, Action, fence, store, load}
+use Rattle.x86_litmus.specs.Listing.{Named, fence, store, load}
 use Rattle.x86_litmus.specs.Items.{Item, initial, column, instructed, row_ended, denied, register_is, final}
 
 pub data Spot : Type 0 where

@@ -1,10 +1,9 @@
 -- At each place stands one piece at most.
-use Rattle.std.proofs.Common.{◌≡◌, ◌≢◌, ℕ, ◌+◌, ◌-◌, ◌<◌, ◌≤◌, ◌⊎◌, List, length, get_or, sym, ap, ◌∙◌, refl, arith, ⊎_elim, inl, inr}
+use Rattle.std.proofs.Common.{◌≡◌, ℕ, ◌+◌, ◌-◌, ◌<◌, ◌≤◌, ◌⊎◌, List, length, get_or, sym, ap, ◌∙◌, refl, arith, ⊎_elim, inl, inr}
 use Rattle.std.specs.Prelude.{slice_range}
 use Rattle.std.proofs.str.Laws.{order}
-use Rattle.std.proofs.lemmas.List.{get_or_past}
 use Rattle.uspec_lexer.specs.Bytes.{IsBlank, IsDigit, IsLetter, number_value}
-use Rattle.uspec_lexer.specs.Piece.{IsRun, OpensBlock, IsBlockComment, IsNumber}
+use Rattle.uspec_lexer.specs.Piece.{OpensBlock, IsBlockComment, IsNumber}
 use Rattle.uspec_lexer.proofs.Pieces.{run-unique, inside_text}
 use Rattle.x86_tokens.specs.Token.{Kind, name, number, symbol}
 use Rattle.x86_tokens.specs.Bytes.{IsShortSymbol, IsLongSymbol}

@@ -1,4 +1,3 @@
-use Rattle.std.proofs.Common.{sym}
 use Rattle.x86_litmus.specs.Plain.{plain_said}
 use Rattle.x86_litmus.proofs.CaseFacts.{are_micro_ops, initial_once, final_once}
 use Rattle.x86_litmus.proofs.case_of.case_of.Goals as goal

@@ -1,4 +1,4 @@
-use Rattle.std.proofs.Common.{◌≡◌, List, ℕ, map, get_or, ap, sym, ◌∙◌, arith}
+use Rattle.std.proofs.Common.{List, map, get_or, ap, ◌∙◌}
 use Rattle.pc_case.specs.Plain.{micro_op}
 use Rattle.x86_litmus.specs.Said.{Asked}
 use Rattle.x86_litmus.specs.Cases.{op_of}

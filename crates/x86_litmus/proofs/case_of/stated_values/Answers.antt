@@ -1,6 +1,6 @@
-use Rattle.std.proofs.Common.{◌≡◌, List, ℕ, [], ◌∷◌, ◌++◌, map, ap, sym, ◌∙◌}
+use Rattle.std.proofs.Common.{List, ℕ, [], ◌∷◌, ◌++◌, map, ap, sym, ◌∙◌}
 use Rattle.std.proofs.lemmas.List.{map-append}
-use Rattle.pc_common.specs.Case.{Address, Value, number}
+use Rattle.pc_common.specs.Case.{number}
 use Rattle.pc_case.specs.Plain.{stated_value}
 use Rattle.x86_litmus.specs.Cases.{address_of, number_of}
 use Rattle.x86_litmus.proofs.Loops.{map_at}

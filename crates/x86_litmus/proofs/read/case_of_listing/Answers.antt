@@ -1,4 +1,4 @@
-use Rattle.std.proofs.Common.{◌≡◌, Result, IfErr, Option, Some, None, map, subst, sym, ap, ◌∙◌}
+use Rattle.std.proofs.Common.{Result, IfErr, map, subst, sym, ap, ◌∙◌}
 use Rattle.std.proofs.lemmas.Result.{err_from_is_err_and}
 use Rattle.pc_common.specs.Case.{Case}
 use Rattle.x86_litmus.specs.Reading.{IsFaultIn, IsListingFault}

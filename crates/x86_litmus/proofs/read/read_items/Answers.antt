@@ -1,4 +1,4 @@
-use Rattle.std.proofs.Common.{◌+◌, drop, Result, IfErr, Some, None, subst, sym, ap, ◌∙◌, arith}
+use Rattle.std.proofs.Common.{◌+◌, drop, Result, IfErr, subst, sym, ap, ◌∙◌, arith}
 use Rattle.std.proofs.lemmas.Result.{err_from_is_err_and}
 use Rattle.x86_tokens.specs.View.{plain}
 use Rattle.x86_litmus.specs.Reading.{IsFaultIn}

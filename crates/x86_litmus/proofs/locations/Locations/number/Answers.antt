@@ -1,4 +1,4 @@
-use Rattle.std.proofs.Common.{List, ℕ, ap, sym, ◌∙◌}
+use Rattle.std.proofs.Common.{List, ℕ, ap, ◌∙◌}
 use Rattle.x86_litmus.specs.Cases.{number_of}
 use Rattle.x86_litmus.proofs.LookUps.{number_some, number_none}
 use Rattle.x86_litmus.proofs.locations.Locations.number.Goals as goal
