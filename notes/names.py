@@ -1,3 +1,4 @@
 T['check86']['named'] = True
 T['verify86']['named'] = False
 T['lifted']['named'] = False
+T['lifted']['generic'] = '::<F>'

@@ -11,7 +11,8 @@ use pc_ground::decimal_value;
 /// word is none.
 pub(crate) fn read_numbers(text: &[u8], row: &mut Vec<u64>) -> Result<bool, Memory>
     requires { row.old.items ≡ [] }
-    ensures { IfOk result (λ good. MatchBool good ((words text.now ≡ map decimal row.new.items) × All IsSmall row.new.items)
+    ensures { IfOk result (λ good. MatchBool good
+        ((words text.now ≡ map decimal row.new.items) × All IsSmall row.new.items)
         ((ks : List ℕ) → All IsSmall ks → words text.now ≡ map decimal ks → ⊥)) }
 {
     let mut left = Some(text);

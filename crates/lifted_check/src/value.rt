@@ -37,7 +37,8 @@ fn value_of(case: &Case, word: &[u8]) -> Option<Instance>
 pub(crate) fn read_instance(case: &Case, text: &[u8]) -> Option<(u64, Instance)>
     ensures { MatchOption result ((k : ℕ) (v : AnyInstance) → IsSmall k → IsValue case.now.ops v
         → words text.now ≡ decimal k ∷ value_text case.now.ops v ∷ [] → ⊥)
-        (λ r. IsSmall r.0 × IsValue case.now.ops r.1 × (words text.now ≡ decimal r.0 ∷ value_text case.now.ops r.1 ∷ [])) }
+        (λ r. IsSmall r.0 × IsValue case.now.ops r.1
+        × (words text.now ≡ decimal r.0 ∷ value_text case.now.ops r.1 ∷ [])) }
 {
     let (number, rest) = cut(text, b' ')?;
     Some((decimal_value(number)?, value_of(case, rest)?))
