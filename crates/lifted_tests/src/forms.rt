@@ -94,7 +94,7 @@ pub(crate) const FORMS: &[Row] = &[
     (
         SOME_OP,
         EMPTY,
-        "unobservable\ntest unstated\nlifted\nfalse	0\nend\n",
+        "unobservable\ntest unstated\nlifted\nfalse\t0\nend\n",
         Lifted::Refused(4),
     ),
     (
