@@ -1,5 +1,6 @@
 pub mod SpacedWords
 pub mod DecodedSteps
+pub mod PathEnds
 pub mod OneStep
 pub mod NumberRow
 pub mod ValueWords

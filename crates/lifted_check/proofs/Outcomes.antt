@@ -8,9 +8,11 @@ use Rattle.lifted_facts.specs.PlainFacts.{root}
 use Rattle.lifted_facts.proofs.Sound.{no_world}
 use Rattle.line_judge.specs.Texts.{IsMadeOf}
 use Rattle.line_judge.specs.JudgedLines.{IsWhole}
-use Rattle.line_judge.specs.Feeds.{IsRefusedBy}
+use Rattle.line_judge.specs.declared.feed.Finished.{Finished}
+use Rattle.line_judge.specs.declared.feed.Finished.TheVariants.{Whole as a_whole_text, Refused as refused_at}
+use Rattle.line_judge.specs.Feeds.{IsRefusedBy, IsAnswer}
 use Rattle.lifted_check.specs.LiftedTexts.{Question, IsLiftedText, BeginsLifted}
-use Rattle.lifted_check.specs.Fed.{IsFound, unseen, too_long, refused, SaysOutcome, judge_question, judge_begins, judge_whole, judge_stands}
+use Rattle.lifted_check.specs.Fed.{IsFound, unseen, too_long, refused, SaysOutcome, lifted_of, judge_question, judge_begins, judge_whole, judge_stands}
 use Rattle.lifted_check.specs.declared.judge.LiftedJudge.{LiftedJudge}
 use Rattle.lifted_check.specs.declared.lifted.Lifted.{Lifted}
 use Rattle.lifted_check.specs.declared.lifted.Lifted.TheVariants.{Unobservable, Refused}
@@ -40,3 +42,8 @@ refused_found q start asks text n r =
     go : (n : ℕ) → IsRefusedBy (BeginsLifted q) (IsLiftedText q) MAX_CERTIFICATE text n → IsFound q text (Refused n)
     go zero r = too_long (r.past refl)
     go (suc n) r = refused (suc n) (r.within (omega arith)) (r.line (omega arith))
+
+pub finished_found : (q : Question) (start : LiftedJudge) → judge_question start ≡ q → (text : List ℕ) (finished : Finished LiftedJudge)
+    → IsAnswer judge_begins judge_whole judge_stands start MAX_CERTIFICATE text finished → IsFound q text (lifted_of finished)
+finished_found q start asks text (a_whole_text judge) end = whole_found q start judge asks text end.0 end.1
+finished_found q start asks text (refused_at n) end = refused_found q start asks text n end

@@ -4,6 +4,8 @@ use Rattle.pc_common.specs.World.{Node, World, IsWorld}
 use Rattle.pc_common.specs.declared.limits.TheConstants.{MAX_CERTIFICATE}
 use Rattle.pc_syntax.specs.Closed.{closed_satisfies}
 use Rattle.line_judge.specs.Texts.{IsMadeOf, IsRefusedAt}
+use Rattle.line_judge.specs.declared.feed.Finished.{Finished}
+use Rattle.line_judge.specs.declared.feed.Finished.TheVariants.{Whole as a_whole_text, Refused as refused_at}
 use Rattle.line_judge.specs.Feeds.{HasTaken}
 use Rattle.lifted_check.specs.LiftedTexts.{Question, asked, IsLiftedText, BeginsLifted}
 use Rattle.lifted_check.specs.Stages.{Stands}
@@ -23,6 +25,11 @@ pub data IsFound (q : Question) (text : List ℕ) : Lifted → Type 0 where
 abbrev pub SaysOutcome : Question → Lifted → Type 0
 SaysOutcome q Unobservable = (w : World Node) → IsWorld w → IsTrue (closed_satisfies q.axioms q.case w) → ⊥
 SaysOutcome q (Refused n) = ⊤
+
+-- what a text is, by what its feed found
+abbrev pub lifted_of : Finished LiftedJudge → Lifted
+lifted_of (a_whole_text judge) = Unobservable
+lifted_of (refused_at n) = Refused n
 
 abbrev pub judge_question : LiftedJudge → Question
 judge_question j = asked j.case.now j.axioms.now

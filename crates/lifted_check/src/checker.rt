@@ -1,8 +1,8 @@
-ghost use Rattle.std.specs.Prelude.{◌<◌, ◌⊎◌, ◌++◌, [], ℕ, List, length, IfOk, IsOk};
+ghost use Rattle.std.specs.Prelude.{◌≡◌, ◌<◌, ◌⊎◌, ◌++◌, [], ℕ, List, length, IfOk, IsOk};
 ghost use Rattle.pc_common.specs.declared.limits.TheConstants.{MAX_CERTIFICATE};
 ghost use Rattle.line_judge.specs.Texts.{HoldsRefused};
 ghost use Rattle.lifted_check.specs.LiftedTexts.{Question, asked, BeginsLifted};
-ghost use Rattle.lifted_check.specs.Fed.{IsFound, SaysOutcome, IsFed};
+ghost use Rattle.lifted_check.specs.Fed.{IsFound, SaysOutcome, IsFed, lifted_of as lifted_by};
 
 use super::judge::LiftedJudge;
 use super::lifted::Lifted;
@@ -11,6 +11,16 @@ use pc_case::Case;
 use pc_common::{MAX_CERTIFICATE, Memory};
 use pc_syntax::Closed;
 use std::alloc::Global;
+
+/// What a text is, by what its feed found.
+fn lifted_of(finished: Finished<LiftedJudge<'_>>) -> Lifted
+    ensures { result ≡ lifted_by finished.entry }
+{
+    match finished {
+        Finished::Whole(_) => Lifted::Unobservable,
+        Finished::Refused(line) => Lifted::Refused(line),
+    }
+}
 
 /// A check of one text against a test and closed axioms. The text comes in pieces, however it is cut, and each line is
 /// judged when it is whole. It keeps the open line and the facts of the open branches.
@@ -50,10 +60,7 @@ impl<'a> LiftedChecker<'a> {
         ensures found { (q : Question) (text : List ℕ) → IsFed self.entry q text → IsFound q text result }
         ensures outcome { (q : Question) (text : List ℕ) → IsFed self.entry q text → SaysOutcome q result }
     {
-        match self.feed.finish() {
-            Finished::Whole(_) => Lifted::Unobservable,
-            Finished::Refused(line) => Lifted::Refused(line),
-        }
+        lifted_of(self.feed.finish())
     }
 }
 

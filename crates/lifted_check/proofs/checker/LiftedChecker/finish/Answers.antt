@@ -1,18 +1,15 @@
 use Rattle.pc_common.specs.declared.limits.TheConstants.{MAX_CERTIFICATE}
-use Rattle.lifted_check.specs.declared.lifted.Lifted.TheVariants.{Unobservable, Refused}
-use Rattle.lifted_check.proofs.Outcomes.{outcome_holds, whole_found, refused_found}
+use Rattle.lifted_check.specs.Fed.{lifted_of}
+use Rattle.lifted_check.proofs.Outcomes.{outcome_holds, finished_found}
 use Rattle.lifted_check.proofs.checker.LiftedChecker.finish.Goals as goal
 
-pub returns-in-Whole-clause-found : goal.returns-in-Whole-clause-found
-returns-in-Whole-clause-found c = λ q text fed.
-    let end = c.in-Whole.ensures fed.start MAX_CERTIFICATE text fed.taken in
-    whole_found q fed.start c.in-Whole.field-0 fed.asks text end.0 end.1
+pub returns-clause-found : goal.returns-clause-found
+returns-clause-found c = λ q text fed.
+    rw c.lifted_of.ensures
+    (finished_found q fed.start fed.asks text c.finish.result (c.finish.ensures fed.start MAX_CERTIFICATE text fed.taken))
 
-pub returns-in-Whole-clause-outcome : goal.returns-in-Whole-clause-outcome
-returns-in-Whole-clause-outcome c = λ q text fed.
-    let end = c.in-Whole.ensures fed.start MAX_CERTIFICATE text fed.taken in
-    outcome_holds q text Unobservable (whole_found q fed.start c.in-Whole.field-0 fed.asks text end.0 end.1)
-
-pub returns-in-Refused-clause-found : goal.returns-in-Refused-clause-found
-returns-in-Refused-clause-found c = λ q text fed.
-    refused_found q fed.start fed.asks text c.in-Refused.line (c.in-Refused.ensures fed.start MAX_CERTIFICATE text fed.taken)
+pub returns-clause-outcome : goal.returns-clause-outcome
+returns-clause-outcome c = λ q text fed.
+    rw c.lifted_of.ensures
+    (outcome_holds q text (lifted_of c.finish.result)
+    (finished_found q fed.start fed.asks text c.finish.result (c.finish.ensures fed.start MAX_CERTIFICATE text fed.taken)))
