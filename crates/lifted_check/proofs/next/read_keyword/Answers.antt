@@ -1,4 +1,3 @@
-use Rattle.std.proofs.Common.{sym}
 use Rattle.lifted_check.proofs.OneStep.{no_word_alone, no_other_word}
 use Rattle.lifted_check.proofs.next.read_keyword.Goals as goal
 
@@ -9,5 +8,5 @@ returns-in_err-keyword_named c =
 
 pub returns-in_err-rest : goal.returns-in_err-rest
 returns-in_err-rest c =
-    let alone = rw (c.in_err-rest.was tt) at c.first_word.ensures.words in
+    let alone = rw c.in_err-rest.was at c.first_word.ensures.words in
     rw c.from_residual-in_err-rest.ensures (λ ops s. no_word_alone ops c.args.line.now c.first_word.result.0.now s alone)
