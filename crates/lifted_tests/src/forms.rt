@@ -12,12 +12,7 @@ pub(crate) const FORMS: &[Row] = &[
         Lifted::Unobservable,
     ),
     // the three lines of the header
-    (
-        SOME_OP,
-        EMPTY,
-        "",
-        Lifted::Refused(1),
-    ),
+    (SOME_OP, EMPTY, "", Lifted::Refused(1)),
     (
         SOME_OP,
         EMPTY,
