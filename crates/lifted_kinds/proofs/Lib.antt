@@ -1,0 +1,4 @@
+pub mod TreeLaws
+pub mod KindLaws
+pub mod AtomTrees
+pub mod RangeBodies
