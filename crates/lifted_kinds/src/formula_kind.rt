@@ -22,7 +22,7 @@ pub(crate) fn kind_of_count(all: bool, none: bool) -> Kind
 /// Which constant a formula under a sign is, where its slots stand for what `env` says. What the left side decides is
 /// not walked. Takes no memory.
 #[cycle(walk)]
-pub fn kind_of_formula(case: &Case, env: &Env, plus: bool, formula: &ClosedFormula) -> Kind
+pub(crate) fn kind_of_formula(case: &Case, env: &Env, plus: bool, formula: &ClosedFormula) -> Kind
     requires closed { IsClosed (scope_of env.now.items) (plain_closed formula.now) }
     requires range { AreInRange case.now env.now.items }
     ensures { result ≡ kind_of (said_tree case.now plus (plain_closed formula.now) (meanings env.now.items)) }
@@ -75,7 +75,7 @@ fn kind_of_two(
 /// Which constant a quantifier's body is at all values of its range from a place on, or, where not `all`, at some.
 /// Values behind one that decides are not walked. Takes no memory.
 #[cycle(walk)]
-pub fn kind_of_range(
+pub(crate) fn kind_of_range(
     case: &Case,
     env: &Env,
     all: bool,

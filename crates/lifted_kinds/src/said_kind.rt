@@ -10,7 +10,7 @@ use pc_case::Case;
 use pc_syntax::ClosedFormula;
 
 /// Which constant a part of an axiom is, from its start on. Takes no memory.
-pub fn kind_of_said(case: &Case, said: &Said<'_>) -> Kind
+pub(crate) fn kind_of_said(case: &Case, said: &Said<'_>) -> Kind
     requires { IsProperPart case.now said.now }
     ensures { result ≡ kind_of (fact_tree case.now (plain_part said.now)) }
 {

@@ -1,0 +1,115 @@
+-- The part at a place of a fact's parts is the one that is named so; and which parts of And are constants.
+use Rattle.std.proofs.Common.{◌≡◌, ℕ, zero, suc, ◌+◌, ◌-◌, ◌<◌, ◌≤◌, Bool, true, false, not, List, [], ◌∷◌, ◌++◌, Option, Some, None, length, map, drop, refl, sym, ◌∙◌, ap, subst, arith}
+use Rattle.std.specs.Prelude.{slice_get}
+use Rattle.std.specs.Option.{option_map, option_and_then}
+use Rattle.std.proofs.lemmas.Option.{slice_get-map}
+use Rattle.pc_common.specs.Case.{Case}
+use Rattle.pc_common.specs.World.{Node}
+use Rattle.pc_syntax.specs.declared.closed_term.ClosedNode.{ClosedNode}
+use Rattle.pc_syntax.specs.declared.closed_term.ClosedEdge.{ClosedEdge}
+use Rattle.pc_syntax.specs.declared.term.Sort.{Sort}
+use Rattle.pc_syntax.specs.declared.term.Sort.TheVariants.{Microop, Core}
+use Rattle.pc_syntax.specs.Truth.{Meaning, range_of}
+use Rattle.pc_syntax.specs.Closed.{PlainClosed, closed_not, closed_and, closed_or, closed_implies, closed_forall, closed_exists, closed_static, closed_nodes, closed_edges, closed_bind, closed_node, closed_value}
+use Rattle.pc_ground.specs.Tree.{Tree, always, never, leaf, both, either}
+use Rattle.static_preds.proofs.Walked.{drop_at}
+use Rattle.lifted_facts.specs.PlainFacts.{PlainFact, said, one_node, one_edge}
+use Rattle.lifted_facts.specs.Parts.{said_at, said_inside, part_of}
+use Rattle.lifted_kinds.specs.Trees.{fact_tree, joined_tree, joined_trees}
+use Rattle.lifted_kinds.specs.declared.kind.Kind.{Kind}
+use Rattle.lifted_kinds.specs.declared.kind.Kind.TheVariants.{True, False, Open}
+use Rattle.lifted_kinds.specs.Kinds.{kind_of, joined_kind}
+use Rattle.lifted_kinds.specs.PartLists.{parts}
+use Rattle.lifted_kinds.specs.WayTable.{instance_at, way_of}
+use Rattle.lifted_kinds.proofs.KindLaws.{kind_of_more}
+
+none_there : {X : Type 0} (k : ℕ) → k < 0 → X
+none_there k h = absurd (omega (arith, h))
+
+module _ (c : Case) (slots : List Meaning) where
+  each_value : (plus : Bool) (sort : Sort) (p : PlainClosed) (k : ℕ)
+      → option_map (λ v. said_inside plus p slots (v ∷ [])) (slice_get (range_of c sort) k) ≡ slice_get (map (λ v. said_inside plus p slots (v ∷ [])) (range_of c sort)) k
+  each_value plus sort p k = sym (slice_get-map (λ v. said_inside plus p slots (v ∷ [])) (range_of c sort) k)
+
+  pub way_part : (plus : Bool) (p : PlainClosed) (s k : ℕ) → k < length (parts c (said plus p slots s))
+      → part_of c (way_of p k) (said plus p slots s) ≡ slice_get (parts c (said plus p slots s)) k
+  way_part true (closed_not p) s zero h = refl
+  way_part true (closed_not p) s (suc k) h = absurd (omega (arith, h))
+  way_part false (closed_not p) s zero h = refl
+  way_part false (closed_not p) s (suc k) h = absurd (omega (arith, h))
+  way_part true (closed_and p q) s zero h = refl
+  way_part true (closed_and p q) s (suc zero) h = refl
+  way_part true (closed_and p q) s (suc (suc k)) h = absurd (omega (arith, h))
+  way_part false (closed_or p q) s zero h = refl
+  way_part false (closed_or p q) s (suc zero) h = refl
+  way_part false (closed_or p q) s (suc (suc k)) h = absurd (omega (arith, h))
+  way_part false (closed_implies p q) s zero h = refl
+  way_part false (closed_implies p q) s (suc zero) h = refl
+  way_part false (closed_implies p q) s (suc (suc k)) h = absurd (omega (arith, h))
+  way_part true (closed_forall Microop p) s k h = each_value true Microop p k
+  way_part true (closed_forall Core p) s k h = each_value true Core p k
+  way_part false (closed_exists Microop p) s k h = each_value false Microop p k
+  way_part false (closed_exists Core p) s k h = each_value false Core p k
+  way_part true (closed_nodes ts) s k h = sym (slice_get-map (λ (t : ClosedNode). one_node true (closed_node c slots t)) ts k)
+  way_part true (closed_edges ts) s k h = sym (slice_get-map (λ (t : ClosedEdge). one_edge true (closed_node c slots t.from) (closed_node c slots t.to)) ts k)
+  way_part true (closed_bind args p) s zero h = refl
+  way_part true (closed_bind args p) s (suc k) h = absurd (omega (arith, h))
+  way_part false (closed_bind args p) s zero h = refl
+  way_part false (closed_bind args p) s (suc k) h = absurd (omega (arith, h))
+  way_part plus p s k h = absurd (omega (arith, h))
+
+pub is_always : (t : Tree Node) → kind_of t ≡ True → t ≡ always
+is_always always e = refl
+is_always never e = cc
+is_always (leaf l) e = cc
+is_always (both a b) e = cc
+is_always (either a b) e = cc
+
+pub is_never : (t : Tree Node) → kind_of t ≡ False → t ≡ never
+is_never always e = cc
+is_never never e = refl
+is_never (leaf l) e = cc
+is_never (both a b) e = cc
+is_never (either a b) e = cc
+
+-- And that is False for no first part
+later_false : (a b : Kind) → joined_kind true a b ≡ False → (a ≡ False → ⊥) → b ≡ False
+later_false True b e no_first = e
+later_false False b e no_first = absurd (no_first refl)
+later_false Open True e no_first = cc
+later_false Open False e no_first = refl
+later_false Open Open e no_first = cc
+
+both_open : (a b : Kind) → joined_kind true a b ≡ Open → (a ≡ False → ⊥) × (b ≡ False → ⊥)
+both_open True b e = (λ h. cc, λ h. cc)
+both_open False b e = cc
+both_open Open True e = (λ h. cc, λ h. cc)
+both_open Open False e = cc
+both_open Open Open e = (λ h. cc, λ h. cc)
+
+module _ {X : Type 0} (tree : X → Tree Node) where
+  abbrev pub rest_of : List X → ℕ → Tree Node
+  rest_of xs k = joined_trees true (map tree (drop k xs))
+
+  pub rest_next : (xs : List X) (k : ℕ) (x : X) → slice_get xs k ≡ Some x → rest_of xs k ≡ joined_tree true (tree x) (rest_of xs (k + 1))
+  rest_next xs k x there = ap (λ ys. joined_trees true (map tree ys)) (drop_at xs k (k + 1) x there refl)
+
+  pub kind_rest : (xs : List X) (k : ℕ) (x : X) → slice_get xs k ≡ Some x → kind_of (rest_of xs k) ≡ joined_kind true (kind_of (tree x)) (kind_of (rest_of xs (k + 1)))
+  kind_rest xs k x there = ap kind_of (rest_next xs k x there) ∙ kind_of_more true (tree x) (map tree (drop (k + 1) xs))
+
+  -- And from place k on is False, and not for its first part
+  pub false_later : (xs : List X) (k : ℕ) (x : X) → slice_get xs k ≡ Some x → kind_of (rest_of xs k) ≡ False → (kind_of (tree x) ≡ False → ⊥) → kind_of (rest_of xs (k + 1)) ≡ False
+  false_later xs k x there e other = later_false (kind_of (tree x)) (kind_of (rest_of xs (k + 1))) (sym (kind_rest xs k x there) ∙ e) other
+
+  -- no part of an And that is no constant is False
+  pub none_false : (xs : List X) (k : ℕ) (x : X) → slice_get xs k ≡ Some x → (kind_of (rest_of xs 0) ≡ False → ⊥) → kind_of (tree x) ≡ False → ⊥
+  none_false [] k x there fine e = cc
+  none_false (y ∷ ys) zero x there fine e =
+      let same : y ≡ x = cc in
+      fine (kind_of_more true (tree y) (map tree ys) ∙ ap (λ k. joined_kind true k (kind_of (joined_trees true (map tree ys)))) (ap (λ z. kind_of (tree z)) same ∙ e))
+  none_false (y ∷ ys) (suc k) x there fine e = none_false ys k x there (λ h. fine (kind_of_more true (tree y) (map tree ys) ∙ ap (joined_kind true (kind_of (tree y))) h ∙ last (kind_of (tree y)))) e
+    where
+      last : (k : Kind) → joined_kind true k False ≡ False
+      last True = refl
+      last False = refl
+      last Open = refl

@@ -1,0 +1,5 @@
+pub mod WrittenSteps
+pub mod Closings
+pub mod KnownFacts
+pub mod States
+pub mod Unfoldings
