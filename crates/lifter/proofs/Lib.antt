@@ -1,0 +1,6 @@
+pub mod RunsMore
+pub mod ClosedFacts
+pub mod KnownLaws
+pub mod StateMoves
+pub mod Tellings
+pub mod FoundKeys
