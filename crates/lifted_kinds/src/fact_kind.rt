@@ -1,4 +1,4 @@
-ghost use Rattle.std.specs.Prelude.{◌≡◌, ◌<◌, ◌+◌, length, map, drop, Some, true};
+ghost use Rattle.std.specs.Prelude.{ℕ, ◌≡◌, ◌<◌, ◌+◌, length, map, drop, Some, true};
 ghost use Rattle.pc_ground.specs.Tree.{always};
 ghost use Rattle.lifted_facts.specs.PlainFacts.{plain_fact, IsProper};
 ghost use Rattle.lifted_facts.specs.Parts.{part_of};
@@ -49,6 +49,8 @@ pub fn last_open(case: &Case, fact: &Fact<'_>) -> usize
     requires kind { kind_of (joined_trees true (map (fact_tree case.now) (parts case.now (plain_fact fact.now)))) ≡ Open }
     ensures within { result < length (parts case.now (plain_fact fact.now)) }
     ensures rest { joined_trees true (map (fact_tree case.now) (drop (result + 1) (parts case.now (plain_fact fact.now)))) ≡ always }
+    ensures open { (j : ℕ) → j < result + 1
+        → kind_of (joined_trees true (map (fact_tree case.now) (drop j (parts case.now (plain_fact fact.now))))) ≡ Open }
 {
     let count = part_count(case, fact);
     for k in 0..count {

@@ -4,3 +4,4 @@ pub mod KnownLaws
 pub mod StateMoves
 pub mod Tellings
 pub mod FoundKeys
+pub mod TakenParts

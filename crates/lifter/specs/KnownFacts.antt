@@ -107,3 +107,27 @@ TellsAll rows es ps = (p : ℕ) → In p ps → TellsAt rows es p
 -- each of these keys is one of those
 abbrev pub HaveMore : List Entry → List Entry → Type 0
 HaveMore old new = (key : PlainKey) → HasKey old key → HasKey new key
+
+-- the edges along these nodes are known
+abbrev pub AreEdges : List Entry → Node → List Node → Type 0
+AreEdges es x [] = Unit {0}
+AreEdges es x (y ∷ ys) = HasKey es (edge x y) × AreEdges es y ys
+
+-- under these numbers
+abbrev pub AreNumbers : List Entry → Node → List Node → List ℕ → Type 0
+AreNumbers es x [] [] = Unit {0}
+AreNumbers es x (y ∷ ys) (k ∷ ks) = In (entry (edge x y) k) es × AreNumbers es y ys ks
+AreNumbers es x _ _ = ⊥
+
+-- the edges of a cycle are known, and those of a path with the denial of one from its start to its end
+abbrev pub IsCycleKnown : List Entry → List Node → Type 0
+IsCycleKnown es [] = ⊥
+IsCycleKnown es (x ∷ via) = AreEdges es x (via ++ x ∷ [])
+
+pub record IsPathKnown (es : List Entry) (nodes : List Node) : Type 0 where
+  pub first : Node
+  pub via : List Node
+  pub last : Node
+  pub all : nodes ≡ first ∷ (via ++ last ∷ [])
+  pub edges : AreEdges es first (via ++ last ∷ [])
+  pub denied : HasKey es (no_edge first last)

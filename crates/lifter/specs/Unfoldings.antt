@@ -26,13 +26,16 @@ pub record HasUnfolded (c : Case) (rows : List (Row Node)) (t : Tree Node) (at :
   pub moves : Moves c rows old new
   pub told : TellsAll rows new.known (asserted t at)
 
--- And over the parts of a fact from a place on
-abbrev pub parts_from : Case → PlainFact → ℕ → Tree Node
-parts_from c f k = joined_trees true (map (fact_tree c) (drop k (parts c f)))
+-- And over facts from a place on
+abbrev pub facts_from : Case → List PlainFact → ℕ → Tree Node
+facts_from c fs k = joined_trees true (map (fact_tree c) (drop k fs))
 
--- the part at a place is unfolded, and those behind it stand further on
-pub record HasTaken (c : Case) (rows : List (Row Node)) (f : PlainFact) (k at next : ℕ) (old new : State) : Type 0 where
+abbrev pub parts_from : Case → PlainFact → ℕ → Tree Node
+parts_from c f k = facts_from c (parts c f) k
+
+-- the fact at a place is unfolded, and those behind it stand further on
+pub record HasTaken (c : Case) (rows : List (Row Node)) (fs : List PlainFact) (k at next : ℕ) (old new : State) : Type 0 where
   pub moves : Moves c rows old new
-  pub stands : IsPart rows next (parts_from c f (k + 1))
-  pub told : (es : List Entry) → HaveMore new.known es → TellsAll rows es (asserted (parts_from c f (k + 1)) next)
-      → TellsAll rows es (asserted (parts_from c f k) at)
+  pub stands : IsPart rows next (facts_from c fs (k + 1))
+  pub told : (es : List Entry) → HaveMore new.known es → TellsAll rows es (asserted (facts_from c fs (k + 1)) next)
+      → TellsAll rows es (asserted (facts_from c fs k) at)

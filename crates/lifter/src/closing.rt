@@ -6,6 +6,7 @@ ghost use Rattle.lifted_kinds.specs.declared.kind.Kind.TheVariants.{False};
 ghost use Rattle.lifter.specs.Closings.{HasClosed};
 
 use super::line::{Line, Steps};
+use super::state::Later;
 use lifted_facts::{Fact, is_false, sides};
 use lifted_kinds::false_part;
 use pc_case::Case;
@@ -49,4 +50,14 @@ pub(crate) fn close(
             close(case, &part, count, more, steps)
         }
     }
+}
+
+/// Adds the steps that close a waiting branch by its last fact, which is False.
+pub(crate) fn close_due(case: &Case, due: &Later<'_>, steps: &mut Steps) -> Result<(), Memory>
+    requires proper { IsProper case.now due.now.fact }
+    requires kind { kind_of (fact_tree case.now (plain_fact due.now.fact)) ≡ False }
+    ensures { OnOk result (HasClosed case.now (plain_fact due.now.fact) due.now.count (due.now.count + 1) steps.old steps.new) }
+{
+    let count = due.count as u64;
+    close(case, &due.fact, count, next(count)?, steps)
 }

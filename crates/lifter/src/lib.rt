@@ -7,12 +7,16 @@
 #![tactic(auto)]
 
 mod closing;
+mod following;
 mod key;
 mod known;
+mod leaves;
 mod line;
 mod moving;
+mod roots;
 mod rows;
 mod state;
 mod unfolding;
 
+pub use following::lift_steps;
 pub use line::{Line, Steps};

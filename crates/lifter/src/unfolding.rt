@@ -176,7 +176,7 @@ fn unfold_next<'a>(
     requires kind { kind_of (parts_from case.now (plain_fact fact.now) k) ≡ Open }
     requires rest { kind_of (parts_from case.now (plain_fact fact.now) (k + 1)) ≡ Open }
     requires stands { IsPart tree.now at (parts_from case.now (plain_fact fact.now) k) }
-    ensures { IfOk result (λ next. HasTaken case.now tree.now (plain_fact fact.now) k at next state.old state.new) }
+    ensures { IfOk result (λ next. HasTaken case.now tree.now (parts case.now (plain_fact fact.now)) k at next state.old state.new) }
 {
     let (way, part) = part_at(case, fact, k);
     match kind_of_fact(case, &part) {
