@@ -5,3 +5,5 @@ pub mod StateMoves
 pub mod Tellings
 pub mod FoundKeys
 pub mod TakenParts
+pub mod CoveredBranches
+pub mod NumberedEdges
