@@ -7,3 +7,6 @@ pub mod FoundKeys
 pub mod TakenParts
 pub mod CoveredBranches
 pub mod NumberedEdges
+pub mod LeftBranches
+pub mod StepsAhead
+pub mod RootTrees

@@ -122,7 +122,7 @@ module _ (c : Case) (rows : List (Row Node)) where
         };
       }
 
-  good_waits : (start : List Branch) (b : Branch) (g : PlainFact) (es : List Entry) (ls : List Later) (steps : List LiftedStep) → Runs c steps start ((b ++ g ∷ []) ∷ waiting b ls)
+  pub good_waits : (start : List Branch) (b : Branch) (g : PlainFact) (es : List Entry) (ls : List Later) (steps : List LiftedStep) → Runs c steps start ((b ++ g ∷ []) ∷ waiting b ls)
       → AreKnown c rows b es → AreLater c rows b es ls → IsGood c rows start (b ++ g ∷ []) es ls steps
   good_waits start b g es ls steps r known later = record {
     run = (let P : List Branch → Type 0 = λ ws. Runs c steps start ((b ++ g ∷ []) ∷ ws) in subst P (sym (waiting_more c rows b (g ∷ []) es ls later)) r);

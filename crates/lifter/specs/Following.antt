@@ -39,17 +39,23 @@ pub record IsAhead (c : Case) (rows : List (Row Node)) (start : List Branch) (s 
   pub at : IsAt c rows start s is_open opens
 
 -- the first branch is closed: the steps lead to those that wait
-pub record HasLeft (c : Case) (rows : List (Row Node)) (start : List Branch) (s : State) (opens : List TreeBranch) : Type 0 where
-  pub run : Runs c s.steps start (waiting (branch_of s) (reverse s.later.items))
-  pub later : AreLater c rows (branch_of s) s.known (reverse s.later.items)
-  pub matched : IsMatchedState c rows s opens
+pub record IsLeft (c : Case) (rows : List (Row Node)) (start : List Branch) (b : Branch) (es : List Entry) (ls : List Later) (steps : List LiftedStep) (opens : List TreeBranch) : Type 0 where
+  pub run : Runs c steps start (waiting b ls)
+  pub later : AreLater c rows b es ls
+  pub matched : AreMatched c rows es ls opens
 
--- a waiting branch that is next has a side to take
-pub record CanEnter (c : Case) (rows : List (Row Node)) (start : List Branch) (s : State) (l : Later) (p : ℕ) (ps : TreeBranch) (rest : List TreeBranch) : Type 0 where
-  pub run : Runs c s.steps start (waiting (branch_of s) (l ∷ reverse s.later.items))
-  pub later : AreLater c rows (branch_of s) s.known (l ∷ reverse s.later.items)
-  pub side : IsSide c rows (take l.known s.known) l p ps
-  pub matched : AreMatched c rows (take l.known s.known) (reverse s.later.items) rest
+abbrev pub HasLeft : Case → List (Row Node) → List Branch → State → List TreeBranch → Type 0
+HasLeft c rows start s opens = IsLeft c rows start (branch_of s) s.known (reverse s.later.items) s.steps opens
+
+-- the next waiting branch has a side to take, whose root stands at p
+pub record IsNext (c : Case) (rows : List (Row Node)) (start : List Branch) (b : Branch) (es : List Entry) (l : Later) (ls : List Later) (steps : List LiftedStep) (p : ℕ) (ps : TreeBranch) (rest : List TreeBranch) : Type 0 where
+  pub run : Runs c steps start (waiting b (l ∷ ls))
+  pub later : AreLater c rows b es (l ∷ ls)
+  pub takes : IsSide c rows (take l.known es) l p ps
+  pub matched : AreMatched c rows (take l.known es) ls rest
+
+abbrev pub CanEnter : Case → List (Row Node) → List Branch → State → Later → ℕ → TreeBranch → List TreeBranch → Type 0
+CanEnter c rows start s l p ps rest = IsNext c rows start (branch_of s) s.known l (reverse s.later.items) s.steps p ps rest
 
 -- the sides of an Or of the tree were put in its branch's place
 abbrev pub HasSplitOr : Case → List (Row Node) → ℕ → State → State → Type 0
