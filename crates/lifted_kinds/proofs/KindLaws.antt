@@ -1,6 +1,5 @@
 -- Which constant And and Or over trees are.
-use Rattle.std.proofs.Common.{◌≡◌, ◌⊎◌, inl, inr, ℕ, Bool, true, false, not, List, [], ◌∷◌, map, length, refl, sym, ◌∙◌, ap, subst}
-use Rattle.std.specs.Prelude.{◌==◌}
+use Rattle.std.proofs.Common.{◌≡◌, ◌⊎◌, inl, inr, ℕ, zero, suc, Bool, true, false, not, List, [], ◌∷◌, map, length, refl, sym, ◌∙◌, ap, subst}
 use Rattle.pc_common.specs.World.{Node}
 use Rattle.pc_common.proofs.Elements.{In}
 use Rattle.pc_ground.specs.Tree.{Tree, always, never, leaf, both, either}
@@ -106,13 +105,21 @@ open_more false a k e (inl h) = ap (λ x. joined_kind false x k) e ∙ ap (joine
 open_more true a k e (inr h) = ap (λ x. joined_kind true x k) e ∙ ap (joined_kind true Open) h
 open_more false a k e (inr h) = ap (λ x. joined_kind false x k) e ∙ ap (joined_kind false Open) h
 
+kinds_open : {X : Type 0} (all : Bool) (f : X → Tree Node) (xs : List X) → ((x : X) → In x xs → kind_of (f x) ≡ Open)
+    → (kind_of (joined_trees all (map f xs)) ≡ neutral all) ⊎ (kind_of (joined_trees all (map f xs)) ≡ Open)
+kinds_open all f [] h = inl (kind_of_none all)
+kinds_open all f (x ∷ xs) h =
+    inr (kind_of_more all (f x) (map f xs)
+    ∙ open_more all (kind_of (f x)) (kind_of (joined_trees all (map f xs))) (h x (inl refl)) (kinds_open all f xs (λ y i. h y (inr i))))
+
 -- over members of which none is a constant
 pub kind_of_members : {X : Type 0} (all : Bool) (f : X → Tree Node) (xs : List X) → ((x : X) → In x xs → kind_of (f x) ≡ Open)
-    → kind_of (joined_trees all (map f xs)) ≡ kind_over all (length xs == 0)
+    → kind_of (joined_trees all (map f xs)) ≡ kind_over all (length xs)
 kind_of_members all f [] h = kind_of_none all
-kind_of_members {X} all f (x ∷ xs) h =
-    kind_of_more all (f x) (map f xs) ∙ open_more all (kind_of (f x)) (kind_of (joined_trees all (map f xs))) (h x (inl refl)) (go xs (λ y i. h y (inr i)))
-  where
-    go : (ys : List X) → ((y : X) → In y ys → kind_of (f y) ≡ Open) → (kind_of (joined_trees all (map f ys)) ≡ neutral all) ⊎ (kind_of (joined_trees all (map f ys)) ≡ Open)
-    go [] g = inl (kind_of_none all)
-    go (y ∷ ys) g = inr (kind_of_members all f (y ∷ ys) g)
+kind_of_members all f (x ∷ xs) h =
+    kind_of_more all (f x) (map f xs)
+    ∙ open_more all (kind_of (f x)) (kind_of (joined_trees all (map f xs))) (h x (inl refl)) (kinds_open all f xs (λ y i. h y (inr i)))
+
+pub kind_over_some : (all : Bool) (n : ℕ) → (n ≡ 0 → ⊥) → kind_over all n ≡ Open
+kind_over_some all zero h = absurd (h refl)
+kind_over_some all (suc n) h = refl

@@ -23,9 +23,6 @@ use Rattle.lifted_kinds.specs.PartLists.{parts}
 use Rattle.lifted_kinds.specs.WayTable.{instance_at, way_of}
 use Rattle.lifted_kinds.proofs.KindLaws.{kind_of_more}
 
-none_there : {X : Type 0} (k : ℕ) → k < 0 → X
-none_there k h = absurd (omega (arith, h))
-
 module _ (c : Case) (slots : List Meaning) where
   each_value : (plus : Bool) (sort : Sort) (p : PlainClosed) (k : ℕ)
       → option_map (λ v. said_inside plus p slots (v ∷ [])) (slice_get (range_of c sort) k) ≡ slice_get (map (λ v. said_inside plus p slots (v ∷ [])) (range_of c sort)) k
@@ -80,6 +77,16 @@ later_false Open True e no_first = cc
 later_false Open False e no_first = refl
 later_false Open Open e no_first = cc
 
+open_rest : (a b : Kind) → (a ≡ False → ⊥) → b ≡ Open → joined_kind true a b ≡ Open
+open_rest True b no_first e = e
+open_rest False b no_first e = absurd (no_first refl)
+open_rest Open b no_first e = ap (joined_kind true Open) e
+
+there_at : {Y : Type 0} (ys : List Y) (i : ℕ) → i < length ys → (y : Y) × (slice_get ys i ≡ Some y)
+there_at [] i h = absurd (omega (arith, h))
+there_at (y ∷ ys) zero h = (y, refl)
+there_at (y ∷ ys) (suc i) h = there_at ys i (omega (arith, h))
+
 both_open : (a b : Kind) → joined_kind true a b ≡ Open → (a ≡ False → ⊥) × (b ≡ False → ⊥)
 both_open True b e = (λ h. cc, λ h. cc)
 both_open False b e = cc
@@ -114,11 +121,6 @@ module _ {X : Type 0} (tree : X → Tree Node) where
       last False = refl
       last Open = refl
 
-  open_rest : (a b : Kind) → (a ≡ False → ⊥) → b ≡ Open → joined_kind true a b ≡ Open
-  open_rest True b no_first e = e
-  open_rest False b no_first e = absurd (no_first refl)
-  open_rest Open b no_first e = ap (joined_kind true Open) e
-
   -- And is no constant from any place on, up to one from which on it is none
   pub open_from : (xs : List X) (r j n : ℕ) → j + n ≡ r → r < length xs → kind_of (rest_of xs r) ≡ Open → (kind_of (rest_of xs 0) ≡ False → ⊥) → kind_of (rest_of xs j) ≡ Open
   open_from xs r j zero e within here fine = (let P : ℕ → Type 0 = λ k. kind_of (rest_of xs k) ≡ Open in subst P (let same : r ≡ j = omega (arith, e) in same) here)
@@ -126,8 +128,3 @@ module _ {X : Type 0} (tree : X → Tree Node) where
       let x = there_at xs j (omega (arith, e, within)) in
       kind_rest xs j x.0 x.1
       ∙ open_rest (kind_of (tree x.0)) (kind_of (rest_of xs (j + 1))) (none_false xs j x.0 x.1 fine) (open_from xs r (j + 1) n (omega (arith, e)) within here fine)
-    where
-      there_at : {Y : Type 0} (ys : List Y) (i : ℕ) → i < length ys → (y : Y) × (slice_get ys i ≡ Some y)
-      there_at [] i h = absurd (omega (arith, h))
-      there_at (y ∷ ys) zero h = (y, refl)
-      there_at (y ∷ ys) (suc i) h = there_at ys i (omega (arith, h))

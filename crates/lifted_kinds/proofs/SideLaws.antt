@@ -149,6 +149,8 @@ module _ (c : Case) where
       absurd (sided (λ (t : ClosedNode). one_node false (closed_node c slots t)) ts s (said false (closed_nodes ts) slots (s + 1)) fine none)
   parts_tree (said false (closed_edges ts) slots s) is none fine =
       absurd (sided (λ (t : ClosedEdge). one_edge false (closed_node c slots t.from) (closed_node c slots t.to)) ts s (said false (closed_edges ts) slots (s + 1)) fine none)
+  parts_tree (one_node plus a) is none fine = elim is [ ]
+  parts_tree (one_edge plus a b) is none fine = elim is [ ]
   parts_tree f is none fine = cc
 
   -- ranks

@@ -1,5 +1,5 @@
 -- Which constant a tree is, if it is one.
-use Rattle.std.specs.Prelude.{Bool, true, false}
+use Rattle.std.specs.Prelude.{ℕ, zero, suc, Bool, true, false}
 use Rattle.pc_common.specs.World.{Node}
 use Rattle.pc_ground.specs.Tree.{Tree, always, never, leaf, both, either}
 use Rattle.lifted_kinds.specs.declared.kind.Kind.{Kind}
@@ -34,12 +34,7 @@ abbrev pub neutral : Bool → Kind
 neutral true = True
 neutral false = False
 
--- of a truth value
-abbrev pub kind_if : Bool → Kind
-kind_if true = True
-kind_if false = False
-
--- of And (true) or Or (false) over members of which none is a constant, or over none
-abbrev pub kind_over : Bool → Bool → Kind
-kind_over all true = neutral all
-kind_over all false = Open
+-- of And (true) or Or (false) over so many members of which none is a constant
+abbrev pub kind_over : Bool → ℕ → Kind
+kind_over all zero = neutral all
+kind_over all (suc n) = Open

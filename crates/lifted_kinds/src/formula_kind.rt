@@ -2,21 +2,37 @@ ghost use Rattle.std.specs.Prelude.{◌≡◌, ◌<◌, length};
 ghost use Rattle.pc_syntax.specs.declared.limits.TheConstants.{MAX_VARIABLES};
 ghost use Rattle.pc_syntax.specs.Closed.{plain_closed, closed_bind};
 ghost use Rattle.pc_syntax.specs.IsClosed.{IsClosed, with_sort};
+ghost use Rattle.pc_ground.specs.Unfolded.{decided};
 ghost use Rattle.static_preds.specs.Slots.{AreInRange};
 ghost use Rattle.static_preds.specs.Values.{meanings, scope_of};
-ghost use Rattle.lifted_kinds.specs.Trees.{said_tree, joined_tree, joined_trees, bodies};
+ghost use Rattle.lifted_kinds.specs.Trees.{signed_tree, said_tree, joined_tree, joined_trees, bodies};
 ghost use Rattle.lifted_kinds.specs.Kinds.{kind_of, kind_over};
 
-use super::kind::{Kind, decides, joined, kind_if, neutral};
+use super::kind::{Kind, decides, joined, neutral};
 use pc_case::Case;
 use pc_syntax::{ClosedArgs, ClosedFormula, Env, Sort};
 use static_preds::{bind_next, copy_of, holds, range_len, value_in_range, with_values};
 
-/// Which constant And, or, where not `all`, Or over members is, of which none is a constant; there may be none.
-pub(crate) fn kind_of_count(all: bool, none: bool) -> Kind
-    ensures { result ≡ kind_over all none }
+/// Which constant And, or, where not `all`, Or over so many members is, of which none is a constant.
+pub(crate) fn kind_of_count(all: bool, count: usize) -> Kind
+    ensures { result ≡ kind_over all count }
 {
-    if none { neutral(all) } else { Kind::Open }
+    if count == 0 {
+        neutral(all)
+    } else {
+        Kind::Open
+    }
+}
+
+/// Which constant a truth value under a sign is.
+fn kind_of_truth(plus: bool, truth: bool) -> Kind
+    ensures { result ≡ kind_of (signed_tree plus (decided truth)) }
+{
+    if plus {
+        if truth { Kind::True } else { Kind::False }
+    } else {
+        if truth { Kind::False } else { Kind::True }
+    }
 }
 
 /// Which constant a formula under a sign is, where its slots stand for what `env` says. What the left side decides is
@@ -40,9 +56,9 @@ pub(crate) fn kind_of_formula(case: &Case, env: &Env, plus: bool, formula: &Clos
         ClosedFormula::Exists { sort, body } => {
             kind_of_range(case, env, !plus, plus, *sort, body, 0)
         }
-        ClosedFormula::Static { pred, args } => kind_if(holds(case, *pred, args, env) == plus),
-        ClosedFormula::Nodes(nodes) => kind_of_count(plus, nodes.len() == 0),
-        ClosedFormula::Edges(edges) => kind_of_count(plus, edges.len() == 0),
+        ClosedFormula::Static { pred, args } => kind_of_truth(plus, holds(case, *pred, args, env)),
+        ClosedFormula::Nodes(nodes) => kind_of_count(plus, nodes.len()),
+        ClosedFormula::Edges(edges) => kind_of_count(plus, edges.len()),
         ClosedFormula::Bind { args, body } => kind_of_bound(case, env, plus, args, body),
     }
 }

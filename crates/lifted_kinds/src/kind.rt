@@ -1,5 +1,5 @@
 ghost use Rattle.std.specs.Prelude.{◌≡◌, ◌↔◌, IsTrue, true, false};
-ghost use Rattle.lifted_kinds.specs.Kinds.{joined_kind, decider, neutral as neutral_of, kind_if as kind_if_of};
+ghost use Rattle.lifted_kinds.specs.Kinds.{joined_kind, decider, neutral as neutral_of};
 
 /// Which constant a formula is in a test.
 #[derive(Clone, Copy, Debug, PartialEq, Eq)]
@@ -67,11 +67,4 @@ pub(crate) fn neutral(all: bool) -> Kind
     ensures { result ≡ neutral_of all }
 {
     if all { Kind::True } else { Kind::False }
-}
-
-/// The constant of a truth value.
-pub(crate) fn kind_if(truth: bool) -> Kind
-    ensures { result ≡ kind_if_of truth }
-{
-    if truth { Kind::True } else { Kind::False }
 }

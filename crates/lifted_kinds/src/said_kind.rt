@@ -1,4 +1,4 @@
-ghost use Rattle.std.specs.Prelude.{◌≡◌};
+ghost use Rattle.std.specs.Prelude.{◌≡◌, ◌-◌};
 ghost use Rattle.lifted_facts.specs.PlainFacts.{plain_part, IsProperPart};
 ghost use Rattle.lifted_kinds.specs.Trees.{fact_tree};
 ghost use Rattle.lifted_kinds.specs.Kinds.{kind_of};
@@ -8,6 +8,13 @@ use super::kind::Kind;
 use lifted_facts::Said;
 use pc_case::Case;
 use pc_syntax::ClosedFormula;
+
+/// How many places there are from the start on.
+fn left(start: usize, count: usize) -> usize
+    ensures { result ≡ count - start }
+{
+    if start < count { count - start } else { 0 }
+}
 
 /// Which constant a part of an axiom is, from its start on. Takes no memory.
 pub(crate) fn kind_of_said(case: &Case, said: &Said<'_>) -> Kind
@@ -32,16 +39,16 @@ pub(crate) fn kind_of_said(case: &Case, said: &Said<'_>) -> Kind
         }
         ClosedFormula::Nodes(nodes) => {
             if said.plus {
-                kind_of_count(true, nodes.len() == 0)
+                kind_of_count(true, nodes.len())
             } else {
-                kind_of_count(false, start >= nodes.len())
+                kind_of_count(false, left(start, nodes.len()))
             }
         }
         ClosedFormula::Edges(edges) => {
             if said.plus {
-                kind_of_count(true, edges.len() == 0)
+                kind_of_count(true, edges.len())
             } else {
-                kind_of_count(false, start >= edges.len())
+                kind_of_count(false, left(start, edges.len()))
             }
         }
         _ => kind_of_formula(case, &said.env, said.plus, said.formula),

@@ -10,3 +10,4 @@ pub mod NumberedEdges
 pub mod LeftBranches
 pub mod StepsAhead
 pub mod RootTrees
+pub mod SplitOrs

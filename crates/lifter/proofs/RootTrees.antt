@@ -45,14 +45,13 @@ roots c (p ∷ ps) =
 pub root_tree : (c : Case) (axioms : List PlainClosed) → closed_ground_tree c axioms ≡ facts_from c (root axioms) 0
 root_tree c axioms = over_all true (closed_unfolded c []) axioms ∙ ap (joined_trees true) (roots c axioms)
 
-nowhere : World Node
+abbrev nowhere : World Node
 nowhere = record { nodes = []; order = [] }
 
 nothing : {X : Type 0} (x : X) → Contains [] x → ⊥
 nothing x h = in_from_contains x [] h
 
 pub no_always : (t : Tree Node) (steps : List (Step Node)) → t ≡ always → IsRefutation One t steps → ⊥
-unfolding nowhere
 no_always t steps e r =
     let P : Tree Node → Type 0 = λ u. IsRefutation One u steps in
     refutation_sound One always steps (subst P e r) nowhere
