@@ -2,8 +2,10 @@
 use Rattle.std.specs.Prelude.{ℕ, List, [], ◌∷◌, ◌++◌, map, codes}
 use Rattle.std.specs.List.{flat_map, join_with_byte}
 use Rattle.pc_common.specs.Case.{MicroOp}
-use Rattle.lifted_facts.specs.Lifted.{LiftedStep}
-use Rattle.lifted_check.specs.StepLines.{step_words}
+use Rattle.lifted_facts.specs.declared.way.Instance.TheVariants.{Core as CoreInstance}
+use Rattle.lifted_facts.specs.declared.way.Way.TheVariants.{Inst}
+use Rattle.lifted_facts.specs.Lifted.{LiftedStep, derive}
+use Rattle.lifted_check.specs.StepLines.{step_words, IsSmall}
 use Rattle.lifted_check.specs.LiftedTexts.{Question, header}
 
 -- the line of a step, without its LF
@@ -23,3 +25,8 @@ line_text ops s = line_of ops s ++ codes "\n"
 
 abbrev pub all_lines : Question → List (List ℕ) → List (List ℕ)
 all_lines q lines = header q ++ (lines ++ codes "end" ∷ [])
+
+-- a core that is named has at most 64 bits
+abbrev pub HasSmallCore : LiftedStep → Type 0
+HasSmallCore (derive (Inst (CoreInstance k)) n) = IsSmall k
+HasSmallCore _ = Unit {0}

@@ -11,7 +11,7 @@ ghost use Rattle.line_judge.specs.Texts.{IsMadeOf, text_of_lines};
 ghost use Rattle.lifted_facts.specs.Lifted.{IsLiftedRefutation};
 ghost use Rattle.lifted_check.specs.StepLines.{numbers_of, IsSmall, HasValue};
 ghost use Rattle.lifted_check.specs.LiftedTexts.{asked, header, IsLiftedText};
-ghost use Rattle.lifted_text.specs.WrittenLines.{line_text};
+ghost use Rattle.lifted_text.specs.WrittenLines.{line_text, HasSmallCore};
 
 use super::lines::{put_line, show_line};
 use super::words::put;
@@ -56,7 +56,8 @@ fn put_lines(text: &mut Vec<u8>, case: &Case, steps: &Steps) -> Result<(), Memor
 
 /// Does nothing. It shows that the numbers of all steps are of 64 bits.
 fn show_steps(steps: &Steps)
-    ensures { All (λ s. All IsSmall (numbers_of s)) steps.now }
+    ensures numbers { All (λ s. All IsSmall (numbers_of s)) steps.now }
+    ensures cores { All HasSmallCore steps.now }
 {
     for k in 0..steps.len() {
         show_line(steps.line(k));

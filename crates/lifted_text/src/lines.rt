@@ -1,10 +1,9 @@
 ghost use Rattle.std.specs.Prelude.{◌≡◌, ◌++◌, ◌∷◌, [], All, codes, map, slice_get, OnOk};
 ghost use Rattle.std.specs.Fmt.{decimal};
-ghost use Rattle.pc_common.specs.Lines.{op_text};
 ghost use Rattle.lifted_facts.specs.Lifted.{derive};
 ghost use Rattle.lifted_check.specs.StepLines.{value_text, numbers_of, IsSmall, IsValue, HasValue};
 ghost use Rattle.lifter.specs.WrittenSteps.{plain_line};
-ghost use Rattle.lifted_text.specs.WrittenLines.{line_of, line_text, spaced};
+ghost use Rattle.lifted_text.specs.WrittenLines.{line_of, line_text, spaced, HasSmallCore};
 
 use super::words::{put, put_decimal, put_number, put_numbers};
 use lifted_facts::{Instance, Way};
@@ -106,7 +105,8 @@ fn show_numbers(numbers: &[u64])
 
 /// Does nothing. It shows that each number of a step is of 64 bits.
 pub(crate) fn show_line(line: &Line)
-    ensures { All IsSmall (numbers_of (plain_line line.now)) }
+    ensures numbers { All IsSmall (numbers_of (plain_line line.now)) }
+    ensures core { HasSmallCore (plain_line line.now) }
 {
     match line {
         Line::Cycle(_, more) => show_numbers(more.as_slice()),
