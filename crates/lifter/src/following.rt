@@ -182,5 +182,6 @@ pub fn lift_steps(
             follow(alloc, case, tree, &mut state, refutation)?;
         }
     }
-    Ok(state.steps)
+    let State { steps, .. } = state;
+    Ok(steps)
 }

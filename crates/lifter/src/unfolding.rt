@@ -120,6 +120,7 @@ fn unfold_either<'a>(
     requires stands { IsPart tree.now at (fact_tree case.now (plain_fact fact.now)) }
     ensures { OnOk result (HasUnfolded case.now tree.now (fact_tree case.now (plain_fact fact.now)) at state.old state.new) }
 {
+    let _whole = fact;
     match kind_of_fact(case, first) {
         Kind::Open => match kind_of_fact(case, second) {
             Kind::Open => mark(case, state, Key::At(at), number),
