@@ -4,6 +4,7 @@ use Rattle.std.specs.Prelude.{slice_get, nat_lt}
 use Rattle.std.specs.Option.{option_map, option_and_then}
 use Rattle.std.proofs.lemmas.Bool.{ltb-true, ltb-false}
 use Rattle.std.proofs.lemmas.Option.{slice_get_within}
+use Rattle.std.proofs.lemmas.List.{drop_all}
 use Rattle.pc_common.specs.Case.{Case}
 use Rattle.pc_common.specs.World.{Node}
 use Rattle.pc_syntax.specs.declared.closed_term.ClosedNode.{ClosedNode}
@@ -229,3 +230,31 @@ module _ (c : Case) where
   part_rank (Member k) (said true (closed_edges ts) slots s) g e =
       made_less (λ (t : ClosedEdge). one_edge true (closed_node c slots t.from) (closed_node c slots t.to)) (slice_get ts k) g (length ts + 1) e (λ t. omega arith)
   part_rank way f g e = cc
+
+  past : (s n : ℕ) → not (nat_lt s n) ≡ true → n ≤ s
+  past s n e = ltb-false s n (is_no (nat_lt s n) e)
+    where
+      is_no : (b : Bool) → not b ≡ true → b ≡ false
+      is_no true h = cc
+      is_no false h = refl
+
+  none_left : {X : Type 0} (tree : X → Tree Node) (xs : List X) (s : ℕ) → not (nat_lt s (length xs)) ≡ true → joined_trees false (map tree (drop s xs)) ≡ never
+  none_left tree xs s e = ap (λ ys. joined_trees false (map tree ys)) (drop_all s xs (past s (length xs) e))
+
+  -- a fact that holds in no world by itself is False
+  pub false_tree : (f : PlainFact) → is_false c f ≡ true → fact_tree c f ≡ never
+  false_tree (said true (closed_exists sort p) slots s) e = none_left (λ v. said_tree c true p (slots ++ v ∷ [])) (range_of c sort) s e
+  false_tree (said false (closed_forall sort p) slots s) e = none_left (λ v. said_tree c false p (slots ++ v ∷ [])) (range_of c sort) s e
+  false_tree (said false (closed_nodes ts) slots s) e = none_left (node_tree c false slots) ts s e
+  false_tree (said false (closed_edges ts) slots s) e = none_left (edge_tree c false slots) ts s e
+  false_tree (said true (closed_static pred args) slots s) e = static_true (predicate_holds c pred (map (closed_argument slots) args)) e
+    where
+      static_true : (b : Bool) → not b ≡ true → signed_tree true (decided b) ≡ never
+      static_true true h = cc
+      static_true false h = refl
+  false_tree (said false (closed_static pred args) slots s) e = static_false (predicate_holds c pred (map (closed_argument slots) args)) e
+    where
+      static_false : (b : Bool) → b ≡ true → signed_tree false (decided b) ≡ never
+      static_false true h = refl
+      static_false false h = cc
+  false_tree f e = cc

@@ -1,7 +1,9 @@
 -- Look-ups by keys, as lists of plain keys with their numbers, and a key more.
 use Rattle.std.proofs.Common.{◌≡◌, ◌⊎◌, inl, inr, ℕ, Bool, true, false, List, [], ◌∷◌, ◌++◌, ◌==◌, Option, Some, None, map, cond, refl, sym, ◌∙◌, ap, subst, eqb-true, eq-eqb}
 use Rattle.std.proofs.lemmas.List.{map-append}
+use Rattle.std.specs.Prelude.{MatchOption}
 use Rattle.std.specs.Map.{lookup}
+use Rattle.indexmap.specs.IndexMap.{insert_entry}
 use Rattle.pc_common.proofs.Elements.{In, in_back, in_either, and_first, and_second, true_or_false}
 use Rattle.pc_ground.specs.Keys.{key_node}
 use Rattle.pc_ground.specs.declared.node_key.NodeKey.{NodeKey}
@@ -135,3 +137,18 @@ marked_new es new key k is =
           ];
       has = (k, (let P : List Entry → Type 0 = λ xs. In (entry (plain_key key) k) xs in subst P (sym all) (in_back (entry (plain_key key) k) (entries_of es) (entry (plain_key key) k ∷ []) (inl refl))));
     }
+
+-- what a look-up answers
+pub get_found : (key : Key) (es : List (Key × ℕ)) (r : Option ℕ) → r ≡ lookup (known_eq key) es
+    → MatchOption r ((k : ℕ) → In (entry (plain_key key) k) (entries_of es) → ⊥) (λ k. In (entry (plain_key key) k) (entries_of es))
+get_found key es None e = found_none key es (sym e)
+get_found key es (Some k) e = found_some key k es (sym e)
+
+-- a key that no entry has is put behind the others
+pub put_last : (key : Key) (k : ℕ) (es : List (Key × ℕ)) → ((j : ℕ) → In (entry (plain_key key) j) (entries_of es) → ⊥) → insert_entry known_eq es key k ≡ es ++ (key, k) ∷ []
+put_last key k [] none = refl
+put_last key k (x ∷ es) none =
+    elim (true_or_false (known_eq key x.0)) [
+      | inl e ↦ absurd (none x.1 (inl (ap (λ p. entry p x.1) (sym (same_plain key x.0 e)))))
+      | inr e ↦ rw e (ap (λ ys. x ∷ ys) (put_last key k es (λ j i. none j (inr i))))
+    ]

@@ -43,13 +43,13 @@ module _ (c : Case) (rows : List (Row Node)) where
 
   pub matched_more : (b : Branch) (es further : List Entry) (ls : List Later) (opens : List TreeBranch) → AreLater c rows b es ls → AreMatched c rows es ls opens
       → AreMatched c rows (es ++ further) ls opens
-  matched_more b es further [] [] h no_more = no_more
-  matched_more b es further (l ∷ ls) opens h (due l e rest) =
-      let P : List Entry → Type 0 = λ y. AreMatched c rows y ls opens in
+  matched_more b es further ls opens h no_more = no_more
+  matched_more b es further ls opens h (due {ls = tail} l e rest) =
+      let P : List Entry → Type 0 = λ y. AreMatched c rows y tail opens in
       due l e (subst P (sym (take-append-le l.known es further h.1)) rest)
-  matched_more b es further (l ∷ ls) (ps ∷ opens) h (side l p ps e s rest) =
+  matched_more b es further ls opens h (side {ls = tail} {opens = others} l p ps e s rest) =
       let te = sym (take-append-le l.known es further h.1) in
-      let P : List Entry → Type 0 = λ y. AreMatched c rows y ls opens in
+      let P : List Entry → Type 0 = λ y. AreMatched c rows y tail others in
       let Q : List Entry → Type 0 = λ y. IsSide c rows y l p ps in
       side l p ps e (subst Q te s) (subst P te rest)
 

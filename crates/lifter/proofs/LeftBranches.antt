@@ -74,8 +74,8 @@ module _ (c : Case) (rows : List (Row Node)) (start : List Branch) where
       subst B (take-append-drop m es) (matched_more c rows b (take m es) (drop m es) ls opens h found)
 
   due_inside : (es : List Entry) (l : Later) (ls : List Later) (opens : List TreeBranch) → l.task ≡ Close → AreMatched c rows es (l ∷ ls) opens → AreMatched c rows (take l.known es) ls opens
-  due_inside es l ls opens task (due l e rest) = rest
-  due_inside es l ls (ps ∷ opens) task (side l p ps e s rest) = absurd (close_not_side p (sym task ∙ e))
+  due_inside es l ls opens task (due m e rest) = rest
+  due_inside es l ls opens task (side m p ps e s rest) = absurd (close_not_side p (sym task ∙ e))
 
   -- a branch that only waited to be closed was so
   pub left_due : (b : Branch) (es : List Entry) (l : Later) (ls : List Later) (steps new : List LiftedStep) (opens : List TreeBranch) → l.task ≡ Close → IsLeft c rows start b es (l ∷ ls) steps opens
@@ -102,13 +102,13 @@ module _ (c : Case) (rows : List (Row Node)) (start : List Branch) where
 
       go : (os : List TreeBranch) → AreMatched c rows es (l ∷ ls) os
           → (ps : TreeBranch) × (rest : List TreeBranch) × (os ≡ ps ∷ rest) × IsNext c rows start b es l ls steps p ps rest
-      go os (due l e rest) = absurd (close_not_side p (sym e ∙ task))
-      go (ps ∷ rest) (side l q ps e s inside) =
+      go os (due m e inside) = absurd (close_not_side p (sym e ∙ task))
+      go os (side {opens = rest} m q ps e s inside) =
           let P : ℕ → Type 0 = λ n. IsSide c rows (take l.known es) l n ps in
           (ps, rest, refl, record { run = h.run; later = h.later; takes = subst P (same_place q (sym e ∙ task)) s; matched = inside })
 
   no_branch : (es : List Entry) (opens : List TreeBranch) → AreMatched c rows es [] opens → opens ≡ []
-  no_branch es [] no_more = refl
+  no_branch es opens no_more = refl
 
   pub left_none : (b : Branch) (es : List Entry) (ls : List Later) (steps : List LiftedStep) (opens : List TreeBranch) → ls ≡ [] → IsLeft c rows start b es ls steps opens
       → (opens ≡ []) × Runs c steps start []

@@ -11,3 +11,4 @@ pub mod LeftBranches
 pub mod StepsAhead
 pub mod RootTrees
 pub mod SplitOrs
+pub mod UnfoldedFacts

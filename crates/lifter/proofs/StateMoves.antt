@@ -1,5 +1,5 @@
 -- What the moves of the state keep.
-use Rattle.std.proofs.Common.{◌≡◌, ◌⊎◌, inl, inr, ℕ, ◌+◌, ◌≤◌, true, false, List, [], ◌∷◌, ◌++◌, Option, Some, length, map, take, reverse, refl, sym, ◌∙◌, ap, subst, arith, append_assoc}
+use Rattle.std.proofs.Common.{◌≡◌, ◌⊎◌, inl, inr, ℕ, suc, ◌+◌, ◌≤◌, true, false, List, [], ◌∷◌, ◌++◌, Option, Some, length, map, take, reverse, refl, sym, ◌∙◌, ap, subst, arith, append_assoc}
 use Rattle.std.specs.Prelude.{All}
 use Rattle.std.proofs.Math.Seq.{take-length}
 use Rattle.std.proofs.lemmas.List.{map-append, reverse-append}
@@ -30,7 +30,7 @@ branch_push facts new x g is same = ap (map plain_fact) is ∙ map-append plain_
 
 pub mapped_length : (facts : List Fact) → length (map plain_fact facts) ≡ length facts
 mapped_length [] = refl
-mapped_length (f ∷ fs) = ap (λ n. n + 1) (mapped_length fs) ∙ omega arith
+mapped_length (f ∷ fs) = ap suc (mapped_length fs)
 
 module _ (c : Case) (rows : List (Row Node)) where
   append_none : {X : Type 0} (xs : List X) → xs ++ [] ≡ xs
