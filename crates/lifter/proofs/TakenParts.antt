@@ -17,7 +17,7 @@ use Rattle.lifted_kinds.proofs.PartWays.{rest_next}
 use Rattle.lifter.specs.declared.state.State.{State}
 use Rattle.lifter.specs.KnownFacts.{Entry, IsPart, TellsAll, HaveMore}
 use Rattle.lifter.specs.States.{Moves}
-use Rattle.lifter.specs.Unfoldings.{facts_from, HasUnfolded, HasTaken}
+use Rattle.lifter.specs.Unfoldings.{facts_from, HasUnfolded, HasTaken, IsTakenTo}
 use Rattle.lifter.proofs.StateMoves.{moves_same, moves_then}
 use Rattle.lifter.proofs.Tellings.{tells_both, tells_more}
 
@@ -119,3 +119,20 @@ module _ (c : Case) (rows : List (Row Node)) (fs : List PlainFact) where
   -- the last one that is no constant
   pub last_is : (k : ℕ) (f : PlainFact) → slice_get fs k ≡ Some f → facts_from c fs (k + 1) ≡ always → facts_from c fs k ≡ fact_tree c f
   last_is k f there rest = rest_next (fact_tree c) fs k f there ∙ ap (conjoined (fact_tree c f)) rest ∙ conjoined_always (fact_tree c f)
+
+  pub taken_start : (at : ℕ) (s : State) → IsPart rows at (facts_from c fs 0) → IsTakenTo c rows fs 0 at at s s
+  taken_start at s here = record { moves = moves_same c rows s; stands = here; told = λ es more h. h }
+
+  pub taken_more : (k whole at next : ℕ) (old mid new : State) → IsTakenTo c rows fs k whole at old mid → HasTaken c rows fs k at next mid new → IsTakenTo c rows fs (k + 1) whole next old new
+  taken_more k whole at next old mid new before one = record {
+    moves = moves_then c rows old mid new before.moves one.moves;
+    stands = one.stands;
+    told = λ es more h. before.told es (λ key has. more key (one.moves.keys key has)) (one.told es more h);
+  }
+
+  pub taken_all : (k whole at : ℕ) (old mid new : State) → IsTakenTo c rows fs k whole at old mid → HasUnfolded c rows (facts_from c fs k) at mid new
+      → HasUnfolded c rows (facts_from c fs 0) whole old new
+  taken_all k whole at old mid new before rest = record {
+    moves = moves_then c rows old mid new before.moves rest.moves;
+    told = before.told new.known rest.moves.keys rest.told;
+  }

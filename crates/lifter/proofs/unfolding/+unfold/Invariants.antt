@@ -1,11 +1,9 @@
 -- Each part and each side has a lower rank; and what the loop over the parts keeps: those before the next one are unfolded.
-use Rattle.std.proofs.Common.{◌+◌, ◌*◌, List}
-use Rattle.pc_ground.specs.Refutes.{asserted}
+use Rattle.std.proofs.Common.{◌+◌, ◌*◌}
 use Rattle.lifted_facts.specs.PlainFacts.{plain_fact}
 use Rattle.lifted_kinds.specs.Ranks.{rank}
-use Rattle.lifter.specs.KnownFacts.{Entry, IsPart, TellsAll, HaveMore}
-use Rattle.lifter.specs.States.{Moves}
-use Rattle.lifter.specs.Unfoldings.{parts_from}
+use Rattle.lifted_kinds.specs.PartLists.{parts}
+use Rattle.lifter.specs.Unfoldings.{IsTakenTo}
 use Rattle.lifter.proofs.unfolding.+unfold.Given as goal
 
 abbrev pub decreases-unfold : goal.decreases-unfold
@@ -24,9 +22,4 @@ abbrev pub decreases-unfold_last : goal.decreases-unfold_last
 decreases-unfold_last l = 3 * rank l.case.now (plain_fact l.fact.now)
 
 abbrev pub invariant-unfold_all-loop-k : goal.invariant-unfold_all-loop-k
-invariant-unfold_all-loop-k l = record {
-  moves : Moves l.case l.tree l.fn.state l.state;
-  stands : IsPart l.tree l.at (parts_from l.case (plain_fact l.fact) l.k);
-  told : (es : List Entry) → HaveMore l.state.known es → TellsAll l.tree es (asserted (parts_from l.case (plain_fact l.fact) l.k) l.at)
-      → TellsAll l.tree es (asserted (parts_from l.case (plain_fact l.fact) 0) l.fn.at);
-}
+invariant-unfold_all-loop-k l = IsTakenTo l.case l.tree (parts l.case (plain_fact l.fact)) l.k l.fn.at l.at l.fn.state l.state
