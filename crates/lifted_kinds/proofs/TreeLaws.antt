@@ -66,3 +66,26 @@ module _ (c : Case) (slots : List Meaning) where
   start_tree false (closed_edges ts) = sym (edges_tree false ts)
   start_tree true p = refl
   start_tree false p = refl
+
+  -- the same of a formula that is known to have this form
+  tree_as : (plus : Bool) (f g : PlainClosed) (t : Tree Node) → f ≡ g → said_tree c plus g slots ≡ t → said_tree c plus f slots ≡ t
+  tree_as plus f g t e h = ap (λ x. said_tree c plus x slots) e ∙ h
+
+  pub not_of : (plus : Bool) (f p : PlainClosed) → f ≡ closed_not p → said_tree c plus f slots ≡ said_tree c (not plus) p slots
+  not_of plus f p e = tree_as plus f (closed_not p) (said_tree c (not plus) p slots) e (not_tree plus p)
+
+  pub and_of : (plus : Bool) (f p q : PlainClosed) → f ≡ closed_and p q → said_tree c plus f slots ≡ joined_tree plus (said_tree c plus p slots) (said_tree c plus q slots)
+  and_of plus f p q e = tree_as plus f (closed_and p q) (joined_tree plus (said_tree c plus p slots) (said_tree c plus q slots)) e (and_tree plus p q)
+
+  pub or_of : (plus : Bool) (f p q : PlainClosed) → f ≡ closed_or p q → said_tree c plus f slots ≡ joined_tree (not plus) (said_tree c plus p slots) (said_tree c plus q slots)
+  or_of plus f p q e = tree_as plus f (closed_or p q) (joined_tree (not plus) (said_tree c plus p slots) (said_tree c plus q slots)) e (or_tree plus p q)
+
+  pub implies_of : (plus : Bool) (f p q : PlainClosed) → f ≡ closed_implies p q
+      → said_tree c plus f slots ≡ joined_tree (not plus) (said_tree c (not plus) p slots) (said_tree c plus q slots)
+  implies_of plus f p q e = tree_as plus f (closed_implies p q) (joined_tree (not plus) (said_tree c (not plus) p slots) (said_tree c plus q slots)) e (implies_tree plus p q)
+
+  pub forall_of : (plus : Bool) (f : PlainClosed) (sort : Sort) (p : PlainClosed) → f ≡ closed_forall sort p → said_tree c plus f slots ≡ joined_trees plus (bodies c plus sort p slots 0)
+  forall_of plus f sort p e = tree_as plus f (closed_forall sort p) (joined_trees plus (bodies c plus sort p slots 0)) e (forall_tree plus sort p)
+
+  pub exists_of : (plus : Bool) (f : PlainClosed) (sort : Sort) (p : PlainClosed) → f ≡ closed_exists sort p → said_tree c plus f slots ≡ joined_trees (not plus) (bodies c plus sort p slots 0)
+  exists_of plus f sort p e = tree_as plus f (closed_exists sort p) (joined_trees (not plus) (bodies c plus sort p slots 0)) e (exists_tree plus sort p)

@@ -12,3 +12,5 @@ pub mod StepsAhead
 pub mod RootTrees
 pub mod SplitOrs
 pub mod UnfoldedFacts
+pub mod PartRows
+pub mod LiftedRoots
