@@ -1,5 +1,5 @@
 -- A term of a closed formula names a node, so no member of a list is a constant.
-use Rattle.std.proofs.Common.{◌≡◌, ℕ, zero, suc, ◌+◌, ◌<◌, ◌≤◌, inl, inr, Bool, true, false, not, List, [], ◌∷◌, ◌++◌, Option, Some, None, map, drop, length, refl, sym, ◌∙◌, ap, subst, arith}
+use Rattle.std.proofs.Common.{◌≡◌, ℕ, zero, suc, ◌-◌, ◌<◌, inl, inr, Bool, true, false, not, List, [], ◌∷◌, ◌++◌, Option, Some, None, map, drop, length, refl, sym, ◌∙◌, ap, subst, arith, length-drop}
 use Rattle.std.specs.Prelude.{slice_get, unwrap_or, nat_lt, ◌==◌}
 use Rattle.std.specs.Option.{option_map}
 use Rattle.std.proofs.lemmas.Option.{slice_get-map, slice_get_within}
@@ -16,15 +16,17 @@ use Rattle.pc_syntax.specs.declared.closed_term.ClosedArg.TheVariants.{Slot, Cor
 use Rattle.pc_syntax.specs.declared.closed_term.ClosedNode.{ClosedNode}
 use Rattle.pc_syntax.specs.declared.closed_term.ClosedEdge.{ClosedEdge}
 use Rattle.pc_syntax.specs.Truth.{Meaning, an_op, a_core, op_of, core_of, node_at}
-use Rattle.pc_syntax.specs.Closed.{meaning_of, value_at, closed_value, closed_core, closed_node}
+use Rattle.pc_syntax.specs.Closed.{PlainClosed, closed_nodes, closed_edges, meaning_of, value_at, closed_value, closed_core, closed_node}
 use Rattle.pc_syntax.specs.IsClosed.{IsBound, FitsArg, FitsCore, FitsNode, FitNodes, FitEdges}
 use Rattle.pc_ground.specs.Unfolded.{node_said, edge_said}
 use Rattle.static_preds.specs.Slots.{AreInRange}
 use Rattle.static_preds.specs.Values.{meanings, sort_bound, scope_of}
 use Rattle.static_preds.proofs.Terms.{node_named}
-use Rattle.lifted_kinds.specs.Trees.{signed_tree, node_tree, edge_tree}
+use Rattle.lifted_kinds.specs.Trees.{signed_tree, said_tree, joined_trees, node_tree, edge_tree}
 use Rattle.lifted_kinds.specs.declared.kind.Kind.TheVariants.{Open}
-use Rattle.lifted_kinds.specs.Kinds.{kind_of}
+use Rattle.lifted_kinds.specs.Kinds.{kind_of, kind_over}
+use Rattle.lifted_kinds.proofs.TreeLaws.{nodes_tree, edges_tree}
+use Rattle.lifted_kinds.proofs.KindLaws.{kind_of_members}
 
 -- a slot of this sort
 sorted : (slot : Option Bound) (sort : Sort) → option_map sort_bound slot ≡ Some sort → (b : Bound) × (slot ≡ Some b) × (sort_bound b ≡ sort)
@@ -110,3 +112,27 @@ open_edges c slots plus ts s fit range t i =
     let a = node_is c slots t.from f.0 range in
     let b = node_is c slots t.to f.1 range in
     open_edge plus (closed_node c (meanings slots) t.from) (closed_node c (meanings slots) t.to) a.0 b.0 a.1 b.1
+
+-- which constant a list is: none, or the one of a list without members
+module _ (c : Case) (slots : List Bound) (range : AreInRange c slots) where
+  pub nodes_kind : (plus : Bool) (f : PlainClosed) (ts : List ClosedNode) → f ≡ closed_nodes ts → FitNodes (scope_of slots) ts
+      → kind_of (said_tree c plus f (meanings slots)) ≡ kind_over plus (length ts)
+  nodes_kind plus f ts e fit =
+      ap (λ x. kind_of (said_tree c plus x (meanings slots))) e ∙ ap kind_of (nodes_tree c (meanings slots) plus ts)
+      ∙ kind_of_members plus (node_tree c plus (meanings slots)) ts (open_nodes c slots plus ts 0 fit range)
+
+  pub edges_kind : (plus : Bool) (f : PlainClosed) (ts : List ClosedEdge) → f ≡ closed_edges ts → FitEdges (scope_of slots) ts
+      → kind_of (said_tree c plus f (meanings slots)) ≡ kind_over plus (length ts)
+  edges_kind plus f ts e fit =
+      ap (λ x. kind_of (said_tree c plus x (meanings slots))) e ∙ ap kind_of (edges_tree c (meanings slots) plus ts)
+      ∙ kind_of_members plus (edge_tree c plus (meanings slots)) ts (open_edges c slots plus ts 0 fit range)
+
+  pub nodes_left : (ts : List ClosedNode) (s : ℕ) → FitNodes (scope_of slots) ts
+      → kind_of (joined_trees false (map (node_tree c false (meanings slots)) (drop s ts))) ≡ kind_over false (length ts - s)
+  nodes_left ts s fit =
+      kind_of_members false (node_tree c false (meanings slots)) (drop s ts) (open_nodes c slots false ts s fit range) ∙ ap (kind_over false) (length-drop s ts)
+
+  pub edges_left : (ts : List ClosedEdge) (s : ℕ) → FitEdges (scope_of slots) ts
+      → kind_of (joined_trees false (map (edge_tree c false (meanings slots)) (drop s ts))) ≡ kind_over false (length ts - s)
+  edges_left ts s fit =
+      kind_of_members false (edge_tree c false (meanings slots)) (drop s ts) (open_edges c slots false ts s fit range) ∙ ap (kind_over false) (length-drop s ts)
