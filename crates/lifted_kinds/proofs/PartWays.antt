@@ -2,7 +2,8 @@
 use Rattle.std.proofs.Common.{◌≡◌, ℕ, zero, suc, ◌+◌, ◌-◌, ◌<◌, ◌≤◌, Bool, true, false, not, List, [], ◌∷◌, ◌++◌, Option, Some, None, length, map, drop, refl, sym, ◌∙◌, ap, subst, arith}
 use Rattle.std.specs.Prelude.{slice_get}
 use Rattle.std.specs.Option.{option_map, option_and_then}
-use Rattle.std.proofs.lemmas.Option.{slice_get-map}
+use Rattle.std.proofs.lemmas.Option.{slice_get-map, slice_get_within}
+use Rattle.std.proofs.lemmas.List.{drop_all}
 use Rattle.pc_common.specs.Case.{Case}
 use Rattle.pc_common.specs.World.{Node}
 use Rattle.pc_syntax.specs.declared.closed_term.ClosedNode.{ClosedNode}
@@ -10,10 +11,15 @@ use Rattle.pc_syntax.specs.declared.closed_term.ClosedEdge.{ClosedEdge}
 use Rattle.pc_syntax.specs.declared.term.Sort.{Sort}
 use Rattle.pc_syntax.specs.declared.term.Sort.TheVariants.{Microop, Core}
 use Rattle.pc_syntax.specs.Truth.{Meaning, range_of}
-use Rattle.pc_syntax.specs.Closed.{PlainClosed, closed_not, closed_and, closed_or, closed_implies, closed_forall, closed_exists, closed_static, closed_nodes, closed_edges, closed_bind, closed_node, closed_value}
+use Rattle.pc_syntax.specs.Closed.{PlainClosed, plain_closed, closed_not, closed_and, closed_or, closed_implies, closed_forall, closed_exists, closed_static, closed_nodes, closed_edges, closed_bind, closed_node, closed_value}
 use Rattle.pc_ground.specs.Tree.{Tree, always, never, leaf, both, either}
 use Rattle.static_preds.proofs.Walked.{drop_at}
-use Rattle.lifted_facts.specs.PlainFacts.{PlainFact, said, one_node, one_edge}
+use Rattle.static_preds.specs.Values.{meanings}
+use Rattle.lifted_facts.specs.declared.fact.Said.{Said as SaidFact}
+use Rattle.lifted_facts.specs.declared.fact.Fact.{Fact}
+use Rattle.lifted_facts.specs.declared.fact.Fact.TheVariants.{Said}
+use Rattle.lifted_facts.specs.declared.way.Way.{Way}
+use Rattle.lifted_facts.specs.PlainFacts.{PlainFact, said, one_node, one_edge, plain_fact, plain_part}
 use Rattle.lifted_facts.specs.Parts.{said_at, said_inside, part_of}
 use Rattle.lifted_kinds.specs.Trees.{fact_tree, joined_tree, joined_trees}
 use Rattle.lifted_kinds.specs.declared.kind.Kind.{Kind}
@@ -94,6 +100,17 @@ both_open Open True e = (λ h. cc, λ h. cc)
 both_open Open False e = cc
 both_open Open Open e = (λ h. cc, λ h. cc)
 
+open_not_false : (k : Kind) → k ≡ Open → k ≡ False → ⊥
+open_not_false k e f = (let clash : Open ≡ False = sym e ∙ f in cc)
+
+only_true : (k : Kind) → (k ≡ False → ⊥) → (k ≡ Open → ⊥) → k ≡ True
+only_true True e f = refl
+only_true False e f = absurd (e refl)
+only_true Open e f = absurd (f refl)
+
+open_then_true : (k : Kind) → k ≡ Open → joined_kind true k True ≡ Open
+open_then_true k e = ap (λ x. joined_kind true x True) e
+
 module _ {X : Type 0} (tree : X → Tree Node) where
   abbrev pub rest_of : List X → ℕ → Tree Node
   rest_of xs k = joined_trees true (map tree (drop k xs))
@@ -128,3 +145,38 @@ module _ {X : Type 0} (tree : X → Tree Node) where
       let x = there_at xs j (omega (arith, e, within)) in
       kind_rest xs j x.0 x.1
       ∙ open_rest (kind_of (tree x.0)) (kind_of (rest_of xs (j + 1))) (none_false xs j x.0 x.1 fine) (open_from xs r (j + 1) n (omega (arith, e)) within here fine)
+
+  pub rest_end : (xs : List X) (k : ℕ) → length xs ≤ k → rest_of xs k ≡ always
+  rest_end xs k past = ap (λ ys. joined_trees true (map tree ys)) (drop_all k xs past)
+
+  pub end_not_false : (xs : List X) (k : ℕ) → length xs ≤ k → kind_of (rest_of xs k) ≡ False → ⊥
+  end_not_false xs k past e = (let yes : kind_of (rest_of xs k) ≡ True = ap kind_of (rest_end xs k past) in let clash : True ≡ False = sym yes ∙ e in cc)
+
+  -- the last parts are True, and the one before them
+  pub true_part : (xs : List X) (at next : ℕ) (x : X) → slice_get xs at ≡ Some x → at + 1 ≡ next → rest_of xs next ≡ always → kind_of (rest_of xs 0) ≡ Open
+      → (kind_of (tree x) ≡ Open → ⊥) → rest_of xs at ≡ always
+  true_part xs at next x there step rest whole other =
+      let fine : kind_of (rest_of xs 0) ≡ False → ⊥ = λ h. open_not_false (kind_of (rest_of xs 0)) whole h in
+      let yes = is_always (tree x) (only_true (kind_of (tree x)) (none_false xs at x there fine) other) in
+      let P : ℕ → Type 0 = λ n. rest_of xs n ≡ always in
+      rest_next xs at x there ∙ ap (λ t. joined_tree true t (rest_of xs (at + 1))) yes ∙ subst P (sym step) rest
+
+  -- the last parts are True, and the one before them is no constant
+  pub last_found : (xs : List X) (at next : ℕ) (x : X) → slice_get xs at ≡ Some x → at + 1 ≡ next → rest_of xs next ≡ always → kind_of (rest_of xs 0) ≡ Open
+      → kind_of (tree x) ≡ Open → (rest_of xs (at + 1) ≡ always) × ((j : ℕ) → j < at + 1 → kind_of (rest_of xs j) ≡ Open)
+  last_found xs at next x there step rest whole here =
+      let P : ℕ → Type 0 = λ n. rest_of xs n ≡ always in
+      let behind = subst P (sym step) rest in
+      let fine : kind_of (rest_of xs 0) ≡ False → ⊥ = λ h. open_not_false (kind_of (rest_of xs 0)) whole h in
+      let within = slice_get_within xs at x there in
+      let last : kind_of (rest_of xs at) ≡ Open = kind_rest xs at x there ∙ ap (λ t. joined_kind true (kind_of (tree x)) (kind_of t)) behind ∙ open_then_true (kind_of (tree x)) here in
+      (behind, λ j low. open_from xs at j (at - j) (omega (arith, low)) within last fine)
+
+-- the part that is named as the one at a place stands there
+pub member_is : (c : Case) (f : Fact) (s : SaidFact) (way : Way) (k : ℕ) (g : PlainFact) → f ≡ Said s → way ≡ way_of (plain_closed s.formula.now) k
+    → k < length (parts c (plain_fact f)) → Some g ≡ part_of c way (plain_fact f) → slice_get (parts c (plain_fact f)) k ≡ Some g
+member_is c f s way k g is named within made =
+    let P : Fact → Type 0 = λ x. k < length (parts c (plain_fact x)) in
+    let there = way_part c (meanings s.env.items) s.plus (plain_closed s.formula.now) s.start k (subst P is within) in
+    ap (λ x. slice_get (parts c (plain_fact x)) k) is ∙ sym there ∙ ap (λ w. part_of c w (plain_part s)) (sym named)
+    ∙ ap (λ x. part_of c way (plain_fact x)) (sym is) ∙ sym made
