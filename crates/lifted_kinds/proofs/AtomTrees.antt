@@ -17,7 +17,7 @@ use Rattle.pc_syntax.specs.declared.closed_term.ClosedNode.{ClosedNode}
 use Rattle.pc_syntax.specs.declared.closed_term.ClosedEdge.{ClosedEdge}
 use Rattle.pc_syntax.specs.Truth.{Meaning, an_op, a_core, op_of, core_of, node_at}
 use Rattle.pc_syntax.specs.Closed.{PlainClosed, closed_nodes, closed_edges, meaning_of, value_at, closed_value, closed_core, closed_node}
-use Rattle.pc_syntax.specs.IsClosed.{IsBound, FitsArg, FitsCore, FitsNode, FitNodes, FitEdges}
+use Rattle.pc_syntax.specs.IsClosed.{IsClosed, IsBound, FitsArg, FitsCore, FitsNode, FitNodes, FitEdges}
 use Rattle.pc_ground.specs.Unfolded.{node_said, edge_said}
 use Rattle.static_preds.specs.Slots.{AreInRange}
 use Rattle.static_preds.specs.Values.{meanings, sort_bound, scope_of}
@@ -115,15 +115,17 @@ open_edges c slots plus ts s fit range t i =
 
 -- which constant a list is: none, or the one of a list without members
 module _ (c : Case) (slots : List Bound) (range : AreInRange c slots) where
-  pub nodes_kind : (plus : Bool) (f : PlainClosed) (ts : List ClosedNode) → f ≡ closed_nodes ts → FitNodes (scope_of slots) ts
+  pub nodes_kind : (plus : Bool) (f : PlainClosed) (ts : List ClosedNode) → f ≡ closed_nodes ts → IsClosed (scope_of slots) f
       → kind_of (said_tree c plus f (meanings slots)) ≡ kind_over plus (length ts)
-  nodes_kind plus f ts e fit =
+  nodes_kind plus f ts e closed =
+      let fit : FitNodes (scope_of slots) ts = subst (IsClosed (scope_of slots)) e closed in
       ap (λ x. kind_of (said_tree c plus x (meanings slots))) e ∙ ap kind_of (nodes_tree c (meanings slots) plus ts)
       ∙ kind_of_members plus (node_tree c plus (meanings slots)) ts (open_nodes c slots plus ts 0 fit range)
 
-  pub edges_kind : (plus : Bool) (f : PlainClosed) (ts : List ClosedEdge) → f ≡ closed_edges ts → FitEdges (scope_of slots) ts
+  pub edges_kind : (plus : Bool) (f : PlainClosed) (ts : List ClosedEdge) → f ≡ closed_edges ts → IsClosed (scope_of slots) f
       → kind_of (said_tree c plus f (meanings slots)) ≡ kind_over plus (length ts)
-  edges_kind plus f ts e fit =
+  edges_kind plus f ts e closed =
+      let fit : FitEdges (scope_of slots) ts = subst (IsClosed (scope_of slots)) e closed in
       ap (λ x. kind_of (said_tree c plus x (meanings slots))) e ∙ ap kind_of (edges_tree c (meanings slots) plus ts)
       ∙ kind_of_members plus (edge_tree c plus (meanings slots)) ts (open_edges c slots plus ts 0 fit range)
 

@@ -7,22 +7,50 @@ use Rattle.static_preds.proofs.SlotsBelow.{slots_below}
 use Rattle.static_preds.proofs.SlotLaws.{slot_more}
 use Rattle.static_preds.proofs.Ranges.{scope_inside}
 use Rattle.lifted_kinds.specs.Trees.{said_tree, joined_trees, bodies}
-use Rattle.lifted_kinds.specs.Kinds.{kind_of, joined_kind}
-use Rattle.lifted_kinds.proofs.TreeLaws.{not_of, and_of, or_of, implies_of, forall_of, exists_of}
-use Rattle.lifted_kinds.proofs.KindLaws.{kind_joined, decided_first, neutral_first, kind_of_members}
-use Rattle.lifted_kinds.proofs.AtomTrees.{open_nodes, open_edges}
-use Rattle.lifted_kinds.proofs.RangeBodies.{kind_next, kind_past, walked_decided, walked_on, walked_all}
+use Rattle.lifted_kinds.specs.Kinds.{kind_of, joined_kind, kind_over}
+use Rattle.lifted_kinds.proofs.TreeLaws.{forall_of, exists_of}
+use Rattle.lifted_kinds.proofs.KindLaws.{kind_joined, neutral_first}
+use Rattle.lifted_kinds.proofs.AtomTrees.{nodes_kind, edges_kind}
+use Rattle.lifted_kinds.proofs.RangeBodies.{kind_next, walked_decided, walked_on}
 use Rattle.lifted_kinds.proofs.formula_kind.+walk.Goals as goal
 
 pub kind_of_formula-holds-requires-clause-below : goal.kind_of_formula-holds-requires-clause-below
 kind_of_formula-holds-requires-clause-below t c = slots_below (length c.args.case.now.ops) c.args.env.now.items c.in-Static.args c.requires.range.ops
 
-pub kind_of_range-kind_of_formula-requires : goal.kind_of_range-kind_of_formula-requires
-kind_of_range-kind_of_formula-requires t c =
+pub kind_of_formula-returns-in-Forall : goal.kind_of_formula-returns-in-Forall
+kind_of_formula-returns-in-Forall t c =
+    c.kind_of_range.ensures
+    ∙ ap kind_of (sym (forall_of c.args.case.now (meanings c.args.env.now.items) c.args.plus (plain_closed c.args.formula.now) _ _ (ap plain_closed c.in-Forall.is)))
+
+pub kind_of_formula-returns-in-Exists : goal.kind_of_formula-returns-in-Exists
+kind_of_formula-returns-in-Exists t c =
+    c.kind_of_range-in-Exists.ensures
+    ∙ ap kind_of (sym (exists_of c.args.case.now (meanings c.args.env.now.items) c.args.plus (plain_closed c.args.formula.now) _ _ (ap plain_closed c.in-Exists.is)))
+
+pub kind_of_formula-returns-in-Nodes : goal.kind_of_formula-returns-in-Nodes
+kind_of_formula-returns-in-Nodes t c =
+    c.kind_of_count.ensures ∙ ap (kind_over c.args.plus) c.len.ensures.value
+    ∙ sym (nodes_kind c.args.case.now c.args.env.now.items c.requires.range c.args.plus (plain_closed c.args.formula.now) _ (ap plain_closed c.in-Nodes.is) c.requires.closed)
+
+pub kind_of_formula-returns-in-Edges : goal.kind_of_formula-returns-in-Edges
+kind_of_formula-returns-in-Edges t c =
+    c.kind_of_count-in-Edges.ensures ∙ ap (kind_over c.args.plus) c.len-in-Edges.ensures.value
+    ∙ sym (edges_kind c.args.case.now c.args.env.now.items c.requires.range c.args.plus (plain_closed c.args.formula.now) _ (ap plain_closed c.in-Edges.is) c.requires.closed)
+
+pub kind_of_two-returns : goal.kind_of_two-returns
+kind_of_two-returns t c =
+    let slots = meanings c.args.env.now.items in
+    let first = said_tree c.args.case.now c.args.left_plus (plain_closed c.args.left.now) slots in
+    let second = said_tree c.args.case.now c.args.right_plus (plain_closed c.args.right.now) slots in
+    c.joined.ensures ∙ ap (λ k. joined_kind c.args.all k c.kind_of_formula.result) c.kind_of_formula-first.ensures
+    ∙ ap (joined_kind c.args.all (kind_of first)) c.kind_of_formula.ensures ∙ sym (kind_joined c.args.all first second)
+
+pub kind_of_range-kind_of_formula-member-requires : goal.kind_of_range-kind_of_formula-member-requires
+kind_of_range-kind_of_formula-member-requires t c =
     let slots = c.args.env.now.items in
     let inside = c.bind_next.new.inside.items in
     let value = c.value_in_range.ensures in
-    let in_range = c.range_len.ensures.values c.loop-k.k c.loop-k-test.true in (
+    let in_range = c.range_len-k-end.ensures.values c.loop-k.k c.loop-k-test.true in (
       omega (arith, c.decreases),
       (
         rw (scope_inside slots inside c.args.sort c.loop-k.k c.value_in_range.result c.bind_next.ensures.items value) c.requires.closed,
@@ -37,45 +65,37 @@ kind_of_range-loop-k-init t c =
       whole = rw c.neutral-kind.ensures (neutral_first c.args.all _);
     }
 
-pub kind_of_formula-returns-in-Not : goal.kind_of_formula-returns-in-Not
-kind_of_formula-returns-in-Not t c =
-    c.kind_of_formula.ensures ∙ ap kind_of (sym (not_of c.args.case.now (meanings c.args.env.now.items) c.args.plus (plain_closed c.args.formula.now) _ (ap plain_closed c.in-Not.is)))
+pub kind_of_range-returns-then-decides : goal.kind_of_range-returns-then-decides
+kind_of_range-returns-then-decides t c =
+    let case = c.args.case.now in
+    let p = plain_closed c.args.body.now in
+    let slots = c.args.env.now.items in
+    let k = c.loop-k.k in
+    let all = c.args.all in
+    let member = c.kind_of_formula-member.result in
+    let within : k < length (range_of case c.args.sort) = omega (arith, c.range_len-k-end.ensures.count, c.loop-k-test.true) in
+    let here = kind_of (joined_trees all (bodies case c.args.plus c.args.sort p (meanings slots) k)) in
+    let rest = kind_of (joined_trees all (bodies case c.args.plus c.args.sort p (meanings slots) (k + 1))) in
+    let next : here ≡ joined_kind all member rest =
+    kind_next all case c.args.plus slots c.bind_next.new.inside.items c.args.sort p k c.value_in_range.result within c.value_in_range.ensures c.bind_next.ensures.items
+    ∙ ap (λ m. joined_kind all m rest) (sym c.kind_of_formula-member.ensures) in
+    walked_decided all c.loop-k.kind member here rest _ (c.decides.ensures.0 c.if-decides.true) next c.loop-k.invariant.whole
 
-pub kind_of_formula-returns-in-And : goal.kind_of_formula-returns-in-And
-kind_of_formula-returns-in-And t c =
-    c.kind_of_two.ensures ∙ ap kind_of (sym (and_of c.args.case.now (meanings c.args.env.now.items) c.args.plus (plain_closed c.args.formula.now) _ _ (ap plain_closed c.in-And.is)))
-
-pub kind_of_formula-returns-in-Or : goal.kind_of_formula-returns-in-Or
-kind_of_formula-returns-in-Or t c =
-    c.kind_of_two-in-Or.ensures ∙ ap kind_of (sym (or_of c.args.case.now (meanings c.args.env.now.items) c.args.plus (plain_closed c.args.formula.now) _ _ (ap plain_closed c.in-Or.is)))
-
-pub kind_of_formula-returns-in-Implies : goal.kind_of_formula-returns-in-Implies
-kind_of_formula-returns-in-Implies t c =
-    c.kind_of_two-in-Implies.ensures
-    ∙ ap kind_of (sym (implies_of c.args.case.now (meanings c.args.env.now.items) c.args.plus (plain_closed c.args.formula.now) _ _ (ap plain_closed c.in-Implies.is)))
-
-pub kind_of_formula-returns-in-Forall : goal.kind_of_formula-returns-in-Forall
-kind_of_formula-returns-in-Forall t c =
-    c.kind_of_range.ensures
-    ∙ ap kind_of (sym (forall_of c.args.case.now (meanings c.args.env.now.items) c.args.plus (plain_closed c.args.formula.now) _ _ (ap plain_closed c.in-Forall.is)))
-
-pub kind_of_formula-returns-in-Exists : goal.kind_of_formula-returns-in-Exists
-kind_of_formula-returns-in-Exists t c =
-    c.kind_of_range-in-Exists.ensures
-    ∙ ap kind_of (sym (exists_of c.args.case.now (meanings c.args.env.now.items) c.args.plus (plain_closed c.args.formula.now) _ _ (ap plain_closed c.in-Exists.is)))
-
-pub kind_of_two-returns-then-decides : goal.kind_of_two-returns-then-decides
-kind_of_two-returns-then-decides t c =
-    let slots = meanings c.args.env.now.items in
-    let first = said_tree c.args.case.now c.args.left_plus (plain_closed c.args.left.now) slots in
-    let second = said_tree c.args.case.now c.args.right_plus (plain_closed c.args.right.now) slots in
-    let d = c.decides.ensures.0 c.if-decides.true in
-    d ∙ sym (kind_joined c.args.all first second ∙ ap (λ k. joined_kind c.args.all k (kind_of second)) (sym c.kind_of_formula-first.ensures ∙ d) ∙ decided_first c.args.all (kind_of second))
-
-pub kind_of_two-returns : goal.kind_of_two-returns
-kind_of_two-returns t c =
-    let slots = meanings c.args.env.now.items in
-    let first = said_tree c.args.case.now c.args.left_plus (plain_closed c.args.left.now) slots in
-    let second = said_tree c.args.case.now c.args.right_plus (plain_closed c.args.right.now) slots in
-    c.joined.ensures ∙ ap (λ k. joined_kind c.args.all k c.kind_of_formula.result) c.kind_of_formula-first.ensures
-    ∙ ap (joined_kind c.args.all (kind_of first)) c.kind_of_formula.ensures ∙ sym (kind_joined c.args.all first second)
+pub kind_of_range-loop-k-preserved : goal.kind_of_range-loop-k-preserved
+kind_of_range-loop-k-preserved t c =
+    let case = c.args.case.now in
+    let p = plain_closed c.args.body.now in
+    let slots = c.args.env.now.items in
+    let k = c.loop-k.k in
+    let all = c.args.all in
+    let member = c.kind_of_formula-member.result in
+    let within : k < length (range_of case c.args.sort) = omega (arith, c.range_len-k-end.ensures.count, c.loop-k-test.true) in
+    let here = kind_of (joined_trees all (bodies case c.args.plus c.args.sort p (meanings slots) k)) in
+    let rest = kind_of (joined_trees all (bodies case c.args.plus c.args.sort p (meanings slots) (k + 1))) in
+    let next : here ≡ joined_kind all member rest =
+    kind_next all case c.args.plus slots c.bind_next.new.inside.items c.args.sort p k c.value_in_range.result within c.value_in_range.ensures c.bind_next.ensures.items
+    ∙ ap (λ m. joined_kind all m rest) (sym c.kind_of_formula-member.ensures) in
+    record {
+      begins = c.bind_next.ensures.begins;
+      whole = ap (λ x. joined_kind all x rest) c.joined-kind.ensures ∙ walked_on all c.loop-k.kind member here rest _ next c.loop-k.invariant.whole;
+    }

@@ -1,6 +1,6 @@
 -- Each function's measure is of the formulas that it walks; and what the loop over a range keeps: the members so far and those that
 -- are not walked yet make the whole.
-use Rattle.std.proofs.Common.{◌≡◌, ◌+◌, ◌*◌, length, take}
+use Rattle.std.proofs.Common.{◌≡◌, ◌+◌, ◌*◌, max, length, take}
 use Rattle.pc_syntax.specs.declared.closed_formula.ClosedFormula.{size-ClosedFormula}
 use Rattle.pc_syntax.specs.Closed.{plain_closed}
 use Rattle.static_preds.specs.Values.{meanings}
@@ -12,7 +12,7 @@ abbrev pub decreases-kind_of_formula : goal.decreases-kind_of_formula
 decreases-kind_of_formula l = 2 * size-ClosedFormula l.formula.now
 
 abbrev pub decreases-kind_of_two : goal.decreases-kind_of_two
-decreases-kind_of_two l = 2 * (size-ClosedFormula l.left.now + size-ClosedFormula l.right.now) + 1
+decreases-kind_of_two l = 2 * max (size-ClosedFormula l.left.now) (size-ClosedFormula l.right.now) + 1
 
 abbrev pub decreases-kind_of_range : goal.decreases-kind_of_range
 decreases-kind_of_range l = 2 * size-ClosedFormula l.body.now + 1
