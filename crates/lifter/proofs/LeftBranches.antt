@@ -25,7 +25,7 @@ use Rattle.lifter.specs.Closings.{HasClosed}
 use Rattle.lifter.specs.KnownFacts.{Entry, IsPart, AreKnown, HaveMore, TellsAll}
 use Rattle.lifter.specs.States.{branch_of, waiting, AreLater, IsGood, IsGoodState, IsCovered, IsSide, AreMatched, no_more, due, side, IsMatchedState, Moves}
 use Rattle.lifter.specs.Unfoldings.{HasUnfolded}
-use Rattle.lifter.specs.Following.{IsOn, IsLeft, HasLeft, IsNext, CanEnter, HasClosedBy}
+use Rattle.lifter.specs.Progress.{IsOn, IsLeft, HasLeft, IsNext, CanEnter, HasClosedBy}
 use Rattle.lifter.proofs.RunsMore.{last_fact, one_longer, ran_close}
 use Rattle.lifter.proofs.KnownLaws.{waiting_more, later_more, matched_more, good_fact, good_same, matched_same}
 use Rattle.lifter.proofs.StateMoves.{branch_push, good_waits}

@@ -33,7 +33,7 @@ use Rattle.lifter.specs.declared.state.State.{State}
 use Rattle.lifter.specs.KnownFacts.{Entry, IsPart, TellsAll}
 use Rattle.lifter.specs.States.{branch_of, IsGood, IsGoodState, AreMatched, no_more, IsMatchedState}
 use Rattle.lifter.specs.Unfoldings.{facts_from, HasUnfolded}
-use Rattle.lifter.specs.Following.{IsAhead}
+use Rattle.lifter.specs.Progress.{IsAhead}
 use Rattle.lifter.proofs.CoveredBranches.{covered_all}
 use Rattle.lifter.proofs.KnownLaws.{good_same, matched_same}
 

@@ -20,7 +20,7 @@ use Rattle.lifter.specs.declared.state.State.{State}
 use Rattle.lifter.specs.KnownFacts.{Entry, IsPart, IsOr, HaveMore}
 use Rattle.lifter.specs.States.{branch_of, IsGoodState, IsCovered, IsSide, AreMatched, side, IsMatchedState, Moves}
 use Rattle.lifter.specs.Unfoldings.{HasUnfolded}
-use Rattle.lifter.specs.Following.{IsOn, HasSplitOr}
+use Rattle.lifter.specs.Progress.{IsOn, HasSplitOr}
 use Rattle.lifter.proofs.KnownLaws.{matched_same}
 use Rattle.lifter.proofs.CoveredBranches.{covered_more, covered_side}
 

@@ -13,7 +13,7 @@ use Rattle.lifted_facts.specs.Lifted.{LiftedStep, Runs}
 use Rattle.lifter.specs.declared.state.State.{State}
 use Rattle.lifter.specs.KnownFacts.{at_position, no_node, present, Entry, HasKey, IsCycleKnown, IsPathKnown}
 use Rattle.lifter.specs.States.{IsGoodState, IsCovered, IsMatchedState}
-use Rattle.lifter.specs.Following.{IsOn, IsAt, IsAhead, HasLeft, HasSplitOr, HasClosedBy}
+use Rattle.lifter.specs.Progress.{IsOn, IsAt, IsAhead, HasLeft, HasSplitOr, HasClosedBy}
 use Rattle.lifter.proofs.CoveredBranches.{split_known, cycle_known, path_known, absent_known, only_false}
 use Rattle.lifter.proofs.LeftBranches.{left_by}
 

@@ -3,4 +3,4 @@ pub mod Closings
 pub mod KnownFacts
 pub mod States
 pub mod Unfoldings
-pub mod Following
+pub mod Progress

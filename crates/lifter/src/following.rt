@@ -11,7 +11,7 @@ ghost use Rattle.lifted_facts.specs.PlainFacts.{Branch, IsProper};
 ghost use Rattle.lifted_facts.specs.Lifted.{Runs, IsLiftedRefutation};
 ghost use Rattle.lifter.specs.KnownFacts.{at_position, HasKey};
 ghost use Rattle.lifter.specs.States.{AreKept, IsGoodState};
-ghost use Rattle.lifter.specs.Following.{IsAhead, IsAt, IsOn, HasLeft, CanEnter, HasSplitOr};
+ghost use Rattle.lifter.specs.Progress.{IsAhead, IsAt, IsOn, HasLeft, CanEnter, HasSplitOr};
 
 use super::closing::close_due;
 use super::key::Key;

@@ -2,7 +2,7 @@ ghost use Rattle.std.specs.Prelude.{◌≡◌, ◌∷◌, ◌++◌, [], IfOk, On
 ghost use Rattle.pc_common.proofs.Elements.{In};
 ghost use Rattle.pc_ground.specs.Keys.{key_node};
 ghost use Rattle.lifter.specs.KnownFacts.{plain_key, present, no_node, HasKey, entry, AreEdges, AreNumbers, IsCycleKnown, IsPathKnown};
-ghost use Rattle.lifter.specs.Following.{HasClosedBy};
+ghost use Rattle.lifter.specs.Progress.{HasClosedBy};
 
 use super::key::Key;
 use super::known::Known;

@@ -3,7 +3,7 @@ use Rattle.std.proofs.lemmas.List.{drop_all}
 use Rattle.static_preds.proofs.Walked.{drop_at}
 use Rattle.pc_common.specs.World.{Node}
 use Rattle.pc_common.specs.Steps.{Step}
-use Rattle.lifter.specs.Following.{IsAhead}
+use Rattle.lifter.specs.Progress.{IsAhead}
 use Rattle.lifter.proofs.StepsAhead.{none_left, all_closed}
 use Rattle.lifter.proofs.following.follow.Goals as goal
 

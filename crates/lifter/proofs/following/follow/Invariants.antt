@@ -2,7 +2,7 @@
 use Rattle.std.proofs.Common.{true, List, drop}
 use Rattle.lifted_facts.specs.PlainFacts.{Branch}
 use Rattle.lifter.specs.States.{AreKept}
-use Rattle.lifter.specs.Following.{IsAhead}
+use Rattle.lifter.specs.Progress.{IsAhead}
 use Rattle.lifter.proofs.following.follow.Given as goal
 
 abbrev pub invariant-loop-k : goal.invariant-loop-k
