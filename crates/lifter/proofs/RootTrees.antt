@@ -9,6 +9,8 @@ use Rattle.pc_common.specs.Steps.{Step}
 use Rattle.pc_common.proofs.Elements.{In, in_from_contains}
 use Rattle.pc_syntax.specs.declared.closed.Closed.{Closed}
 use Rattle.pc_syntax.specs.Closed.{PlainClosed, plain_closed}
+use Rattle.pc_ground.specs.declared.node_key.NodeKey.{NodeKey}
+use Rattle.pc_ground.specs.Keys.{key_node, row_node, renamed_kind}
 use Rattle.pc_ground.specs.declared.row.Row.{Row}
 use Rattle.pc_ground.specs.declared.row.RowKind.{RowKind}
 use Rattle.pc_ground.specs.declared.row.RowKind.TheVariants.{True, False, Lit, And, Or}
@@ -20,7 +22,7 @@ use Rattle.pc_ground.specs.Unfolded.{closed_unfolded}
 use Rattle.pc_ground.specs.GroundTree.{closed_ground_tree}
 use Rattle.pc_ground.specs.Stages.{plain_axioms}
 use Rattle.pc_ground.specs.Refutes.{asserted, all_signed, IsRefutation, Branch as TreeBranch}
-use Rattle.pc_ground.proofs.FlatRows.{part_whole}
+use Rattle.pc_ground.proofs.FlatRows.{root_of, part_whole, part_row}
 use Rattle.pc_ground.proofs.Refuted.{refutation_sound}
 use Rattle.lifted_facts.specs.PlainFacts.{PlainFact, said, Branch, root}
 use Rattle.lifted_facts.specs.Lifted.{Runs}
@@ -119,3 +121,35 @@ pub axiom_there : (axioms : List Closed) (k : ℕ) (a : Closed) → slice_get ax
 axiom_there axioms k a e =
     slice_get-map (λ p. said true p [] 0) (plain_axioms axioms) k
     ∙ ap (option_map (λ p. said true p [] 0)) (slice_get-map (λ (x : Closed). plain_closed x.body) axioms k ∙ ap (option_map (λ (x : Closed). plain_closed x.body)) e)
+
+one_some : (x y : Row Node) → Some x ≡ Some y → x ≡ y
+one_some x y e = cc
+
+-- what stands at the root, by the first row of the code
+kind_first : (t : Tree Node) (rows : List (Row Node)) (r : Row NodeKey) → rows ≡ rows_of t → slice_get rows 0 ≡ Some (row_node r) → renamed_kind key_node r.kind ≡ root_kind t
+kind_first t rows r spelled got =
+    let P : List (Row Node) → Type 0 = λ rs. slice_get rs 0 ≡ Some (row_node r) in
+    ap (λ (q : Row Node). q.kind) (one_some (row_node r) (root_of t) (sym (subst P spelled got) ∙ part_row (rows_of t) 0 t (part_whole t)))
+
+renamed_false : (k : RowKind NodeKey) → renamed_kind key_node k ≡ False → k ≡ False
+renamed_false True e = cc
+renamed_false False e = refl
+renamed_false (Lit l) e = cc
+renamed_false And e = cc
+renamed_false Or e = cc
+
+-- the axioms together are False, or no constant
+pub axioms_never : (c : Case) (axioms : List PlainClosed) (rows : List (Row Node)) (r : Row NodeKey) → rows ≡ rows_of (closed_ground_tree c axioms) → slice_get rows 0 ≡ Some (row_node r)
+    → r.kind ≡ False → kind_of (facts_from c (root axioms) 0) ≡ NeverKind
+axioms_never c axioms rows r spelled got is =
+    let t = closed_ground_tree c axioms in
+    ap kind_of (sym (root_tree c axioms)) ∙ row_never t (sym (kind_first t rows r spelled got) ∙ ap (renamed_kind key_node) is)
+
+pub tree_open : (c : Case) (axioms : List PlainClosed) (rows : List (Row Node)) (r : Row NodeKey) (steps : List (Step Node)) → rows ≡ rows_of (closed_ground_tree c axioms)
+    → slice_get rows 0 ≡ Some (row_node r) → (r.kind ≡ False → ⊥) → IsRefutation One (closed_ground_tree c axioms) steps → kind_of (closed_ground_tree c axioms) ≡ Open
+tree_open c axioms rows r steps spelled got other refuted =
+    let t = closed_ground_tree c axioms in
+    row_open t steps (λ e. other (renamed_false r.kind (kind_first t rows r spelled got ∙ e))) refuted
+
+pub axioms_open : (c : Case) (axioms : List PlainClosed) → kind_of (closed_ground_tree c axioms) ≡ Open → kind_of (facts_from c (root axioms) 0) ≡ Open
+axioms_open c axioms e = ap kind_of (sym (root_tree c axioms)) ∙ e
