@@ -21,6 +21,7 @@ pub(crate) struct Task {
 }
 
 /// A fault with its line and column in the bytes of its file. A place past their end is told as their end.
+#[tactic(auto, using(command_base::proofs::EndOfText::line_min, command_base::proofs::EndOfText::column_min))]
 fn placed(fault: InputFault, bytes: &[u8]) -> Refusal
     requires { length bytes.now < 4294967295 }
     ensures fault { result.fault ≡ fault }
