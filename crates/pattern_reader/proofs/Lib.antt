@@ -6,5 +6,3 @@ pub mod Filling
 pub mod RowCounts
 pub mod Patterns
 pub mod RowCases
-pub mod EachOnce
-pub mod RowOrder
