@@ -1,5 +1,8 @@
 #!/usr/bin/env python3
-"""integrate.py ROOT COMMAND..: adds these commands to ROOT/crates/pipecheck_run. Idempotent only on the base files."""
+"""integrate.py ROOT COMMAND..: adds these commands to ROOT/crates/pipecheck_run, crates.txt and the table `commands`.
+
+The commands are core, sweep, check86, verify86 and lifted. A command that is in already is left as it is, so that further ones
+can be added one at a time. Run `rt fmt` in the crate afterwards."""
 import re, sys, os
 root, wanted = sys.argv[1], sys.argv[2:]
 base = os.path.join(root, 'crates/pipecheck_run')
@@ -10,12 +13,20 @@ def wr(p, s):
 def sub(p, old, new, count=1):
     s = rd(p); assert s.count(old) >= 1, (p, old); s = s.replace(old, new, count); wr(p, s)
 
+def uses(p, lines, before):
+    """Puts the `use` lines that the file lacks in front of this one."""
+    s = rd(p); new = [l for l in lines.split('\n') if l and l not in s]
+    if new: sub(p, before, '\n'.join(new) + '\n' + before)
+
 def imp(p, c):
     s = rd(p); t = re.sub(r'(Command\.\{Command, check, verify(?:, \w+)*), gen', r'\1, ' + c + ', gen', s, count=1); assert s != t, p; wr(p, t)
 
+# what definitions on listings import
+LISTINGS = 'use Rattle.x86_litmus.specs.Answer.{CaseOf as ListingCase}\nuse Rattle.listing_form.specs.Listings.{IsFirstFault as IsListingFault}\n'
+
 # name: what it is in the code and the definitions
 T = {
- 'core': dict(variant='Core', ctor='find_core', word='core', third=False, doc='`core MODEL TEST`', crate='core_command',
+ 'core': dict(crates=['core_command'], form='MODEL TEST', says='Names a minimal set of axioms that forbid the outcome of a test, with certificates, or none.', variant='Core', cdoc='which axioms forbid the outcome', ctor='find_core', word='core', third=False, doc='`core MODEL TEST`', crate='core_command',
     fn='find_core', generic='::<TestFile, F>', use='use core_command::find_core;', ans='Core', anstype='FoundCore',
     ansdoc='`core` finds these axioms to forbid the outcome.', ansuse='use core_command::{FoundCore, write_core};', write='write_core(out, found)', status='Status::Done',
     writable='IsCoreWritable f', bind='found', fields=True,
@@ -23,40 +34,50 @@ T = {
     due='IsCoreDue CaseOf IsTestFault holds i', due_use='use Rattle.core_command.specs.CoreAnswers.{IsCoreDue}', true='⊤',
     text='found_text f', text_use='use Rattle.core_command.specs.Found.{found_text, IsCoreWritable}', var='f', stat='Done', antt='a_core',
     due_proof='core_due test_form a', due_proof_use='use Rattle.core_command.proofs.CoreOutcomes.{core_due}', true_proof='tt', silent='tt', lacks='LacksInput holds i'),
- 'sweep': dict(variant='Sweep', ctor='sweep_rows', fname='sweep', word='sweep', third=False, doc='`sweep MODEL PATTERN`', crate='sweep_command',
+ 'sweep': dict(crates=['pattern_reader', 'sweep_command'], form='MODEL PATTERN', says='Says for each row of a pattern, a test whose reads may have `(Data Any)`, whether it is observable.', variant='Sweep', cdoc='the second file is a pattern', ctor='sweep_rows', fname='sweep', word='sweep', third=False, doc='`sweep MODEL PATTERN`', crate='sweep_command',
     fn='sweep_files', generic='::<F>', use='use sweep_command::sweep_files;', ans='Swept', anstype='Swept',
     ansdoc='`sweep` finds this of the rows of a pattern.', ansuse='use sweep_command::{Swept, write_sweep};', write='write_sweep(out, swept)', status='Status::Done',
-    writable='length s.answers.items ≡ rows_of s.pattern', bind='swept',
+    writable='length s.answers.items ≡ rows_of s.pattern', prelude='◌≡◌, ', bind='swept',
     answers='AnswersSweep holds i', answers_use='use Rattle.sweep_command.specs.SweepAnswers.{AnswersSweep}',
     due='IsSweepDue holds i', due_use='use Rattle.sweep_command.specs.SweepAnswers.{IsSweepDue}', true='⊤',
     text='swept_text s', text_use='use Rattle.sweep_command.specs.Texts.{swept_text}\nuse Rattle.pattern_reader.specs.Rows.{rows_of}', var='s', stat='Done', antt='a_sweep',
     due_proof='sweep_due a', due_proof_use='use Rattle.sweep_command.proofs.SweepOutcomes.{sweep_due}', true_proof='tt', silent='tt', lacks='LacksInput holds i'),
- 'check86': dict(variant='CheckListing', ctor='check_listing', word='check86', third=False, doc='`check86 MODEL FILE`', crate=None,
-    fn='check', generic='::<ListingFile, F>', use='', ans=None, args='alloc, inputs, Version::One, files', wrap='Checked',
-    answers='AnswersCheck ListingCase IsListingFault holds i One', answers_use='X86CASES', due='IsCheckDue ListingCase IsListingFault holds i', due_use='', 
-    true='(m : WrittenModel) (c : Case) → Says ListingCase holds i m c → IsTrueStatus m c status', true_proof='check_true listing_form a', due_proof='check_due listing_form a', due_proof_use='',
+ 'check86': dict(crates=['x86_litmus', 'listing_form'], form='MODEL FILE', says='Does what check does, on a listing of herd\'s X86 tests.', named=True, variant='CheckListing', cdoc='the second file is a listing of herd\'s', ctor='check_listing', word='check86', third=False, doc='`check86 MODEL FILE`', crate=None,
+    fn='check', generic='::<ListingFile, F>', use='use listing_form::ListingFile;', ans=None, args='alloc, inputs, Version::One, files', wrap='Checked',
+    answers='AnswersCheck ListingCase IsListingFault holds i One', answers_use=LISTINGS + 'use Rattle.pc_ground.specs.declared.version.Version.TheVariants.{One}\n',
+    due='IsCheckDue ListingCase IsListingFault holds i', due_use=LISTINGS,
+    true='(m : WrittenModel) (c : Case) → Says ListingCase holds i m c\n    → IsTrueStatus m c status', true_proof='check_true listing_form a', due_proof='check_due listing_form a', due_proof_use='use Rattle.listing_form.proofs.ListingForm.{listing_form}',
     silent='λ m k says. (λ e. absurd (no_o e), λ e. absurd (no_u e))', lacks='LacksInput holds i'),
- 'verify86': dict(variant='VerifyListing', ctor='verify_listing', word='verify86', third=True, doc='`verify86 MODEL FILE CERT`', crate=None,
-    fn='verify', generic='::<ListingFile, F>', use='', ans=None, wrap='Verified',
-    answers='AnswersVerify ListingCase IsListingFault holds i certificate', answers_use='', due='IsVerifyDue ListingCase IsListingFault holds i certificate', due_use='',
-    true='(m : WrittenModel) (c : Case) → Says ListingCase holds i m c → IsTrueStatus m c status', true_proof='verify_true listing_form a', due_proof='verify_due listing_form a', due_proof_use='',
+ 'verify86': dict(crates=['x86_litmus', 'listing_form'], form='MODEL FILE CERTIFICATE', says='Does what verify does, on a listing of herd\'s X86 tests.', named=False, variant='VerifyListing', cdoc='so, with the name of a certificate', ctor='verify_listing', word='verify86', third=True, doc='`verify86 MODEL FILE CERT`', crate=None,
+    fn='verify', generic='::<ListingFile, F>', use='use listing_form::ListingFile;', ans=None, wrap='Verified',
+    answers='AnswersVerify ListingCase IsListingFault holds i certificate', answers_use=LISTINGS, due='IsVerifyDue ListingCase IsListingFault holds i certificate', due_use=LISTINGS,
+    true='(m : WrittenModel) (c : Case) → Says ListingCase holds i m c\n    → IsTrueStatus m c status', true_proof='verify_true listing_form a', due_proof='verify_due listing_form a', due_proof_use='use Rattle.listing_form.proofs.ListingForm.{listing_form}',
     silent='λ m k says. (λ e. absurd (no_o e), λ e. absurd (no_u e))', lacks='LacksInput holds i ⊎ LacksThird ListingCase holds i certificate'),
- 'lifted': dict(variant='VerifyLifted', ctor='verify_lifted', word='verify-lifted', third=True, doc='`verify-lifted MODEL TEST CERT`', crate='lifted_command',
+ 'lifted': dict(crates=['lifted_command'], form='MODEL TEST CERTIFICATE', says='Says whether a third file is a lifted refutation of the two, or which line of it is refused.', named=False, variant='VerifyLifted', cdoc='with the name of a lifted refutation', ctor='verify_lifted', word='verify-lifted', third=True, doc='`verify-lifted MODEL TEST CERT`', crate='lifted_command',
     fn='verify_lifted', generic='::<TestFile, F>', use='use lifted_command::verify_lifted;', ans='Lifted', anstype='Lifted',
     ansdoc='`verify-lifted` finds the third file to be this.', ansuse='use lifted_command::{lifted_status, write_lifted};', write='write_lifted(out, *lifted)', status='lifted_status(*lifted)',
     writable='⊤', bind='lifted',
     answers='AnswersLifted CaseOf IsTestFault holds i certificate', answers_use='use Rattle.lifted_command.specs.LiftedAnswers.{AnswersLifted}',
     due='IsLiftedDue CaseOf IsTestFault holds i certificate', due_use='use Rattle.lifted_command.specs.LiftedAnswers.{IsLiftedDue}',
-    true='(m : WrittenModel) (c : Case) → Says CaseOf holds i m c → IsTrueStatus m c status',
+    true='(m : WrittenModel) (c : Case) → Says CaseOf holds i m c\n    → IsTrueStatus m c status',
     text='lifted_text l', text_use='use Rattle.lifted_command.specs.LiftedTexts.{lifted_status, lifted_text}', var='l', stat='lifted_status l', antt='a_lifted',
     due_proof='lifted_due test_form a', due_proof_use='use Rattle.lifted_command.proofs.LiftedOutcomes.{lifted_true, lifted_due}', true_proof='lifted_true test_form a',
     silent='λ m k says. (λ e. absurd (no_o e), λ e. absurd (no_u e))', lacks='LacksInput holds i ⊎ LacksThird CaseOf holds i certificate'),
 }
-exec(open(os.path.join(os.path.dirname(os.path.abspath(__file__)), 'names.py')).read())  # overrides
 
 for k in wanted:
     t = T[k]; third = t['third']; v, c = t['variant'], t['ctor']
     pat = f'{c} i certificate' if third else f'{c} i'
+    # --- the tables at the top
+    if f"codes \"{t['word']}\"" in rd('specs/Command.antt'):
+        print(f'{k} is in already')
+        continue
+    at = os.path.join(root, 'crates.txt'); s = open(at, encoding='utf-8').read()
+    line = re.search(r'(?m)^pipecheck_run:.*$', s).group(0)
+    more = [c for c in t['crates'] if c not in line.split()]
+    s = s.replace(line, line.replace(' gen_command', ''.join(' ' + c for c in more) + ' gen_command'), 1); open(at, 'w', encoding='utf-8').write(s)
+    at = os.path.join(root, 'commands'); s = open(at, encoding='utf-8').read()
+    s = s.replace('program|gen|', f"program|{t['word']}|{t['form']}|{t['says']}\nprogram|gen|", 1); open(at, 'w', encoding='utf-8').write(s)
     # --- src/command.rt
     fields = ' {\n        inputs: Inputs<\'a>,\n        certificate: &\'a str,\n    }' if third else "(Inputs<'a>)"
     sub('src/command.rt', '    /// `gen N`, with N from 2 to 16\n', f'    /// {t["doc"]}\n    {v}{fields},\n    /// `gen N`, with N from 2 to 16\n')
@@ -75,7 +96,7 @@ for k in wanted:
 '''
     sub('src/command.rt', '    let n = cores_behind(words)?;', p + '    let n = cores_behind(words)?;')
     # --- specs/Command.antt
-    sub('specs/Command.antt', '  -- a number of cores\n', f'  {c} : Inputs → {"List ℕ → " if third else ""}Command\n  -- a number of cores\n')
+    sub('specs/Command.antt', '  -- a number of cores\n', f'  -- {t["cdoc"]}\n  {c} : Inputs → {"List ℕ → " if third else ""}Command\n  -- a number of cores\n')
     sub('specs/Command.antt', ', Gen}', f', {v}, Gen}}')
     sub('specs/Command.antt', 'plain_command (Gen n) = gen n', (f'plain_command ({v} i certificate) = {c} (plain_inputs i) certificate.now' if third else f'plain_command ({v} i) = {c} (plain_inputs i)') + '\nplain_command (Gen n) = gen n')
     sub('specs/Command.antt', 'words_of (gen n) =', f'words_of ({pat}) = codes "{t["word"]}" ∷ i.model ∷ i.test ∷ ' + ('certificate ∷ []' if third else '[]') + '\nwords_of (gen n) =')
@@ -83,23 +104,26 @@ for k in wanted:
     sub('specs/Command.antt', 'inputs_of (gen n) = None', f'inputs_of ({pat}) = Some i\ninputs_of (gen n) = None')
     # --- specs/Answers.antt
     imp('specs/Answers.antt', c)
-    if t['answers_use']: sub('specs/Answers.antt', 'use Rattle.gen_command.specs.GenAnswers', t['answers_use'] + '\nuse Rattle.gen_command.specs.GenAnswers')
+    uses('specs/Answers.antt', t['answers_use'], 'use Rattle.gen_command.specs.GenAnswers')
     sub('specs/Answers.antt', 'AnswersCommand holds (gen n)', f'AnswersCommand holds ({pat}) = {t["answers"]}\nAnswersCommand holds (gen n)')
     sub('specs/Answers.antt', 'Lacks holds (gen n)', f'Lacks holds ({pat}) = {t["lacks"]}\nLacks holds (gen n)')
     # --- specs/Headline.antt
     imp('specs/Headline.antt', c)
-    if t['due_use']: sub('specs/Headline.antt', 'use Rattle.gen_command.specs.GenAnswers', t['due_use'] + '\nuse Rattle.gen_command.specs.GenAnswers')
+    uses('specs/Headline.antt', t['due_use'], 'use Rattle.gen_command.specs.GenAnswers')
     sub('specs/Headline.antt', 'IsTrueTo holds (gen n) status', f'IsTrueTo holds ({pat}) status = {t["true"]}\nIsTrueTo holds (gen n) status')
     sub('specs/Headline.antt', 'IsDueTo holds (gen n)', f'IsDueTo holds ({pat}) = {t["due"]}\nIsDueTo holds (gen n)')
     # --- proofs/OneCommand.antt
     imp('proofs/OneCommand.antt', c)
     built = f'{c} (inputs_at words) (name_at 3 words)' if third else f'{c} (inputs_at words)'
-    sub('proofs/OneCommand.antt', '    (gen (number_in 16 (name_at 1 words)))', f'    (cond (pointwise nat_eq (name_at 0 words) (codes "{t["word"]}")) ({built})\n    (gen (number_in 16 (name_at 1 words)))')
-    s = rd('proofs/OneCommand.antt'); i = s.index('(gen (number_in 16 (name_at 1 words)))'); j = s.index('\n', i); s = s[:j] + ')' + s[j:]; wr('proofs/OneCommand.antt', s)
+    sub('proofs/OneCommand.antt', '    ∷ []) (gen (number_in 16 (name_at 1 words)))', f'    ∷ (codes "{t["word"]}", {built})\n    ∷ []) (gen (number_in 16 (name_at 1 words)))')
     sub('proofs/OneCommand.antt', 'spelt (gen n) within =', f'spelt ({pat}) within = refl\nspelt (gen n) within =')
+    no = 'no_' + re.sub(r'\W', '_', t['word'])
+    form = f'(i : Inputs){" (third : List ℕ)" if third else ""} → words ≡ codes "{t["word"]}" ∷ i.model ∷ i.test ∷ ' + ('third ∷ []' if third else '[]') + ' → ⊥'
+    sub('proofs/OneCommand.antt', '    (no_gen : ', f'    ({no} : {form})\n    (no_gen : ')
+    sub('proofs/OneCommand.antt', '  no_form (gen n) is', f'  no_form ({pat}) is = {no} i {"certificate " if third else ""}is.0\n  no_form (gen n) is')
     # --- proofs/Headline.antt
     imp('proofs/Headline.antt', c)
-    if t['due_proof_use']: sub('proofs/Headline.antt', 'use Rattle.gen_command.proofs.GenOutcomes', t['due_proof_use'] + '\nuse Rattle.gen_command.proofs.GenOutcomes')
+    uses('proofs/Headline.antt', t['due_proof_use'], 'use Rattle.gen_command.proofs.GenOutcomes')
     sub('proofs/Headline.antt', 'true_to holds status text (gen n) a', f'true_to holds status text ({pat}) a = {t["true_proof"]}\ntrue_to holds status text (gen n) a')
     sub('proofs/Headline.antt', 'due_to holds status text (gen n) a', f'due_to holds status text ({pat}) a = {t["due_proof"]}\ndue_to holds status text (gen n) a')
     sub('proofs/Headline.antt', 'silent_true holds status no_o no_u (gen n)', f'silent_true holds status no_o no_u ({pat}) = {t["silent"]}\nsilent_true holds status no_o no_u (gen n)')
@@ -113,8 +137,9 @@ for k in wanted:
         s = s.replace('        Answer::Generated(_) => Status::Done', f'        Answer::{a}({b}) => {st},\n        Answer::Generated(_) => Status::Done', 1)
         wr('src/answer.rt', s)
         sub('specs/AnswerTexts.antt', 'Generated as a_report', f'{a} as {t["antt"]}, Generated as a_report')
-        sub('specs/AnswerTexts.antt', 'use Rattle.gen_command.specs.Reports', t['text_use'] + '\nuse Rattle.gen_command.specs.Reports')
+        uses('specs/AnswerTexts.antt', t['text_use'], 'use Rattle.gen_command.specs.Reports')
         x = t['var']
+        if 'prelude' in t: sub('specs/AnswerTexts.antt', 'use Rattle.std.specs.Prelude.{⊤, ℕ, List}', 'use Rattle.std.specs.Prelude.{' + t['prelude'] + '⊤, ℕ, List, length}')
         sub('specs/AnswerTexts.antt', 'answer_text (a_report r)', f'answer_text ({t["antt"]} {x}) = {t["text"]}\nanswer_text (a_report r)')
         sub('specs/AnswerTexts.antt', 'answer_status (a_report r)', f'answer_status ({t["antt"]} {x}) = {t["stat"]}\nanswer_status (a_report r)')
         sub('specs/AnswerTexts.antt', 'CanBeWritten (a_report r)', f'CanBeWritten ({t["antt"]} {x}) = {t["writable"]}\nCanBeWritten (a_report r)')
@@ -148,7 +173,7 @@ fn {name}<F: Files>(
 ''' if third else f'        Command::{v}(inputs) => {call},\n'
     sub('src/top.rt', '        Command::Gen(n) => gen_answer', arm + '        Command::Gen(n) => gen_answer')
     sub('src/top.rt', 'verify as verify_of,', f'verify as verify_of, {c} as {c}_of,')
-    if t['use']: sub('src/top.rt', 'use gen_command::generate;', t['use'] + '\nuse gen_command::generate;')
+    uses('src/top.rt', t['use'], 'use gen_command::generate;')
     sub('proofs/top/answer_to/Answers.antt', 'pub returns-in-Check-clause-outcome :', f'''pub returns-in-{v}-clause-outcome : goal.returns-in-{v}-clause-outcome
 returns-in-{v}-clause-outcome g c = rw c.in-{v}.is c.{name}.ensures.outcome
 

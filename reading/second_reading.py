@@ -4,6 +4,7 @@
     second_reading.py check MODEL TEST         the verdict with its certificate
     second_reading.py check2 MODEL TEST        the same; a refutation is of version 2
     second_reading.py verify MODEL TEST CERT   whether CERT is a certificate of this model and test
+    second_reading.py core MODEL TEST          a minimal set of axioms that forbid the outcome, with certificates
     second_reading.py check86 MODEL FILE       as check, of a listing of herd's for X86
     second_reading.py verify86 MODEL FILE CERT as verify, of a listing
     second_reading.py sweep MODEL PATTERN      whether each combination of what the open reads may get is observable
@@ -12,10 +13,11 @@
 
 The modules are in second/. All text goes to standard output, in the lines and with the exit statuses that the program
 has: 0 observable, 1 unobservable, 2 words that are no command, 3 a file with a fault, 4 a file that cannot be read, 6 a
-refused certificate. The verdict of `check`, `check2` and `check86` is found in two ways, by a search of this reading's own and
-by one that makes the program's choices and gives the text; they have to agree, and the certificate is judged before it is
-written. `verify` and `verify86` judge certificates of version 1 and of version 2. `sweep` ends with 0 and takes the search
-of this reading's own alone; the witness of an observable row is judged by the written axioms.
+refused certificate; of `core` and `sweep` 0 where no file has a fault. The verdict of `check`, `check2` and `check86` is found
+in two ways, by a search of this reading's own and by one that makes the program's choices and gives the text; they have to
+agree, and the certificate is judged before it is written. So is each certificate of `core`. `verify` and `verify86` judge
+certificates of version 1 and of version 2. `sweep` takes the search of this reading's own alone; the witness of an observable
+row is judged by the written axioms.
 """
 import signal
 import sys
@@ -23,6 +25,7 @@ from typing import Callable, TextIO, TypeVar
 
 from second.answering import Clash, Graph, Step, answer
 from second.cases import Case, read_case
+from second.cores import minimal_set, with_axioms, without
 from second.dimacs import write_dimacs
 from second.evaluating import false_axioms
 from second.grounding import ground
@@ -40,7 +43,9 @@ from second.tokens import Fault
 Read = TypeVar("Read", Model, Case, Pattern)
 Second = TypeVar("Second", Case, Pattern)
 LIMIT = 1_048_576
-WORDS = {"check": 3, "check2": 3, "check86": 3, "verify": 4, "verify86": 4, "sweep": 3, "dimacs": 3, "smt": 3}
+WORDS = {
+    "check": 3, "check2": 3, "check86": 3, "core": 3, "verify": 4, "verify86": 4, "sweep": 3, "dimacs": 3, "smt": 3,
+}
 
 
 class Refused(Exception):
@@ -123,6 +128,18 @@ def check(model: Model, case: Case, version: int = 1) -> tuple[str, int]:
     return text, 0 if is_observable else 1
 
 
+def core(model: Model, case: Case) -> tuple[str, int]:
+    """A minimal set of axioms that forbid the outcome, with the certificates that `check` writes of them."""
+    kept = minimal_set(model, case)
+    if kept is None:
+        return f"core none\n{check(model, case)[0]}end\n", 0
+    text = f"core {len(kept)}\n" + "".join(f"axiom {number}\n" for number in kept)
+    text += f"refutation\n{check(with_axioms(model, kept), case)[0]}"
+    for number in kept:
+        text += f"without {number}\n{check(with_axioms(model, without(kept, number)), case)[0]}"
+    return f"{text}end\n", 0
+
+
 def verify(model: Model, case: Case, data: bytes) -> tuple[str, int]:
     """What is to be said of a certificate, and the exit status."""
     try:
@@ -145,6 +162,8 @@ def run(words: list[str], out: TextIO) -> int:
         model, case = read_both(words[1], words[2], read_listing if words[0].endswith("86") else read_case)
         if words[0].startswith("check"):
             text, status = check(model, case, 2 if words[0] == "check2" else 1)
+        elif words[0] == "core":
+            text, status = core(model, case)
         elif words[0].startswith("verify"):
             with open(words[3], "rb") as file:
                 text, status = verify(model, case, file.read())

@@ -6,8 +6,9 @@ use Rattle.command_base.specs.Inputs.{Contents}
 use Rattle.command_base.proofs.TestForm.{test_form}
 use Rattle.check_command.proofs.CheckOutcomes.{check_true, check_due}
 use Rattle.verify_command.proofs.VerifyOutcomes.{verify_true, verify_due}
+use Rattle.core_command.proofs.CoreOutcomes.{core_due}
 use Rattle.gen_command.proofs.GenOutcomes.{gen_due}
-use Rattle.pipecheck_run.specs.Command.{Command, check, verify, gen, IsCommand}
+use Rattle.pipecheck_run.specs.Command.{Command, check, verify, find_core, gen, IsCommand}
 use Rattle.pipecheck_run.specs.Answers.{Answers, usage, answered, AnswersCommand}
 use Rattle.pipecheck_run.specs.Headline.{IsTrueTo, IsTrueOf, IsDueTo, IsDue}
 use Rattle.pipecheck_run.proofs.OneCommand.{one_command}
@@ -22,11 +23,13 @@ answer_to_command {words} {holds} {status} {text} (answered d other a) c is =
 true_to : (holds : Contents) (status : Status) (text : List ℕ) (c : Command) → AnswersCommand holds c status text → IsTrueTo holds c status
 true_to holds status text (check version i) a = check_true test_form a
 true_to holds status text (verify i certificate) a = verify_true test_form a
+true_to holds status text (find_core i) a = tt
 true_to holds status text (gen n) a = tt
 
 due_to : (holds : Contents) (status : Status) (text : List ℕ) (c : Command) → AnswersCommand holds c status text → IsDueTo holds c status
 due_to holds status text (check version i) a = check_due test_form a
 due_to holds status text (verify i certificate) a = verify_due test_form a
+due_to holds status text (find_core i) a = core_due test_form a
 due_to holds status text (gen n) a = gen_due a
 
 pub answer_true : {words : List (List ℕ)} {holds : Contents} {status : Status} {text : List ℕ}
@@ -41,6 +44,7 @@ answer_due {holds = holds} {status = status} {text = text} a c is = due_to holds
 silent_true : (holds : Contents) (status : Status) → status ≢ Observable → status ≢ Unobservable → (c : Command) → IsTrueTo holds c status
 silent_true holds status no_o no_u (check version i) = λ m k says. (λ e. absurd (no_o e), λ e. absurd (no_u e))
 silent_true holds status no_o no_u (verify i certificate) = λ m k says. (λ e. absurd (no_o e), λ e. absurd (no_u e))
+silent_true holds status no_o no_u (find_core i) = tt
 silent_true holds status no_o no_u (gen n) = tt
 
 -- the status of a run is true, as some answer has it where nothing failed

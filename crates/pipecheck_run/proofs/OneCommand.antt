@@ -7,7 +7,7 @@ use Rattle.std.proofs.lemmas.Bool.{cases_order}
 use Rattle.std.proofs.lemmas.Fmt.{decimal_injective}
 use Rattle.pc_ground.specs.declared.version.Version.TheVariants.{One, Two}
 use Rattle.command_base.specs.Inputs.{Inputs}
-use Rattle.pipecheck_run.specs.Command.{Command, check, verify, gen, words_of, IsWithin, IsCommand, IsNoCommand}
+use Rattle.pipecheck_run.specs.Command.{Command, check, verify, find_core, gen, words_of, IsWithin, IsCommand, IsNoCommand}
 
 name_at : ℕ → List (List ℕ) → List ℕ
 name_at k [] = []
@@ -43,19 +43,27 @@ number_found (suc k) n few some small =
         (same_text (decimal n) (decimal (suc k)) (sym e)))
     go false e rest = rest (below (differ e) (cases_order n (suc k)))
 
+-- the command beside this word, or this one where there is none
+by_word : List ℕ → List (List ℕ × Command) → Command → Command
+by_word word [] last = last
+by_word word (p ∷ ps) last = cond (pointwise nat_eq word p.0) p.1 (by_word word ps last)
+
 -- the command that the first word tells
 command_by : List (List ℕ) → Command
 command_by words =
-    cond (pointwise nat_eq (name_at 0 words) (codes "check")) (check One (inputs_at words))
-    (cond (pointwise nat_eq (name_at 0 words) (codes "check2")) (check Two (inputs_at words))
-    (cond (pointwise nat_eq (name_at 0 words) (codes "verify")) (verify (inputs_at words) (name_at 3 words))
-    (gen (number_in 16 (name_at 1 words)))))
+    by_word (name_at 0 words) (
+    (codes "check", check One (inputs_at words))
+    ∷ (codes "check2", check Two (inputs_at words))
+    ∷ (codes "verify", verify (inputs_at words) (name_at 3 words))
+    ∷ (codes "core", find_core (inputs_at words))
+    ∷ []) (gen (number_in 16 (name_at 1 words)))
 
 spelt : (c : Command) → IsWithin c → command_by (words_of c) ≡ c
-unfolding name_at inputs_at command_by
+unfolding name_at inputs_at by_word command_by
 spelt (check One i) within = refl
 spelt (check Two i) within = refl
 spelt (verify i certificate) within = refl
+spelt (find_core i) within = refl
 spelt (gen n) within = ap gen (let some = within.0 in number_found 16 n (omega arith) (omega arith) within.1)
 
 pub one_command : (words : List (List ℕ)) (c d : Command) → IsCommand words c → IsCommand words d → c ≡ d
@@ -64,12 +72,15 @@ one_command words c d x y = sym (spelt c x.1) ∙ ap command_by (sym x.0 ∙ y.0
 pub within_of : (words : List (List ℕ)) (c : Command) → IsCommand words c → IsWithin c
 within_of words c is = is.1
 
--- words of no form
-pub no_form : (words : List (List ℕ)) → ((i : Inputs) → words ≡ codes "check" ∷ i.model ∷ i.test ∷ [] → ⊥)
-    → ((i : Inputs) → words ≡ codes "check2" ∷ i.model ∷ i.test ∷ [] → ⊥)
-    → ((i : Inputs) (third : List ℕ) → words ≡ codes "verify" ∷ i.model ∷ i.test ∷ third ∷ [] → ⊥)
-    → ((n : ℕ) → IsCommand words (gen n) → ⊥) → IsNoCommand words
-no_form words no_check no_check2 no_verify no_gen (check One i) is = no_check i is.0
-no_form words no_check no_check2 no_verify no_gen (check Two i) is = no_check2 i is.0
-no_form words no_check no_check2 no_verify no_gen (verify i certificate) is = no_verify i certificate is.0
-no_form words no_check no_check2 no_verify no_gen (gen n) is = no_gen n is
+module _ (words : List (List ℕ)) (no_check : (i : Inputs) → words ≡ codes "check" ∷ i.model ∷ i.test ∷ [] → ⊥)
+    (no_check2 : (i : Inputs) → words ≡ codes "check2" ∷ i.model ∷ i.test ∷ [] → ⊥)
+    (no_verify : (i : Inputs) (third : List ℕ) → words ≡ codes "verify" ∷ i.model ∷ i.test ∷ third ∷ [] → ⊥)
+    (no_core : (i : Inputs) → words ≡ codes "core" ∷ i.model ∷ i.test ∷ [] → ⊥)
+    (no_gen : (n : ℕ) → IsCommand words (gen n) → ⊥) where
+  -- words of no form
+  pub no_form : IsNoCommand words
+  no_form (check One i) is = no_check i is.0
+  no_form (check Two i) is = no_check2 i is.0
+  no_form (verify i certificate) is = no_verify i certificate is.0
+  no_form (find_core i) is = no_core i is.0
+  no_form (gen n) is = no_gen n is

@@ -8,8 +8,9 @@ use Rattle.command_base.specs.Inputs.{Contents, LacksInput}
 use Rattle.command_base.specs.Outcomes.{LacksThird}
 use Rattle.check_command.specs.CheckAnswers.{AnswersCheck}
 use Rattle.verify_command.specs.VerifyAnswers.{AnswersVerify}
+use Rattle.core_command.specs.CoreAnswers.{AnswersCore}
 use Rattle.gen_command.specs.GenAnswers.{AnswersGen}
-use Rattle.pipecheck_run.specs.Command.{Command, check, verify, gen, IsCommand, IsNoCommand}
+use Rattle.pipecheck_run.specs.Command.{Command, check, verify, find_core, gen, IsCommand, IsNoCommand}
 
 abbrev pub usage_text : List ℕ
 usage_text = codes "pipecheck: bad command line\n"
@@ -18,6 +19,7 @@ usage_text = codes "pipecheck: bad command line\n"
 abbrev pub AnswersCommand : Contents → Command → Status → List ℕ → Type 0
 AnswersCommand holds (check version i) = AnswersCheck CaseOf IsTestFault holds i version
 AnswersCommand holds (verify i certificate) = AnswersVerify CaseOf IsTestFault holds i certificate
+AnswersCommand holds (find_core i) = AnswersCore CaseOf IsTestFault holds i
 AnswersCommand holds (gen n) = AnswersGen n
 
 -- the answer to the words, where the names hold these contents, with its text
@@ -30,6 +32,7 @@ pub data Answers (words : List (List ℕ)) (holds : Contents) : Status → List 
 abbrev pub Lacks : Contents → Command → Type 0
 Lacks holds (check version i) = LacksInput holds i
 Lacks holds (verify i certificate) = LacksInput holds i ⊎ LacksThird CaseOf holds i certificate
+Lacks holds (find_core i) = LacksInput holds i
 Lacks holds (gen n) = ⊥
 
 -- so it is with the command that the words are

@@ -5,13 +5,15 @@ use Rattle.pc_ground.specs.declared.version.Version.{Version}
 use Rattle.pc_ground.specs.declared.version.Version.TheVariants.{One, Two}
 use Rattle.command_base.specs.Inputs.{Inputs, plain_inputs}
 use Rattle.pipecheck_run.specs.declared.command.Command.{Command as CodeCommand}
-use Rattle.pipecheck_run.specs.declared.command.Command.TheVariants.{Check, Verify, Gen}
+use Rattle.pipecheck_run.specs.declared.command.Command.TheVariants.{Check, Verify, Core, Gen}
 
 pub data Command : Type 0 where
   -- with refutations of this version
   check : Version → Inputs → Command
   -- with the name of a certificate
   verify : Inputs → List ℕ → Command
+  -- which axioms forbid the outcome
+  find_core : Inputs → Command
   -- a number of cores
   gen : ℕ → Command
 
@@ -19,6 +21,7 @@ pub data Command : Type 0 where
 abbrev pub plain_command : CodeCommand → Command
 plain_command (Check version i) = check version (plain_inputs i)
 plain_command (Verify i certificate) = verify (plain_inputs i) certificate.now
+plain_command (Core i) = find_core (plain_inputs i)
 plain_command (Gen n) = gen n
 
 -- the words by which a command is spelt; no two commands have one first word
@@ -26,12 +29,14 @@ abbrev pub words_of : Command → List (List ℕ)
 words_of (check One i) = codes "check" ∷ i.model ∷ i.test ∷ []
 words_of (check Two i) = codes "check2" ∷ i.model ∷ i.test ∷ []
 words_of (verify i certificate) = codes "verify" ∷ i.model ∷ i.test ∷ certificate ∷ []
+words_of (find_core i) = codes "core" ∷ i.model ∷ i.test ∷ []
 words_of (gen n) = codes "gen" ∷ decimal n ∷ []
 
 -- the command is within its limits
 abbrev pub IsWithin : Command → Type 0
 IsWithin (check version i) = ⊤
 IsWithin (verify i certificate) = ⊤
+IsWithin (find_core i) = ⊤
 IsWithin (gen n) = (2 ≤ n) × (n ≤ 16)
 
 abbrev pub IsCommand : List (List ℕ) → Command → Type 0
@@ -44,6 +49,7 @@ IsNoCommand words = (c : Command) → IsCommand words c → ⊥
 abbrev pub inputs_of : Command → Option Inputs
 inputs_of (check version i) = Some i
 inputs_of (verify i certificate) = Some i
+inputs_of (find_core i) = Some i
 inputs_of (gen n) = None
 
 -- the command reads files only if clauses say what they hold

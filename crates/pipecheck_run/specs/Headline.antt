@@ -9,17 +9,19 @@ use Rattle.command_base.specs.Inputs.{Contents, Says}
 use Rattle.command_base.specs.VerdictStatus.{IsTrueStatus}
 use Rattle.check_command.specs.CheckAnswers.{IsCheckDue}
 use Rattle.verify_command.specs.VerifyAnswers.{IsVerifyDue}
+use Rattle.core_command.specs.CoreAnswers.{IsCoreDue}
 use Rattle.gen_command.specs.GenAnswers.{IsGenDue}
-use Rattle.pipecheck_run.specs.Command.{Command, check, verify, gen, IsCommand}
+use Rattle.pipecheck_run.specs.Command.{Command, check, verify, find_core, gen, IsCommand}
 
 -- what the statuses of a verdict say to a command: observable only where some choice of nodes with some strict order
--- makes every axiom true of the case, and unobservable only where none does; whatever a third file holds. `gen` has no
--- such status
+-- makes every axiom true of the case, and unobservable only where none does; whatever a third file holds. `core` and
+-- `gen` have no such status
 abbrev pub IsTrueTo : Contents → Command → Status → Type 0
 IsTrueTo holds (check version i) status = (m : WrittenModel) (c : Case) → Says CaseOf holds i m c
     → IsTrueStatus m c status
 IsTrueTo holds (verify i certificate) status = (m : WrittenModel) (c : Case) → Says CaseOf holds i m c
     → IsTrueStatus m c status
+IsTrueTo holds (find_core i) status = ⊤
 IsTrueTo holds (gen n) status = ⊤
 
 abbrev pub IsTrueOf : List (List ℕ) → Contents → Status → Type 0
@@ -29,6 +31,7 @@ IsTrueOf words holds status = (c : Command) → IsCommand words c → IsTrueTo h
 abbrev pub IsDueTo : Contents → Command → Status → Type 0
 IsDueTo holds (check version i) = IsCheckDue CaseOf IsTestFault holds i
 IsDueTo holds (verify i certificate) = IsVerifyDue CaseOf IsTestFault holds i certificate
+IsDueTo holds (find_core i) = IsCoreDue CaseOf IsTestFault holds i
 IsDueTo holds (gen n) = IsGenDue n
 
 abbrev pub IsDue : List (List ℕ) → Contents → Status → Type 0

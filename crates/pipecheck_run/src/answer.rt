@@ -4,6 +4,7 @@ ghost use Rattle.pipecheck_run.specs.AnswerTexts.{answer_text, answer_status, Ca
 
 use cert_check::Checked;
 use command_base::{Ending, ending_status, write_ending};
+use core_command::{FoundCore, write_core};
 use gen_command::{Report, write_report};
 use pc_common::{Failed, Sink, Status, write_all};
 use verdicts::{Verdict, verdict_status, write_verdict};
@@ -20,6 +21,8 @@ pub(crate) enum Answer {
     Checked(Verdict),
     /// `verify` finds the third file to be this.
     Verified(Checked),
+    /// `core` finds these axioms to forbid the outcome.
+    Core(FoundCore),
     /// `gen` finds this of the texts that it makes.
     Generated(Report),
 }
@@ -34,6 +37,7 @@ pub(crate) fn write_answer<K: Sink>(out: &mut K, answer: &Answer) -> Result<(), 
         Answer::Ended(ending) => write_ending(out, ending),
         Answer::Checked(verdict) => write_verdict(out, verdict),
         Answer::Verified(checked) => write_checked(out, *checked),
+        Answer::Core(found) => write_core(out, found),
         Answer::Generated(report) => write_report(out, report),
     }
 }
@@ -47,6 +51,7 @@ pub(crate) fn status(answer: &Answer) -> Status
         Answer::Ended(ending) => ending_status(ending),
         Answer::Checked(verdict) => verdict_status(verdict),
         Answer::Verified(checked) => checked_status(*checked),
+        Answer::Core(_) => Status::Done,
         Answer::Generated(_) => Status::Done,
     }
 }

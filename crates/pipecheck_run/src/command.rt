@@ -17,6 +17,8 @@ pub(crate) enum Command<'a> {
         inputs: Inputs<'a>,
         certificate: &'a str,
     },
+    /// `core MODEL TEST`
+    Core(Inputs<'a>),
     /// `gen N`, with N from 2 to 16
     Gen(u8),
 }
@@ -74,6 +76,9 @@ pub(crate) fn parse<'a>(words: &'a [String]) -> Option<Command<'a>>
             inputs,
             certificate,
         });
+    }
+    if let Some(inputs) = inputs_behind("core", words) {
+        return Some(Command::Core(inputs));
     }
     let n = cores_behind(words)?;
     Some(Command::Gen(n))

@@ -6,7 +6,7 @@ ghost use Rattle.pc_common.specs.Pieces.{IsCutShort};
 ghost use Rattle.pc_common.specs.declared.status.Status.TheVariants.{Usage as SUsage, ReadFault as SReadFault, WriteFault as SWriteFault, Memory as SMemory};
 ghost use Rattle.command_base.specs.Inputs.{plain_inputs};
 ghost use Rattle.gen_command.specs.GenAnswers.{IsGenOutcome};
-ghost use Rattle.pipecheck_run.specs.Command.{plain_command, check as check_of, verify as verify_of, IsNoCommand, IsIdle, IsKnown, IsWithin, inputs_of};
+ghost use Rattle.pipecheck_run.specs.Command.{plain_command, check as check_of, verify as verify_of, find_core as find_core_of, IsNoCommand, IsIdle, IsKnown, IsWithin, inputs_of};
 ghost use Rattle.pipecheck_run.specs.Answers.{Answers, usage_text, WordsLack};
 ghost use Rattle.pipecheck_run.specs.Headline.{IsTrueOf, IsDue};
 ghost use Rattle.pipecheck_run.specs.AnswerTexts.{answer_text, answer_status, CanBeWritten};
@@ -16,6 +16,7 @@ use super::answer::{Answer, status, write_answer};
 use super::command::{Command, parse};
 use check_command::check;
 use command_base::{Ending, Inputs, TestFile};
+use core_command::find_core;
 use gen_command::generate;
 use pc_common::{Failed, Files, Sink, Status};
 use pc_ground::Version;
@@ -56,6 +57,18 @@ fn verify_answer<F: Files>(
     }
 }
 
+/// The answer to `core MODEL TEST`.
+fn core_answer<F: Files>(alloc: Global, inputs: Inputs<'_>, files: &mut F) -> Answer
+    ensures outcome { IsCommandOutcome F.view (find_core_of (plain_inputs inputs.entry))
+        files.old files.new (answer_status result) (answer_text result) }
+    ensures writable { CanBeWritten result }
+{
+    match find_core::<TestFile, F>(alloc, inputs, files) {
+        Ok(found) => Answer::Core(found),
+        Err(ending) => Answer::Ended(ending),
+    }
+}
+
 /// The answer to `gen N`, which touches no file.
 fn gen_answer(alloc: Global, n: u8) -> Answer
     requires { 2 ≤ n × n ≤ 16 }
@@ -83,6 +96,7 @@ fn answer_to<F: Files>(alloc: Global, command: Command<'_>, files: &mut F) -> An
             inputs,
             certificate,
         } => verify_answer(alloc, inputs, certificate, files),
+        Command::Core(inputs) => core_answer(alloc, inputs, files),
         Command::Gen(n) => gen_answer(alloc, n),
     }
 }
@@ -130,7 +144,9 @@ fn tell<K: Sink>(out: &mut K, answer: &Answer) -> Status
 /// its certificate, or the first fault of the files. `check2 MODEL TEST` does the same with refutations of
 /// version 2, whose splits keep that their left side failed. `verify MODEL TEST CERT` reads the first two so,
 /// and where they have no fault the third, to its end or to one byte past 67,108,864: it writes the
-/// verdict whose certificate the third is, or the line at which it is refused, without a search. `gen N`,
+/// verdict whose certificate the third is, or the line at which it is refused, without a search. `core MODEL TEST`
+/// reads as `check` does, and names a minimal set of axioms that forbid the outcome, or none, each with certificates.
+/// `gen N`,
 /// with N from 2 to 16 in decimal, makes the two texts of the ring of N cores, searches as `check` does,
 /// and writes N, the verdict, and how many nodes, splits and leaves there are, or the first fault of the
 /// two texts. Other words are no command, and that is written.
@@ -149,8 +165,8 @@ fn tell<K: Sink>(out: &mut K, answer: &Answer) -> Status
 /// - `write_cause`: `WriteFault` comes only where a call of the sink failed.
 /// - `quiet`, `answers`, `short`: what was written.
 /// - `headline`, `due`: the verdict is true of the bytes of the two files, whatever a third holds, and it
-///   comes: from `check` and `check2` by the outcome, from `verify` by what the third file is. From `gen` `Done` comes,
-///   or `Refused` where its two texts have a fault.
+///   comes: from `check` and `check2` by the outcome, from `verify` by what the third file is. From `core` and `gen`
+///   `Done` comes, or `Refused` where the two texts have a fault.
 pub fn run<F: Files, K: Sink>(alloc: Global, words: &[String], files: &mut F, out: &mut K) -> Status
     ensures files { Reads F.view files.old files.new }
     ensures idle { IsIdle (map string_bytes words.now) → (files.new ≡ files.old) × (result ≢ SReadFault) }

@@ -8,6 +8,9 @@ returns-in-Gen-clause-outcome g c =
     rw c.in-Gen.is (gen_outcome (IsKnownTo (gen c.in-Gen.n) (g.F.Files.view c.args.files.now).modelled) c.args.files.now c.in-Gen.n
     (answer_status c.gen_answer.result) (answer_text c.gen_answer.result) c.gen_answer.ensures.outcome)
 
+pub returns-in-Core-clause-outcome : goal.returns-in-Core-clause-outcome
+returns-in-Core-clause-outcome g c = rw c.in-Core.is c.core_answer.ensures.outcome
+
 pub returns-in-Check-clause-outcome : goal.returns-in-Check-clause-outcome
 returns-in-Check-clause-outcome g c = rw c.in-Check.is c.check_answer.ensures.outcome
 

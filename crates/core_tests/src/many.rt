@@ -1,0 +1,65 @@
+//! Two hundred axioms, of which two matter.
+use example_texts::TWO_FORBIDDEN;
+use memory_runs::ends_over;
+use pc_common::{Memory, Status};
+use std::alloc::Global;
+use std::test::Fail;
+
+const NODE: &str = "Axiom \"node\": forall microops \"i\", NodeExists (i, S).\n";
+
+const ORDER: &str = "Axiom \"PO\": forall microops \"i\", forall microops \"j\",
+  ProgramOrder i j => AddEdge ((i, S), (j, S), \"po\").
+";
+
+const REVERSE: &str = "Axiom \"rev\": forall microops \"i\", forall microops \"j\",
+  ProgramOrder i j => AddEdge ((j, S), (i, S), \"rev\").
+";
+
+/// A model of two hundred axioms: program order is kept by the one of number 57, and reversed by the one of number 142.
+fn two_hundred_axioms(alloc: Global) -> Result<String, Memory> {
+    let mut text = String::new(alloc);
+    text.push_str("StageName 0 \"S\".\n")?;
+    for number in 0..200 {
+        let axiom = match number {
+            57 => ORDER,
+            142 => REVERSE,
+            _ => NODE,
+        };
+        text.push_str(axiom)?;
+    }
+    Ok(text)
+}
+
+const CORE: &str = "core 2
+axiom 57
+axiom 142
+refutation
+unobservable
+test forbidden: ok
+cycle 0.0@0:S 1.0@0:S
+end
+without 57
+observable
+test forbidden: BUG
+node 1.0@0:S
+node 0.0@0:S
+edge 1.0@0:S 0.0@0:S
+end
+without 142
+observable
+test forbidden: BUG
+node 0.0@0:S
+node 1.0@0:S
+edge 0.0@0:S 1.0@0:S
+end
+end
+";
+
+#[test]
+fn two_of_two_hundred_axioms_matter(rt: HostRuntime) -> Result<(), Fail> {
+    let model = two_hundred_axioms(rt.alloc())?;
+    let contents = &[("model", model.as_str()), ("test", TWO_FORBIDDEN)];
+    let end = (Status::Done, CORE);
+    assert!(rt; ends_over(rt.alloc(), "core model test", contents, (&[], &[]), end)?);
+    Ok(())
+}

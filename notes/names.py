@@ -1,3 +1,0 @@
-T['check86']['named'] = True
-T['verify86']['named'] = False
-T['lifted']['named'] = False
