@@ -1,5 +1,12 @@
 //! Which axioms forbid the outcome: a minimal set of them, with a certificate of each of its claims.
 //!
+//! ```rust
+//! // the axioms are `True` and `exists microop "i", True`, and the test has no micro-op
+//! if let Core::Minimal { kept, .. } = &core(alloc, &front)? {
+//!     assert!(rt; kept.len() == 1 && *kept.get(0) == 1);
+//! }
+//! ```
+//!
 //! `core` takes a front. Where the outcome is observable it returns the graph that the search finds. Where it is
 //! not, each axiom in file order is taken out if the rest still forbids the outcome. The axioms that stay forbid
 //! it, and without any one of them the others allow it. Each certificate is what the search finds on the ground

@@ -1,4 +1,5 @@
--- What a certificate is: a graph whose world satisfies, or a refutation of the ground tree. And what one may begin with.
+-- What a certificate is: a graph whose world satisfies, or a refutation of the ground tree. And what one may begin
+-- with.
 use Rattle.std.specs.Prelude.{◌≡◌, Bool, List, [], ◌∷◌, ◌++◌, map, All, IsTrue}
 use Rattle.pc_common.specs.Case.{Expectation}
 use Rattle.pc_common.specs.World.{Node, Edge, World}

@@ -18,7 +18,8 @@ judge_whole j raws = RawWhole (question_of j.front.now) raws
 
 abbrev pub judge_stands : CertificateJudge → List (List ℕ) → Type 0
 judge_stands j raws =
-    IsAsked (question_of j.front.now) × (j.names ≡ names_of j.front.now) × RawStands (question_of j.front.now) j.stage raws
+    IsAsked (question_of j.front.now) × (j.names ≡ names_of j.front.now)
+    × RawStands (question_of j.front.now) j.stage raws
 
 -- the checker is one of this question, and took this text
 pub record IsFed (c : Checker) (q : Question) (text : List ℕ) : Type 0 where

@@ -37,12 +37,24 @@ pub record RawStands (q : Question) (stage : Stage) (raws : List (List ℕ)) : T
 pub first_begins : (q : Question) (raws more : List (List ℕ)) → RawFirst q (raws ++ more) → RawFirst q raws
 first_begins q raws more b = record {
   more = more ++ b.more;
-  both = record { lines = b.both.lines; are = sym (append_assoc raws more b.more) ∙ b.both.are; begins = b.both.begins };
+  both = record {
+    lines = b.both.lines;
+    are = sym (append_assoc raws more b.more) ∙ b.both.are;
+    begins = b.both.begins;
+  };
 }
 
 pub taken_begins : (q : Question) (stage : Stage) (raws : List (List ℕ)) → RawStands q stage raws → RawFirst q raws
-taken_begins q stage raws st = record { more = []; both = record { lines = st.lines; are = append-nil raws ∙ st.are; begins = st.begins } }
+taken_begins q stage raws st =
+    record { more = []; both = record { lines = st.lines; are = append-nil raws ∙ st.are; begins = st.begins } }
 
 pub whole_begins : (q : Question) (raws : List (List ℕ)) → RawWhole q raws → RawFirst q raws
 whole_begins q raws w =
-    record { more = []; both = record { lines = w.lines; are = append-nil raws ∙ w.are; begins = whole w.verdict w.certificate } }
+    record {
+      more = [];
+      both = record {
+        lines = w.lines;
+        are = append-nil raws ∙ w.are;
+        begins = whole w.verdict w.certificate;
+      };
+    }

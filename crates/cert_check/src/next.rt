@@ -100,7 +100,8 @@ fn go_on<'a>(stage: &mut Stage<'a>, next: Option<Stage<'a>>) -> bool
 /// Takes the next line, so that the stage is the one after it. Answers whether a certificate goes on so.
 /// After false, or where memory is refused, nothing is said of the stage.
 ///
-/// A line of a graph or of a refutation changes the stage where it is.
+/// A line of a graph or of a refutation changes the stage where it is. Moving the stage from line to line cost a
+/// quarter of the time.
 pub(crate) fn advance<'a>(
     alloc: Global,
     front: &'a Front,

@@ -9,7 +9,8 @@ use Rattle.command_base.specs.VerdictStatus.{IsDueStatus}
 use Rattle.command_base.specs.Outcomes.{AnswersFiles, IsDueOfFiles}
 use Rattle.verdicts.specs.Certified.{IsCertified}
 
-module _ (case_of : List ℕ → Case → Type 0) (first_fault : List ℕ → List ℕ → InputFault → Type 0) (holds : Contents) (i : Inputs) where
+module _ (case_of : List ℕ → Case → Type 0) (first_fault : List ℕ → List ℕ → InputFault → Type 0) (holds : Contents)
+    (i : Inputs) where
   -- the refusal by the first fault, or the verdict with its certificate, a refutation being of this version
   abbrev pub AnswersCheck : Version → Status → List ℕ → Type 0
   AnswersCheck version = AnswersFiles case_of first_fault holds i (IsCertified version)

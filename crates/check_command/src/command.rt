@@ -12,7 +12,8 @@ use pc_ground::Version;
 use std::alloc::Global;
 use verdicts::{Verdict, verdict_on};
 
-/// Reads the two files and searches, with refutations of this version: the verdict on them, or how the command ends before it.
+/// Reads the two files and searches, with refutations of this version: the verdict on them, or how the command ends
+/// before it.
 pub fn check<S: SecondFile, F: Files>(
     alloc: Global,
     inputs: Inputs<'_>,

@@ -53,9 +53,11 @@ bytes_of Test model second = second
 bytes_of Query model second = []  -- no query is read
 
 -- the ending where the bytes of two files that were read say no front
-abbrev pub IsBytesEnding : (List ℕ → Case → Type 0) → (List ℕ → List ℕ → InputFault → Type 0) → List ℕ → List ℕ → Ending → Type 0
+abbrev pub IsBytesEnding : (List ℕ → Case → Type 0) → (List ℕ → List ℕ → InputFault → Type 0) → List ℕ → List ℕ → Ending
+    → Type 0
 IsBytesEnding case_of first_fault model second (a_refusal r) =
-    first_fault model second r.fault × IsOfTwo r.fault.file × SaysNone case_of model second × IsPlaced (bytes_of r.fault.file model second) r
+    first_fault model second r.fault × IsOfTwo r.fault.file × SaysNone case_of model second
+    × IsPlaced (bytes_of r.fault.file model second) r
 IsBytesEnding case_of first_fault model second a_memory = ⊤
 IsBytesEnding case_of first_fault model second a_read_fault = ⊥
 

@@ -1,5 +1,5 @@
--- What the two files of a command say together, and their first fault. The form of the second file is two relations: which case its
--- bytes say, and which fault is the first of a model's bytes and its own.
+-- What the two files of a command say together, and their first fault. The form of the second file is two relations:
+-- which case its bytes say, and which fault is the first of a model's bytes and its own.
 use Rattle.std.specs.Prelude.{◌≡◌, ◌⊎◌, ℕ, ◌<◌, ◌≤◌, List, Option, Some, None, length}
 use Rattle.pc_common.specs.Case.{Case}
 use Rattle.pc_common.specs.declared.fault.FaultKind.TheVariants.{TooLarge}
@@ -42,14 +42,18 @@ abbrev pub too_large : Which → InputFault
 too_large file = fault_at file (TooLarge MAX_FILE) start
 
 -- the first fault: size as the files are read, the model's first; then that of the bytes of the two
-pub data IsFirstFault (first_fault : List ℕ → List ℕ → InputFault → Type 0) (holds : Contents) (i : Inputs) : InputFault → Type 0 where
+pub data IsFirstFault (first_fault : List ℕ → List ℕ → InputFault → Type 0) (holds : Contents) (i : Inputs)
+    : InputFault → Type 0 where
   large_model : IsTooLarge holds i.model → IsFirstFault first_fault holds i (too_large Model)
-  large_test : {mb : List ℕ} → IsRead holds i.model mb → IsTooLarge holds i.test → IsFirstFault first_fault holds i (too_large Test)
-  in_bytes : {mb tb : List ℕ} {fault : InputFault} → IsRead holds i.model mb → IsRead holds i.test tb → first_fault mb tb fault
+  large_test : {mb : List ℕ} → IsRead holds i.model mb → IsTooLarge holds i.test
+      → IsFirstFault first_fault holds i (too_large Test)
+  in_bytes : {mb tb : List ℕ} {fault : InputFault} → IsRead holds i.model mb → IsRead holds i.test tb
+      → first_fault mb tb fault
       → IsFirstFault first_fault holds i fault
 
 -- the model and the case that the two files say
-pub record Says (case_of : List ℕ → Case → Type 0) (holds : Contents) (i : Inputs) (m : WrittenModel) (c : Case) : Type 0 where
+pub record Says (case_of : List ℕ → Case → Type 0) (holds : Contents) (i : Inputs) (m : WrittenModel)
+    (c : Case) : Type 0 where
   pub model_bytes : List ℕ
   pub test_bytes : List ℕ
   pub model_read : IsRead holds i.model model_bytes

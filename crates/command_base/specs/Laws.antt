@@ -5,23 +5,28 @@ use Rattle.pc_common.specs.declared.fault.InputFault.{InputFault}
 use Rattle.pc_syntax.specs.Written.{WrittenModel}
 use Rattle.command_base.specs.Inputs.{Inputs, Contents, IsRead, Says, IsFirstFault}
 
-module _ (case_of : List ℕ → Case → Type 0) (first_fault : List ℕ → List ℕ → InputFault → Type 0) (holds : Contents) where
+module _ (case_of : List ℕ → Case → Type 0) (first_fault : List ℕ → List ℕ → InputFault → Type 0)
+    (holds : Contents) where
   -- the two files have one first fault
   abbrev pub HasOneFirstFault : Type 0
-  HasOneFirstFault = (i : Inputs) (f g : InputFault) → IsFirstFault first_fault holds i f → IsFirstFault first_fault holds i g → f ≡ g
+  HasOneFirstFault = (i : Inputs) (f g : InputFault) → IsFirstFault first_fault holds i f
+      → IsFirstFault first_fault holds i g → f ≡ g
 
   -- two files that are read say a model and a case, or have a first fault
   abbrev pub HasCaseOrFault : Type 0
   HasCaseOrFault =
       (i : Inputs) (model_bytes test_bytes : List ℕ) → IsRead holds i.model model_bytes → IsRead holds i.test test_bytes
-      → ((m : WrittenModel) × (c : Case) × Says case_of holds i m c) ⊎ ((f : InputFault) × IsFirstFault first_fault holds i f)
+      → ((m : WrittenModel) × (c : Case) × Says case_of holds i m c)
+      ⊎ ((f : InputFault) × IsFirstFault first_fault holds i f)
 
   -- two files say one model and one case
   abbrev pub HasOneCase : Type 0
   HasOneCase =
-      (i : Inputs) (m n : WrittenModel) (c d : Case) → Says case_of holds i m c → Says case_of holds i n d → (m ≡ n) × (c ≡ d)
+      (i : Inputs) (m n : WrittenModel) (c d : Case) → Says case_of holds i m c → Says case_of holds i n d
+      → (m ≡ n) × (c ≡ d)
 
   -- never both
   abbrev pub HasNoFaultBeside : Type 0
   HasNoFaultBeside =
-      (i : Inputs) (m : WrittenModel) (c : Case) (f : InputFault) → Says case_of holds i m c → IsFirstFault first_fault holds i f → ⊥
+      (i : Inputs) (m : WrittenModel) (c : Case) (f : InputFault) → Says case_of holds i m c
+      → IsFirstFault first_fault holds i f → ⊥

@@ -27,11 +27,12 @@ pub record HasFront {F : Type 0} (view : F → FilesView)
   pub says : IsTrue (view old).modelled → Says case_of (view old).holds i m c
   pub held : IsTrue (view old).only_missing_fail → LacksInput (view old).holds i → ⊥
 
--- a status with its text: Usage comes only where the words are no command, ReadFault only where a call failed, and over files of
--- which only missing names fail exactly where the order of work lacks a name; where the files are known, each status but ReadFault
--- and Memory says what it has to
+-- a status with its text: Usage comes only where the words are no command, ReadFault only where a call failed, and over
+-- files of which only missing names fail exactly where the order of work lacks a name; where the files are known, each
+-- status but ReadFault and Memory says what it has to
 pub record IsOutcome {F : Type 0} (view : F → FilesView)
-    (usage known lacks : Type 0) (says : Status → List ℕ → Type 0) (old new : F) (status : Status) (text : List ℕ) : Type 0 where
+    (usage known lacks : Type 0) (says : Status → List ℕ → Type 0) (old new : F) (status : Status)
+    (text : List ℕ) : Type 0 where
   pub keeps : Reads view old new
   pub usage_only : status ≡ Usage → usage
   pub cause : status ≡ ReadFault → Rose (view old).faults (view new).faults
@@ -39,16 +40,21 @@ pub record IsOutcome {F : Type 0} (view : F → FilesView)
   pub missing_due : IsTrue (view old).only_missing_fail → lacks → (status ≡ ReadFault) ⊎ (status ≡ Memory)
   pub answers : known → status ≢ ReadFault → status ≢ Memory → says status text
 
--- the answer to a command on two files: the refusal by their first fault, or what the command finds of the model and the case
-pub data AnswersFiles (case_of : List ℕ → Case → Type 0) (first_fault : List ℕ → List ℕ → InputFault → Type 0) (holds : Contents) (i : Inputs)
+-- the answer to a command on two files: the refusal by their first fault, or what the command finds of the model and
+-- the case
+pub data AnswersFiles (case_of : List ℕ → Case → Type 0) (first_fault : List ℕ → List ℕ → InputFault → Type 0)
+    (holds : Contents) (i : Inputs)
     (finds : WrittenModel → Case → Status → List ℕ → Type 0) : Status → List ℕ → Type 0 where
   refused : {status : Status} {text : List ℕ} → IsRefusal first_fault holds i status text
       → AnswersFiles case_of first_fault holds i finds status text
-  found : {m : WrittenModel} {c : Case} {status : Status} {text : List ℕ} → Says case_of holds i m c → finds m c status text
+  found : {m : WrittenModel} {c : Case} {status : Status} {text : List ℕ} → Says case_of holds i m c
+      → finds m c status text
       → AnswersFiles case_of first_fault holds i finds status text
 
--- the status that is due: Refused wherever the files have a fault, and what is due of the model and the case that they say
-pub record IsDueOfFiles (case_of : List ℕ → Case → Type 0) (first_fault : List ℕ → List ℕ → InputFault → Type 0) (holds : Contents) (i : Inputs)
+-- the status that is due: Refused wherever the files have a fault, and what is due of the model and the case that they
+-- say
+pub record IsDueOfFiles (case_of : List ℕ → Case → Type 0) (first_fault : List ℕ → List ℕ → InputFault → Type 0)
+    (holds : Contents) (i : Inputs)
     (due : WrittenModel → Case → Status → Type 0) (status : Status) : Type 0 where
   pub found : (m : WrittenModel) (c : Case) → Says case_of holds i m c → due m c status
   pub fault : (f : InputFault) → IsFirstFault first_fault holds i f → status ≡ Refused
@@ -62,11 +68,13 @@ pub record LacksThird (case_of : List ℕ → Case → Type 0) (holds : Contents
 
 module _ {F : Type 0} (view : F → FilesView)
     (case_of : List ℕ → Case → Type 0) (first_fault : List ℕ → List ℕ → InputFault → Type 0) (i : Inputs) where
-  -- the ending of a command at its two files: over (view files).modelled a refusal, beside which they say nothing, if it is no fault of the outside
+  -- the ending of a command at its two files: over (view files).modelled a refusal, beside which they say nothing, if
+  -- it is no fault of the outside
   abbrev pub IsInputsEnding : F → F → Ending → Type 0
   IsInputsEnding old new e =
       IsOutcome view ⊥ (IsTrue (view old).modelled) (LacksInput (view old).holds i)
-      (λ status text. IsRefusal first_fault (view old).holds i status text × ((m : WrittenModel) (c : Case) → Says case_of (view old).holds i m c → ⊥))
+      (λ status text. IsRefusal first_fault (view old).holds i status text
+      × ((m : WrittenModel) (c : Case) → Says case_of (view old).holds i m c → ⊥))
       old new (ending_status e) (ending_text e)
 
   -- the outcome of a command that reads two files, and finds this of what they say
@@ -76,7 +84,9 @@ module _ {F : Type 0} (view : F → FilesView)
       (AnswersFiles case_of first_fault (view old).holds i finds) old new status text
 
   -- the outcome of a command that reads a third file where the two have no fault
-  abbrev pub IsThirdOutcome : List ℕ → (WrittenModel → Case → Status → List ℕ → Type 0) → F → F → Status → List ℕ → Type 0
+  abbrev pub IsThirdOutcome : List ℕ → (WrittenModel → Case → Status → List ℕ → Type 0) → F → F → Status → List ℕ
+      → Type 0
   IsThirdOutcome third finds old new status text =
-      IsOutcome view ⊥ (IsTrue (view old).modelled) (LacksInput (view old).holds i ⊎ LacksThird case_of (view old).holds i third)
+      IsOutcome view ⊥ (IsTrue (view old).modelled)
+      (LacksInput (view old).holds i ⊎ LacksThird case_of (view old).holds i third)
       (AnswersFiles case_of first_fault (view old).holds i finds) old new status text

@@ -1,4 +1,5 @@
--- What a certificate of a model and a case is of: one definition, for the commands that write one and for those that judge one.
+-- What a certificate of a model and a case is of: one definition, for the commands that write one and for those that
+-- judge one.
 use Rattle.std.specs.Prelude.{map}
 use Rattle.pc_common.specs.Case.{Case}
 use Rattle.pc_common.specs.Lines.{Names}

@@ -22,6 +22,8 @@ name_of Test i = i.test
 name_of Query i = []  -- no query is read
 
 -- the two files are refused by their first fault
-pub data IsRefusal (first_fault : List ℕ → List ℕ → InputFault → Type 0) (holds : Contents) (i : Inputs) : Status → List ℕ → Type 0 where
-  refusal : {bytes : List ℕ} {fault : InputFault} → IsFirstFault first_fault holds i fault → holds (name_of fault.file i) ≡ Some bytes
+pub data IsRefusal (first_fault : List ℕ → List ℕ → InputFault → Type 0) (holds : Contents) (i : Inputs)
+    : Status → List ℕ → Type 0 where
+  refusal : {bytes : List ℕ} {fault : InputFault} → IsFirstFault first_fault holds i fault
+      → holds (name_of fault.file i) ≡ Some bytes
       → IsRefusal first_fault holds i Refused (refused_text bytes fault)

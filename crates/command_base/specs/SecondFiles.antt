@@ -31,15 +31,19 @@ IsOfTwo Test = ⊤
 IsOfTwo Query = ⊥
 
 -- a refusal is the first fault of the two, which then say nothing; want of memory is tied to nothing
-abbrev pub IsFrontEnd : (List ℕ → Case → Type 0) → (List ℕ → List ℕ → InputFault → Type 0) → List ℕ → List ℕ → FrontEnd → Type 0
+abbrev pub IsFrontEnd : (List ℕ → Case → Type 0) → (List ℕ → List ℕ → InputFault → Type 0) → List ℕ → List ℕ → FrontEnd
+    → Type 0
 IsFrontEnd case_of first_fault model second (Refused fault) =
     first_fault model second fault × IsOfTwo fault.file × SaysNone case_of model second
 IsFrontEnd case_of first_fault model second Memory = ⊤
 
 -- such files say one case at most, have one first fault at most, and either say a case or have a fault
-pub record IsForm (case_of : List ℕ → Case → Type 0) (first_fault : List ℕ → List ℕ → InputFault → Type 0) : Type 0 where
+pub record IsForm (case_of : List ℕ → Case → Type 0)
+    (first_fault : List ℕ → List ℕ → InputFault → Type 0) : Type 0 where
   pub one_case : (bytes : List ℕ) (c d : Case) → case_of bytes c → case_of bytes d → c ≡ d
-  pub one_fault : (model second : List ℕ) (f g : InputFault) → first_fault model second f → first_fault model second g → f ≡ g
+  pub one_fault : (model second : List ℕ) (f g : InputFault) → first_fault model second f → first_fault model second g
+      → f ≡ g
   pub no_fault : (model second : List ℕ) (f : InputFault) → first_fault model second f → SaysNone case_of model second
   pub some : (model second : List ℕ)
-      → ((m : WrittenModel) × (c : Case) × SaysModel model m × case_of second c) ⊎ ((f : InputFault) × first_fault model second f)
+      → ((m : WrittenModel) × (c : Case) × SaysModel model m × case_of second c)
+      ⊎ ((f : InputFault) × first_fault model second f)

@@ -6,7 +6,8 @@ use Rattle.pc_common.specs.declared.status.Status.TheVariants.{Observable as is_
 use Rattle.pc_syntax.specs.Written.{WrittenModel}
 use Rattle.pc_syntax.specs.Observable.{Observable}
 
--- observable only where some choice of nodes with some strict order makes every axiom true, and unobservable only where none does
+-- observable only where some choice of nodes with some strict order makes every axiom true, and unobservable only where
+-- none does
 abbrev pub IsTrueStatus : WrittenModel → Case → Status → Type 0
 IsTrueStatus m c status = (status ≡ is_observable → Observable m c) × (status ≡ is_unobservable → Observable m c → ⊥)
 

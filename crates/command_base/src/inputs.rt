@@ -62,7 +62,8 @@ fn bytes_of<'a>(file: Which, model: &'a [u8], second: &'a [u8]) -> &'a [u8]
 pub fn front_of<S: SecondFile>(alloc: Global, model: &[u8], second: &[u8]) -> Result<Front, Ending>
     requires model_short { length model.now ≤ MAX_FILE }
     requires second_short { length second.now ≤ MAX_FILE }
-    ensures { MatchResult result (SaysFront S.case_of model.now second.now) (IsBytesEnding S.case_of S.first_fault model.now second.now) }
+    ensures { MatchResult result (SaysFront S.case_of model.now second.now)
+        (IsBytesEnding S.case_of S.first_fault model.now second.now) }
 {
     match S::front(alloc, model, second) {
         Ok(front) => Ok(front),

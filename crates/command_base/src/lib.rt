@@ -1,4 +1,15 @@
-//! What the commands of `pipecheck` share: a model's file and a second one are read and judged, and a refusal is one line.
+//! What the commands of `pipecheck` share: a model's file and a second one are read and judged, and a refusal is one
+//! line.
+//!
+//! ```rust
+//! // a name that is not held has no bytes: a model without a line, and no test
+//! let mut files = SureFiles::new(Held::new(alloc));
+//! let inputs = Inputs { model: "m.uspec", test: "t.test" };
+//! if let Err(ending) = read_inputs::<TestFile, SureFiles>(alloc, inputs, &mut files) {
+//!     assert!(rt; write_ending(&mut sink, &ending).is_ok());
+//!     assert!(rt; sink.taken() == b"refused test syntax at 1:1\n".as_slice());
+//! }
+//! ```
 //!
 //! A command reads the model, then its second file, at most 1,048,576 bytes each: `read_inputs` returns what both
 //! say together as a `Front`, or the `Ending` of the command, which is a failed call, refused memory, or the first

@@ -1,6 +1,13 @@
 //! A front of its parts: the ground tree of closed axioms in a case, and the numbers of its nodes, beside
 //! the case, the stages and the axioms themselves.
 //!
+//! ```rust
+//! // the same test and stages without any axiom
+//! let case = front.case.copy(alloc)?;
+//! let idle = front_with(alloc, &front, case, Axioms::new(alloc))?;
+//! assert!(rt; idle.tree.len() == 1 && idle.tree.row(0).kind == RowKind::True);
+//! ```
+//!
 //! So a command that changes a case or drops axioms gets its front without the files being read again.
 #![tactic(auto)]
 

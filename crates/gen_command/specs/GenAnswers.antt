@@ -24,8 +24,10 @@ pub record IsRingReport (n : ℕ) (r : Report) : Type 0 where
 
 -- the refusal by the first fault of the two texts of the ring of n cores, or the report on them
 pub data AnswersGen (n : ℕ) : Status → List ℕ → Type 0 where
-  refused_ring : {fault : InputFault} → IsRingFault n fault → AnswersGen n Refused (refused_text (bytes_of fault.file ring_model (ring_test n)) fault)
-  reported_ring : {nodes splits leaves : ℕ} {m : WrittenModel} {c : Case} {v : Verdict} → SaysRing n m c → IsSummary m c v nodes splits leaves
+  refused_ring : {fault : InputFault} → IsRingFault n fault
+      → AnswersGen n Refused (refused_text (bytes_of fault.file ring_model (ring_test n)) fault)
+  reported_ring : {nodes splits leaves : ℕ} {m : WrittenModel} {c : Case} {v : Verdict} → SaysRing n m c
+      → IsSummary m c v nodes splits leaves
       → AnswersGen n Done (ring_text n v nodes splits leaves)
 
 -- done where the two texts have no fault, and refused where they have one

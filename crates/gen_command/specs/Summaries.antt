@@ -1,4 +1,5 @@
--- What is reported of a model and a case: the verdict, the number of nodes, and the numbers of lines of one certificate.
+-- What is reported of a model and a case: the verdict, the number of nodes, and the numbers of lines of one
+-- certificate.
 use Rattle.std.specs.Prelude.{◌≡◌, ℕ, Bool, true, false, not, List, length}
 use Rattle.std.specs.List.{filter}
 use Rattle.pc_common.specs.Case.{Case}
@@ -26,7 +27,8 @@ splits_of steps = length (filter splits steps)
 abbrev pub leaves_of : List (Step Node) → ℕ
 leaves_of steps = length (filter (λ s. not (splits s)) steps)
 
--- observable where some choice of nodes with some strict order makes every axiom true of the case, unobservable where none does
+-- observable where some choice of nodes with some strict order makes every axiom true of the case, unobservable where
+-- none does
 abbrev pub IsTrueVerdict : WrittenModel → Case → Verdict → Type 0
 IsTrueVerdict m c observable = Observable m c
 IsTrueVerdict m c unobservable = Observable m c → ⊥

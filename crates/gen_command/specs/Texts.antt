@@ -21,5 +21,7 @@ IsRingFault n fault = IsFaultOf ring_model (ring_test n) fault
 -- N, the verdict, and the numbers of nodes, of splits and of leaves
 abbrev pub ring_text : ℕ → Verdict → ℕ → ℕ → ℕ → List ℕ
 ring_text n v nodes splits leaves =
-    codes "gen " ++ decimal n ++ codes "\n" ++ verdict_text v ++ codes "\n" ++ codes "nodes " ++ decimal nodes ++ codes "\n"
-    ++ codes "splits " ++ decimal splits ++ codes "\n" ++ codes "leaves " ++ decimal leaves ++ codes "\n" ++ codes "end\n"
+    codes "gen " ++ decimal n ++ codes "\n" ++ verdict_text v ++ codes "\n" ++ codes "nodes " ++ decimal nodes
+    ++ codes "\n"
+    ++ codes "splits " ++ decimal splits ++ codes "\n" ++ codes "leaves " ++ decimal leaves ++ codes "\n"
+    ++ codes "end\n"

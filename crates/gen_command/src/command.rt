@@ -19,7 +19,8 @@ use verdicts::verdict_on;
 /// The front of the two texts of the ring of `n` cores, or how the command ends where they say none.
 fn ring_front(alloc: Global, n: u8) -> Result<Front, Ending>
     requires { 2 ≤ n × n ≤ 16 }
-    ensures { MatchResult result (SaysFront CaseOf ring_model (ring_test n)) (IsBytesEnding CaseOf IsTestFault ring_model (ring_test n)) }
+    ensures { MatchResult result (SaysFront CaseOf ring_model (ring_test n))
+        (IsBytesEnding CaseOf IsTestFault ring_model (ring_test n)) }
 {
     match gen_texts(alloc, n) {
         Ok((model, test)) => front_of::<TestFile>(alloc, &model, &test),

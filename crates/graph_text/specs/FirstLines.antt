@@ -12,7 +12,8 @@ use Rattle.graph_text.specs.GraphReading.{AreGraphLines}
 
 All-append_left : {X : Type 0} (P : X → Type 0) (xs ys : List X) → All P (xs ++ ys) → All P xs
 All-append_left P [] ys h = λ k d inside. absurd (omega (arith, inside))
-All-append_left P (x ∷ xs) ys h = All-cons P x xs (All-head P x (xs ++ ys) h) (All-append_left P xs ys (All-tail P x (xs ++ ys) h))
+All-append_left P (x ∷ xs) ys h =
+    All-cons P x xs (All-head P x (xs ++ ys) h) (All-append_left P xs ys (All-tail P x (xs ++ ys) h))
 
 pub heads : {X : Type 0} (x y : X) (xs ys : List X) → x ∷ xs ≡ y ∷ ys → x ≡ y
 heads x y xs ys e = cc
@@ -25,16 +26,20 @@ no_lines x xs e = cc
 
 module _ (names : Names) where
   -- the first of the edges
-  first_edges : (lines more : List (List ℕ)) (es : List Edge) → lines ++ more ≡ map (line_words names) (map (λ (e : Edge). edge e.0 e.1) es)
-      → (first : List Edge) × (rest : List Edge) × (es ≡ first ++ rest) × (lines ≡ map (line_words names) (map (λ (e : Edge). edge e.0 e.1) first))
+  first_edges : (lines more : List (List ℕ)) (es : List Edge)
+      → lines ++ more ≡ map (line_words names) (map (λ (e : Edge). edge e.0 e.1) es)
+      → (first : List Edge) × (rest : List Edge) × (es ≡ first ++ rest)
+      × (lines ≡ map (line_words names) (map (λ (e : Edge). edge e.0 e.1) first))
   first_edges [] more es is = ([], es, refl, refl)
   first_edges (line ∷ lines) more [] is = absurd (no_lines line (lines ++ more) is)
   first_edges (line ∷ lines) more (e ∷ es) is =
-      let r = first_edges lines more es (tails line (line_words names (edge e.0 e.1)) (lines ++ more) (map (line_words names) (map (λ (x : Edge). edge x.0 x.1) es)) is) in (
+      let r = first_edges lines more es (tails line (line_words names (edge e.0 e.1)) (lines ++ more)
+      (map (line_words names) (map (λ (x : Edge). edge x.0 x.1) es)) is) in (
         e ∷ r.0,
         r.1,
         ap (λ xs. e ∷ xs) r.2,
-        ap (λ l. l ∷ lines) (heads line (line_words names (edge e.0 e.1)) (lines ++ more) (map (line_words names) (map (λ (x : Edge). edge x.0 x.1) es)) is)
+        ap (λ l. l ∷ lines) (heads line (line_words names (edge e.0 e.1)) (lines ++ more)
+            (map (line_words names) (map (λ (x : Edge). edge x.0 x.1) es)) is)
             ∙ ap (λ ls. line_words names (edge e.0 e.1) ∷ ls) r.3,
       )
 
@@ -49,14 +54,34 @@ module _ (names : Names) where
     order : (edges ≡ []) ⊎ (nodes_rest ≡ [])
     lines_are : lines ≡ map (line_words names) (graph_lines nodes edges)
 
-  first_part_of : (lines more : List (List ℕ)) (ns : List Node) (es : List Edge) → lines ++ more ≡ map (line_words names) (graph_lines ns es) → FirstPart lines ns es
+  first_part_of : (lines more : List (List ℕ)) (ns : List Node) (es : List Edge)
+      → lines ++ more ≡ map (line_words names) (graph_lines ns es) → FirstPart lines ns es
   first_part_of [] more ns es is =
-      record { nodes = []; edges = []; nodes_rest = ns; edges_rest = es; nodes_are = refl; edges_are = refl; order = inl refl; lines_are = refl }
+      record {
+        nodes = [];
+        edges = [];
+        nodes_rest = ns;
+        edges_rest = es;
+        nodes_are = refl;
+        edges_are = refl;
+        order = inl refl;
+        lines_are = refl;
+      }
   first_part_of (line ∷ lines) more [] es is =
       let r = first_edges (line ∷ lines) more es is in
-      record { nodes = []; edges = r.0; nodes_rest = []; edges_rest = r.1; nodes_are = refl; edges_are = r.2; order = inr refl; lines_are = r.3 }
+      record {
+        nodes = [];
+        edges = r.0;
+        nodes_rest = [];
+        edges_rest = r.1;
+        nodes_are = refl;
+        edges_are = r.2;
+        order = inr refl;
+        lines_are = r.3;
+      }
   first_part_of (line ∷ lines) more (n ∷ ns) es is =
-      let r = first_part_of lines more ns es (tails line (line_words names (node n)) (lines ++ more) (map (line_words names) (graph_lines ns es)) is) in
+      let r = first_part_of lines more ns es
+      (tails line (line_words names (node n)) (lines ++ more) (map (line_words names) (graph_lines ns es)) is) in
       record {
         nodes = n ∷ r.nodes;
         edges = r.edges;
@@ -65,11 +90,13 @@ module _ (names : Names) where
         nodes_are = ap (λ xs. n ∷ xs) r.nodes_are;
         edges_are = r.edges_are;
         order = r.order;
-        lines_are = ap (λ l. l ∷ lines) (heads line (line_words names (node n)) (lines ++ more) (map (line_words names) (graph_lines ns es)) is)
+        lines_are = ap (λ l. l ∷ lines)
+            (heads line (line_words names (node n)) (lines ++ more) (map (line_words names) (graph_lines ns es)) is)
             ∙ ap (λ ls. line_words names (node n) ∷ ls) r.lines_are;
       }
 
-  first_ends : (ns rest : List Node) (es others : List Edge) → (es ≡ []) ⊎ (rest ≡ []) → HasEnds (ns ++ rest) (es ++ others) → HasEnds ns es
+  first_ends : (ns rest : List Node) (es others : List Edge) → (es ≡ []) ⊎ (rest ≡ [])
+      → HasEnds (ns ++ rest) (es ++ others) → HasEnds ns es
   first_ends ns rest es others (inl none) h = λ a b has. absurd (empty (subst P none ((a, b), has)))
     where
       P : List Edge → Type 0
@@ -81,7 +108,8 @@ module _ (names : Names) where
       (let ends = h a b (Contains-append_left es others (a, b) has) in (back a ends.0, back b ends.1))
     where
       back : (a : Node) → Contains (ns ++ rest) a → Contains ns a
-      back a has = (let P : List Node → Type 0 = λ xs. Contains xs a in subst P (ap (λ xs. ns ++ xs) all ∙ append-nil ns) has)
+      back a has = (let P : List Node → Type 0 = λ xs. Contains xs a in
+          subst P (ap (λ xs. ns ++ xs) all ∙ append-nil ns) has)
 
   pub first_lines_of : (lines more : List (List ℕ)) → AreGraphLines names (lines ++ more) → AreGraphLines names lines
   first_lines_of lines more (g, h) =
@@ -93,7 +121,8 @@ module _ (names : Names) where
         record {
           graph = record {
             of_names = All-append_left (IsNodeIn names) r.nodes r.nodes_rest (subst P r.nodes_are h.graph.of_names);
-            ends = first_ends r.nodes r.nodes_rest r.edges r.edges_rest r.order (subst R r.edges_are (subst Q r.nodes_are h.graph.ends));
+            ends = first_ends r.nodes r.nodes_rest r.edges r.edges_rest r.order
+                (subst R r.edges_are (subst Q r.nodes_are h.graph.ends));
           };
           lines_are = r.lines_are;
         },

@@ -46,7 +46,8 @@ pub data IsGraphForm (line : List ℕ) : Type 0 where
 abbrev pub ReadsLine : Names → List ℕ → Result GraphLine LineFault → Type 0
 ReadsLine names line (Ok l) = IsGraphLineIn names (plain_line l) × (line ≡ line_words names (plain_line l))
 ReadsLine names line (Err Malformed) = IsGraphForm line → ⊥
-ReadsLine names line (Err Foreign) = IsGraphForm line × ((l : Line) → IsGraphLineIn names l → line ≡ line_words names l → ⊥)
+ReadsLine names line (Err Foreign) = IsGraphForm line
+    × ((l : Line) → IsGraphLineIn names l → line ≡ line_words names l → ⊥)
 
 -- it answers this line
 abbrev pub AnswersLine : Result GraphLine LineFault → Line → Type 0
@@ -63,13 +64,16 @@ ends_words names a b = node_text names a ++ space ∷ node_text names b
 
 -- what reading two words answers: the nodes that they are the texts of, or why they are none's
 abbrev pub ReadsEnds : Names → List ℕ → Result (NodeKey × NodeKey) LineFault → Type 0
-ReadsEnds names words (Ok (from, to)) = AreEndsIn names (key_node from) (key_node to) × (words ≡ ends_words names (key_node from) (key_node to))
+ReadsEnds names words (Ok (from, to)) = AreEndsIn names (key_node from) (key_node to)
+    × (words ≡ ends_words names (key_node from) (key_node to))
 ReadsEnds names words (Err Malformed) = AreEndsForm words → ⊥
-ReadsEnds names words (Err Foreign) = AreEndsForm words × ((a b : Node) → AreEndsIn names a b → words ≡ ends_words names a b → ⊥)
+ReadsEnds names words (Err Foreign) = AreEndsForm words
+    × ((a b : Node) → AreEndsIn names a b → words ≡ ends_words names a b → ⊥)
 
 -- it answers the two nodes of these names whose texts the words are
 abbrev pub AnswersEnds : Names → List ℕ → Result (NodeKey × NodeKey) LineFault → Type 0
-AnswersEnds names words (Ok (from, to)) = (a b : Node) → AreEndsIn names a b → words ≡ ends_words names a b → (key_node from ≡ a) × (key_node to ≡ b)
+AnswersEnds names words (Ok (from, to)) = (a b : Node) → AreEndsIn names a b → words ≡ ends_words names a b
+    → (key_node from ≡ a) × (key_node to ≡ b)
 AnswersEnds names words (Err fault) = (a b : Node) → AreEndsIn names a b → words ≡ ends_words names a b → ⊥
 
 -- a node that was read, as a line

@@ -1,5 +1,14 @@
 //! Graphs as node and edge lines: what shows that a world satisfies a model.
 //!
+//! ```rust
+//! // the test has the micro-ops 0.0 and 1.0, the model the stage S, and `sink` is empty
+//! let names = NodeText::of(&front);
+//! let body = b"node 0.0@0:S\nnode 1.0@0:S\nedge 0.0@0:S 1.0@0:S\n".as_slice();
+//! let graph = read_graph(alloc, &names, body)?;
+//! assert!(rt; graph.nodes.len() == 2 && graph.edges.len() == 1);
+//! assert!(rt; write_graph(&mut sink, &names, &graph).is_ok() && sink.taken() == body);
+//! ```
+//!
 //! A graph stands for the world that it generates: its nodes, with all pairs that a chain of its edges
 //! joins. The lines are those of docs/certificates.md. They are written, and read back, whole or one by one.
 #![tactic(auto)]

@@ -107,6 +107,7 @@ fn ground_range(
     ensures { IfOk result (λ g. plain_ground g
         ≡ grounding_over operator case.now env.now.items sort (plain_closed body.now)) }
 {
+    // copied once for the quantifier; each turn rewrites the last slot
     let mut inside = copy_of(env);
     let mut kept = Vec::new(alloc);
     for k in 0..range_len(case, sort) {

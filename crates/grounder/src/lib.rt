@@ -1,5 +1,11 @@
 //! Grounding: what closed axioms say of one test, with no quantifier, predicate or name left.
 //!
+//! ```rust
+//! // the one axiom is `exists microop "i", True`, and the case has no micro-op
+//! let said = ground(alloc, &case, &axioms)?;
+//! assert!(rt; matches!(said, Ground::False));
+//! ```
+//!
 //! `ground` unfolds each quantifier over its range and each list over its members, decides the
 //! predicates, and folds constants on the way: members that follow one that decides are not walked. A
 //! negation stays where it is; an implication becomes Or of the negated premise and the conclusion.

@@ -41,7 +41,8 @@ part_of c Right (said true (closed_and p q) slots s) = Some (said true q slots 0
 part_of c Right (said false (closed_or p q) slots s) = Some (said false q slots 0)
 part_of c Right (said false (closed_implies p q) slots s) = Some (said false q slots 0)
 part_of c Not (said plus (closed_not p) slots s) = Some (said (not plus) p slots 0)
-part_of c Bind (said plus (closed_bind args p) slots s) = Some (said_inside plus p slots (map (closed_value slots) args))
+part_of c Bind (said plus (closed_bind args p) slots s) =
+    Some (said_inside plus p slots (map (closed_value slots) args))
 part_of c (Inst v) (said true (closed_forall sort p) slots s) = said_at c true sort p slots (place_of sort v)
 part_of c (Inst v) (said false (closed_exists sort p) slots s) = said_at c false sort p slots (place_of sort v)
 part_of c (Member k) (said true (closed_nodes ts) slots s) =
@@ -64,7 +65,8 @@ sides c (said true (closed_exists sort p) slots s) =
 sides c (said false (closed_forall sort p) slots s) =
     or_later (said_at c false sort p slots (Some s)) (said false (closed_forall sort p) slots (s + 1))
 sides c (said false (closed_nodes ts) slots s) =
-    or_later (option_map (λ t. one_node false (closed_node c slots t)) (slice_get ts s)) (said false (closed_nodes ts) slots (s + 1))
+    or_later (option_map (λ t. one_node false (closed_node c slots t)) (slice_get ts s))
+    (said false (closed_nodes ts) slots (s + 1))
 sides c (said false (closed_edges ts) slots s) =
     or_later (option_map (λ t. one_edge false (closed_node c slots t.from) (closed_node c slots t.to)) (slice_get ts s))
     (said false (closed_edges ts) slots (s + 1))
@@ -76,6 +78,7 @@ is_false c (said true (closed_exists sort p) slots s) = not (nat_lt s (length (r
 is_false c (said false (closed_forall sort p) slots s) = not (nat_lt s (length (range_of c sort)))
 is_false c (said false (closed_nodes ts) slots s) = not (nat_lt s (length ts))
 is_false c (said false (closed_edges ts) slots s) = not (nat_lt s (length ts))
-is_false c (said true (closed_static pred args) slots s) = not (predicate_holds c pred (map (closed_argument slots) args))
+is_false c (said true (closed_static pred args) slots s) =
+    not (predicate_holds c pred (map (closed_argument slots) args))
 is_false c (said false (closed_static pred args) slots s) = predicate_holds c pred (map (closed_argument slots) args)
 is_false _ _ = false

@@ -50,7 +50,8 @@ impl<'a> Branches<'a> {
     /// hold. After false, or where memory is refused, nothing is said of the branches.
     pub fn take(&mut self, step: Step<'_>) -> Result<bool, Memory>
         ensures case { self.new.case.now ≡ self.old.case.now }
-        ensures advanced { IfOk result (HasAdvanced self.old.case.now (plain_step step.entry) (opens_at self.old) (opens_at self.new)) }
+        ensures advanced { IfOk result (HasAdvanced self.old.case.now (plain_step step.entry) (opens_at self.old)
+            (opens_at self.new)) }
     {
         if !self.is_open {
             return Ok(false);
@@ -72,7 +73,8 @@ impl<'a> Branches<'a> {
     /// Adds a part of a fact.
     fn derive(&mut self, way: Way, number: u64) -> Result<bool, Memory>
         ensures case { self.new.case.now ≡ self.old.case.now }
-        ensures advanced { IfOk result (HasAdvanced self.old.case.now (derive_step way number) (opens_at self.old) (opens_at self.new)) }
+        ensures advanced { IfOk result (HasAdvanced self.old.case.now (derive_step way number) (opens_at self.old)
+            (opens_at self.new)) }
     {
         if !self.is_open {
             return Ok(false);
@@ -89,7 +91,8 @@ impl<'a> Branches<'a> {
     /// Adds the first side of a fact, and lets the branch with the second one wait.
     fn split(&mut self, number: u64) -> Result<bool, Memory>
         ensures case { self.new.case.now ≡ self.old.case.now }
-        ensures advanced { IfOk result (HasAdvanced self.old.case.now (split_step number) (opens_at self.old) (opens_at self.new)) }
+        ensures advanced { IfOk result (HasAdvanced self.old.case.now (split_step number) (opens_at self.old)
+            (opens_at self.new)) }
     {
         if !self.is_open {
             return Ok(false);
@@ -110,7 +113,8 @@ impl<'a> Branches<'a> {
     /// Closes the branch by a leaf, so that the next one that waits is first.
     fn close(&mut self, leaf: Leaf<'_>) -> Result<bool, Memory>
         ensures case { self.new.case.now ≡ self.old.case.now }
-        ensures advanced { IfOk result (HasAdvanced self.old.case.now (close_step (plain_leaf leaf.entry)) (opens_at self.old) (opens_at self.new)) }
+        ensures advanced { IfOk result (HasAdvanced self.old.case.now (close_step (plain_leaf leaf.entry))
+            (opens_at self.old) (opens_at self.new)) }
     {
         if !self.is_open {
             return Ok(false);
@@ -125,7 +129,8 @@ impl<'a> Branches<'a> {
     /// Leaves the first branch, and enters the next one that waits.
     fn open_next(&mut self) -> Result<(), Memory>
         ensures case { self.new.case.now ≡ self.old.case.now }
-        ensures opens { OnOk result ((b : Branch) (rest : List Branch) → opens_at self.old ≡ b ∷ rest → opens_at self.new ≡ rest) }
+        ensures opens { OnOk result ((b : Branch) (rest : List Branch) → opens_at self.old ≡ b ∷ rest
+            → opens_at self.new ≡ rest) }
     {
         match self.later.pop() {
             None => {

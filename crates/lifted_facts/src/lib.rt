@@ -1,6 +1,13 @@
 //! Facts of lifted refutations: what is said of a world by parts of closed axioms, with neither ground tree nor
 //! normal form.
 //!
+//! ```rust
+//! // the one axiom is `exists microop "i", True`, and the case has no micro-op
+//! let mut branches = Branches::new(alloc, &case, &axioms)?;
+//! assert!(rt; branches.take(Step::Close(Leaf::False(0)))?);
+//! assert!(rt; branches.is_closed());
+//! ```
+//!
 //! A fact is a sign and a part of an axiom with the values of its slots, or one node, or one edge. `part` takes a fact
 //! apart where all of its parts hold with it, `sides` where one of two does, and `is_false` says that no world makes it
 //! true. `Branches` follows the steps of a refutation: which branches of facts are open.

@@ -21,7 +21,8 @@ pub(crate) fn node_member<'a>(
     requires fit { FitNodes (scope_of said.now.env.items) nodes.now }
     requires range { AreInRange case.now said.now.env.items }
     ensures is { option_map plain_fact result
-        ≡ option_map (λ t. one_node said.now.plus (closed_node case.now (meanings said.now.env.items) t)) (slice_get nodes.now place) }
+        ≡ option_map (λ t. one_node said.now.plus (closed_node case.now (meanings said.now.env.items) t))
+        (slice_get nodes.now place) }
     ensures proper { IfSome result (IsProper case.now) }
     ensures small { IfSome result (λ f. place < 2 ^ 63) }
 {

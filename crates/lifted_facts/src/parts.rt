@@ -175,7 +175,8 @@ fn member<'a>(case: &Case, said: &Said<'a>, place: u64) -> Option<Fact<'a>>
     }
 }
 
-/// The part of a fact that is named so, which holds where the fact does; None where it has no such part. Takes no memory.
+/// The part of a fact that is named so, which holds where the fact does; None where it has no such part. Takes no
+/// memory.
 pub fn part<'a>(case: &Case, fact: &Fact<'a>, way: Way) -> Option<Fact<'a>>
     requires { IsProper case.now fact.now }
     ensures is { option_map plain_fact result ≡ part_of case.now way (plain_fact fact.now) }

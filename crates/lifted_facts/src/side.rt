@@ -18,7 +18,8 @@ use static_preds::copy_of;
 fn later<'a>(said: &Said<'a>) -> Fact<'a>
     requires { said.now.start + 1 < 2 ^ 64 }
     ensures is { plain_fact result
-        ≡ plain_said said.now.plus (plain_closed said.now.formula.now) (meanings said.now.env.items) (said.now.start + 1) }
+        ≡ plain_said said.now.plus (plain_closed said.now.formula.now) (meanings said.now.env.items)
+        (said.now.start + 1) }
     ensures proper { (c : PlainCase) → IsProperPart c said.now → IsProper c result }
 {
     Fact::Said(Said {
@@ -33,7 +34,8 @@ fn later<'a>(said: &Said<'a>) -> Fact<'a>
 fn with_later<'a>(said: &Said<'a>, first: Option<Fact<'a>>) -> Option<(Fact<'a>, Fact<'a>)>
     requires { IfSome first (λ f. said.now.start < 2 ^ 63) }
     ensures is { option_map plain_pair result ≡ or_later (option_map plain_fact first.entry)
-        (plain_said said.now.plus (plain_closed said.now.formula.now) (meanings said.now.env.items) (said.now.start + 1)) }
+        (plain_said said.now.plus (plain_closed said.now.formula.now) (meanings said.now.env.items)
+        (said.now.start + 1)) }
     ensures proper { (c : PlainCase) → IsProperPart c said.now → IfSome first.entry (IsProper c)
         → IfSome result (λ both. IsProper c both.0 × IsProper c both.1) }
 {

@@ -10,7 +10,8 @@ pub record JudgeAlike {J : Type 0} (begins whole : J → List (List ℕ) → Typ
   pub same_whole : (lines : List (List ℕ)) → whole one lines ↔ whole other lines
 
 -- the judge took all lines of the text and they are good, and the rest, after the last LF, waits
-pub record IsGood {J : Type 0} (begins whole stands : J → List (List ℕ) → Type 0) (start : J) (text : List ℕ) (judged : Judged J) : Type 0 where
+pub record IsGood {J : Type 0} (begins whole stands : J → List (List ℕ) → Type 0) (start : J) (text : List ℕ)
+    (judged : Judged J) : Type 0 where
   pub lines : List (List ℕ)
   pub are_lines : All IsLine lines
   pub is_open : IsLine judged.part.items
@@ -20,7 +21,8 @@ pub record IsGood {J : Type 0} (begins whole stands : J → List (List ℕ) → 
   pub alike : JudgeAlike begins whole start judged.judge
 
 -- the line of this number is refused; the lines before it are good
-pub record IsBad {J : Type 0} (begins : J → List (List ℕ) → Type 0) (start : J) (text : List ℕ) (number : ℕ) : Type 0 where
+pub record IsBad {J : Type 0} (begins : J → List (List ℕ) → Type 0) (start : J) (text : List ℕ)
+    (number : ℕ) : Type 0 where
   pub lines : List (List ℕ)
   pub line : List ℕ
   pub rest : List ℕ
@@ -32,7 +34,8 @@ pub record IsBad {J : Type 0} (begins : J → List (List ℕ) → Type 0) (start
   pub bad : begins start (lines ++ line ∷ []) → ⊥
 
 -- the text is whole, and the judge stands at its lines
-pub record IsWhole {J : Type 0} (begins whole stands : J → List (List ℕ) → Type 0) (start : J) (text : List ℕ) (judge : J) : Type 0 where
+pub record IsWhole {J : Type 0} (begins whole stands : J → List (List ℕ) → Type 0) (start : J) (text : List ℕ)
+    (judge : J) : Type 0 where
   pub made : IsMadeOf (whole start) text
   pub stand : stands judge made.lines
   pub alike : JudgeAlike begins whole start judge
@@ -46,6 +49,7 @@ pub record IsRefusedWith (begins whole : List (List ℕ) → Type 0) (text : Lis
   pub refused : IsRefusedAt begins whole text line
 
 -- a text ends: it is whole, or is refused
-abbrev pub IsEnd : {J : Type 0} (begins whole stands : J → List (List ℕ) → Type 0) (start : J) (text : List ℕ) → Result J ℕ → Type 0
+abbrev pub IsEnd : {J : Type 0} (begins whole stands : J → List (List ℕ) → Type 0) (start : J) (text : List ℕ)
+    → Result J ℕ → Type 0
 IsEnd begins whole stands start text result =
     MatchResult result (IsWhole begins whole stands start text) (IsRefusedWith (begins start) (whole start) text)

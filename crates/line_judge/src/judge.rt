@@ -30,7 +30,8 @@ pub trait Judge: Drop {
     /// Lines that were taken and were good begin a whole text.
     ghost stands_begins: { (judge : Self) → (lines : List (List ℕ)) → stands judge lines → begins judge lines };
 
-    /// So does a first part of lines that begin one.
+    /// So does a first part of lines that begin one. A law of a trait may cite specs alone, and in this form it needs
+    /// no proof there.
     ghost begins_first: { (judge : Self) → (lines more : List (List ℕ)) → begins judge (lines ++ more)
         → begins judge lines };
 

@@ -1,5 +1,12 @@
 //! A text is judged line by line while it comes in pieces, however it is cut.
 //!
+//! ```rust
+//! // `judge` is a `Judge` for which the one whole text is "end\n"
+//! let feed = Feed::new(alloc, judge, 1024);
+//! let feed = feed.feed(b"en")?.feed(b"d\nmore\n")?;
+//! assert!(rt; matches!(feed.finish(), Finished::Refused(2)));
+//! ```
+//!
 //! A [`Judge`] says of each line whether what it saw so far may go on to a whole text. A [`Feed`] cuts the
 //! pieces into lines, hands them to its judge, and answers at the end: the text is whole, or its first line
 //! that is refused has this number, or it is longer than the limit. Which pieces the text came in changes

@@ -27,6 +27,13 @@
 //! `specs/Content.antt` the faults of content and `specs/Answer.antt` the whole. The laws in `laws.rt` say
 //! that a text has a case or a first fault, one at most of each, and not both, and that a fault stands
 //! within the text or at its end.
+//!
+//! ```rust
+//! let case = read_case(alloc, b"Litmus \"d\".\nMicroop 0 0 0 0 (Fence).\nPermitted.")?;
+//! assert!(rt; case.ops() == 1 && case.expect() == Expect::Permitted);
+//! let at = Place { offset: 6 };
+//! assert!(rt; read_case(alloc, b"Litmus").err() == Some(CaseFault::Syntax(at)));
+//! ```
 #![tactic(auto)]
 
 mod builder;

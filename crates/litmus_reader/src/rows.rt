@@ -66,6 +66,7 @@ fn too_many_ops(before: &[Head], head: Head) -> Option<ContentFault>
 fn split_instruction(before: &[Head], head: Head) -> Option<ContentFault>
     ensures { Answers (SomeEarlier before.now (SplitFrom head)) result }
 {
+    // There are at most 64 micro-ops, so each is compared with all before it.
     for earlier in before {
         if let Some(fault) = split_from(head, *earlier) {
             return Some(fault);

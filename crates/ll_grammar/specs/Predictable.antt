@@ -4,7 +4,8 @@ use Rattle.ll_grammar.specs.Rules.{Rules, Yields}
 use Rattle.ll_grammar.specs.declared.grammar.Symbol.{Symbol}
 use Rattle.ll_grammar.specs.declared.grammar.Symbol.TheVariants.{Class, Part}
 
--- Whatever class the symbols can begin with may follow the part `m`; where they can be without tokens, `AtEnd` holds too.
+-- Whatever class the symbols can begin with may follow the part `m`; where they can be without tokens, `AtEnd` holds
+-- too.
 abbrev pub MayFollow : {C N : Type 0} → Rules C N → (N → C → Bool) → N → List (Symbol C N) → Type 0 → Type 0
 MayFollow g follow m [] AtEnd = AtEnd
 MayFollow g follow m (Class c ∷ rest) AtEnd = IsTrue (follow m c)

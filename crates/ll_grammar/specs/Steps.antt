@@ -21,11 +21,13 @@ pub record Passes {C N : Type 0} (g : Rules C N) (follow : N → C → Bool)
     (before : List (Symbol C N)) (c : C) (after : List (Symbol C N)) : Type 0 where
   pub only : (rest : List C) (marks : List Bool) → Yields g before (c ∷ rest) marks
       → (others : List Bool) × (marks ≡ false ∷ others) × Yields g after rest others
-  pub each : (rest : List C) (others : List Bool) → Yields g after rest others → Yields g before (c ∷ rest) (false ∷ others)
+  pub each : (rest : List C) (others : List Bool) → Yields g after rest others
+      → Yields g before (c ∷ rest) (false ∷ others)
   pub ready : IsReady g follow after
 
 -- The step of a stack at a token, its symbols from the top down.
-abbrev pub IsRead : {C N : Type 0} → Rules C N → (N → C → Bool) → List (Symbol C N) → C → Step → List (Symbol C N) → Type 0
+abbrev pub IsRead : {C N : Type 0} → Rules C N → (N → C → Bool) → List (Symbol C N) → C → Step → List (Symbol C N)
+    → Type 0
 IsRead {C} g follow before c Absent after = (rest : List C) (marks : List Bool) → Yields g before (c ∷ rest) marks → ⊥
 IsRead g follow before c Pushed after = Passes g follow before c after
 IsRead {C} g follow before c Deep after =

@@ -16,7 +16,8 @@ pub yields-append : {C N : Type 0} {g : Rules C N} {front back : List (Symbol C 
 yields-append done behind = behind
 yields-append (r_class front) behind = r_class (yields-append front behind)
 yields-append (r_ends e front) behind = r_ends e (yields-append front behind)
-yields-append {C} {N} {g} {back = back} {ds = ds} {ns = ns} (r_begins {rest = rest} {cs = cs} {marks = marks} body e front) behind =
+yields-append {C} {N} {g} {back = back} {ds = ds} {ns = ns}
+    (r_begins {rest = rest} {cs = cs} {marks = marks} body e front) behind =
     r_begins body e
     (subst (λ (symbols : List (Symbol C N)). Yields g symbols (cs ++ ds) (marks ++ ns)) (append_assoc body rest back)
     (yields-append front behind))
@@ -34,7 +35,8 @@ none_from None e = refl
 none_from (Some x) e = absurd (cc)
 
 -- a test of all elements holds of the one at a place
-all_at : {X : Type 0} (p : X → Bool) (xs : List X) (i : ℕ) (x : X) → list_all p xs ≡ true → slice_get xs i ≡ Some x → p x ≡ true
+all_at : {X : Type 0} (p : X → Bool) (xs : List X) (i : ℕ) (x : X) → list_all p xs ≡ true → slice_get xs i ≡ Some x
+    → p x ≡ true
 all_at p [] i x all e = absurd (cc)
 all_at p (y ∷ xs) zero x all e =
     let same : y ≡ x = cc in subst (λ z. p z ≡ true) same (both (p y) (list_all p xs) all).0
@@ -48,7 +50,8 @@ module _ {C N : Type 0} (g : Rules C N) (follow : N → C → Bool) (classes : L
   abbrev pub may_follow : (n m : N) → List (Symbol C N) → Bool
   may_follow n m [] = implied (follow n) (follow m)
   may_follow n m (Class c ∷ rest) = follow m c
-  may_follow n m (Part p ∷ rest) = implied (λ c. is_some (g.behind p c)) (follow m) && (not (g.may_end p) || may_follow n m rest)
+  may_follow n m (Part p ∷ rest) = implied (λ c. is_some (g.behind p c)) (follow m)
+      && (not (g.may_end p) || may_follow n m rest)
 
   abbrev pub is_followed : N → List (Symbol C N) → Bool
   is_followed n [] = true
@@ -75,7 +78,8 @@ module _ {C N : Type 0} (g : Rules C N) (follow : N → C → Bool) (classes : L
     may_follow-true n m [] e = implied-true (follow n) (follow m) e
     may_follow-true n m (Class c ∷ rest) e = e
     may_follow-true n m (Part p ∷ rest) e =
-        let (first, later) = both (implied (λ c. is_some (g.behind p c)) (follow m)) (not (g.may_end p) || may_follow n m rest) e in (
+        let (first, later) = both (implied (λ c. is_some (g.behind p c)) (follow m))
+        (not (g.may_end p) || may_follow n m rest) e in (
           implied-true (λ c. is_some (g.behind p c)) (follow m) first,
           λ h. may_follow-true n m rest (implies (g.may_end p) (may_follow n m rest) later h),
         )
@@ -119,7 +123,8 @@ module _ {C N : Type 0} (g : Rules C N) (first : N → C) (rank : N → ℕ) whe
   HasText : N → Type 0
   HasText n = (cs : List C) × (marks : List Bool) × Yields g (Part n ∷ []) cs marks
 
-  text_of_body : (k : ℕ) → ((m : N) → rank m < k → HasText m) → (body : List (Symbol C N)) → list_all (is_below k) body ≡ true
+  text_of_body : (k : ℕ) → ((m : N) → rank m < k → HasText m) → (body : List (Symbol C N))
+      → list_all (is_below k) body ≡ true
       → (cs : List C) × (marks : List Bool) × Yields g body cs marks
   unfolding HasText
   text_of_body k texts [] e = ([], [], done)

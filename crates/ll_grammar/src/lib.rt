@@ -4,6 +4,13 @@
 //! token, and which tokens stand too deep. It gives `None` for a text with no token too deep, else
 //! the one first [`Fault`]: the token at which no text goes on, or the token that is too deep.
 //!
+//! ```rust
+//! // `Phrase` is the grammar of lists in brackets, over the tokens `Bracket`
+//! let classes = [Bracket::Open, Bracket::Word, Bracket::Close];
+//! assert_eq!(rt; first_fault(alloc, Phrase::Items, &classes)?, None);
+//! assert_eq!(rt; first_fault(alloc, Phrase::Items, &classes[..2])?, Some(Fault::Syntax(2)));
+//! ```
+//!
 //! The grammar is LL(1) (Lewis and Stearns, Syntax-Directed Transduction, 1968; Knuth, Top-Down Syntax
 //! Analysis, 1971). Such a recogniser has the viable-prefix property (Aho, Sethi and Ullman,
 //! Compilers, 1986): it reads on exactly as long as some text begins with the tokens read.

@@ -1,5 +1,22 @@
-//! Macros: which fault of its stages, its macros and its sizes is a model's first, and its axioms with
-//! each macro in its place.
+//! Macros: the first fault of a model's stages, and that of its macros and its sizes; and its axioms with each macro in
+//! its place.
+//!
+//! `stage_faults` judges the stages. `expand` judges the macros and the expansions in the text's order, measures each
+//! macro's body once, judges the sizes, and only then expands: in place of each `ExpandMacro` stands a binding of the
+//! macro's parameters over a copy of its body, which shares the names and lists of the text. The laws say that
+//! expansion keeps truth. `specs/` of `pc_syntax` has the faults (`StageFaults`, `MacroFaults`, `Sizes`) and
+//! `expansion_of`.
+//!
+//! ```rust
+//! use uspec_lexer::tokens;
+//! use uspec_parser::parse_model;
+//!
+//! let text = b"DefineMacro \"m\": ~True. Axiom \"x\": ExpandMacro m.";
+//! let model = parse_model(alloc, &tokens(alloc, text)?)?;
+//! assert!(rt; stage_faults(&model).is_none());
+//! let axioms = expand(alloc, &model)?;
+//! assert!(rt; axioms.len() == 1 && matches!(axioms[0].body, Formula::Bind { .. }));
+//! ```
 #![tactic(auto)]
 
 mod calls;

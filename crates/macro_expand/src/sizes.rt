@@ -30,6 +30,7 @@ fn measure_call(macros: &Macros<'_>, measures: &[Measure], name: &Word) -> Measu
 
 /// The measure of a formula, `measures` being those of the macros that it may name.
 ///
+/// Sizes and heights are counted up to one past the limit, so that macros that double stay within 64 bits.
 /// It nests a call for each connective and quantifier above an atom.
 fn measure(macros: &Macros<'_>, measures: &[Measure], formula: &Formula) -> Measure
     requires { AreMeasures (plain_macros macros.now) measures.now }

@@ -1,4 +1,5 @@
--- What a part of a formula is while rows are written: a constant, which has none, or a tree, of which the last row comes first.
+-- What a part of a formula is while rows are written: a constant, which has none, or a tree, of which the last row
+-- comes first.
 use Rattle.std.specs.Prelude.{◌≡◌, true, false, List, [], ◌++◌, reverse}
 use Rattle.pc_common.specs.World.{Node}
 use Rattle.pc_ground.specs.Tree.{Tree, always, never, leaf, both, either}

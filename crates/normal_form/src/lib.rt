@@ -1,6 +1,14 @@
 //! The normal form of a ground formula: negations stand only at literals, constants are folded, and the
 //! tree is written as flat rows in preorder. Here too its nodes get their numbers.
 //!
+//! ```rust
+//! let node = NodeKey { op: 0, core: 0, stage: 5 };
+//! let ground = Ground::negation(alloc, Ground::Lit(Literal::Node(node)))?;
+//! let tree = normalise(alloc, &ground)?;
+//! assert!(rt; tree.len() == 1 && tree.row(0).kind == RowKind::Lit(Literal::NoNode(node)));
+//! assert!(rt; number(alloc, &tree)?.number(node) == Some(0));
+//! ```
+//!
 //! Both take time and memory in proportion to the formula. No call nests as deep as a formula to the
 //! right or a chain of negations; to the left one nests for each connective.
 #![tactic(auto)]

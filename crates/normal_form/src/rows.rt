@@ -83,7 +83,8 @@ fn join(
 }
 
 /// Writes the rows of a formula, or of its negation where it does not hold, the last row first. The right
-/// side is a loop, from its end to the root; a call nests for a left side alone.
+/// side is a loop, from its end to the root; a call nests for a left side alone. The list is reversed once at the
+/// end, and a folded constant writes no row.
 pub(crate) fn write(
     alloc: Global,
     ground: &Ground,

@@ -28,11 +28,14 @@ pub record AreLists (edges : List (ℕ × ℕ)) (nodes k : ℕ) (heads links : L
 
 -- what an edge changes: its first node gets the level after that of its second, or the second as a lower next node
 pub data HasRaised (levels nexts queue : List ℕ) (from to : ℕ) (now next_now queue_now : List ℕ) : Type 0 where
-  fresh : slice_index levels from ≡ far → now ≡ slice_set levels from (slice_index levels to + 1) → next_now ≡ slice_set nexts from to
+  fresh : slice_index levels from ≡ far → now ≡ slice_set levels from (slice_index levels to + 1)
+      → next_now ≡ slice_set nexts from to
       → queue_now ≡ queue ++ from ∷ [] → HasRaised levels nexts queue from to now next_now queue_now
-  nearer : slice_index levels from ≡ slice_index levels to + 1 → now ≡ levels → next_now ≡ slice_set nexts from to → queue_now ≡ queue
+  nearer : slice_index levels from ≡ slice_index levels to + 1 → now ≡ levels → next_now ≡ slice_set nexts from to
+      → queue_now ≡ queue
       → HasRaised levels nexts queue from to now next_now queue_now
-  known : slice_index levels from ≢ far → now ≡ levels → next_now ≡ nexts → queue_now ≡ queue → HasRaised levels nexts queue from to now next_now queue_now
+  known : slice_index levels from ≢ far → now ≡ levels → next_now ≡ nexts → queue_now ≡ queue
+      → HasRaised levels nexts queue from to now next_now queue_now
 
 -- an edge to the node changes that, and another nothing
 abbrev pub HasFollowed : ℕ × ℕ → ℕ → List ℕ → List ℕ → List ℕ → List ℕ → List ℕ → List ℕ → Type 0
@@ -48,7 +51,8 @@ HasNext target levels nexts = (a : ℕ) → a < length levels → slice_index le
 
 -- b is the next node of a, which has a level
 abbrev pub IsNext : List ℕ → List ℕ → ℕ → ℕ → Type 0
-IsNext levels nexts a b = (a < length levels) × (slice_index levels a ≢ far) × (slice_index levels a ≢ 0) × (slice_index nexts a ≡ b)
+IsNext levels nexts a b = (a < length levels) × (slice_index levels a ≢ far) × (slice_index levels a ≢ 0)
+    × (slice_index nexts a ≡ b)
 
 -- the nodes in the queue are those with a level, and from the first h of them all edges backwards were followed
 pub record IsSearched (edges : List (ℕ × ℕ)) (target nodes h : ℕ) (levels nexts queue : List ℕ) : Type 0 where
@@ -59,7 +63,8 @@ pub record IsSearched (edges : List (ℕ × ℕ)) (target nodes h : ℕ) (levels
   pub steps : (a b : ℕ) → IsNext levels nexts a b → Contains edges (a, b)
   pub bounded : (a : ℕ) → a < nodes → slice_index levels a ≢ far → slice_index levels a < length queue
   pub queued : (a : ℕ) → a < nodes → slice_index levels a ≢ far → Contains queue a
-  pub reached : (j : ℕ) → j < length queue → (slice_index queue j < nodes) × (slice_index levels (slice_index queue j) ≢ far)
+  pub reached : (j : ℕ) → j < length queue
+      → (slice_index queue j < nodes) × (slice_index levels (slice_index queue j) ≢ far)
   pub count : far_count levels + length queue ≡ nodes
   pub low : h ≤ length queue
   pub closed : (j a : ℕ) → j < h → Contains edges (a, slice_index queue j) → slice_index levels a ≢ far

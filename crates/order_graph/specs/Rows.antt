@@ -1,5 +1,5 @@
--- The bit rows of a list of literals over n nodes: what each node reaches, the pairs denied from each node, the present nodes, the
--- denied nodes, and the nodes from which a pair is denied.
+-- The bit rows of a list of literals over n nodes: what each node reaches, the pairs denied from each node, the present
+-- nodes, the denied nodes, and the nodes from which a pair is denied.
 use Rattle.std.specs.Prelude.{ℕ, Bool, true, false, ◌≡◌, ◌↔◌, ◌<◌, ◌≤◌, ◌+◌, ◌*◌, ◌&&◌, ◌||◌, ◌==◌, not, zero, suc, if◌then◌else◌, List, Contains, All}
 use Rattle.pc_common.specs.Chain.{Chain}
 use Rattle.pc_common.specs.declared.limits.TheConstants.{MAX_NODES}
@@ -88,7 +88,8 @@ pub record Enters (n : ℕ) (l : Literal ℕ) (old new : BitTable) : Type 0 wher
 abbrev pub IsSized : ℕ → BitTable → Type 0
 IsSized n v = (v.rows ≡ 2 * n + 3) × (n ≤ 64 * v.words) × (n ≤ MAX_NODES)
 
--- an edge from a to b closes no cycle of the rows, which have each chain that two of theirs make, and its ends where it is one
+-- an edge from a to b closes no cycle of the rows, which have each chain that two of theirs make, and its ends where it
+-- is one
 pub record TakesEdge (n : ℕ) (v : BitTable) (a b : ℕ) : Type 0 where
   pub no_cycle : leads_to v b a ≡ false
   pub transitive : (x z y : ℕ) → x < n → z < n → y < 64 * v.words

@@ -46,7 +46,8 @@ fn raise(
     requires to_in { to < length levels.old }
     requires all { length nexts.old ≡ length levels.old }
     requires low { slice_index levels.old to + 1 < far }
-    ensures { OnOk result (HasRaised levels.old nexts.old queue.old.items from to levels.new nexts.new queue.new.items) }
+    ensures { OnOk result
+        (HasRaised levels.old nexts.old queue.old.items from to levels.new nexts.new queue.new.items) }
 {
     let level = levels[to as usize] + 1;
     if levels[from as usize] == FAR {
@@ -74,7 +75,8 @@ fn follow(
     requires node_in { node < length levels.old }
     requires all { length nexts.old ≡ length levels.old }
     requires low { slice_index levels.old node + 1 < far }
-    ensures { OnOk result (HasFollowed edge node levels.old nexts.old queue.old.items levels.new nexts.new queue.new.items) }
+    ensures { OnOk result
+        (HasFollowed edge node levels.old nexts.old queue.old.items levels.new nexts.new queue.new.items) }
 {
     if edge.1 == node {
         return raise(levels, nexts, queue, edge.0, node);
@@ -102,8 +104,10 @@ fn visit(
     requires links_all { length links.now ≡ length edges.now }
     requires head_in { head ≤ length edges.now }
     requires falling { (j : ℕ) → slice_index links.now j ≤ j }
-    requires all { (k a : ℕ) → k < length edges.now → slice_index_or edges.now k (a, node) ≡ (a, node) → OnList links.now head k }
-    ensures { OnOk result (IsSearched edges.now target (length levels.old) (done + 1) levels.new nexts.new queue.new.items) }
+    requires all { (k a : ℕ) → k < length edges.now → slice_index_or edges.now k (a, node) ≡ (a, node)
+        → OnList links.now head k }
+    ensures { OnOk result
+        (IsSearched edges.now target (length levels.old) (done + 1) levels.new nexts.new queue.new.items) }
 {
     let mut at = head;
     while at > 0 {
@@ -129,7 +133,9 @@ fn spread(
     requires few { length levels.old + 2 < far }
     requires searched { IsSearched edges.now target (length levels.old) 0 levels.old nexts.old queue.old.items }
     requires lists { AreLists edges.now (length levels.old) (length edges.now) heads.now links.now }
-    ensures { OnOk result (IsSearched edges.now target (length levels.old) (length queue.new.items) levels.new nexts.new queue.new.items) }
+    ensures { OnOk result
+        (IsSearched edges.now target (length levels.old) (length queue.new.items)
+        levels.new nexts.new queue.new.items) }
 {
     let mut done = 0;
     while done < queue.len() {

@@ -43,7 +43,8 @@ fn word_joins_denied(table: &UndoTable, nodes: u32, word: u32, a: u32, b: u32) -
     requires word_in { 64 * word < nodes }
     requires a_in { a < nodes }
     requires b_in { b < nodes }
-    ensures { MatchBool result (JoinsDenied nodes table.now a b) (JoinsNoneFrom nodes table.now a b (64 * word) (64 * word + 64)) }
+    ensures { MatchBool result (JoinsDenied nodes table.now a b)
+        (JoinsNoneFrom nodes table.now a b (64 * word) (64 * word + 64)) }
 {
     let deniers = table.row(2 * nodes as usize + 2);
     if deniers[word as usize] == 0 {
@@ -119,7 +120,8 @@ fn joined_pair(
     requires below { IsBelow nodes literal }
     requires a_in { a < nodes }
     requires b_in { b < nodes }
-    ensures { MatchOption result ((x y : ℕ) → literal ≡ Literal.NoEdge x y → IsOver table.now a b x y → ⊥) (λ pair. (literal ≡ Literal.NoEdge pair.0 pair.1) × IsOver table.now a b pair.0 pair.1) }
+    ensures { MatchOption result ((x y : ℕ) → literal ≡ Literal.NoEdge x y → IsOver table.now a b x y → ⊥)
+        (λ pair. (literal ≡ Literal.NoEdge pair.0 pair.1) × IsOver table.now a b pair.0 pair.1) }
 {
     match literal {
         Literal::NoEdge(x, y) if leads_to(table, x, a) && leads_to(table, b, y) => Some((x, y)),
@@ -127,7 +129,8 @@ fn joined_pair(
     }
 }
 
-/// The first denied pair, in order of assertion, that the edge from `a` to `b` would join.
+/// The first denied pair, in order of assertion, that the edge from `a` to `b` would join. Asked only where the bit
+/// rows say that some pair would be joined.
 fn first_joined(
     table: &UndoTable,
     nodes: u32,
@@ -139,7 +142,8 @@ fn first_joined(
     requires below { All (IsBelow nodes) literals.now }
     requires a_in { a < nodes }
     requires b_in { b < nodes }
-    ensures { MatchOption result ((x y : ℕ) → Contains literals.now (Literal.NoEdge x y) → IsOver table.now a b x y → ⊥) (λ pair. Contains literals.now (Literal.NoEdge pair.0 pair.1) × IsOver table.now a b pair.0 pair.1) }
+    ensures { MatchOption result ((x y : ℕ) → Contains literals.now (Literal.NoEdge x y) → IsOver table.now a b x y → ⊥)
+        (λ pair. Contains literals.now (Literal.NoEdge pair.0 pair.1) × IsOver table.now a b pair.0 pair.1) }
 {
     for literal in literals {
         if let Some(pair) = joined_pair(table, nodes, *literal, a, b) {
@@ -162,7 +166,8 @@ fn path_clash(
     requires represents { Represents nodes table.now.words literals.now table.now.now }
     requires a_in { a < nodes }
     requires b_in { b < nodes }
-    ensures { IfOk result (λ found. MatchOption found (JoinsNone literals.now a b) (IsClash (literals.now ++ Literal.Edge a b ∷ []))) }
+    ensures { IfOk result (λ found. MatchOption found (JoinsNone literals.now a b)
+        (IsClash (literals.now ++ Literal.Edge a b ∷ []))) }
 {
     let Some((x, y)) = first_joined(table, nodes, literals, a, b) else {
         return Ok(None);
@@ -186,7 +191,8 @@ fn edge_clash(
     requires represents { Represents nodes table.now.words literals.now table.now.now }
     requires a_in { a < nodes }
     requires b_in { b < nodes }
-    ensures { IfOk result (λ found. MatchOption found (IsConsistent (literals.now ++ Literal.Edge a b ∷ [])) (IsClash (literals.now ++ Literal.Edge a b ∷ []))) }
+    ensures { IfOk result (λ found. MatchOption found (IsConsistent (literals.now ++ Literal.Edge a b ∷ []))
+        (IsClash (literals.now ++ Literal.Edge a b ∷ []))) }
 {
     if reaches(table, a, b) {
         return Ok(None);
@@ -220,7 +226,8 @@ fn no_edge_clash(
     requires represents { Represents nodes table.now.words literals.now table.now.now }
     requires a_in { a < nodes }
     requires b_in { b < nodes }
-    ensures { IfOk result (λ found. MatchOption found (IsConsistent (literals.now ++ Literal.NoEdge a b ∷ [])) (IsClash (literals.now ++ Literal.NoEdge a b ∷ []))) }
+    ensures { IfOk result (λ found. MatchOption found (IsConsistent (literals.now ++ Literal.NoEdge a b ∷ []))
+        (IsClash (literals.now ++ Literal.NoEdge a b ∷ []))) }
 {
     if !reaches(table, a, b) {
         return Ok(None);
@@ -251,7 +258,8 @@ pub fn clash_of(
     requires sized { IsSized nodes table.now }
     requires represents { Represents nodes table.now.words literals.now table.now.now }
     requires below { IsBelow nodes literal }
-    ensures { IfOk result (λ found. MatchOption found (IsConsistent (literals.now ++ literal ∷ [])) (IsClash (literals.now ++ literal ∷ []))) }
+    ensures { IfOk result (λ found. MatchOption found (IsConsistent (literals.now ++ literal ∷ []))
+        (IsClash (literals.now ++ literal ∷ []))) }
 {
     match literal {
         Literal::Node(a) => Ok(absence(is_missing(table, nodes, a), a)),

@@ -28,7 +28,7 @@ pub struct OrderGraph {
     literals: Vec<Literal<u32>>,
     /// The table's moment when the first k literals stood, for each k.
     moments: Vec<Moment>,
-    /// How many marks there are at each number of literals.
+    /// How many marks there are at each number of literals. So `mark` has no answer for want of memory.
     counts: Vec<u64>,
     live: u64,
 }
@@ -40,7 +40,12 @@ impl Model for OrderGraph {
 
     ghost Value = { Graph };
 
-    ghost view = { λ s. record { nodes = s.nodes; literals = s.literals.items; marks = marks_from 0 s.counts.items; recorded = s.moments.items } };
+    ghost view = { λ s. record {
+      nodes = s.nodes;
+      literals = s.literals.items;
+      marks = marks_from 0 s.counts.items;
+      recorded = s.moments.items;
+    } };
 
     ghost invariant = { λ s. IsOrder s.nodes s.table s.literals.items s.moments.items s.counts.items s.live };
 }
@@ -63,7 +68,8 @@ fn keep<L: Ledger>(
     ensures literals { OnOk result (literals.new.items ≡ literals.old.items ++ literal ∷ []) }
     ensures moments { OnOk result (moments.new.items ≡ moments.old.items ++ length table.new.past ∷ []) }
     ensures counts { OnOk result (counts.new.items ≡ counts.old.items ++ 0 ∷ []) }
-    ensures err { OnErr result ((table.new ≡ table.old) × (literals.new.items ≡ literals.old.items) × (moments.new.items ≡ moments.old.items) × (counts.new.items ≡ counts.old.items)) }
+    ensures err { OnErr result ((table.new ≡ table.old) × (literals.new.items ≡ literals.old.items)
+        × (moments.new.items ≡ moments.old.items) × (counts.new.items ≡ counts.old.items)) }
     ensures cost { steps.new ≤ steps.old + nodes }
 {
     literals.reserve(1)?;
@@ -78,7 +84,7 @@ fn keep<L: Ledger>(
 
 impl OrderGraph {
     /// A graph over the nodes from 0 to one below `nodes`, of which there are at most 262,144, with no
-    /// literal and no mark. Takes memory for two bit rows a node.
+    /// literal and no mark. Takes memory for two bit rows a node and three more.
     pub fn new(alloc: Global, nodes: u32) -> Result<OrderGraph, Memory>
         requires { nodes ≤ MAX_NODES }
         ensures { IfOk result (λ g. g ≡ record { nodes = nodes; literals = []; marks = []; recorded = 0 ∷ [] }) }
@@ -142,7 +148,8 @@ impl OrderGraph {
     /// Whether the literal would clash: whether the literals with it are not consistent. Takes no memory.
     pub fn would_clash(&self, literal: Literal<u32>) -> bool
         requires { IsBelow self.now.nodes literal }
-        ensures { MatchBool result (IsConsistent (self.now.literals ++ literal ∷ []) → ⊥) (IsConsistent (self.now.literals ++ literal ∷ [])) }
+        ensures { MatchBool result (IsConsistent (self.now.literals ++ literal ∷ []) → ⊥)
+            (IsConsistent (self.now.literals ++ literal ∷ [])) }
     {
         would_clash(&self.table, self.nodes, literal)
     }
@@ -202,7 +209,8 @@ impl OrderGraph {
         ensures cut { IsCut self.old (slice_index self.old.marks mark) mark self.new }
         ensures count { slice_index self.old.marks mark ≤ length self.old.literals }
         ensures cost { steps.new ≡ steps.old + recorded_since self.old (slice_index self.old.marks mark) }
-        ensures bound { steps.new ≤ steps.old + (length self.old.literals - slice_index self.old.marks mark) * most_words self.old.nodes }
+        ensures bound { steps.new ≤ steps.old + (length self.old.literals - slice_index self.old.marks mark)
+            * most_words self.old.nodes }
     {
         let (count, marks) = count_at(&self.counts, self.live, mark.place());
         self.table.undo(self.moments[count], steps);

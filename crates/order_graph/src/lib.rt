@@ -1,5 +1,14 @@
 //! A graph over numbered nodes that holds a list of literals: nodes and edges, asserted or denied.
 //!
+//! ```rust
+//! // `steps` counts in the caller's ledger
+//! let mut graph = OrderGraph::new(alloc, 2)?;
+//! graph.assert_literal(Literal::Edge(0, 1), &mut steps)?;
+//! assert!(rt; graph.reaches(0, 1) && graph.would_clash(Literal::Edge(1, 0)));
+//! let added = graph.assert_literal(Literal::NoNode(1), &mut steps)?;
+//! assert!(rt; matches!(added, Added::Clash(Clash::Absent(1))));
+//! ```
+//!
 //! The literals are consistent: no node has a chain of asserted edges to itself, no denied pair is joined by
 //! a chain, and no denied node is present. A literal that would break this is refused with a clash, which
 //! tells the cycle, the path or the node. Marks and `undo` go back to earlier literals, exactly.

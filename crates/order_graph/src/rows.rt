@@ -118,7 +118,8 @@ fn join_row(table: &mut UndoTable, x: u32, b: u32, is_sink: bool)
     requires column_in { b < 64 * table.old.words }
     requires sink { OnTrue is_sink ((d : ℕ) → d < 64 * table.old.words → bit_now table.old b d ≡ false) }
     requires room { row_words table.old is_sink ≤ table.old.room }
-    ensures joined { (q d : ℕ) → q < table.old.rows → d < 64 * table.old.words → bit_now table.new q d ≡ (if q == x then bit_now table.old q d || leads_to table.old b d else bit_now table.old q d) }
+    ensures joined { (q d : ℕ) → q < table.old.rows → d < 64 * table.old.words → bit_now table.new q d
+        ≡ (if q == x then bit_now table.old q d || leads_to table.old b d else bit_now table.old q d) }
     ensures trail { Extends table.old table.new (row_words table.old is_sink) }
     ensures room { table.old.room ≤ table.new.room + row_words table.old is_sink }
 {
@@ -146,8 +147,10 @@ fn close_over<L: Ledger>(
     requires takes { TakesEdge nodes table.old a b }
     requires sink { OnTrue is_sink ((d : ℕ) → d < 64 * table.old.words → bit_now table.old b d ≡ false) }
     requires room { words_gained table.old a b (row_words table.old is_sink) nodes ≤ table.old.room }
-    ensures closed { (x y : ℕ) → x < nodes → y < 64 * table.old.words → bit_now table.new x y ≡ with_edge table.old a b x y }
-    ensures others { (q d : ℕ) → nodes ≤ q → q < table.old.rows → d < 64 * table.old.words → bit_now table.new q d ≡ bit_now table.old q d }
+    ensures closed { (x y : ℕ) → x < nodes → y < 64 * table.old.words
+        → bit_now table.new x y ≡ with_edge table.old a b x y }
+    ensures others { (q d : ℕ) → nodes ≤ q → q < table.old.rows → d < 64 * table.old.words
+        → bit_now table.new q d ≡ bit_now table.old q d }
     ensures trail { Extends table.old table.new (nodes * (table.old.words + 1)) }
     ensures room { table.old.room ≤ table.new.room + words_gained table.old a b (row_words table.old is_sink) nodes }
     ensures cost { steps.new ≤ steps.old + nodes }
@@ -268,7 +271,8 @@ pub fn enter<L: Ledger>(
 pub fn is_true(table: &UndoTable, nodes: u32, literal: Literal<u32>) -> bool
     requires sized { IsSized nodes table.now }
     requires below { IsBelow nodes literal }
-    ensures { (ls : List (AnyLiteral ℕ)) → Represents nodes table.now.words ls table.now.now → (result ≡ true) ↔ Holds (IsPresent ls) (Chain (Joins ls)) literal }
+    ensures { (ls : List (AnyLiteral ℕ)) → Represents nodes table.now.words ls table.now.now
+        → (result ≡ true) ↔ Holds (IsPresent ls) (Chain (Joins ls)) literal }
 {
     match literal {
         Literal::Node(a) => is_present(table, nodes, a),

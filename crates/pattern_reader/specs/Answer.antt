@@ -1,5 +1,5 @@
--- What a pattern's bytes say: a pattern, or the first fault. The bytes are a pattern where they close to a test, and their faults are
--- those of that test; where it has none, there may be too many rows.
+-- What a pattern's bytes say: a pattern, or the first fault. The bytes are a pattern where they close to a test, and
+-- their faults are those of that test; where it has none, there may be too many rows.
 use Rattle.std.specs.Prelude.{◌≡◌, ◌≤◌, ◌<◌, ◌+◌, ℕ, List, map, take, Some, slice_get}
 use Rattle.pc_common.specs.Case.{Case}
 use Rattle.pc_common.specs.declared.place.Place.{Place}
@@ -40,7 +40,8 @@ pub record IsTooMany (c : Case) (opens : List Open) (fault : CaseFault) : Type 0
 -- with these open values the bytes close to no test, or there are too many rows
 pub data IsClosedFault (bytes : List ℕ) (opens : List Open) (fault : CaseFault) : Type 0 where
   in_test : IsTestFault (closed_bytes bytes opens) fault → IsClosedFault bytes opens fault
-  too_many : {c : Case} → CaseOf (closed_bytes bytes opens) c → IsTooMany c opens fault → IsClosedFault bytes opens fault
+  too_many : {c : Case} → CaseOf (closed_bytes bytes opens) c → IsTooMany c opens fault
+      → IsClosedFault bytes opens fault
 
 -- the bytes say this pattern
 pub record PatternOf (bytes : List ℕ) (p : Pattern) : Type 0 where
@@ -51,4 +52,5 @@ pub record PatternOf (bytes : List ℕ) (p : Pattern) : Type 0 where
 -- the first fault of the bytes
 pub data IsPatternFault (bytes : List ℕ) : CaseFault → Type 0 where
   lexical : {place : Place} → IsLexicalFault bytes place.offset → IsPatternFault bytes (Lexical place)
-  closed : {tokens : List Token} {fault : CaseFault} → Spells bytes tokens → IsClosedFault bytes (opens_in tokens) fault → IsPatternFault bytes fault
+  closed : {tokens : List Token} {fault : CaseFault} → Spells bytes tokens → IsClosedFault bytes (opens_in tokens) fault
+      → IsPatternFault bytes fault

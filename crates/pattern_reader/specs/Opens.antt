@@ -41,7 +41,9 @@ pub record Open : Type 0 where
 -- the open value at k, if there is one
 abbrev pub open_at : List Token → ℕ → List Open
 open_at ts k =
-    if opens_any ts k && reads ts k then record { at = place_or 0 (slice_get ts (k + 2)); op = accesses ts k - 1 } ∷ [] else []
+    if opens_any ts k && reads ts k
+    then record { at = place_or 0 (slice_get ts (k + 2)); op = accesses ts k - 1 } ∷ []
+    else []
 
 -- in text order
 abbrev pub opens_among : List Token → ℕ → List Open

@@ -75,7 +75,15 @@ touch_reading v t = record { va = t.va; pa = t.pa; value = v }
 abbrev pub reading : Option Value → MicroOp → MicroOp
 reading None o = o
 reading (Some v) o =
-    record { g = o.g; n = o.n; core = o.core; thread = o.thread; types = o.types; kind = o.kind; touch = option_map (touch_reading v) o.touch }
+    record {
+      g = o.g;
+      n = o.n;
+      core = o.core;
+      thread = o.thread;
+      types = o.types;
+      kind = o.kind;
+      touch = option_map (touch_reading v) o.touch;
+    }
 
 -- micro-ops from place k on, each with the value that there is for its place
 abbrev pub filled : (ℕ → Option Value) → ℕ → List MicroOp → List MicroOp
@@ -84,7 +92,13 @@ filled value k (o ∷ os) = reading (value k) o ∷ filled value (k + 1) os
 
 -- the case with these micro-ops
 abbrev pub with_ops : Case → List MicroOp → Case
-with_ops c ops = record { ops = ops; dependencies = c.dependencies; initial = c.initial; final = c.final; expectation = c.expectation }
+with_ops c ops = record {
+  ops = ops;
+  dependencies = c.dependencies;
+  initial = c.initial;
+  final = c.final;
+  expectation = c.expectation;
+}
 
 -- the case of a row: the values of the row in the open reads
 abbrev pub row_case : Pattern → ℕ → Case

@@ -1,5 +1,14 @@
 //! Patterns: tests in which reads may leave their value open, and the case of each combination of values.
 //!
+//! ```rust
+//! let text = b"Litmus \"p\".
+//! Microop 0 0 0 0 (Write (VA 0 0) (PA 0 0) (Data 1)).
+//! Microop 1 0 0 0 (Read (VA 0 0) (PA 0 0) (Data Any)).
+//! ";
+//! let pattern = read_pattern(alloc, text)?;
+//! assert!(rt; pattern.rows() == 2 && pattern.value(1, 0) == Value::Number(1));
+//! ```
+//!
 //! A pattern is a test file of either format in which a read may have `(Data Any)`. With a 0 in place of each such
 //! `Any` it is a test, which `litmus_reader` judges: a pattern has the faults of that test, at the same places, and so
 //! an `Any` anywhere else is a fault of syntax. Last of all faults is too many rows.

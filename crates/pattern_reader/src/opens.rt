@@ -101,7 +101,8 @@ fn note_open(
     requires within { k < length tokens.now }
     requires few { length tokens.now < 2 ^ 63 }
     requires seen { AreSeen tokens.now k seen }
-    ensures opens { OnOk result (map plain_open opens.new.items ≡ map plain_open opens.old.items ++ open_at tokens.now k) }
+    ensures opens { OnOk result (map plain_open opens.new.items
+        ≡ map plain_open opens.old.items ++ open_at tokens.now k) }
     ensures few { OnOk result (length opens.new.items ≤ length opens.old.items + 1) }
 {
     if opens_any(tokens, k) && seen.reading {

@@ -60,8 +60,10 @@ fn pattern_with_opens(alloc: Global, bytes: &[u8], opens: &[Open]) -> Result<Pat
 fn pattern_of_lists(alloc: Global, lists: CaseLists, opens: &[Open]) -> Result<Pattern, CaseFault>
     requires lists { AreLists lists }
     requires few_opens { length opens.now < 4294967296 }
-    ensures ok { IfOk result (λ p. (p ≡ pattern_with (case_by lists) (map plain_open opens.now)) × (rows_of p ≤ MAX_ROWS)) }
-    ensures err { IfErr result (λ fault. fault ≢ no_memory → IsTooMany (case_by lists) (map plain_open opens.now) fault) }
+    ensures ok { IfOk result (λ p. (p ≡ pattern_with (case_by lists) (map plain_open opens.now))
+        × (rows_of p ≤ MAX_ROWS)) }
+    ensures err { IfErr result (λ fault. fault ≢ no_memory
+        → IsTooMany (case_by lists) (map plain_open opens.now) fault) }
 {
     let mut reads = Vec::new(alloc);
     let mut rows = 1;

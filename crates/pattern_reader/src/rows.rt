@@ -71,7 +71,8 @@ fn is_at(read: &OpenRead, place: usize) -> bool
 fn value_if(reads: &[OpenRead], row: usize, k: usize, place: usize) -> Option<Value>
     requires some { All HasValues reads.now }
     requires within { k < length reads.now }
-    ensures { option_map plain_value result ≡ value_at_place (map op_in reads.now) (row_values (map values_in reads.now) row) k place }
+    ensures { option_map plain_value result
+        ≡ value_at_place (map op_in reads.now) (row_values (map values_in reads.now) row) k place }
 {
     if is_at(read_at(reads, k), place) {
         Some(value_in(reads, row, k))
@@ -129,7 +130,8 @@ pub(crate) fn row_ops(
 ) -> Result<Ops, Memory>
     requires { All HasValues reads.now }
     ensures { IfOk result (λ copies. map micro_op copies
-        ≡ filled (value_for_spec (map op_in reads.now) (row_values (map values_in reads.now) row)) 0 (map micro_op ops.now)) }
+        ≡ filled (value_for_spec (map op_in reads.now) (row_values (map values_in reads.now) row)) 0
+        (map micro_op ops.now)) }
 {
     let mut copies = Listed::new(alloc);
     for place in 0..ops.len() {

@@ -132,7 +132,8 @@ fn has_value(values: &[Value], value: Value) -> bool
 
 /// Puts the value behind the others, unless it is one of them.
 fn add_once(values: &mut Values, value: Option<Value>) -> Result<(), Memory>
-    ensures { OnOk result (map plain_value values.new ≡ once_more (map plain_value values.old) (option_map plain_value value)) }
+    ensures { OnOk result (map plain_value values.new
+        ≡ once_more (map plain_value values.old) (option_map plain_value value)) }
 {
     match value {
         None => Ok(()),

@@ -1,5 +1,14 @@
 //! A case: all that a test file says.
 //!
+//! ```rust
+//! let id = OpId { g: 7, n: 0 };
+//! let types = TypeNames::new(alloc);
+//! let mut ops = Ops::new(alloc);
+//! ops.push(Op { id, core: 1, thread: 0, types, access: Access::Fence, memop: None })?;
+//! let case = Case::new(ops, Expect::Permitted);
+//! assert!(rt; case.find(id) == Some(0) && case.cores() == 2);
+//! ```
+//!
 //! It takes lists in test order (micro-ops, dependencies, stated initial and final values) and the
 //! expectation, and answers by place, by address, by kind and by name. Addresses and kinds are looked
 //! up by hash, so that no question walks the test; the readers take no memory. A physical address is a

@@ -10,7 +10,8 @@ Went (Ok x) before text after = after ≡ before ++ text
 Went (Err e) before text after = IsCutShort before text after
 
 -- `view` is that of the sink's kind
-pub record Writes {K : Type 0} (view : K → SinkView) (old new : K) {T E : Type 0} (result : Result T E) (text : List ℕ) : Type 0 where
+pub record Writes {K : Type 0} (view : K → SinkView) (old new : K) {T E : Type 0} (result : Result T E)
+    (text : List ℕ) : Type 0 where
   pub same_modelled : (view new).modelled ≡ (view old).modelled
   pub count : (view old).faults ≤ (view new).faults
   pub cause : OnErr result (Rose (view old).faults (view new).faults)

@@ -17,7 +17,7 @@ pub enum FaultKind {
     TooLarge { limit: u64 },
     /// `lexical`: neither a token nor a blank nor a comment begins here.
     Lexical,
-    /// `syntax`: no well-formed text goes on with this token.
+    /// `syntax`: no well-formed text can continue with this token.
     Syntax,
     /// `depth`: the opener past the limit of openers that are open at once.
     Depth { limit: u64 },

@@ -3,6 +3,15 @@
 //! and writing whole, a room of 4,096 bytes in front of a sink, and how many cores and micro-ops there
 //! may be.
 //!
+//! ```rust
+//! use pc_common::{Calls, MemSink, Place, line_col, write_all};
+//!
+//! let text = b"ab\ncd\n".as_slice();
+//! assert!(rt; line_col(text, Place { offset: 3 }) == (2, 1));
+//! let mut sink = MemSink::new(alloc, 64, Calls::new(alloc))?;
+//! assert!(rt; write_all(&mut sink, text).is_ok() && sink.taken() == text);
+//! ```
+//!
 //! Its `specs/` hold what every layer above speaks of as plain data: a case (what a litmus test says),
 //! what an address holds, a node, a world (things with a strict order), chains of edges, the world that
 //! a graph generates, the lines of a certificate, and what a call keeps of a sink (`Writes`), of a room

@@ -12,7 +12,8 @@ pub trait Sink {
     ghost view: { Self → SinkView };
 
     /// Takes the first bytes of the piece, and answers how many. It takes at least one of a piece
-    /// that is not empty, or fails; where it fails it took nothing of this piece.
+    /// that is not empty, or fails: otherwise writing the whole piece would not end. Where it fails it took
+    /// nothing of this piece.
     fn write(&mut self, piece: &[u8]) -> Result<usize, Failed>
         ensures same_modelled { (view self.new).modelled ≡ (view self.old).modelled }
         ensures count { (view self.old).faults ≤ (view self.new).faults }

@@ -7,7 +7,8 @@ use super::files::Files;
 use super::held::Held;
 use super::shelf::Shelf;
 
-/// Files in memory of which no call fails: a name that was not given holds no bytes.
+/// Files in memory of which no call fails: a name that was not given holds no bytes. So `run` over them and a
+/// `SureSink` can be asked for its verdict alone.
 #[derive(Drop)]
 pub struct SureFiles {
     shelf: Shelf,

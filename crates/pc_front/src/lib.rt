@@ -1,5 +1,13 @@
 //! From the bytes of a model and a test to the ground tree, or the exact first fault.
 //!
+//! ```rust
+//! use pc_front::front;
+//!
+//! let model = b"Axiom \"x\": exists microop \"i\", True.";
+//! let front = front(alloc, model, b"Litmus \"e\".")?;
+//! assert!(rt; front.tree.len() == 1 && front.tree.row(0).kind == RowKind::False);
+//! ```
+//!
 //! `read_model` joins the readers of a whole model: tokens, tree, stages, macros, names. `read_parts` adds the
 //! test, and `front` what search and checker work on: the ground tree, in flat rows, with its node numbers.
 #![tactic(auto)]

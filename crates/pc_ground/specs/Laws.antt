@@ -33,19 +33,22 @@ TreeSaysModel = (m : WrittenModel) (c : Case) (w : World Node) → satisfies m c
 -- closed axioms are true in a world exactly where their ground tree is
 abbrev pub TreeSaysClosed : Type 0
 TreeSaysClosed =
-    (c : Case) (axioms : List PlainClosed) (w : World Node) → list_all (closed_true c w []) axioms ≡ tree_true w (closed_ground_tree c axioms)
+    (c : Case) (axioms : List PlainClosed) (w : World Node)
+    → list_all (closed_true c w []) axioms ≡ tree_true w (closed_ground_tree c axioms)
 
 -- expansion keeps the ground tree of a model: expanded, its axioms have it, with no macro left to look up
 abbrev pub ExpansionKeepsTree : Type 0
 ExpansionKeepsTree =
     (m : WrittenModel) (c : Case)
-    → normal (all_of (map (unfolded m.stages c [] []) (map (expansion_of (macros_of m)) (axioms_of m)))) ≡ ground_tree m c
+    → normal (all_of (map (unfolded m.stages c [] []) (map (expansion_of (macros_of m)) (axioms_of m))))
+    ≡ ground_tree m c
 
 -- closing keeps the ground tree of a model without name faults: expanded and closed, its axioms have it
 abbrev pub ClosingKeepsTree : Type 0
 ClosingKeepsTree =
     (m : WrittenModel) (c : Case) → first_name_fault m ≡ None
-    → closed_ground_tree c (map (λ a. closing_of m.stages [] (expansion_of (macros_of m) a)) (axioms_of m)) ≡ ground_tree m c
+    → closed_ground_tree c (map (λ a. closing_of m.stages [] (expansion_of (macros_of m) a)) (axioms_of m))
+    ≡ ground_tree m c
 
 -- a constant is left in a normal form only where it is the whole tree
 abbrev pub NormalIsFolded : Type 0
@@ -58,7 +61,8 @@ NormalOfSimplified = (g : PlainGround) → normal (simplified g) ≡ normal g
 -- each node of closed axioms' ground tree is of the test, and of the stages that the axioms name
 abbrev pub NodesAreNamed : Type 0
 NodesAreNamed =
-    (c : Case) (numbers : List ℕ) (axioms : List Closed) → AreMicroOps c.ops → AxiomsWithin numbers (plain_axioms axioms)
+    (c : Case) (numbers : List ℕ) (axioms : List Closed) → AreMicroOps c.ops
+    → AxiomsWithin numbers (plain_axioms axioms)
     → (a : Node) → Contains (nodes_of_tree (closed_ground_tree c (plain_axioms axioms))) a → IsNodeOf numbers c.ops a
 
 -- two worlds that agree on the nodes of a tree's literals give the tree one truth
@@ -80,7 +84,8 @@ CutIsWorld = (nodes : List Node) (w : World Node) → IsWorld w → IsWorld (cut
 -- a tree with a refutation is true in no world
 abbrev pub RefutationIsSound : Type 0
 RefutationIsSound =
-    (v : Version) (t : Tree Node) (steps : List (Step Node)) → IsRefutation v t steps → (w : World Node) → IsWorld w → IsTrue (tree_true w t) → ⊥
+    (v : Version) (t : Tree Node) (steps : List (Step Node)) → IsRefutation v t steps → (w : World Node) → IsWorld w
+    → IsTrue (tree_true w t) → ⊥
 
 -- in version 1 no position of an open branch has a sign
 abbrev pub OneHasNoSign : Type 0
@@ -97,7 +102,8 @@ NegationTurnsRows = (n : Bool) (t : Tree Node) → rows_of (turned n t) ≡ turn
 
 -- the numbered nodes of a tree are the nodes of its literals, each once
 abbrev pub NumberedListsNodes : Type 0
-NumberedListsNodes = (t : Tree Node) → AreDistinct (numbered t) × ((a : Node) → Contains (nodes_of_tree t) a ↔ Contains (numbered t) a)
+NumberedListsNodes = (t : Tree Node)
+    → AreDistinct (numbered t) × ((a : Node) → Contains (nodes_of_tree t) a ↔ Contains (numbered t) a)
 
 -- no rows spell two trees
 abbrev pub RowsSpellOneTree : Type 0
@@ -105,4 +111,5 @@ RowsSpellOneTree = (s t : Tree Node) → rows_of s ≡ rows_of t → s ≡ t
 
 -- the walk over the rows of a side comes to the positions that the side asserts
 abbrev pub WalkIsAsserted : Type 0
-WalkIsAsserted = (t : Tree Node) (p : ℕ) (s : Tree Node) → subtree_at t p ≡ Some s → Walk (rows_of t) (p + size_of s) p (asserted s p)
+WalkIsAsserted = (t : Tree Node) (p : ℕ) (s : Tree Node) → subtree_at t p ≡ Some s
+    → Walk (rows_of t) (p + size_of s) p (asserted s p)

@@ -29,6 +29,7 @@ Holds has before (Edge a b) = before a b
 Holds has before (NoNode a) = has a → ⊥
 Holds has before (NoEdge a b) = before a b → ⊥
 
--- each literal is true where just the nodes that the literals assert are there, in the order of the chains of their edges
+-- each literal is true where just the nodes that the literals assert are there, in the order of the chains of their
+-- edges
 abbrev pub AreMet : {N : Type 0} → List (Literal N) → Type 0
 AreMet {N} ls = (l : Literal N) → Contains ls l → Holds (IsPresent ls) (Chain (Joins ls)) l

@@ -29,7 +29,8 @@ IsStage stages n name = (k : ℕ) × (slice_get stages k ≡ Some (n, name))
 
 -- the numbers of each micro-op have at most 64 bits
 abbrev pub AreSmall : List MicroOp → Type 0
-AreSmall ops = (k : ℕ) (o : MicroOp) → slice_get ops k ≡ Some o → (o.g ≤ 18446744073709551615) × (o.n ≤ 18446744073709551615)
+AreSmall ops = (k : ℕ) (o : MicroOp) → slice_get ops k ≡ Some o
+    → (o.g ≤ 18446744073709551615) × (o.n ≤ 18446744073709551615)
 
 -- the words name the micro-op, the core and the stage of this node
 pub record NamesNode (names : Names) (w : NodeWords) (a : Node) : Type 0 where

@@ -1,5 +1,6 @@
--- What refutes a tree: steps in prefix order, of which a split puts the two sides of an asserted Or in a branch's place, and a leaf
--- closes the first open branch by literals that can't stand together. A position under the sign `~` is one of the negated tree.
+-- What refutes a tree: steps in prefix order, of which a split puts the two sides of an asserted Or in a branch's
+-- place, and a leaf closes the first open branch by literals that can't stand together. A position under the sign `~`
+-- is one of the negated tree.
 use Rattle.std.specs.Prelude.{ℕ, ◌≡◌, ◌+◌, ◌-◌, zero, suc, nat_lt, Bool, false, not, map, List, [], ◌∷◌, ◌++◌, Option, Some, None, Contains, if◌then◌else◌}
 use Rattle.std.specs.List.{flat_map}
 use Rattle.pc_common.specs.Chain.{Leads}

@@ -1,4 +1,5 @@
--- A tree as rows in preorder: each position with what stands there and how many positions are below it, itself among them.
+-- A tree as rows in preorder: each position with what stands there and how many positions are below it, itself among
+-- them.
 use Rattle.std.specs.Prelude.{ℕ, ◌≡◌, Bool, true, false, List, [], ◌∷◌, ◌++◌, map}
 use Rattle.pc_ground.specs.declared.literal.Literal.{Literal}
 use Rattle.pc_ground.specs.declared.row.RowKind.{RowKind}

@@ -20,8 +20,10 @@ plain_axioms axioms = map (λ a. plain_closed a.body) axioms
 pub record AreStages (stages : List StageName) : Type 0 where
   pub numbers : (k : ℕ) (s : StageName) → slice_get stages k ≡ Some s → s.0 < 64
   pub names : (k : ℕ) (s : StageName) → slice_get stages k ≡ Some s → IsTrue (is_name s.1)
-  pub one_number : (j k : ℕ) (s t : StageName) → slice_get stages j ≡ Some s → slice_get stages k ≡ Some t → s.0 ≡ t.0 → j ≡ k
-  pub one_name : (j k : ℕ) (s t : StageName) → slice_get stages j ≡ Some s → slice_get stages k ≡ Some t → s.1 ≡ t.1 → j ≡ k
+  pub one_number : (j k : ℕ) (s t : StageName) → slice_get stages j ≡ Some s → slice_get stages k ≡ Some t → s.0 ≡ t.0
+      → j ≡ k
+  pub one_name : (j k : ℕ) (s t : StageName) → slice_get stages j ≡ Some s → slice_get stages k ≡ Some t → s.1 ≡ t.1
+      → j ≡ k
 
 pub AreStages-prop : (stages : List StageName) → IsProp (AreStages stages)
 AreStages-prop stages = hlevel (le_prop, ℕ_set, Bool-set)

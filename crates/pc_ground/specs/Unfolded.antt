@@ -1,4 +1,5 @@
--- What a formula says of one test: its quantifiers unfolded over their ranges, its lists over their members, its predicates decided.
+-- What a formula says of one test: its quantifiers unfolded over their ranges, its lists over their members, its
+-- predicates decided.
 use Rattle.std.specs.Prelude.{Bool, true, false, List, [], ◌∷◌, ◌++◌, Option, Some, None, map, if◌then◌else◌}
 use Rattle.pc_common.specs.Case.{Case}
 use Rattle.pc_common.specs.World.{Node}
@@ -41,8 +42,10 @@ unfolded ss c ms env (not_ p) = ground_not (unfolded ss c ms env p)
 unfolded ss c ms env (and_ p q) = ground_and (unfolded ss c ms env p) (unfolded ss c ms env q)
 unfolded ss c ms env (or_ p q) = ground_or (unfolded ss c ms env p) (unfolded ss c ms env q)
 unfolded ss c ms env (implies_ p q) = ground_or (ground_not (unfolded ss c ms env p)) (unfolded ss c ms env q)
-unfolded ss c ms env (forall_ at sort name p) = all_of (map (λ v. unfolded ss c ms ((name, v) ∷ env) p) (range_of c sort))
-unfolded ss c ms env (exists_ at sort name p) = some_of (map (λ v. unfolded ss c ms ((name, v) ∷ env) p) (range_of c sort))
+unfolded ss c ms env (forall_ at sort name p) =
+    all_of (map (λ v. unfolded ss c ms ((name, v) ∷ env) p) (range_of c sort))
+unfolded ss c ms env (exists_ at sort name p) =
+    some_of (map (λ v. unfolded ss c ms ((name, v) ∷ env) p) (range_of c sort))
 unfolded ss c ms env (static_ pred args) = decided (static_holds c env pred.name args)
 unfolded ss c ms env (nodes_ ts) = all_of (map (λ t. node_said (node_of ss c env t)) ts)
 unfolded ss c ms env (edges_ ts) = all_of (map (λ t. edge_said (node_of ss c env t.from) (node_of ss c env t.to)) ts)
@@ -58,9 +61,12 @@ abbrev pub closed_unfolded : Case → List Meaning → PlainClosed → PlainGrou
 closed_unfolded c slots (closed_not p) = ground_not (closed_unfolded c slots p)
 closed_unfolded c slots (closed_and p q) = ground_and (closed_unfolded c slots p) (closed_unfolded c slots q)
 closed_unfolded c slots (closed_or p q) = ground_or (closed_unfolded c slots p) (closed_unfolded c slots q)
-closed_unfolded c slots (closed_implies p q) = ground_or (ground_not (closed_unfolded c slots p)) (closed_unfolded c slots q)
-closed_unfolded c slots (closed_forall sort p) = all_of (map (λ v. closed_unfolded c (slots ++ v ∷ []) p) (range_of c sort))
-closed_unfolded c slots (closed_exists sort p) = some_of (map (λ v. closed_unfolded c (slots ++ v ∷ []) p) (range_of c sort))
+closed_unfolded c slots (closed_implies p q) =
+    ground_or (ground_not (closed_unfolded c slots p)) (closed_unfolded c slots q)
+closed_unfolded c slots (closed_forall sort p) =
+    all_of (map (λ v. closed_unfolded c (slots ++ v ∷ []) p) (range_of c sort))
+closed_unfolded c slots (closed_exists sort p) =
+    some_of (map (λ v. closed_unfolded c (slots ++ v ∷ []) p) (range_of c sort))
 closed_unfolded c slots (closed_static pred args) = decided (predicate_holds c pred (map (closed_argument slots) args))
 closed_unfolded c slots (closed_nodes ts) = all_of (map (λ t. node_said (closed_node c slots t)) ts)
 closed_unfolded c slots (closed_edges ts) =

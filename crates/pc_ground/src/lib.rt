@@ -1,5 +1,12 @@
 //! The ground tree: what a model says of one test, with no quantifier and no name left in it.
 //!
+//! ```rust
+//! // the front of a model with stage 5, `S`, and of a test whose first micro-op is 7.0
+//! let names = NodeText::of(&front);
+//! assert!(rt; names.read(b"7.0@1:S") == Ok(NodeKey { op: 0, core: 1, stage: 5 }));
+//! assert!(rt; names.read(b"7.0@64:S") == Err(LineFault::Foreign));
+//! ```
+//!
 //! A model's axioms in a case become a tree of And and Or over literals (a node or an edge, asserted
 //! or denied). `specs/` say which tree that is, what its truth in a world is, how it is written as flat
 //! rows in preorder, in which order its nodes are numbered, when a list of literals is consistent, and

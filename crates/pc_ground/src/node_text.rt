@@ -78,6 +78,7 @@ fn show_name(id: OpId)
 {}
 
 /// Does nothing. It shows that the numbers of each micro-op are of 64 bits, which a case's contract does not say.
+/// A walk over at most 64 micro-ops.
 fn show_numbers(case: &Case)
     ensures small { AreSmall case.now.ops }
     ensures kept { AreMicroOps case.now.ops }
@@ -144,7 +145,8 @@ impl<'a> NodeText<'a> {
 
     /// The node that the word is the text of: `Malformed` where it has no form g.n@core:Stage, `Foreign` where it
     /// has and names no micro-op of the test, no core 0 to 63 or no stage of the model. Takes no memory. The bytes of
-    /// its stage are judged only where the word names no node.
+    /// its stage are judged only where the word names no node. The stages of a model are names, so a node that is found
+    /// has the form.
     pub fn read(&self, word: &[u8]) -> Result<NodeKey, LineFault>
         ensures read { ReadsNode self.now word.now result }
         ensures readable { AreReadable self.now }

@@ -10,7 +10,7 @@ pub enum Bound {
     Core(u8),
 }
 
-/// What fills the room of an environment that isn't in use.
+/// What fills the room of an environment that isn't in use. `ArrayVec` asks for a default; no answer depends on it.
 impl Default for Bound {
     ghost use Rattle.std.specs.Prelude.{◌≡◌};
     ghost use Rattle.pc_syntax.specs.declared.bound.Bound.TheVariants.{Core};

@@ -1,6 +1,13 @@
 //! The model as trees and lists: as written, with its macros expanded, and closed, that is with slots
 //! in place of names and numbers in place of stages.
 //!
+//! ```rust
+//! use pc_syntax::{Pred, Takes};
+//!
+//! assert!(rt; Pred::of_name(b"OnCore") == Some(Pred::OnCore));
+//! assert!(rt; Pred::OnCore.arity() == 2 && Pred::OnCore.takes(0) == Takes::Core);
+//! ```
+//!
 //! Its `specs/` say what a model means: the table of predicates, the truth of a written formula in a
 //! case, a world and an environment, which worlds satisfy a model, and when an outcome is observable.
 //! They also say what expansion and closing make of a formula, what the truth of a closed formula is,

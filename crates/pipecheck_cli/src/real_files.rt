@@ -60,6 +60,8 @@ impl<R: rt::Files> Files for RealFiles<R> {
         ensures count { self.old.faults ≤ self.new.faults }
         ensures cause { OnErr result (Rose self.old.faults self.new.faults) }
     {
+        // the file before is closed first, so that one is open at a time
+        self.started = None;
         match File::open(&self.system, name) {
             Ok(file) => {
                 self.started = Some(file);

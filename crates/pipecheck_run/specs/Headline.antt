@@ -12,11 +12,14 @@ use Rattle.verify_command.specs.VerifyAnswers.{IsVerifyDue}
 use Rattle.gen_command.specs.GenAnswers.{IsGenDue}
 use Rattle.pipecheck_run.specs.Command.{Command, check, verify, gen, IsCommand}
 
--- what the statuses of a verdict say to a command: observable only where some choice of nodes with some strict order makes every axiom
--- true of the case, and unobservable only where none does; whatever a third file holds. `gen` has no such status
+-- what the statuses of a verdict say to a command: observable only where some choice of nodes with some strict order
+-- makes every axiom true of the case, and unobservable only where none does; whatever a third file holds. `gen` has no
+-- such status
 abbrev pub IsTrueTo : Contents → Command → Status → Type 0
-IsTrueTo holds (check version i) status = (m : WrittenModel) (c : Case) → Says CaseOf holds i m c → IsTrueStatus m c status
-IsTrueTo holds (verify i certificate) status = (m : WrittenModel) (c : Case) → Says CaseOf holds i m c → IsTrueStatus m c status
+IsTrueTo holds (check version i) status = (m : WrittenModel) (c : Case) → Says CaseOf holds i m c
+    → IsTrueStatus m c status
+IsTrueTo holds (verify i certificate) status = (m : WrittenModel) (c : Case) → Says CaseOf holds i m c
+    → IsTrueStatus m c status
 IsTrueTo holds (gen n) status = ⊤
 
 abbrev pub IsTrueOf : List (List ℕ) → Contents → Status → Type 0

@@ -11,11 +11,14 @@ use Rattle.pipecheck_run.specs.Answers.{Answers}
 abbrev pub IsOneCommand : List (List ℕ) → Type 0
 IsOneCommand words = (c d : Command) → IsCommand words c → IsCommand words d → c ≡ d
 
--- what `check` or `check2` answers to two files, within the limit of a certificate, `verify` answers with the same status, if it is given
--- these two and that text
+-- what `check` or `check2` answers to two files, within the limit of a certificate, `verify` answers with the same
+-- status, if it is given these two and that text
 abbrev pub HasOneStatus : Contents → Contents → Type 0
 HasOneStatus holds later =
-    (version : Version) (i : Inputs) (certificate text line : List ℕ) (words again : List (List ℕ)) (status second : Status)
-    → IsCommand words (check version i) → IsCommand again (verify i certificate) → later i.model ≡ holds i.model → later i.test ≡ holds i.test
-    → Answers words holds status text → length text ≤ MAX_CERTIFICATE → later certificate ≡ Some text → Answers again later second line
+    (version : Version) (i : Inputs) (certificate text line : List ℕ) (words again : List (List ℕ))
+    (status second : Status)
+    → IsCommand words (check version i) → IsCommand again (verify i certificate) → later i.model ≡ holds i.model
+    → later i.test ≡ holds i.test
+    → Answers words holds status text → length text ≤ MAX_CERTIFICATE → later certificate ≡ Some text
+    → Answers again later second line
     → second ≡ status

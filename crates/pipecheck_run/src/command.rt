@@ -60,7 +60,8 @@ fn three_behind<'a>(word: &str, words: &'a [String]) -> Option<(Inputs<'a>, &'a 
 
 /// The command that the words are, if they are one.
 pub(crate) fn parse<'a>(words: &'a [String]) -> Option<Command<'a>>
-    ensures { MatchOption result (IsNoCommand (map string_bytes words.now)) (λ c. IsCommand (map string_bytes words.now) (plain_command c)) }
+    ensures { MatchOption result (IsNoCommand (map string_bytes words.now))
+        (λ c. IsCommand (map string_bytes words.now) (plain_command c)) }
 {
     if let Some(inputs) = inputs_behind("check", words) {
         return Some(Command::Check(Version::One, inputs));

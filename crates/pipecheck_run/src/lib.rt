@@ -1,8 +1,15 @@
 //! The top call: from the words of a command and the bytes of its files to the bytes of the answer.
 //!
-//! `parse` takes the words, `answer_to` hands a command to the crate of its own, and `tell` writes the text of what that
-//! returned. A command's crate says what it reads and what it returns; here are the words, and a line for each command
-//! in each table.
+//! ```rust
+//! // the words are `gen` and `2`, and `sink` is empty
+//! assert!(rt; run(alloc, &words, &mut files, &mut sink) == Status::Done);
+//! let text = b"gen 2\nunobservable\nnodes 4\nsplits 2\nleaves 3\nend\n";
+//! assert!(rt; sink.taken() == text.as_slice());
+//! ```
+//!
+//! `parse` takes the words, `answer_to` hands a command to the crate of its own, and `tell` writes the text of what
+//! that returned. A command's crate says what it reads and what it returns; here are the words, and a line for each
+//! command in each table.
 #![tactic(auto)]
 
 mod answer;

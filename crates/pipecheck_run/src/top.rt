@@ -74,7 +74,8 @@ fn answer_to<F: Files>(alloc: Global, command: Command<'_>, files: &mut F) -> An
     ensures outcome { IsCommandOutcome F.view (plain_command command.entry) files.old files.new
         (answer_status result) (answer_text result) }
     ensures writable { CanBeWritten result }
-    ensures idle { inputs_of (plain_command command.entry) ≡ None → (files.new ≡ files.old) × (answer_status result ≢ SReadFault) }
+    ensures idle { inputs_of (plain_command command.entry) ≡ None
+        → (files.new ≡ files.old) × (answer_status result ≢ SReadFault) }
 {
     match command {
         Command::Check(version, inputs) => check_answer(alloc, version, inputs, files),
@@ -157,22 +158,28 @@ pub fn run<F: Files, K: Sink>(alloc: Global, words: &[String], files: &mut F, ou
     ensures sink_count { (K.view out.old).faults ≤ (K.view out.new).faults }
     ensures usage { result ≡ SUsage → IsNoCommand (map string_bytes words.now) }
     ensures usage_due { IsNoCommand (map string_bytes words.now) → (result ≡ SUsage) ⊎ (result ≡ SWriteFault) }
-    ensures usage_text { IsTrue (K.view out.old).modelled → result ≡ SUsage → (K.view out.new).taken ≡ (K.view out.old).taken ++ usage_text }
+    ensures usage_text { IsTrue (K.view out.old).modelled → result ≡ SUsage
+        → (K.view out.new).taken ≡ (K.view out.old).taken ++ usage_text }
     ensures read_cause { result ≡ SReadFault → Rose (F.view files.old).faults (F.view files.new).faults }
-    ensures read_calm { IsTrue (F.view files.old).only_missing_fail → result ≡ SReadFault → WordsLack (map string_bytes words.now) ((F.view files.old).holds) }
-    ensures read_due { IsTrue (F.view files.old).only_missing_fail → WordsLack (map string_bytes words.now) ((F.view files.old).holds)
+    ensures read_calm { IsTrue (F.view files.old).only_missing_fail → result ≡ SReadFault
+        → WordsLack (map string_bytes words.now) ((F.view files.old).holds) }
+    ensures read_due { IsTrue (F.view files.old).only_missing_fail
+        → WordsLack (map string_bytes words.now) ((F.view files.old).holds)
         → (result ≡ SReadFault) ⊎ (result ≡ SMemory) }
     ensures write_cause { result ≡ SWriteFault → Rose (K.view out.old).faults (K.view out.new).faults }
     ensures quiet { (result ≡ SReadFault) ⊎ (result ≡ SMemory) → out.new ≡ out.old }
-    ensures answers { IsKnown (map string_bytes words.now) (F.view files.old).modelled → result ≢ SReadFault → result ≢ SMemory → result ≢ SWriteFault
+    ensures answers { IsKnown (map string_bytes words.now) (F.view files.old).modelled → result ≢ SReadFault
+        → result ≢ SMemory → result ≢ SWriteFault
         → (text : List ℕ) × Answers (map string_bytes words.now) ((F.view files.old).holds) result text
         × (IsTrue (K.view out.old).modelled → (K.view out.new).taken ≡ (K.view out.old).taken ++ text) }
     ensures short { IsKnown (map string_bytes words.now) (F.view files.old).modelled → result ≡ SWriteFault
-        → (status : Status) × (text : List ℕ) × Answers (map string_bytes words.now) ((F.view files.old).holds) status text
+        → (status : Status) × (text : List ℕ)
+        × Answers (map string_bytes words.now) ((F.view files.old).holds) status text
         × (IsTrue (K.view out.old).modelled → IsCutShort (K.view out.old).taken text (K.view out.new).taken) }
     ensures headline { IsKnown (map string_bytes words.now) (F.view files.old).modelled
         → IsTrueOf (map string_bytes words.now) ((F.view files.old).holds) result }
-    ensures due { IsKnown (map string_bytes words.now) (F.view files.old).modelled → result ≢ SReadFault → result ≢ SMemory → result ≢ SWriteFault
+    ensures due { IsKnown (map string_bytes words.now) (F.view files.old).modelled → result ≢ SReadFault
+        → result ≢ SMemory → result ≢ SWriteFault
         → IsDue (map string_bytes words.now) ((F.view files.old).holds) result }
 {
     let answer = decide(alloc, words, files);

@@ -42,9 +42,11 @@ pub record IsLineOf (names : Names) (line : List ℕ) (s : PlainStep Node) : Typ
 
 -- the line has the form of a step line, whatever its nodes name
 pub data IsStepForm (line : List ℕ) : Type 0 where
-  a_split : (negated : Bool) (digits : List ℕ) (p : ℕ) → IsDecimal digits p → line ≡ codes "split " ++ sign_text negated ++ digits
+  a_split : (negated : Bool) (digits : List ℕ) (p : ℕ) → IsDecimal digits p
+      → line ≡ codes "split " ++ sign_text negated ++ digits
       → IsStepForm line
-  a_cycle : (a : List ℕ) (more : List (List ℕ)) → IsNodeForm a → All IsNodeForm more → line ≡ codes "cycle" ++ words_text (a ∷ more)
+  a_cycle : (a : List ℕ) (more : List (List ℕ)) → IsNodeForm a → All IsNodeForm more
+      → line ≡ codes "cycle" ++ words_text (a ∷ more)
       → IsStepForm line
   a_path : (a b : List ℕ) (more : List (List ℕ)) → IsNodeForm a → IsNodeForm b → All IsNodeForm more
       → line ≡ codes "path" ++ words_text (a ∷ b ∷ more) → IsStepForm line
@@ -53,6 +55,8 @@ pub data IsStepForm (line : List ℕ) : Type 0 where
 
 -- what reading a line answers, with the nodes that it leaves: the step whose line it is, or why it is none's
 abbrev pub ReadsStep : Names → List ℕ → List Node → Result StepHead LineFault → Type 0
-ReadsStep names line nodes (Ok head) = (s : PlainStep Node) × IsLineOf names line s × (head ≡ head_of s) × (nodes ≡ nodes_of s)
+ReadsStep names line nodes (Ok head) = (s : PlainStep Node) × IsLineOf names line s × (head ≡ head_of s)
+    × (nodes ≡ nodes_of s)
 ReadsStep names line nodes (Err Malformed) = (IsStepForm line → ⊥) × (nodes ≡ [])
-ReadsStep names line nodes (Err Foreign) = IsStepForm line × ((s : PlainStep Node) → IsLineOf names line s → ⊥) × (nodes ≡ [])
+ReadsStep names line nodes (Err Foreign) = IsStepForm line × ((s : PlainStep Node) → IsLineOf names line s → ⊥)
+    × (nodes ≡ [])

@@ -31,10 +31,13 @@ pub record AreWordsOf (names : Names) (ws : List (List ℕ)) (s : PlainStep Node
 
 -- the words of a line that has the form of a step line
 pub data AreOfForm (ws : List (List ℕ)) : Type 0 where
-  of_split : (negated : Bool) (digits : List ℕ) (p : ℕ) → IsDecimal digits p → ws ≡ codes "split" ∷ (sign_text negated ++ digits) ∷ []
+  of_split : (negated : Bool) (digits : List ℕ) (p : ℕ) → IsDecimal digits p
+      → ws ≡ codes "split" ∷ (sign_text negated ++ digits) ∷ []
       → AreOfForm ws
-  of_cycle : (a : List ℕ) (more : List (List ℕ)) → All IsNodeForm (a ∷ more) → ws ≡ codes "cycle" ∷ a ∷ more → AreOfForm ws
-  of_path : (a b : List ℕ) (more : List (List ℕ)) → All IsNodeForm (a ∷ b ∷ more) → ws ≡ codes "path" ∷ a ∷ b ∷ more → AreOfForm ws
+  of_cycle : (a : List ℕ) (more : List (List ℕ)) → All IsNodeForm (a ∷ more) → ws ≡ codes "cycle" ∷ a ∷ more
+      → AreOfForm ws
+  of_path : (a b : List ℕ) (more : List (List ℕ)) → All IsNodeForm (a ∷ b ∷ more) → ws ≡ codes "path" ∷ a ∷ b ∷ more
+      → AreOfForm ws
   of_absence : (a : List ℕ) → IsNodeForm a → ws ≡ codes "absent" ∷ a ∷ [] → AreOfForm ws
   of_falsity : ws ≡ codes "false" ∷ [] → AreOfForm ws
 
@@ -50,12 +53,15 @@ ReadsNodes names ws nodes (Err Foreign) = All IsNodeForm ws × ((others : List N
 
 -- what reading the words of a line answers, with the nodes that it leaves
 abbrev pub ReadsWords : Names → List (List ℕ) → List Node → Result StepHead LineFault → Type 0
-ReadsWords names ws nodes (Ok head) = (s : PlainStep Node) × AreWordsOf names ws s × (head ≡ head_of s) × (nodes ≡ nodes_of s)
+ReadsWords names ws nodes (Ok head) = (s : PlainStep Node) × AreWordsOf names ws s × (head ≡ head_of s)
+    × (nodes ≡ nodes_of s)
 ReadsWords names ws nodes (Err Malformed) = AreOfForm ws → ⊥
 ReadsWords names ws nodes (Err Foreign) = AreOfForm ws × ((s : PlainStep Node) → AreWordsOf names ws s → ⊥)
 
 -- reading a word as a node answers whether it is one of these names, and then puts it behind the nodes
 abbrev pub ReadsWord : Names → List ℕ → List Node → List Node → Result Bool LineFault → Type 0
-ReadsWord names word old new (Ok true) = (a : Node) × IsNodeIn names a × IsNodeForm word × (word ≡ node_text names a) × (new ≡ old ++ a ∷ [])
-ReadsWord names word old new (Ok false) = IsNodeForm word × ((a : Node) → IsNodeIn names a → word ≡ node_text names a → ⊥) × (new ≡ old)
+ReadsWord names word old new (Ok true) = (a : Node) × IsNodeIn names a × IsNodeForm word × (word ≡ node_text names a)
+    × (new ≡ old ++ a ∷ [])
+ReadsWord names word old new (Ok false) = IsNodeForm word
+    × ((a : Node) → IsNodeIn names a → word ≡ node_text names a → ⊥) × (new ≡ old)
 ReadsWord names word old new (Err fault) = (fault ≡ Malformed) × (IsNodeForm word → ⊥)

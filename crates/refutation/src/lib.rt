@@ -1,5 +1,15 @@
 //! Refutations as step lines: what shows that no world satisfies a ground tree.
 //!
+//! ```rust
+//! // `names` are the names of a front, and `sink` is empty
+//! let mut refutation = Refutation::new(alloc);
+//! refutation.close_leaf(Step::False)?;
+//! assert!(rt; write_refutation(&mut sink, &names, &refutation).is_ok());
+//! assert!(rt; sink.taken() == b"false\n".as_slice());
+//! let mut row = NodeRow::new(alloc);
+//! assert!(rt; read_line(&names, b"false", &mut row) == Ok(StepHead::False));
+//! ```
+//!
 //! A refutation is a list of steps in prefix order: a split puts the two sides of an asserted Or in the
 //! place of the first open branch, and every other step closes that branch. The lines are those of
 //! docs/certificates.md.

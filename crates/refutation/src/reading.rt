@@ -134,7 +134,7 @@ pub fn read_line(
 ) -> Result<StepHead, LineFault>
     requires room { spaces line.now ≤ row.old.spare }
     ensures read { ReadsStep names.now line.now row.new.nodes result }
-    // what was written is read again as it was
+    // what was written is read again as it was; a split of a position over 64 bits has no line of the format
     ensures again { (s : PlainStep Node) → IsLineOf names.now line.now s
         → (result ≡ Ok (head_of s)) × (row.new.nodes ≡ nodes_of s) }
     ensures spare { row.new.spare ≡ row.old.spare }

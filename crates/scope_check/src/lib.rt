@@ -1,6 +1,18 @@
 //! Names to numbers: an expanded axiom with slots for its variables, numbers for its stages and rows
 //! for its predicates.
 //!
+//! ```rust
+//! use macro_expand::expand;
+//! use uspec_lexer::tokens;
+//! use uspec_parser::parse_model;
+//!
+//! let text = b"Axiom \"x\": forall microop \"i\", IsAnyRead j.";
+//! let model = parse_model(alloc, &tokens(alloc, text)?)?;
+//! let axioms = expand(alloc, &model)?;
+//! let at = Place { offset: 41 };
+//! assert!(rt; close(alloc, &model, &axioms[0]).err() == Some(NameFault::Unbound { at }));
+//! ```
+//!
 //! `close` walks the formula once, outside before inside and left before right, with the variables that
 //! are in scope at each place. It answers the closed formula, or the first name fault with what its
 //! fault word carries.

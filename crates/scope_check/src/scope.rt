@@ -23,7 +23,7 @@ pub(crate) struct Variable<'a> {
     pub(crate) slot: u8,
 }
 
-/// What fills the room of a scope that isn't in use.
+/// What fills the room of a scope that isn't in use. `ArrayVec` asks for a default; no answer depends on it.
 impl<'a> Default for Variable<'a> {
     ghost use Rattle.std.specs.Prelude.{◌≡◌, []};
     ghost use Rattle.pc_syntax.specs.declared.term.Sort.TheVariants.{Core};

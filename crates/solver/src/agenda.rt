@@ -13,7 +13,7 @@ use super::standing::Standing;
 use super::watch::{Watch, Watched};
 use order_graph::OrderGraph;
 use pc_common::Memory;
-use pc_ground::{NodeKey, Row};
+use pc_ground::{NodeKey, Row, Version};
 use std::alloc::Global;
 
 /// What stood at a position before a change.
@@ -40,14 +40,26 @@ pub(crate) struct Agenda {
     marks: Vec<usize>,
     /// How many asserted positions were looked at.
     seen: usize,
+    /// For each Or how many leaves have closed a side of it, on all branches so far. Version 1 does not ask,
+    /// and keeps none.
+    closings: Vec<u32>,
     gains: Gains,
 }
 
 impl Agenda {
     /// That of a search over these rows and so many nodes, before the tree is asserted.
-    pub(crate) fn new(alloc: Global, rows: &[Row<u32>], nodes: u32) -> Result<Agenda, Memory> {
+    pub(crate) fn new(
+        alloc: Global,
+        rows: &[Row<u32>],
+        nodes: u32,
+        version: Version,
+    ) -> Result<Agenda, Memory> {
         let watch = Watch::new(alloc, rows, nodes)?;
         let count = watch.end();
+        let counted = match version {
+            Version::One => 0,
+            Version::Two => count,
+        };
         Ok(Agenda {
             watch,
             standings: vec![in alloc; Standing::none(); count]?,
@@ -58,6 +70,7 @@ impl Agenda {
             trail: Vec::new(alloc),
             marks: Vec::new(alloc),
             seen: 0,
+            closings: vec![in alloc; 0; counted]?,
             gains: Gains::new(alloc, nodes)?,
         })
     }
@@ -240,5 +253,54 @@ impl Agenda {
             from = position.saturating_add(1);
         }
         Ok(None)
+    }
+
+    /// A leaf closed the side of a split of version 2. The Or stands right before its left side, which a right
+    /// side names as what it denies.
+    pub(crate) fn count_closed(&mut self, side: Side) {
+        let left = side.denied.unwrap_or(side.root);
+        let position = left.saturating_sub(1);
+        if position < self.closings.len() {
+            self.closings[position] = self.closings[position].saturating_add(1);
+        }
+    }
+
+    /// How many leaves have closed a side of the Or.
+    fn closed_so_far(&self, position: usize) -> u32 {
+        if position < self.closings.len() {
+            self.closings[position]
+        } else {
+            0
+        }
+    }
+
+    /// The choice whose sides were closed most often so far, and of several the first; `first` is the first.
+    pub(crate) fn most_closed(
+        &mut self,
+        rows: &[Row<u32>],
+        graph: &OrderGraph,
+        first: Place,
+    ) -> Result<Place, Memory>
+        requires { All (IsRowBelow graph.now.nodes) rows.now }
+    {
+        let mut chosen = first;
+        let mut most = self.closed_so_far(first.position);
+        let mut from = first.position.saturating_add(1);
+        for _ in 0..rows.len() {
+            let Some(position) = self.open.first_from(from) else {
+                return Ok(chosen);
+            };
+            let standing = self.refresh(rows, graph, position)?;
+            let closed = self.closed_so_far(position);
+            if standing.is_open() && closed > most {
+                most = closed;
+                chosen = Place {
+                    negated: standing.negated,
+                    position,
+                };
+            }
+            from = position.saturating_add(1);
+        }
+        Ok(chosen)
     }
 }

@@ -13,6 +13,7 @@ use super::ors::{is_or, literal_at, sides};
 use super::place::Place;
 use super::rows::row_at;
 use super::side::Side;
+use super::standing::Standing;
 use order_graph::{Added, Mark, OrderGraph};
 use pc_common::Memory;
 use pc_ground::{Row, RowKind, Version};
@@ -114,32 +115,43 @@ fn is_closed<L: Ledger>(
     Ok(clashes)
 }
 
-/// Whether the Or has a side that is closed at once. The left side is tried first.
-fn has_closed_side<L: Ledger>(
+/// The same standing, once the sides of the Or have been asked, the left one first. In version 1 the right
+/// one is asked only where the left one is open.
+fn with_sides<L: Ledger>(
     rows: &[Row<u32>],
     version: Version,
     place: Place,
+    standing: Standing,
     mark: Mark,
     graph: &mut OrderGraph,
     steps: &mut Steps<L>,
-) -> Result<bool, Memory>
+) -> Result<Standing, Memory>
     requires tree { IsSpelled rows.now }
     requires below { All (IsRowBelow graph.old.nodes) rows.now }
     requires marked { IsMarked graph.old mark }
     ensures graph { IfOk result (λ _. IsSame graph.old graph.new) }
 {
     if !is_or(rows, place) {
-        return Ok(false);
+        return Ok(standing.asked(false, false));
     }
     let (left, right) = sides(rows, version, place);
-    if is_closed(rows, left, mark, graph, steps)? {
-        return Ok(true);
+    let left_closed = is_closed(rows, left, mark, graph, steps)?;
+    if left_closed {
+        if let Version::One = version {
+            return Ok(standing.asked(true, true));
+        }
     }
-    is_closed(rows, right, mark, graph, steps)
+    let right_closed = is_closed(rows, right, mark, graph, steps)?;
+    let closed = left_closed | right_closed;
+    let settled = match version {
+        Version::One => closed,
+        Version::Two => left_closed & right_closed,
+    };
+    Ok(standing.asked(closed, settled))
 }
 
-/// The place, where it is a choice with a side that is closed at once, as far as the agenda knows.
-fn with_closed_side<L: Ledger>(
+/// What is known of the position, once its sides were asked where that may have changed.
+fn ask<L: Ledger>(
     rows: &[Row<u32>],
     version: Version,
     position: usize,
@@ -147,29 +159,27 @@ fn with_closed_side<L: Ledger>(
     graph: &mut OrderGraph,
     agenda: &mut Agenda,
     steps: &mut Steps<L>,
-) -> Result<Option<Place>, Memory>
+) -> Result<Standing, Memory>
     requires tree { IsSpelled rows.now }
     requires below { All (IsRowBelow graph.old.nodes) rows.now }
     requires marked { IsMarked graph.old mark }
     ensures graph { IfOk result (λ _. IsSame graph.old graph.new) }
 {
     let standing = agenda.refresh(rows, graph, position)?;
+    if !standing.needs_asking() {
+        return Ok(standing);
+    }
     let place = Place {
         negated: standing.negated,
         position,
     };
-    if !standing.is_ready() {
-        return Ok(None);
-    }
-    if standing.closed {
-        return Ok(Some(place));
-    }
-    let closed = has_closed_side(rows, version, place, mark, graph, steps)?;
-    agenda.change(position, standing.asked(closed))?;
-    Ok(if closed { Some(place) } else { None })
+    let asked = with_sides(rows, version, place, standing, mark, graph, steps)?;
+    agenda.change(position, asked)?;
+    Ok(asked)
 }
 
-/// The first choice with a side that is closed at once, as far as the agenda knows.
+/// The first choice with enough sides closed at once, as far as the agenda knows: in version 1 one side, and
+/// in version 2 both. Where no choice has enough, the first with one.
 fn first_closed<L: Ledger>(
     rows: &[Row<u32>],
     version: Version,
@@ -184,21 +194,48 @@ fn first_closed<L: Ledger>(
     ensures graph { IfOk result (λ _. IsSame graph.old graph.new) }
 {
     let mut from = 0;
+    let mut one_sided = None;
     for _turn in 0..rows.len() {
         let Some(position) = agenda.next_ready(from) else {
-            return Ok(None);
+            return Ok(one_sided);
         };
-        let found = with_closed_side(rows, version, position, mark, graph, agenda, steps)?;
-        if found.is_some() {
-            return Ok(found);
+        let standing = ask(rows, version, position, mark, graph, agenda, steps)?;
+        let place = Place {
+            negated: standing.negated,
+            position,
+        };
+        if standing.is_settled() {
+            return Ok(Some(place));
+        }
+        if standing.is_closed() && one_sided.is_none() {
+            one_sided = Some(place);
         }
         from = position.saturating_add(1);
     }
-    Ok(None)
+    Ok(one_sided)
 }
 
-/// The candidate to split: the first with a side that is closed at once, and where none has one the first,
-/// which is given. What the agenda proposes is tested.
+/// The choice to split where none has a closed side: the first, and in version 2 the one whose sides were
+/// closed most often so far.
+fn open_choice(
+    rows: &[Row<u32>],
+    version: Version,
+    first: Place,
+    graph: &OrderGraph,
+    agenda: &mut Agenda,
+) -> Result<Place, Memory>
+    requires { All (IsRowBelow graph.now.nodes) rows.now }
+{
+    match version {
+        Version::One => Ok(first),
+        Version::Two => agenda.most_closed(rows, graph, first),
+    }
+}
+
+/// The candidate to split. In version 1 it is the first with a side that is closed at once, and where none
+/// has one the first, which is given. In version 2 it is the first with both sides closed at once; otherwise
+/// the first with one; otherwise the one whose sides were closed most often so far. What the agenda proposes
+/// is tested.
 pub(crate) fn choose<L: Ledger>(
     alloc: Global,
     rows: &[Row<u32>],
@@ -222,8 +259,9 @@ pub(crate) fn choose<L: Ledger>(
     ensures graph { IfOk result (λ _. IsSame graph.old graph.new) }
 {
     let found = first_closed(rows, version, mark, graph, agenda, steps)?;
-    let Some(place) = found else {
-        return Ok(first);
+    let place = match found {
+        Some(place) => place,
+        None => open_choice(rows, version, first, graph, agenda)?,
     };
     if place.position == first.position {
         return Ok(first);

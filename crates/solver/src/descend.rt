@@ -48,9 +48,11 @@ pub(crate) fn descend<L: Ledger>(
         graph.new asserted.new later.new.items refutation.new is_open) }
     ensures longer { IfOk result (λ _. IsLonger refutation.old refutation.new) }
 {
-    let _version = version; // only the contract speaks of it
     let mut side = side;
     while let Some(clash) = enter_next(keys, rows, side, graph, asserted, agenda, steps)? {
+        if let Version::Two = version {
+            agenda.count_closed(side);
+        }
         close(alloc, keys, clash, refutation)?;
         let Some(next) = later.pop() else {
             return Ok(false);

@@ -1,5 +1,11 @@
 //! The search for a world that satisfies a ground tree: a graph that generates one, or a refutation.
 //!
+//! ```rust
+//! // the tree is True, and `steps` counts in the caller's ledger
+//! let answer = solve(alloc, &front.tree, &front.numbering, Version::One, &mut steps)?;
+//! assert!(rt; matches!(answer, Answer::Observable(_)));
+//! ```
+//!
 //! The search goes over the tree's rows with numbers in the place of nodes. On the first open branch it
 //! keeps the asserted positions, and their literals in an `OrderGraph`, which stay consistent. A split of
 //! an asserted Or puts its left side on that branch and lets its right side wait with a mark of the graph;

@@ -223,7 +223,7 @@ impl Search {
         let keys = keys_by_number(alloc, numbering)?;
         let rows = number_rows(alloc, tree, numbering)?;
         let graph = OrderGraph::new(alloc, count)?;
-        let agenda = Agenda::new(alloc, &rows, count)?;
+        let agenda = Agenda::new(alloc, &rows, count, version)?;
         let turn = start(
             alloc,
             keys,

@@ -12,6 +12,9 @@ pub(crate) struct Standing {
     pub(crate) truth_stale: bool,
     /// Whether one of its sides is closed at once, which it stays on this branch.
     pub(crate) closed: bool,
+    /// Whether the search need not ask again, since enough of its sides are closed: one in version 1, both
+    /// in version 2.
+    pub(crate) settled: bool,
     /// Whether that may have come about since it was asked.
     pub(crate) sides_stale: bool,
 }
@@ -25,6 +28,7 @@ impl Standing {
             holds: false,
             truth_stale: false,
             closed: false,
+            settled: false,
             sides_stale: false,
         }
     }
@@ -37,6 +41,7 @@ impl Standing {
             holds: false,
             truth_stale: true,
             closed: false,
+            settled: false,
             sides_stale: true,
         }
     }
@@ -59,17 +64,18 @@ impl Standing {
         }
     }
 
-    /// The same, with whether one of its sides is closed at once.
-    pub(crate) fn asked(self, closed: bool) -> Standing {
+    /// The same, with whether one of its sides is closed at once, and whether enough of them are.
+    pub(crate) fn asked(self, closed: bool, settled: bool) -> Standing {
         Standing {
             closed,
+            settled,
             sides_stale: false,
             ..self
         }
     }
 
     pub(crate) fn is_stale(self) -> bool {
-        self.truth_stale & (self.sides_stale | self.closed)
+        self.truth_stale & (self.sides_stale | self.settled)
     }
 
     /// Whether it may be a choice, as far as is known.
@@ -80,5 +86,20 @@ impl Standing {
     /// Whether it may be a choice with a side that is closed at once, as far as is known.
     pub(crate) fn is_ready(self) -> bool {
         self.is_open() & (self.sides_stale | self.closed)
+    }
+
+    /// Whether its sides have to be asked, since it may be a choice and what is known of them may have changed.
+    pub(crate) fn needs_asking(self) -> bool {
+        self.is_open() & self.sides_stale & !self.settled
+    }
+
+    /// Whether it may be a choice with a side that is closed at once.
+    pub(crate) fn is_closed(self) -> bool {
+        self.is_open() & self.closed
+    }
+
+    /// Whether it may be a choice with so many sides closed at once that no other is looked for.
+    pub(crate) fn is_settled(self) -> bool {
+        self.is_open() & self.settled
     }
 }

@@ -60,7 +60,8 @@ impl<'a> Given<'a> {
     pub(crate) fn op(&self, k: usize) -> &'a Op
         requires given { IsGiven self.now }
         requires taken { slice_get (takes_of self.now.pred) k ≡ Some takes_op }
-        ensures { op_in self.now.case.now (values_of self.now.env.now.items self.now.args.now) k ≡ Some (micro_op result.now) }
+        ensures { op_in self.now.case.now (values_of self.now.env.now.items self.now.args.now) k
+            ≡ Some (micro_op result.now) }
     {
         self.case.op(self.place(k))
     }
@@ -69,7 +70,8 @@ impl<'a> Given<'a> {
     pub(crate) fn touch(&self, k: usize) -> Option<Memop>
         requires given { IsGiven self.now }
         requires taken { slice_get (takes_of self.now.pred) k ≡ Some takes_op }
-        ensures { touch_in self.now.case.now (values_of self.now.env.now.items self.now.args.now) k ≡ option_map touch_at result }
+        ensures { touch_in self.now.case.now (values_of self.now.env.now.items self.now.args.now) k
+            ≡ option_map touch_at result }
     {
         self.op(k).memop
     }
@@ -80,7 +82,8 @@ impl<'a> Given<'a> {
         requires first { slice_get (takes_of self.now.pred) 0 ≡ Some takes_op }
         requires second { slice_get (takes_of self.now.pred) 1 ≡ Some takes_op }
         ensures { let values = values_of self.now.env.now.items self.now.args.now in
-            option_zip (touch_in self.now.case.now values 0) (touch_in self.now.case.now values 1) ≡ option_map touches_at result }
+            option_zip (touch_in self.now.case.now values 0) (touch_in self.now.case.now values 1)
+            ≡ option_map touches_at result }
     {
         self.touch(0).zip(self.touch(1))
     }

@@ -1,5 +1,13 @@
 //! What a closed formula asks of a test without a word about its order.
 //!
+//! ```rust
+//! // the case's second micro-op is a read
+//! let args = ClosedArgs::from_vec(vec![in alloc; ClosedArg::Slot(0)]?);
+//! let mut env = Env::new();
+//! env.push(Bound::Op(1));
+//! assert!(rt; holds(&case, Pred::IsAnyRead, &args, &env));
+//! ```
+//!
 //! `holds` takes a case, a predicate, its closed arguments and what their slots stand for, and answers
 //! the predicate's row in the table of `pc_syntax`. What is asked of addresses or values is false of a
 //! fence, which has neither.

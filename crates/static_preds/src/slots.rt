@@ -80,7 +80,8 @@ pub fn bind_next(env: &Env, inside: &mut Env, value: Bound)
 pub fn with_values(env: &Env, args: &ClosedArgs) -> Env
     requires values { HaveValues (scope_of env.now.items) args.now }
     requires room { length env.now.items + length args.now ≤ MAX_VARIABLES }
-    ensures meanings { meanings result.items ≡ meanings env.now.items ++ map (closed_value (meanings env.now.items)) args.now }
+    ensures meanings { meanings result.items ≡ meanings env.now.items
+        ++ map (closed_value (meanings env.now.items)) args.now }
     ensures scope { scope_of result.items ≡ with_sorts (scope_of env.now.items) args.now }
     ensures range { (c : PlainCase) → AreInRange c env.now.items → AreInRange c result.items }
 {

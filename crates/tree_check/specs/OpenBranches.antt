@@ -33,7 +33,8 @@ open_branches version rows facts later is_open =
 abbrev pub IsClosedUnderAnd : Tree Node → Branch → Type 0
 IsClosedUnderAnd t ps =
     (negated : Bool) (p q : ℕ) (s : Tree Node)
-    → Contains ps (signed negated p) → subtree_at (turned negated t) p ≡ Some s → Contains (asserted s p) q → Contains ps (signed negated q)
+    → Contains ps (signed negated p) → subtree_at (turned negated t) p ≡ Some s → Contains (asserted s p) q
+    → Contains ps (signed negated q)
 
 -- these are the facts of the branch, and they are closed under And
 abbrev pub IsBranch : Tree Node → List PlainFact → Branch → Type 0

@@ -7,7 +7,8 @@ use pc_common::Memory;
 use std::alloc::Global;
 use std::marker::Model;
 
-/// A set of facts, in the order in which they came, that is cut back like a stack.
+/// A set of facts, in the order in which they came, that is cut back like a stack. No step asks at which position a
+/// literal was asserted, so only what it says is kept.
 #[derive(Drop)]
 pub(crate) struct Facts {
     set: IndexSet<Fact>,

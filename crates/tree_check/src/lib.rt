@@ -1,5 +1,14 @@
 //! A checker of refutations of a ground tree, step by step.
 //!
+//! ```rust
+//! use normal_form::normalise;
+//!
+//! let tree = normalise(alloc, &Ground::False)?;
+//! let mut branches = Branches::new(alloc, &tree)?;
+//! assert!(rt; !branches.is_closed());
+//! assert!(rt; branches.close(Leaf::False)? && branches.is_closed());
+//! ```
+//!
 //! `Branches` keeps the branches that the steps so far leave open. A step puts the two sides of an asserted
 //! Or in the first branch's place, or closes that branch by a leaf; the answer says whether the step's
 //! condition holds there. It stands on the definition of a refutation and on nothing of the search.

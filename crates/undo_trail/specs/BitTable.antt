@@ -18,7 +18,13 @@ tables v = v.past ++ v.now ∷ []
 
 -- the same bits and the same tables before them, with other room
 abbrev pub IsSameTable : BitTable → BitTable → Type 0
-IsSameTable old new = new ≡ record { rows = old.rows; words = old.words; past = old.past; now = old.now; room = new.room }
+IsSameTable old new = new ≡ record {
+  rows = old.rows;
+  words = old.words;
+  past = old.past;
+  now = old.now;
+  room = new.room;
+}
 
 abbrev pub bit_now : BitTable → ℕ → ℕ → Bool
 bit_now v r c = has v.words v.now r c

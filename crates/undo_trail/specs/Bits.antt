@@ -1,4 +1,5 @@
--- Bits in a list of words, and in a table whose rows are so many words each: columns go by 64 to a word, lowest bit first.
+-- Bits in a list of words, and in a table whose rows are so many words each: columns go by 64 to a word, lowest bit
+-- first.
 use Rattle.std.specs.Prelude.{ℕ, Bool, List, ◌+◌, ◌*◌, ◌/◌, ◌%◌, ◌==◌, slice_index}
 use Rattle.std.specs.Int.{bit_at}
 

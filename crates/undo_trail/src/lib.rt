@@ -1,5 +1,14 @@
 //! A table of bits that can go back to what it was.
 //!
+//! ```rust
+//! // `steps` counts in the caller's ledger
+//! let mut table = UndoTable::new(alloc, 2, 1)?;
+//! let mark = table.mark();
+//! assert!(rt; table.set_bit(1, 5)? && table.bit(1, 5));
+//! table.undo(mark, &mut steps);
+//! assert!(rt; !table.bit(1, 5));
+//! ```
+//!
 //! The table has rows of words, 64 columns to a word. Each word that changes is put on a trail first, with
 //! what it held. A mark is a length of the trail, and `undo` puts the words behind it back, the newest
 //! first. The trail's room is taken before a word changes, so a refusal of memory changes nothing.

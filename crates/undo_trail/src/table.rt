@@ -36,7 +36,13 @@ impl UndoTable {
     /// are fewer than 2^32.
     pub fn new(alloc: Global, rows: usize, words: usize) -> Result<UndoTable, Memory>
         requires { rows * words < 2 ^ 32 }
-        ensures value { IfOk result (λ t. t ≡ record { rows = rows; words = words; past = []; now = replicate (rows * words) 0; room = t.room }) }
+        ensures value { IfOk result (λ t. t ≡ record {
+          rows = rows;
+          words = words;
+          past = [];
+          now = replicate (rows * words) 0;
+          room = t.room;
+        }) }
         ensures clear { IfOk result (λ t. (r c : ℕ) → bit_now t r c ≡ false) }
     {
         Ok(UndoTable {
@@ -59,7 +65,8 @@ impl UndoTable {
     /// The words of row `r`. Takes no memory.
     pub fn row(&self, r: usize) -> &[u64]
         requires { r < self.now.rows }
-        ensures words { result.now ≡ slice_range self.now.now (r * self.now.words) (r * self.now.words + self.now.words) }
+        ensures words { result.now ≡ slice_range self.now.now (r * self.now.words)
+            (r * self.now.words + self.now.words) }
         ensures len { length result.now ≡ self.now.words }
         ensures bound { self.now.words < 2 ^ 32 }
         ensures columns { (c : ℕ) → c < 64 * self.now.words → column result.now c ≡ bit_now self.now r c }

@@ -18,7 +18,8 @@ pub fn put(table: &mut [u64], trail: &mut Vec<Change>, place: usize, word: u64) 
     requires room { vec_len trail.old < vec_capacity trail.old }
     ensures set { table.new ≡ slice_set table.old place word }
     ensures grows { Grows trail.old.items table.old trail.new.items table.new 1 }
-    ensures changed { MatchBool result (table.new ≢ table.old) ((table.new ≡ table.old) × (trail.new.items ≡ trail.old.items)) }
+    ensures changed { MatchBool result (table.new ≢ table.old)
+        ((table.new ≡ table.old) × (trail.new.items ≡ trail.old.items)) }
     ensures capacity { vec_capacity trail.old ≤ vec_capacity trail.new }
     ensures len { vec_len trail.new ≤ vec_len trail.old + 1 }
 {
@@ -44,10 +45,12 @@ pub fn or_into(
     requires from_in { from + words ≤ length table.old }
     requires apart { (from ≡ to) ⊎ ((from + words ≤ to) ⊎ (to + words ≤ from)) }
     requires room { words ≤ vec_capacity trail.old - vec_len trail.old }
-    ensures joined { (k : ℕ) → k < words → slice_index table.new (to + k) ≡ bit_or (slice_index table.old (to + k)) (slice_index table.old (from + k)) }
+    ensures joined { (k : ℕ) → k < words → slice_index table.new (to + k)
+        ≡ bit_or (slice_index table.old (to + k)) (slice_index table.old (from + k)) }
     ensures others { (p : ℕ) → (p < to) ⊎ (to + words ≤ p) → slice_index table.new p ≡ slice_index table.old p }
     ensures grows { Grows trail.old.items table.old trail.new.items table.new words }
-    ensures changed { MatchBool result (table.new ≢ table.old) ((table.new ≡ table.old) × (trail.new.items ≡ trail.old.items)) }
+    ensures changed { MatchBool result (table.new ≢ table.old)
+        ((table.new ≡ table.old) × (trail.new.items ≡ trail.old.items)) }
     ensures capacity { vec_capacity trail.old ≤ vec_capacity trail.new }
     ensures len { vec_len trail.new ≤ vec_len trail.old + words }
 {

@@ -29,7 +29,8 @@ ArePieces bytes = (ts : List Token) (k : ℕ) (t : Token) → Spells bytes ts �
 -- and begins where every earlier one has ended
 abbrev pub AreInOrder : List ℕ → Type 0
 AreInOrder bytes =
-    (ts : List Token) (j k : ℕ) (t u : Token) → Spells bytes ts → slice_get ts j ≡ Some t → slice_get ts k ≡ Some u → j < k
+    (ts : List Token) (j k : ℕ) (t u : Token) → Spells bytes ts → slice_get ts j ≡ Some t → slice_get ts k ≡ Some u
+    → j < k
     → t.at + length t.piece ≤ u.at
 
 -- there are no more tokens than bytes

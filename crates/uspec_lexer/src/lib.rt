@@ -1,5 +1,13 @@
 //! Bytes to tokens: the one lexical grammar of models and tests.
 //!
+//! ```rust
+//! use uspec_lexer::{is_name, tokens};
+//!
+//! let tokens = tokens(alloc, b"IsAnyRead i // a read")?;
+//! assert!(rt; tokens.len() == 2 && tokens.get(1).piece == b"i".as_slice());
+//! assert!(rt; is_name(b"x1") && !is_name(b"1x"));
+//! ```
+//!
 //! A text is cut into pieces from its start, each the longest that begins at its place:
 //!
 //! | piece | form |

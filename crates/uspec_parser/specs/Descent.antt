@@ -1,5 +1,5 @@
--- What the descent that builds the tree makes of lexemes, of which the first is read next. It looks for no fault: of lexemes
--- that are no text it makes something too. Only private functions are described by it.
+-- What the descent that builds the tree makes of lexemes, of which the first is read next. It looks for no fault: of
+-- lexemes that are no text it makes something too. Only private functions are described by it.
 use Rattle.std.specs.Prelude.{◌≡◌, ◌≢◌, ℕ, Bool, true, false, List, [], ◌∷◌, ◌++◌, Option, Some, None}
 use Rattle.pc_common.specs.declared.place.Place.{Place}
 use Rattle.pc_syntax.specs.declared.term.Sort.{Sort}

@@ -11,7 +11,8 @@ is_deep opened = nat_le MAX_OPENERS opened
 abbrev pub level_of : ℕ → Level
 level_of opened = record { at_implies = opened; at_or = opened; at_and = opened }
 
--- an operator is open until its list ends or a looser one of the list stands: so `=>` ends `\/` and `/\`, and `\/` ends `/\`
+-- an operator is open until its list ends or a looser one of the list stands: so `=>` ends `\/` and `/\`, and `\/` ends
+-- `/\`
 abbrev pub behind_implies : Level → Level
 behind_implies l = level_of (l.at_implies + 1)
 

@@ -22,8 +22,8 @@ level_behind conjoins l = behind_and l
 level_behind disjoins l = behind_or l
 level_behind implies l = behind_implies l
 
--- A mark for each token. n openers are open at the first token, and the list of operands is at the level l. A `~` is open
--- until its operand ends, a `(` until its `)`, a quantifier until its body ends.
+-- A mark for each token. n openers are open at the first token, and the list of operands is at the level l. A `~` is
+-- open until its operand ends, a `(` until its `)`, a quantifier until its body ends.
 abbrev mutual
   pub marks_formula : Level → ℕ → Formula → List Bool
   marks_formula l n (last u) = marks_operand n u

@@ -1,5 +1,5 @@
--- A list of operands is split at its first `=>`, if it has none at its first `\/`, if it has none at its first `/\`, and the
--- lists on both sides are split likewise.
+-- A list of operands is split at its first `=>`, if it has none at its first `\/`, if it has none at its first `/\`,
+-- and the lists on both sides are split likewise.
 use Rattle.std.specs.Prelude.{◌≢◌, Option, Some, None}
 use Rattle.pc_syntax.specs.Written.{Written, and_, or_, implies_}
 use Rattle.uspec_parser.specs.declared.operands.Connective.{Connective}
@@ -29,8 +29,8 @@ pub data IsSplit : Operands → Written → Type 0 where
       → Lacks disjoins (beside l conjoins r) → Lacks conjoins l
       → IsSplit l a → IsSplit r b → IsSplit (beside l conjoins r) (and_ a b)
 
--- What the split makes of a list, from its last operand on: the conjunction that goes on, the disjunction behind it, and
--- what the `=>` before these implies.
+-- What the split makes of a list, from its last operand on: the conjunction that goes on, the disjunction behind it,
+-- and what the `=>` before these implies.
 pub record Grouped : Type 0 where
   pub now : Written
   pub disjoined : Option Written

@@ -113,7 +113,8 @@ follow _ _ = true
 -- `terminal_at` then asks for its row.
 abbrev pub terminals : List Terminal
 terminals =
-    StageName ∷ Axiom ∷ DefineMacro ∷ ExpandMacro ∷ Forall ∷ Exists ∷ Microop ∷ Core ∷ OneEdge ∷ EdgeList ∷ OneNode ∷ NodeList
+    StageName ∷ Axiom ∷ DefineMacro ∷ ExpandMacro ∷ Forall ∷ Exists ∷ Microop ∷ Core ∷ OneEdge ∷ EdgeList ∷ OneNode
+    ∷ NodeList
     ∷ Name ∷ Number ∷ Quoted ∷ Text ∷ Open ∷ Close ∷ OpenBracket ∷ CloseBracket ∷ Comma ∷ Semicolon ∷ Colon
     ∷ Dot ∷ Not ∷ And ∷ Or ∷ Implies ∷ Arrow ∷ []
 

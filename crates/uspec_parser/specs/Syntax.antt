@@ -1,5 +1,5 @@
--- The grammar of models, production by production: each is a constructor, `spelled_..` gives its lexemes and `meant_..` its
--- tree. Nothing here says how a text is read.
+-- The grammar of models, production by production: each is a constructor, `spelled_..` gives its lexemes and `meant_..`
+-- its tree. Nothing here says how a text is read.
 use Rattle.std.specs.Prelude.{◌≡◌, ℕ, Bool, true, false, List, [], ◌∷◌, ◌++◌, Option, Some, None, map}
 use Rattle.pc_common.specs.declared.place.Place.{Place}
 use Rattle.pc_syntax.specs.declared.term.Sort.{Sort}

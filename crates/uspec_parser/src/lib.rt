@@ -36,6 +36,15 @@
 //! `specs/Syntax.antt` states the grammar as data, with what each production spells and means, `specs/Marks.antt`
 //! which tokens stand too deep; the clauses of the two calls are over these. The laws in `laws.rt` say that
 //! no tokens have two trees, and that all have an answer.
+//!
+//! ```rust
+//! use uspec_lexer::tokens;
+//!
+//! let whole = tokens(alloc, b"~True")?;
+//! assert!(rt; matches!(parse_formula(alloc, &whole)?, Formula::Not(_)));
+//! let cut = tokens(alloc, b"~")?;
+//! assert!(rt; parse_formula(alloc, &cut).err() == Some(ParseFault::Syntax(1)));
+//! ```
 #![tactic(auto)]
 
 mod cursor;

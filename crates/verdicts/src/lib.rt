@@ -1,5 +1,13 @@
 //! What the search finds of a front, with the text of its certificate.
 //!
+//! ```rust
+//! // the one axiom is `exists microop "i", True`, the test has no micro-op, and `sink` is empty
+//! let verdict = verdict_on(alloc, front, Version::One)?;
+//! assert!(rt; verdict_status(&verdict) == Status::Unobservable);
+//! assert!(rt; write_verdict(&mut sink, &verdict).is_ok());
+//! assert!(rt; sink.taken() == b"unobservable\ntest unstated\nfalse\nend\n".as_slice());
+//! ```
+//!
 //! `verdict_on` searches a front: a graph that shows the outcome, or a refutation of the ground tree. `write_verdict`
 //! writes the certificate of that, and `verdict_status` is the status that goes with it. `check` returns a verdict
 //! as its answer; other commands put the texts of verdicts into theirs.

@@ -37,7 +37,8 @@ fn search<L: Ledger>(
     requires name { blank.name ≡ L.name }
     requires parts { blank.parts ≡ L.parts }
     requires whole { 0 < L.parts }
-    ensures { IfOk result (λ found. (t : Tree PlainNode) → front.now.tree ≡ rows_of t → IsAnswer version front.now.numbering t found) }
+    ensures { IfOk result (λ found. (t : Tree PlainNode) → front.now.tree ≡ rows_of t
+        → IsAnswer version front.now.numbering t found) }
 {
     let mut steps: Steps<L> = Steps::open(blank);
     solve(alloc, &front.tree, &front.numbering, version, &mut steps)

@@ -13,7 +13,8 @@ use Rattle.command_base.specs.Outcomes.{AnswersFiles, IsDueOfFiles}
 use Rattle.verify_command.specs.CheckedTexts.{checked_status, checked_text}
 
 -- what the third file is to the model and the case
-pub data IsJudged (holds : Contents) (certificate : List ℕ) (m : WrittenModel) (c : Case) : Status → List ℕ → Type 0 where
+pub data IsJudged (holds : Contents) (certificate : List ℕ) (m : WrittenModel) (c : Case)
+    : Status → List ℕ → Type 0 where
   judged : {bytes : List ℕ} {found : Checked} → holds certificate ≡ Some bytes → Verified (question_by m c) bytes found
       → IsJudged holds certificate m c (checked_status found) (checked_text found)
 
@@ -26,9 +27,11 @@ pub record IsStatusOf (q : Question) (text : List ℕ) (status : Status) : Type 
 
 -- the status of what the third file holds
 abbrev pub IsDueCheck : Contents → List ℕ → WrittenModel → Case → Status → Type 0
-IsDueCheck holds certificate m c status = (bytes : List ℕ) → holds certificate ≡ Some bytes → IsStatusOf (question_by m c) bytes status
+IsDueCheck holds certificate m c status = (bytes : List ℕ) → holds certificate ≡ Some bytes
+    → IsStatusOf (question_by m c) bytes status
 
-module _ (case_of : List ℕ → Case → Type 0) (first_fault : List ℕ → List ℕ → InputFault → Type 0) (holds : Contents) (i : Inputs) (certificate : List ℕ) where
+module _ (case_of : List ℕ → Case → Type 0) (first_fault : List ℕ → List ℕ → InputFault → Type 0) (holds : Contents)
+    (i : Inputs) (certificate : List ℕ) where
   -- the refusal by the first fault, or what the third file is
   abbrev pub AnswersVerify : Status → List ℕ → Type 0
   AnswersVerify = AnswersFiles case_of first_fault holds i (IsJudged holds certificate)

@@ -21,9 +21,11 @@ pub(crate) fn check_file<F: Files>(
 ) -> Result<Checked, FeedEnd>
     ensures keeps { Reads F.view files.old files.new }
     ensures verified { IfOk result (λ found. IsTrue (F.view files.old).modelled →
-        (bytes : List ℕ) × ((F.view files.old).holds name.now ≡ Some bytes) × Verified (question_of front.now) bytes found) }
+        (bytes : List ℕ) × ((F.view files.old).holds name.now ≡ Some bytes)
+        × Verified (question_of front.now) bytes found) }
     ensures cause { result ≡ Err a_read_fault → Rose (F.view files.old).faults (F.view files.new).faults }
-    ensures missing { IsTrue (F.view files.old).only_missing_fail → result ≡ Err a_read_fault → (F.view files.old).holds name.now ≡ None }
+    ensures missing { IsTrue (F.view files.old).only_missing_fail → result ≡ Err a_read_fault
+        → (F.view files.old).holds name.now ≡ None }
 {
     let checker = Checker::new(alloc, front)?;
     let checker = feed_file(files, name, checker)?;

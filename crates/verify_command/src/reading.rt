@@ -32,7 +32,7 @@ impl From<Memory> for FeedEnd {
     }
 }
 
-/// How many bytes are asked for in one call.
+/// How many bytes are asked for in one call. Each certificate pays for the room once, and most are shorter.
 const PIECE: usize = 2048;
 
 /// How many bytes of a file are read at most: one more than a certificate may have.
@@ -46,9 +46,11 @@ pub(crate) fn feed_file<'a, F: Files>(
     checker: Checker<'a>,
 ) -> Result<Checker<'a>, FeedEnd>
     ensures keeps { Reads F.view files.old files.new }
-    ensures took { IfOk result (λ c. IsTrue (F.view files.old).modelled → TookFile checker.entry c ((F.view files.old).holds name.now) (F.view files.new).left) }
+    ensures took { IfOk result (λ c. IsTrue (F.view files.old).modelled
+        → TookFile checker.entry c ((F.view files.old).holds name.now) (F.view files.new).left) }
     ensures cause { result ≡ Err a_read_fault → Rose (F.view files.old).faults (F.view files.new).faults }
-    ensures sure { IsTrue (F.view files.old).only_missing_fail → (result ≡ Err a_read_fault) ↔ ((F.view files.old).holds name.now ≡ None) }
+    ensures sure { IsTrue (F.view files.old).only_missing_fail → (result ≡ Err a_read_fault)
+        ↔ ((F.view files.old).holds name.now ≡ None) }
 {
     files.start(name)?;
     let mut piece = [0; PIECE];
@@ -65,7 +67,8 @@ fn feed_rest<'a, F: Files>(
     requires room { 0 < length buf.old }
     requires started { IsTrue (F.view files.old).started }
     ensures keeps { Reads F.view files.old files.new }
-    ensures took { IfOk result (λ c. IsTrue (F.view files.old).modelled → TookFirst checker.entry c (F.view files.old).left (F.view files.new).left) }
+    ensures took { IfOk result (λ c. IsTrue (F.view files.old).modelled
+        → TookFirst checker.entry c (F.view files.old).left (F.view files.new).left) }
     ensures cause { result ≡ Err a_read_fault → Rose (F.view files.old).faults (F.view files.new).faults }
     ensures sure { IsTrue (F.view files.old).only_missing_fail → result ≢ Err a_read_fault }
 {

@@ -1,4 +1,5 @@
--- The content faults of a listing. Each item is judged by those before it, and the loads once more behind the condition.
+-- The content faults of a listing. Each item is judged by those before it, and the loads once more behind the
+-- condition.
 use Rattle.std.specs.Prelude.{ℕ, ◌+◌, ◌==◌, Bool, ◌++◌, List, [], ◌∷◌, Option, Some, None, length, nat_lt, codes, if◌then◌else◌}
 use Rattle.std.specs.Map.{lookup}
 use Rattle.std.specs.Option.{option_map}

@@ -63,7 +63,8 @@ fn access_of(
     action: Action<'_>,
 ) -> (Access, Option<Memop>)
     ensures kind { kind_of_access result.0 ≡ kind_of (plain_action action.entry) }
-    ensures touch { touch_of_memop result.1 ≡ touched locations.now (map plain_asked asked.now) thread (plain_action action.entry) }
+    ensures touch { touch_of_memop result.1 ≡ touched locations.now (map plain_asked asked.now) thread
+        (plain_action action.entry) }
 {
     match action {
         Action::Fence => (Access::Fence, None),

@@ -125,7 +125,8 @@ fn gives(asked: &[Asked<'_>], thread: u64, register: &[u8]) -> bool
 
 fn reload(before: &[Instruction<'_>], instruction: Instruction<'_>) -> Option<ContentFault>
     ensures { plain_fault result
-        ≡ reload_spec (map plain_instruction before.now) instruction.entry.thread (plain_action instruction.entry.action) }
+        ≡ reload_spec (map plain_instruction before.now) instruction.entry.thread
+        (plain_action instruction.entry.action) }
 {
     match instruction.action {
         Action::Load { register, .. } if loads(before, instruction.thread, register.word) => {
@@ -181,7 +182,8 @@ pub(crate) fn register_fault(
 
 fn open_action(asked: &[Asked<'_>], instruction: Instruction<'_>) -> Option<ContentFault>
     ensures { plain_fault result
-        ≡ open_action_spec (map plain_asked asked.now) instruction.entry.thread (plain_action instruction.entry.action) }
+        ≡ open_action_spec (map plain_asked asked.now) instruction.entry.thread
+        (plain_action instruction.entry.action) }
 {
     match instruction.action {
         Action::Load { register, .. } if !gives(asked, instruction.thread, register.word) => {

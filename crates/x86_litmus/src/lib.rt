@@ -11,7 +11,8 @@
 //! ```
 //!
 //! The body stands behind a header (`x86_tokens`). Words are names by their spelling and none is reserved: a
-//! cell that begins with `MOV` or `MFENCE` is an instruction, and what stands behind the lines begins with `exists` or `~`.
+//! cell that begins with `MOV` or `MFENCE` is an instruction, and what stands behind the lines begins with `exists` or
+//! `~`.
 //!
 //! Column k is thread k on core k. Instructions are numbered column by column, from top to bottom; a load reads
 //! the value that the condition gives its register. Location k, as first named, is the page (k, 0).
@@ -24,6 +25,17 @@
 //! `specs/Syntax.antt` has the productions, `specs/Items.antt` what a listing says, `specs/Faults.antt` the faults
 //! of content, `specs/Cases.antt` the case and `specs/Answer.antt` the whole. The laws in `laws.rt` say that a text
 //! has a case or a first fault, one at most of each, and not both.
+//!
+//! ```rust
+//! let case = read_x86(alloc, b"X86 W
+//! { }
+//!  P0         ;
+//!  MOV [x],$1 ;
+//! exists (x=1)
+//! ")?;
+//! let x = Address::Page { tag: 0, index: 0 };
+//! assert!(rt; case.ops() == 1 && case.final_of(x) == Some(Value::Number(1)));
+//! ```
 #![tactic(auto)]
 
 mod case_of;

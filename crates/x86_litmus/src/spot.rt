@@ -1,4 +1,5 @@
-// The second pass over the tokens of a listing: it takes them to be one, and gives what they say in the order of the text.
+// The second pass over the tokens of a listing: it takes them to be one, and gives what they say in the order of the
+// text.
 ghost use Rattle.std.specs.Prelude.{◌≡◌, ◌<◌, ◌^◌, Some};
 ghost use Rattle.pc_common.specs.Names.{same_name};
 ghost use Rattle.x86_tokens.specs.View.{plain};

@@ -1,5 +1,13 @@
 //! The header and the tokens of herd's X86 listings.
 //!
+//! ```rust
+//! use x86_tokens::{body_of, tokens};
+//!
+//! let text = b"X86 W\n{ x=0; }\n";
+//! assert!(rt; body_of(text) == Ok(6));
+//! assert!(rt; tokens(alloc, text, 6)?.len() == 6);
+//! ```
+//!
 //! The header is read by lines: `X86`, spaces, a name without blanks, blanks; then lines that are blank,
 //! begin with `"` or hold `=`. The body begins with the first line whose first nonblank byte is `{`, also where
 //! that line holds `=`.
