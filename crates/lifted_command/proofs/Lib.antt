@@ -1,0 +1,4 @@
+pub mod PieceByPiece
+pub mod OneAnswer
+pub mod LiftedOutcomes
+pub mod PartsRead

@@ -1,0 +1,16 @@
+use Rattle.command_base.proofs.ThirdFile.{third_ending}
+use Rattle.lifted_command.specs.LiftedAnswers.{IsJudged}
+use Rattle.lifted_command.proofs.LiftedOutcomes.{file_outcome}
+use Rattle.pc_front.specs.Front.{IsFirstFault as IsTestFault}
+use Rattle.lifted_command.proofs.command.verify_lifted.Goals as goal
+
+pub returns-in-Err : goal.returns-in-Err
+returns-in-Err g c =
+    third_ending (g.met.F.Files.failing_modelled c.args.files.now) c.args.certificate.now (IsJudged ((g.F.Files.view c.args.files.now).holds) c.args.certificate.now)
+    c.in-Err.ending c.in-Err.ensures
+
+pub returns : goal.returns
+returns g c =
+    rw (← c.returned_of.ensures) at
+    (file_outcome (g.met.F.Files.failing_modelled c.args.files.now) {first_fault = IsTestFault} c.args.certificate.now c.in-Ok.ensures c.check_file-checked.ensures.keeps
+    c.check_file-checked.result c.check_file-checked.ensures.found c.check_file-checked.ensures.cause c.check_file-checked.ensures.missing)

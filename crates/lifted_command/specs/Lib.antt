@@ -1,0 +1,5 @@
+pub mod LiftedTexts
+pub mod LiftedQuestions
+pub mod Fronts
+pub mod Reading
+pub mod LiftedAnswers

@@ -1,0 +1,48 @@
+ghost use Rattle.std.specs.Prelude.{◌≡◌};
+ghost use Rattle.litmus_reader.specs.Answer.{CaseOf};
+ghost use Rattle.pc_front.specs.Front.{IsFirstFault as IsTestFault};
+ghost use Rattle.command_base.specs.Inputs.{plain_inputs};
+ghost use Rattle.command_base.specs.Endings.{returned_status, returned_text};
+ghost use Rattle.command_base.specs.Outcomes.{IsThirdOutcome};
+ghost use Rattle.lifted_command.specs.LiftedTexts.{lifted_status, lifted_text};
+ghost use Rattle.lifted_command.specs.Reading.{returned};
+ghost use Rattle.lifted_command.specs.LiftedAnswers.{IsJudged};
+
+use super::checking::check_file;
+use super::inputs::read_two;
+use super::reading::FeedEnd;
+use command_base::{Ending, Inputs};
+use lifted_check::Lifted;
+use pc_common::Files;
+use std::alloc::Global;
+
+/// What the command returns where the third file was checked, or could not be.
+fn returned_of(checked: Result<Lifted, FeedEnd>) -> Result<Lifted, Ending>
+    ensures { result ≡ returned checked }
+{
+    match checked {
+        Ok(checked) => Ok(checked),
+        Err(FeedEnd::ReadFault) => Err(Ending::ReadFault),
+        Err(FeedEnd::Memory) => Err(Ending::Memory),
+    }
+}
+
+/// Reads the two files, and where they have no fault the third: what it is to them, or how the command ends before.
+pub fn verify_lifted<F: Files>(
+    alloc: Global,
+    inputs: Inputs<'_>,
+    certificate: &str,
+    files: &mut F,
+) -> Result<Lifted, Ending>
+    ensures { IsThirdOutcome F.view CaseOf IsTestFault (plain_inputs inputs.entry) certificate.now
+        (IsJudged ((F.view files.old).holds) certificate.now)
+        files.old files.new (returned_status lifted_status result) (returned_text lifted_text result) }
+{
+    let parts = match read_two(alloc, inputs, files) {
+        Ok(parts) => parts,
+        Err(ending) => return Err(ending),
+    };
+    let checked = check_file(alloc, &parts, certificate, files);
+    drop(parts);
+    returned_of(checked)
+}

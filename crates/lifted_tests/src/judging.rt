@@ -1,0 +1,71 @@
+//! Lifted refutations judged by the checker, whole and in pieces.
+ghost use Rattle.std.specs.Prelude.{◌<◌};
+
+use super::forms::FORMS;
+use super::texts::{CONNECTIVES, LEAVES, PARTS, QUANTIFIERS, Row};
+use lifted_check::{Lifted, LiftedChecker, check_lifted};
+use pc_common::Memory;
+use pc_front::read_parts;
+use pc_ground::Parts;
+use std::alloc::Global;
+
+/// What the text is, fed in pieces of so many bytes.
+fn in_pieces(alloc: Global, parts: &Parts, text: &[u8], size: usize) -> Result<Lifted, Memory>
+    requires { 0 < size }
+{
+    let mut checker = LiftedChecker::new(alloc, &parts.case, parts.axioms.as_slice());
+    for piece in text.chunks(size) {
+        checker = checker.feed(piece)?;
+    }
+    Ok(checker.finish())
+}
+
+/// Whether the text is this, whole and however it is cut.
+fn is_found(alloc: Global, (model, test, text, lifted): Row) -> bool {
+    if model.len() > 10_000 || test.len() > 10_000 {
+        return false;
+    }
+    let Ok(parts) = read_parts(alloc, model.as_bytes(), test.as_bytes()) else {
+        return false;
+    };
+    let bytes = text.as_bytes();
+    check_lifted(alloc, &parts.case, parts.axioms.as_slice(), bytes) == Ok(lifted)
+        && in_pieces(alloc, &parts, bytes, 1) == Ok(lifted)
+        && in_pieces(alloc, &parts, bytes, 2) == Ok(lifted)
+        && in_pieces(alloc, &parts, bytes, 7) == Ok(lifted)
+}
+
+#[test]
+fn parts_are_facts(rt: HostRuntime) {
+    for row in PARTS {
+        assert!(rt; is_found(rt.alloc(), *row), "{}", row.2);
+    }
+}
+
+#[test]
+fn connectives_are_taken_by_their_signs(rt: HostRuntime) {
+    for row in CONNECTIVES {
+        assert!(rt; is_found(rt.alloc(), *row), "{}", row.2);
+    }
+}
+
+#[test]
+fn ranges_are_gone_through(rt: HostRuntime) {
+    for row in QUANTIFIERS {
+        assert!(rt; is_found(rt.alloc(), *row), "{}", row.2);
+    }
+}
+
+#[test]
+fn leaves_close_their_branch_alone(rt: HostRuntime) {
+    for row in LEAVES {
+        assert!(rt; is_found(rt.alloc(), *row), "{}", row.2);
+    }
+}
+
+#[test]
+fn a_text_without_the_form_is_refused_at_its_line(rt: HostRuntime) {
+    for row in FORMS {
+        assert!(rt; is_found(rt.alloc(), *row), "{}", row.2);
+    }
+}
