@@ -5,6 +5,8 @@ ghost use Rattle.pipecheck_run.specs.AnswerTexts.{answer_text, answer_status, Ca
 use cert_check::Checked;
 use command_base::{Ending, ending_status, write_ending};
 use core_command::{FoundCore, write_core};
+use sweep_command::{Swept, write_sweep};
+use lifted_command::{lifted_status, write_lifted};
 use gen_command::{Report, write_report};
 use pc_common::{Failed, Sink, Status, write_all};
 use verdicts::{Verdict, verdict_status, write_verdict};
@@ -23,6 +25,10 @@ pub(crate) enum Answer {
     Verified(Checked),
     /// `core` finds these axioms to forbid the outcome.
     Core(FoundCore),
+    /// `sweep` finds this of the rows of a pattern.
+    Swept(Swept),
+    /// `verify-lifted` finds the third file to be this.
+    Lifted(Lifted),
     /// `gen` finds this of the texts that it makes.
     Generated(Report),
 }
@@ -38,6 +44,8 @@ pub(crate) fn write_answer<K: Sink>(out: &mut K, answer: &Answer) -> Result<(), 
         Answer::Checked(verdict) => write_verdict(out, verdict),
         Answer::Verified(checked) => write_checked(out, *checked),
         Answer::Core(found) => write_core(out, found),
+        Answer::Swept(swept) => write_sweep(out, swept),
+        Answer::Lifted(lifted) => write_lifted(out, *lifted),
         Answer::Generated(report) => write_report(out, report),
     }
 }
@@ -52,6 +60,8 @@ pub(crate) fn status(answer: &Answer) -> Status
         Answer::Checked(verdict) => verdict_status(verdict),
         Answer::Verified(checked) => checked_status(*checked),
         Answer::Core(_) => Status::Done,
+        Answer::Swept(_) => Status::Done,
+        Answer::Lifted(lifted) => lifted_status(*lifted),
         Answer::Generated(_) => Status::Done,
     }
 }

@@ -26,6 +26,13 @@ pub(crate) enum Command<'a> {
         inputs: Inputs<'a>,
         certificate: &'a str,
     },
+    /// `sweep MODEL PATTERN`
+    Sweep(Inputs<'a>),
+    /// `verify-lifted MODEL TEST CERT`
+    VerifyLifted {
+        inputs: Inputs<'a>,
+        certificate: &'a str,
+    },
     /// `gen N`, with N from 2 to 16
     Gen(u8),
 }
@@ -92,6 +99,15 @@ pub(crate) fn parse<'a>(words: &'a [String]) -> Option<Command<'a>>
     }
     if let Some((inputs, certificate)) = three_behind("verify86", words) {
         return Some(Command::VerifyListing {
+            inputs,
+            certificate,
+        });
+    }
+    if let Some(inputs) = inputs_behind("sweep", words) {
+        return Some(Command::Sweep(inputs));
+    }
+    if let Some((inputs, certificate)) = three_behind("verify-lifted", words) {
+        return Some(Command::VerifyLifted {
             inputs,
             certificate,
         });

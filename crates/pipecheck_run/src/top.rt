@@ -6,7 +6,7 @@ ghost use Rattle.pc_common.specs.Pieces.{IsCutShort};
 ghost use Rattle.pc_common.specs.declared.status.Status.TheVariants.{Usage as SUsage, ReadFault as SReadFault, WriteFault as SWriteFault, Memory as SMemory};
 ghost use Rattle.command_base.specs.Inputs.{plain_inputs};
 ghost use Rattle.gen_command.specs.GenAnswers.{IsGenOutcome};
-ghost use Rattle.pipecheck_run.specs.Command.{plain_command, check as check_of, verify as verify_of, verify_listing as verify_listing_of, check_listing as check_listing_of, find_core as find_core_of, IsNoCommand, IsIdle, IsKnown, IsWithin, inputs_of};
+ghost use Rattle.pipecheck_run.specs.Command.{plain_command, check as check_of, verify as verify_of, verify_lifted as verify_lifted_of, sweep_rows as sweep_rows_of, verify_listing as verify_listing_of, check_listing as check_listing_of, find_core as find_core_of, IsNoCommand, IsIdle, IsKnown, IsWithin, inputs_of};
 ghost use Rattle.pipecheck_run.specs.Answers.{Answers, usage_text, WordsLack};
 ghost use Rattle.pipecheck_run.specs.Headline.{IsTrueOf, IsDue};
 ghost use Rattle.pipecheck_run.specs.AnswerTexts.{answer_text, answer_status, CanBeWritten};
@@ -17,6 +17,8 @@ use super::command::{Command, parse};
 use check_command::check;
 use command_base::{Ending, Inputs, TestFile};
 use core_command::find_core;
+use sweep_command::sweep_files;
+use lifted_command::verify_lifted;
 use gen_command::generate;
 use listing_form::ListingFile;
 use pc_common::{Failed, Files, Sink, Status};
@@ -99,6 +101,39 @@ fn verify_listing_answer<F: Files>(
     }
 }
 
+/// The answer to `sweep MODEL PATTERN`.
+fn sweep_answer<F: Files>(
+    alloc: Global,
+    inputs: Inputs<'_>,
+    files: &mut F,
+) -> Answer
+    ensures outcome { IsCommandOutcome F.view (sweep_rows_of (plain_inputs inputs.entry))
+        files.old files.new (answer_status result) (answer_text result) }
+    ensures writable { CanBeWritten result }
+{
+    match sweep_files::<F>(alloc, inputs, files) {
+        Ok(swept) => Answer::Swept(swept),
+        Err(ending) => Answer::Ended(ending),
+    }
+}
+
+/// The answer to `verify-lifted MODEL TEST CERT`.
+fn verify_lifted_answer<F: Files>(
+    alloc: Global,
+    inputs: Inputs<'_>,
+    certificate: &str,
+    files: &mut F,
+) -> Answer
+    ensures outcome { IsCommandOutcome F.view (verify_lifted_of (plain_inputs inputs.entry) certificate.now)
+        files.old files.new (answer_status result) (answer_text result) }
+    ensures writable { CanBeWritten result }
+{
+    match verify_lifted::<F>(alloc, inputs, certificate, files) {
+        Ok(lifted) => Answer::Lifted(lifted),
+        Err(ending) => Answer::Ended(ending),
+    }
+}
+
 /// The answer to `gen N`, which touches no file.
 fn gen_answer(alloc: Global, n: u8) -> Answer
     requires { 2 ≤ n × n ≤ 16 }
@@ -132,6 +167,11 @@ fn answer_to<F: Files>(alloc: Global, command: Command<'_>, files: &mut F) -> An
             inputs,
             certificate,
         } => verify_listing_answer(alloc, inputs, certificate, files),
+        Command::Sweep(inputs) => sweep_answer(alloc, inputs, files),
+        Command::VerifyLifted {
+            inputs,
+            certificate,
+        } => verify_lifted_answer(alloc, inputs, certificate, files),
         Command::Gen(n) => gen_answer(alloc, n),
     }
 }

@@ -17,6 +17,12 @@ returns-in-CheckListing-clause-outcome g c = rw c.in-CheckListing.is c.check_lis
 pub returns-in-VerifyListing-clause-outcome : goal.returns-in-VerifyListing-clause-outcome
 returns-in-VerifyListing-clause-outcome g c = rw c.in-VerifyListing.is c.verify_listing_answer.ensures.outcome
 
+pub returns-in-Sweep-clause-outcome : goal.returns-in-Sweep-clause-outcome
+returns-in-Sweep-clause-outcome g c = rw c.in-Sweep.is c.sweep_answer.ensures.outcome
+
+pub returns-in-VerifyLifted-clause-outcome : goal.returns-in-VerifyLifted-clause-outcome
+returns-in-VerifyLifted-clause-outcome g c = rw c.in-VerifyLifted.is c.verify_lifted_answer.ensures.outcome
+
 pub returns-in-Check-clause-outcome : goal.returns-in-Check-clause-outcome
 returns-in-Check-clause-outcome g c = rw c.in-Check.is c.check_answer.ensures.outcome
 

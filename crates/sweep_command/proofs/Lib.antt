@@ -1,0 +1,4 @@
+pub mod PatternFiles
+pub mod SweepOutcomes
+pub mod Shown
+pub mod SweepTexts

@@ -1,0 +1,52 @@
+-- What a model's file and a pattern's say together, and their first fault.
+use Rattle.std.specs.Prelude.{◌≡◌, ℕ, List, Some, IsTrue}
+use Rattle.pc_common.specs.Outside.{FilesView}
+use Rattle.pc_common.specs.Reads.{Reads}
+use Rattle.pc_common.specs.Case.{Case}
+use Rattle.pc_common.specs.declared.place.Place.{Place}
+use Rattle.pc_common.specs.declared.fault.FaultKind.{FaultKind}
+use Rattle.pc_common.specs.declared.fault.InputFault.{InputFault}
+use Rattle.pc_common.specs.declared.fault.Which.TheVariants.{Model}
+use Rattle.pc_syntax.specs.Written.{WrittenModel}
+use Rattle.litmus_reader.specs.declared.fault.CaseFault.{CaseFault}
+use Rattle.pc_front.specs.ModelFront.{IsModelFault, IsModelFrontOf}
+use Rattle.pc_front.specs.Front.{SaysModel, fault_at, case_fault_of}
+use Rattle.pattern_reader.specs.Rows.{Pattern}
+use Rattle.pattern_reader.specs.Answer.{PatternOf, IsPatternFault}
+use Rattle.command_base.specs.Inputs.{Inputs, Contents, IsRead, LacksInput}
+use Rattle.sweep_command.specs.declared.inputs.Task.{Task}
+
+-- the bytes are a pattern of this case, with a 0 in each open read
+abbrev pub ClosedCase : List ℕ → Case → Type 0
+ClosedCase bytes c = (p : Pattern) × PatternOf bytes p × (c ≡ p.case)
+
+-- the first fault of a model's bytes and a pattern's: the model's, and where it has none, the pattern's
+pub data IsFirstFault (model second : List ℕ) : InputFault → Type 0 where
+  in_model : {kind : FaultKind} {at : Place} → IsModelFault model kind at → IsFirstFault model second (fault_at Model kind at)
+  in_pattern : {m : WrittenModel} {found : CaseFault} {fault : InputFault} → SaysModel model m → IsPatternFault second found
+      → case_fault_of found ≡ Some fault → IsFirstFault model second fault
+
+-- the model and the pattern that the two files say
+pub record SaysPattern (holds : Contents) (i : Inputs) (m : WrittenModel) (p : Pattern) : Type 0 where
+  pub model_bytes : List ℕ
+  pub pattern_bytes : List ℕ
+  pub model_read : IsRead holds i.model model_bytes
+  pub pattern_read : IsRead holds i.test pattern_bytes
+  pub says_model : SaysModel model_bytes m
+  pub says_pattern : PatternOf pattern_bytes p
+
+-- the bytes of a model and of a pattern say this
+pub record SaysTask (model second : List ℕ) (task : Task) : Type 0 where
+  pub m : WrittenModel
+  pub says_model : SaysModel model m
+  pub model_of : IsModelFrontOf m task.model
+  pub says_pattern : PatternOf second task.pattern
+
+-- a model and a pattern, which the two files say where they are known
+pub record HasTask {F : Type 0} (view : F → FilesView) (i : Inputs) (old new : F) (task : Task) : Type 0 where
+  pub keeps : Reads view old new
+  pub model : List ℕ
+  pub second : List ℕ
+  pub task_is : SaysTask model second task
+  pub says : IsTrue (view old).modelled → SaysPattern (view old).holds i task_is.m task.pattern
+  pub held : IsTrue (view old).only_missing_fail → LacksInput (view old).holds i → ⊥

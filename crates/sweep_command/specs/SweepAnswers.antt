@@ -1,0 +1,42 @@
+-- The answer of `sweep` to two files, and the status that is due.
+use Rattle.std.specs.Prelude.{◌≡◌, ℕ, Bool, true, false, List, Some, length, slice_get, IsTrue}
+use Rattle.pc_common.specs.Outside.{FilesView}
+use Rattle.pc_common.specs.Case.{Case}
+use Rattle.pc_common.specs.declared.fault.InputFault.{InputFault}
+use Rattle.pc_common.specs.declared.status.Status.{Status}
+use Rattle.pc_common.specs.declared.status.Status.TheVariants.{Done, Refused}
+use Rattle.pc_syntax.specs.Written.{WrittenModel}
+use Rattle.pc_syntax.specs.Observable.{Observable}
+use Rattle.pattern_reader.specs.Rows.{Pattern, rows_of, row_case}
+use Rattle.command_base.specs.Inputs.{Inputs, Contents, LacksInput, IsFirstFault as IsFirstFaultOf}
+use Rattle.command_base.specs.Refusals.{IsRefusal}
+use Rattle.command_base.specs.Outcomes.{IsOutcome}
+use Rattle.sweep_command.specs.Texts.{sweep_text}
+use Rattle.sweep_command.specs.Patterns.{IsFirstFault, SaysPattern}
+
+-- observable exactly where some choice of nodes with some strict order makes every axiom true of the case
+abbrev pub IsVerdictOn : WrittenModel → Case → Bool → Type 0
+IsVerdictOn m c true = Observable m c
+IsVerdictOn m c false = Observable m c → ⊥
+
+-- the text has one verdict for each row, in order, and each is that of its row's case
+pub record IsSweep (m : WrittenModel) (p : Pattern) (text : List ℕ) : Type 0 where
+  pub verdicts : List Bool
+  pub count : length verdicts ≡ rows_of p
+  pub each : (k : ℕ) (b : Bool) → slice_get verdicts k ≡ Some b → IsVerdictOn m (row_case p k) b
+  pub text_is : text ≡ sweep_text p verdicts
+
+-- the refusal by the first fault, or the sweep of the pattern
+pub data AnswersSweep (holds : Contents) (i : Inputs) : Status → List ℕ → Type 0 where
+  refused_sweep : {status : Status} {text : List ℕ} → IsRefusal IsFirstFault holds i status text → AnswersSweep holds i status text
+  swept : {m : WrittenModel} {p : Pattern} {text : List ℕ} → SaysPattern holds i m p → IsSweep m p text → AnswersSweep holds i Done text
+
+-- done where the two files have no fault, and refused where they have one
+pub record IsSweepDue (holds : Contents) (i : Inputs) (status : Status) : Type 0 where
+  pub found : (m : WrittenModel) (p : Pattern) → SaysPattern holds i m p → status ≡ Done
+  pub fault : (f : InputFault) → IsFirstFaultOf IsFirstFault holds i f → status ≡ Refused
+
+-- what `sweep` returns
+abbrev pub IsSweepOutcome : {F : Type 0} → (F → FilesView) → Inputs → F → F → Status → List ℕ → Type 0
+IsSweepOutcome view i old new status text =
+    IsOutcome view ⊥ (IsTrue (view old).modelled) (LacksInput (view old).holds i) (AnswersSweep (view old).holds i) old new status text

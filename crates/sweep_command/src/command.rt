@@ -1,0 +1,41 @@
+ghost use Rattle.std.specs.Prelude.{◌≡◌, length, IfOk};
+ghost use Rattle.pc_common.specs.declared.status.Status.TheVariants.{Done};
+ghost use Rattle.command_base.specs.Inputs.{plain_inputs};
+ghost use Rattle.command_base.specs.Endings.{returned_status, returned_text};
+ghost use Rattle.pattern_reader.specs.Rows.{rows_of};
+ghost use Rattle.sweep_command.specs.Texts.{swept_text};
+ghost use Rattle.sweep_command.specs.SweepAnswers.{IsSweepOutcome};
+
+use super::inputs::{Task, read_task};
+use command_base::{Ending, Inputs};
+use pattern_reader::Pattern;
+use pc_common::{Files, Memory};
+use std::alloc::Global;
+use sweep::sweep;
+
+/// A pattern, and for each row whether its outcome is observable.
+#[derive(Drop)]
+pub struct Swept {
+    pub pattern: Pattern,
+    pub answers: Vec<bool>,
+}
+
+/// Reads the model and the pattern and answers each row, or how the command ends before it.
+pub fn sweep_files<F: Files>(
+    alloc: Global,
+    inputs: Inputs<'_>,
+    files: &mut F,
+) -> Result<Swept, Ending>
+    ensures outcome { IsSweepOutcome F.view (plain_inputs inputs.entry) files.old files.new
+        (returned_status (λ s. Done) result) (returned_text swept_text result) }
+    ensures rows { IfOk result (λ s. length s.answers.items ≡ rows_of s.pattern) }
+{
+    let Task { model, pattern } = match read_task(alloc, inputs, files) {
+        Ok(task) => task,
+        Err(ending) => return Err(ending),
+    };
+    match sweep(alloc, model.axioms.as_slice(), &pattern) {
+        Ok(answers) => Ok(Swept { pattern, answers }),
+        Err(Memory) => Err(Ending::Memory),
+    }
+}
