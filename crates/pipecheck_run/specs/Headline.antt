@@ -18,8 +18,8 @@ use Rattle.gen_command.specs.GenAnswers.{IsGenDue}
 use Rattle.pipecheck_run.specs.Command.{Command, check, verify, find_core, check_listing, verify_listing, sweep_rows, verify_lifted, gen, IsCommand}
 
 -- what the statuses of a verdict say to a command: observable only where some choice of nodes with some strict order
--- makes every axiom true of the case, and unobservable only where none does; whatever a third file holds. `core` and
--- `gen` have no such status
+-- makes every axiom true of the case, and unobservable only where none does; whatever a third file holds. `core`, `sweep`
+-- and `gen` have no such status
 abbrev pub IsTrueTo : Contents → Command → Status → Type 0
 IsTrueTo holds (check version i) status = (m : WrittenModel) (c : Case) → Says CaseOf holds i m c
     → IsTrueStatus m c status

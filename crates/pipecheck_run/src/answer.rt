@@ -5,10 +5,11 @@ ghost use Rattle.pipecheck_run.specs.AnswerTexts.{answer_text, answer_status, Ca
 use cert_check::Checked;
 use command_base::{Ending, ending_status, write_ending};
 use core_command::{FoundCore, write_core};
-use sweep_command::{Swept, write_sweep};
-use lifted_command::{lifted_status, write_lifted};
 use gen_command::{Report, write_report};
+use lifted_check::Lifted;
+use lifted_command::{lifted_status, write_lifted};
 use pc_common::{Failed, Sink, Status, write_all};
+use sweep_command::{Swept, write_sweep};
 use verdicts::{Verdict, verdict_status, write_verdict};
 use verify_command::{checked_status, write_checked};
 

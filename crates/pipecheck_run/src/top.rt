@@ -17,13 +17,13 @@ use super::command::{Command, parse};
 use check_command::check;
 use command_base::{Ending, Inputs, TestFile};
 use core_command::find_core;
-use sweep_command::sweep_files;
-use lifted_command::verify_lifted;
 use gen_command::generate;
+use lifted_command::verify_lifted;
 use listing_form::ListingFile;
 use pc_common::{Failed, Files, Sink, Status};
 use pc_ground::Version;
 use std::alloc::Global;
+use sweep_command::sweep_files;
 use verify_command::verify;
 
 /// The answer to `check MODEL TEST` or, in version 2, to `check2 MODEL TEST`.
@@ -102,11 +102,7 @@ fn verify_listing_answer<F: Files>(
 }
 
 /// The answer to `sweep MODEL PATTERN`.
-fn sweep_answer<F: Files>(
-    alloc: Global,
-    inputs: Inputs<'_>,
-    files: &mut F,
-) -> Answer
+fn sweep_answer<F: Files>(alloc: Global, inputs: Inputs<'_>, files: &mut F) -> Answer
     ensures outcome { IsCommandOutcome F.view (sweep_rows_of (plain_inputs inputs.entry))
         files.old files.new (answer_status result) (answer_text result) }
     ensures writable { CanBeWritten result }
