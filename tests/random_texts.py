@@ -204,6 +204,14 @@ def machine_test(random: Random) -> bytes:
     return "\n".join(['Litmus "m".'] + lines + [""]).encode()
 
 
+def opened(random: Random, text: bytes, opens_writes: bool = False) -> bytes:
+    """A pattern of a test: some or all of its reads are open, and its writes too where this is asked for, which is a fault."""
+    share = random.choice((0.3, 0.7, 1.0))
+    kind = rb"(?:Read|Write)" if opens_writes else rb"Read"
+    value = re.compile(rb"(\(" + kind + rb"[^()]*(?:\([^()]*\) ){2})\((?:Data|Maps)[^()]*\)")
+    return value.sub(lambda found: found[1] + b"(Data Any)" if random.random() < share else found[0], text)
+
+
 def changed_file(random: Random, text: bytes) -> bytes:
     """The text with one to three changes of its pieces."""
     pieces = PIECE.findall(text)
