@@ -7,17 +7,20 @@
     second_reading.py core MODEL TEST          a minimal set of axioms that forbid the outcome, with certificates
     second_reading.py check86 MODEL FILE       as check, of a listing of herd's for X86
     second_reading.py verify86 MODEL FILE CERT as verify, of a listing
+    second_reading.py verify-lifted MODEL TEST CERT
+                                               whether CERT is a lifted refutation of this model and test
     second_reading.py sweep MODEL PATTERN      whether each combination of what the open reads may get is observable
     second_reading.py dimacs MODEL TEST        the question for a SAT solver
     second_reading.py smt MODEL TEST           the question for an SMT solver
 
 The modules are in second/. All text goes to standard output, in the lines and with the exit statuses that the program
-has: 0 observable, 1 unobservable, 2 words that are no command, 3 a file with a fault, 4 a file that cannot be read, 6 a
-refused certificate; of `core` 0 where no file has a fault. The verdict of `check`, `check2` and `check86` is found in two
-ways, by a search of this reading's own and by one that makes the program's choices and gives the text; they have to agree,
-and the certificate is judged before it is written. So is each certificate of `core`. `verify` and `verify86` judge
-certificates of version 1 and of version 2. `sweep` ends with 0 and takes the search of this reading's own alone; the witness
-of an observable row is judged by the written axioms.
+has: 0 observable, 1 unobservable, 2 words that are no command, 3 a file with a fault, 4 a file that cannot be read, 6
+a refused certificate; of `core` 0 where no file has a fault. The verdict of `check`, `check2` and `check86` is found
+in two ways, by a search of this reading's own and by one that makes the program's choices and gives the text; they
+have to agree, and the certificate is judged before it is written. So is each certificate of `core`. `verify` and
+`verify86` judge certificates of version 1 and of version 2; `verify-lifted` judges lifted refutations, on the axioms
+as they are written. `sweep` ends with 0 and takes the search of this reading's own alone; the witness of an
+observable row is judged by the written axioms.
 """
 import signal
 import sys
@@ -31,6 +34,7 @@ from second.evaluating import false_axioms
 from second.grounding import ground
 from second.judging import Refused as CertificateRefused
 from second.judging import VERSION_2, judge
+from second.lifted import judge_lifted
 from second.listings import read_listing
 from second.models import Model
 from second.patterns import Pattern, read_pattern, sweep, sweep_text
@@ -50,6 +54,7 @@ WORDS = {
     "core": 3,
     "verify": 4,
     "verify86": 4,
+    "verify-lifted": 4,
     "sweep": 3,
     "dimacs": 3,
     "smt": 3,
@@ -157,6 +162,15 @@ def verify(model: Model, case: Case, data: bytes) -> tuple[str, int]:
     return ("verified observable\n", 0) if is_observable else ("verified unobservable\n", 1)
 
 
+def verify_lifted(model: Model, case: Case, data: bytes) -> tuple[str, int]:
+    """What is to be said of a lifted refutation, and the exit status."""
+    try:
+        judge_lifted(model, case, second_line(False, case), data)
+    except CertificateRefused as refused:
+        return f"{refused}\n", 6
+    return "verified unobservable\n", 1
+
+
 def run(words: list[str], out: TextIO) -> int:
     """Does what the words ask and answers the exit status."""
     if not words or len(words) != WORDS.get(words[0]):
@@ -174,7 +188,7 @@ def run(words: list[str], out: TextIO) -> int:
             text, status = core(model, case)
         elif words[0].startswith("verify"):
             with open(words[3], "rb") as file:
-                text, status = verify(model, case, file.read())
+                text, status = (verify_lifted if words[0] == "verify-lifted" else verify)(model, case, file.read())
         else:
             write = write_dimacs if words[0] == "dimacs" else write_smtlib
             write(ground(model, case), out)
