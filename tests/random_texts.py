@@ -5,6 +5,10 @@ said by the second reading, which reads the changed text too. Rewritings of cert
 """
 import re
 from random import Random
+from typing import Iterator
+
+from second.cases import Case
+from second.lifted import LiftedJudge
 
 SORTS = {"op": "microop", "core": "core"}
 # what a predicate takes: a micro-op, a core, or a plain name of these
@@ -281,6 +285,40 @@ def changed_certificate(random: Random, text: bytes) -> bytes:
     else:
         lines[at] = lines[at][:1] + bytes([random.randrange(256)]) + lines[at][1:]
     return b"\n".join(lines)
+
+
+def lifted_text(random: Random, judge: LiftedJudge, second: str) -> bytes:
+    """Lines that the judge takes one after another, as of a lifted refutation: closing ones where one is found, else ones
+    that add or split. It may be whole, break off, or go on with a line that is not taken."""
+    lines = ["unobservable", second, "lifted"]
+    count = random.choice((3, 10, 40))
+    while judge.open and len(lines) < count:
+        taken = next(filter(judge.accepts, lifted_lines(random, len(judge.open[-1]), judge.case)), None)
+        if taken is None:
+            break
+        lines.append(taken)
+    if not judge.open:
+        lines.append("end")
+    elif random.random() < 0.5:
+        lines.append(next(lifted_lines(random, len(judge.open[-1]) + 2, judge.case)))
+    return "\n".join(lines + [""]).encode()
+
+
+def lifted_lines(random: Random, facts: int, case: Case) -> Iterator[str]:
+    """Lines that may be taken where there are so many facts, the later ones more often."""
+
+    def fact() -> int:
+        return max(random.randrange(facts + 1), random.randrange(facts + 1)) if facts else 0
+
+    values = [f"{op.g}.{op.n}" for op in case.ops] + list(map(str, case.cores)) or ["0"]
+    if random.random() < 0.8:
+        yield from (f"false {k}" for k in range(facts))
+        yield from (f"cycle {k}" for k in range(facts))
+        yield from (f"{random.choice(('path', 'absent', 'cycle'))} {fact()} {fact()}" for _ in range(3 * facts))
+    for _ in range(20):
+        word = random.choice("left right not bind inst inst member member split split path".split())
+        more = {"inst": f" {random.choice(values)}", "member": f" {random.randrange(3)}", "path": f" {fact()} {fact()}"}
+        yield f"{word} {fact()}{more.get(word, '')}"
 
 
 def rewritten_certificate(random: Random, text: bytes) -> bytes:
