@@ -304,6 +304,40 @@ def lifted_text(random: Random, judge: LiftedJudge, second: str) -> bytes:
     return "\n".join(lines + [""]).encode()
 
 
+def changed_lifted(random: Random, text: bytes) -> bytes:
+    """The lifted refutation with one change of its lines, which may spoil it or not."""
+    lines = text.split(b"\n")
+    at = random.randrange(len(lines))
+    other = random.choice((max(0, at - 1), min(len(lines) - 1, at + 1), random.randrange(len(lines))))
+    words = lines[at].split(b" ")
+    place = random.randrange(len(words))
+    kind = random.choice(("drop", "twice", "swap", "word", "words", "line", "break", "byte") + 4 * ("number",))
+    if kind == "drop":
+        del lines[at]
+    elif kind == "twice":
+        lines.insert(other, lines[at])
+    elif kind == "swap":
+        lines[at], lines[other] = lines[other], lines[at]
+    elif kind == "word":
+        words[0] = random.choice(b"left right not bind inst member split false cycle path absent end".split())
+        lines[at] = b" ".join(words)
+    elif kind == "words":
+        words.insert(place, words[random.randrange(len(words))])
+        lines[at] = b" ".join(words)
+    elif kind == "line":
+        lines[at] = lines[at] + random.choice((b" ", b"\r", b" 0", b".0", b"0", b" 18446744073709551616"))
+    elif kind == "break":
+        return text[: random.randrange(len(text) + 1)]
+    elif kind == "byte":
+        start = random.randrange(len(lines[at]) + 1)
+        lines[at] = lines[at][:start] + bytes([random.randrange(256)]) + lines[at][start + 1 :]
+    else:
+        step = random.choice((-2, -1, -1, 1, 1, 2, 100))
+        words[place] = re.sub(rb"\d+", lambda found: str(max(0, int(found[0]) + step)).encode(), words[place], count=1)
+        lines[at] = b" ".join(words)
+    return b"\n".join(lines)
+
+
 def lifted_lines(random: Random, facts: int, case: Case) -> Iterator[str]:
     """Lines that may be taken where there are so many facts, the later ones more often."""
 
