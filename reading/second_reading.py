@@ -7,15 +7,20 @@
     second_reading.py core MODEL TEST          a minimal set of axioms that forbid the outcome, with certificates
     second_reading.py check86 MODEL FILE       as check, of a listing of herd's for X86
     second_reading.py verify86 MODEL FILE CERT as verify, of a listing
+    second_reading.py verify-lifted MODEL TEST CERT
+                                               whether CERT is a lifted refutation of this model and test
+    second_reading.py sweep MODEL PATTERN      whether each combination of what the open reads may get is observable
     second_reading.py dimacs MODEL TEST        the question for a SAT solver
     second_reading.py smt MODEL TEST           the question for an SMT solver
 
 The modules are in second/. All text goes to standard output, in the lines and with the exit statuses that the program
-has: 0 observable, 1 unobservable, 2 words that are no command, 3 a file with a fault, 4 a file that cannot be read, 6 a
-refused certificate; of `core` 0 where no file has a fault. The verdict of `check`, `check2` and `check86` is found in two
-ways, by a search of this reading's own and by one that makes the program's choices and gives the text; they have to agree,
-and the certificate is judged before it is written. So is each certificate of `core`. `verify` and `verify86` judge
-certificates of version 1 and of version 2.
+has: 0 observable, 1 unobservable, 2 words that are no command, 3 a file with a fault, 4 a file that cannot be read, 6
+a refused certificate; of `core` 0 where no file has a fault. The verdict of `check`, `check2` and `check86` is found
+in two ways, by a search of this reading's own and by one that makes the program's choices and gives the text; they
+have to agree, and the certificate is judged before it is written. So is each certificate of `core`. `verify` and
+`verify86` judge certificates of version 1 and of version 2; `verify-lifted` judges lifted refutations, on the axioms
+as they are written. `sweep` ends with 0 and takes the search of this reading's own alone; the witness of an
+observable row is judged by the written axioms.
 """
 import signal
 import sys
@@ -29,17 +34,31 @@ from second.evaluating import false_axioms
 from second.grounding import ground
 from second.judging import Refused as CertificateRefused
 from second.judging import VERSION_2, judge
+from second.lifted import judge_lifted
 from second.listings import read_listing
 from second.models import Model
+from second.patterns import Pattern, read_pattern, sweep, sweep_text
 from second.positions import NodeNames, Positions
 from second.scopes import read_model
 from second.searching import search
 from second.smtlib import write_smtlib
 from second.tokens import Fault
 
-Read = TypeVar("Read", Model, Case)
+Read = TypeVar("Read", Model, Case, Pattern)
+Second = TypeVar("Second", Case, Pattern)
 LIMIT = 1_048_576
-WORDS = {"check": 3, "check2": 3, "check86": 3, "core": 3, "verify": 4, "verify86": 4, "dimacs": 3, "smt": 3}
+WORDS = {
+    "check": 3,
+    "check2": 3,
+    "check86": 3,
+    "core": 3,
+    "verify": 4,
+    "verify86": 4,
+    "verify-lifted": 4,
+    "sweep": 3,
+    "dimacs": 3,
+    "smt": 3,
+}
 
 
 class Refused(Exception):
@@ -64,7 +83,7 @@ def judged(kind: str, read: Callable[[bytes], Read], data: bytes) -> Read:
         raise Refused(f"refused {kind} {fault.word} at {len(lines)}:{len(lines[-1]) + 1}") from fault
 
 
-def read_both(model_path: str, test_path: str, read: Callable[[bytes], Case] = read_case) -> tuple[Model, Case]:
+def read_both(model_path: str, test_path: str, read: Callable[[bytes], Second]) -> tuple[Model, Second]:
     """The model and the test, by this reader. Both are read whole before one is judged."""
     model_data = file_bytes("model", model_path)
     test_data = file_bytes("test", test_path)
@@ -143,12 +162,25 @@ def verify(model: Model, case: Case, data: bytes) -> tuple[str, int]:
     return ("verified observable\n", 0) if is_observable else ("verified unobservable\n", 1)
 
 
+def verify_lifted(model: Model, case: Case, data: bytes) -> tuple[str, int]:
+    """What is to be said of a lifted refutation, and the exit status."""
+    try:
+        judge_lifted(model, case, second_line(False, case), data)
+    except CertificateRefused as refused:
+        return f"{refused}\n", 6
+    return "verified unobservable\n", 1
+
+
 def run(words: list[str], out: TextIO) -> int:
     """Does what the words ask and answers the exit status."""
     if not words or len(words) != WORDS.get(words[0]):
         out.write("pipecheck: bad command line\n")
         return 2
     try:
+        if words[0] == "sweep":
+            model, pattern = read_both(words[1], words[2], read_pattern)
+            out.write(sweep_text(sweep(model, pattern)))
+            return 0
         model, case = read_both(words[1], words[2], read_listing if words[0].endswith("86") else read_case)
         if words[0].startswith("check"):
             text, status = check(model, case, 2 if words[0] == "check2" else 1)
@@ -156,7 +188,7 @@ def run(words: list[str], out: TextIO) -> int:
             text, status = core(model, case)
         elif words[0].startswith("verify"):
             with open(words[3], "rb") as file:
-                text, status = verify(model, case, file.read())
+                text, status = (verify_lifted if words[0] == "verify-lifted" else verify)(model, case, file.read())
         else:
             write = write_dimacs if words[0] == "dimacs" else write_smtlib
             write(ground(model, case), out)

@@ -5,6 +5,10 @@ said by the second reading, which reads the changed text too. Rewritings of cert
 """
 import re
 from random import Random
+from typing import Iterator
+
+from second.cases import Case
+from second.lifted import LiftedJudge
 
 SORTS = {"op": "microop", "core": "core"}
 # what a predicate takes: a micro-op, a core, or a plain name of these
@@ -204,6 +208,14 @@ def machine_test(random: Random) -> bytes:
     return "\n".join(['Litmus "m".'] + lines + [""]).encode()
 
 
+def opened(random: Random, text: bytes, opens_writes: bool = False) -> bytes:
+    """A pattern of a test: some or all of its reads are open, and its writes too where this is asked for, which is a fault."""
+    share = random.choice((0.3, 0.7, 1.0))
+    kind = rb"(?:Read|Write)" if opens_writes else rb"Read"
+    value = re.compile(rb"(\(" + kind + rb"[^()]*(?:\([^()]*\) ){2})\((?:Data|Maps)[^()]*\)")
+    return value.sub(lambda found: found[1] + b"(Data Any)" if random.random() < share else found[0], text)
+
+
 def changed_file(random: Random, text: bytes) -> bytes:
     """The text with one to three changes of its pieces."""
     pieces = PIECE.findall(text)
@@ -273,6 +285,74 @@ def changed_certificate(random: Random, text: bytes) -> bytes:
     else:
         lines[at] = lines[at][:1] + bytes([random.randrange(256)]) + lines[at][1:]
     return b"\n".join(lines)
+
+
+def lifted_text(random: Random, judge: LiftedJudge, second: str) -> bytes:
+    """Lines that the judge takes one after another, as of a lifted refutation: closing ones where one is found, else ones
+    that add or split. It may be whole, break off, or go on with a line that is not taken."""
+    lines = ["unobservable", second, "lifted"]
+    count = random.choice((3, 10, 40))
+    while judge.open and len(lines) < count:
+        taken = next(filter(judge.accepts, lifted_lines(random, len(judge.open[-1]), judge.case)), None)
+        if taken is None:
+            break
+        lines.append(taken)
+    if not judge.open:
+        lines.append("end")
+    elif random.random() < 0.5:
+        lines.append(next(lifted_lines(random, len(judge.open[-1]) + 2, judge.case)))
+    return "\n".join(lines + [""]).encode()
+
+
+def changed_lifted(random: Random, text: bytes) -> bytes:
+    """The lifted refutation with one change of its lines, which may spoil it or not."""
+    lines = text.split(b"\n")
+    at = random.randrange(len(lines))
+    other = random.choice((max(0, at - 1), min(len(lines) - 1, at + 1), random.randrange(len(lines))))
+    words = lines[at].split(b" ")
+    place = random.randrange(len(words))
+    kind = random.choice(("drop", "twice", "swap", "word", "words", "line", "break", "byte") + 4 * ("number",))
+    if kind == "drop":
+        del lines[at]
+    elif kind == "twice":
+        lines.insert(other, lines[at])
+    elif kind == "swap":
+        lines[at], lines[other] = lines[other], lines[at]
+    elif kind == "word":
+        words[0] = random.choice(b"left right not bind inst member split false cycle path absent end".split())
+        lines[at] = b" ".join(words)
+    elif kind == "words":
+        words.insert(place, words[random.randrange(len(words))])
+        lines[at] = b" ".join(words)
+    elif kind == "line":
+        lines[at] = lines[at] + random.choice((b" ", b"\r", b" 0", b".0", b"0", b" 18446744073709551616"))
+    elif kind == "break":
+        return text[: random.randrange(len(text) + 1)]
+    elif kind == "byte":
+        start = random.randrange(len(lines[at]) + 1)
+        lines[at] = lines[at][:start] + bytes([random.randrange(256)]) + lines[at][start + 1 :]
+    else:
+        step = random.choice((-2, -1, -1, 1, 1, 2, 100))
+        words[place] = re.sub(rb"\d+", lambda found: str(max(0, int(found[0]) + step)).encode(), words[place], count=1)
+        lines[at] = b" ".join(words)
+    return b"\n".join(lines)
+
+
+def lifted_lines(random: Random, facts: int, case: Case) -> Iterator[str]:
+    """Lines that may be taken where there are so many facts, the later ones more often."""
+
+    def fact() -> int:
+        return max(random.randrange(facts + 1), random.randrange(facts + 1)) if facts else 0
+
+    values = [f"{op.g}.{op.n}" for op in case.ops] + list(map(str, case.cores)) or ["0"]
+    if random.random() < 0.8:
+        yield from (f"false {k}" for k in range(facts))
+        yield from (f"cycle {k}" for k in range(facts))
+        yield from (f"{random.choice(('path', 'absent', 'cycle'))} {fact()} {fact()}" for _ in range(3 * facts))
+    for _ in range(20):
+        word = random.choice("left right not bind inst inst member member split split path".split())
+        more = {"inst": f" {random.choice(values)}", "member": f" {random.randrange(3)}", "path": f" {fact()} {fact()}"}
+        yield f"{word} {fact()}{more.get(word, '')}"
 
 
 def rewritten_certificate(random: Random, text: bytes) -> bytes:

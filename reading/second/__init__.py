@@ -14,6 +14,7 @@ one way:
              answering.py   the program's own choices in the search, which give the certificate
     judge    evaluating.py  the written axioms, evaluated in a given world, without the tree
              judging.py     a certificate, line by line
+             lifted.py      a lifted refutation, line by line, on the axioms as they are written
     people   origins.py     where in the model each position of the tree comes from
              explaining.py  a certificate in the words of the model
              linting.py     what in a model and in tests may change the question without a word

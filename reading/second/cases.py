@@ -6,6 +6,8 @@ from .tokens import Fault, Reader, Token, tokens
 GREATEST_CORE = 63
 MOST_OPS = 64
 GREATEST_MARK = 1
+# stands for the number of a read that a pattern leaves open
+OPEN = "Any"
 
 
 @dataclass(frozen=True)
@@ -105,9 +107,10 @@ def read_case(data: bytes) -> Case:
     return read_items(data)[0]
 
 
-def read_items(data: bytes) -> "tuple[Case, list[Item]]":
-    """The case, with its items as they are written. The whole grammar is judged before any item."""
-    reader = CaseReader(tokens(data))
+def read_items(data: bytes, takes_open: bool = False) -> "tuple[Case, list[Item]]":
+    """The case, with its items as they are written. The whole grammar is judged before any item. A pattern takes open
+    reads, too."""
+    reader = CaseReader(tokens(data), takes_open)
     title, items = reader.items()
     case = Case(title)
     for item in items:
@@ -144,6 +147,8 @@ class OpItem:
     pa_at: int = 0
     value_at: int = 0
     marks: tuple[MarkAt, ...] = ()
+    # whether a pattern leaves the value open; it is 0 then
+    is_open: bool = False
 
     def add_to(self, case: Case) -> None:
         """Judges the micro-op by the earlier ones and puts it last."""
@@ -219,10 +224,12 @@ Item = OpItem | DependencyItem | ValueItem | ExpectationItem
 
 class CaseReader(Reader):
     """Reads tests. None of their words is reserved: its place says what it is. A file that begins with `Litmus2` may have
-    page-table entries as addresses and values, one that begins with `Litmus` may not."""
+    page-table entries as addresses and values, one that begins with `Litmus` may not. Where open reads are taken, a read may
+    have `Any` for its number."""
 
-    def __init__(self, all_tokens: list[Token]) -> None:
+    def __init__(self, all_tokens: list[Token], takes_open: bool = False) -> None:
         super().__init__(all_tokens)
+        self.takes_open = takes_open
         self.has_entries = False
 
     def items(self) -> tuple[str, list[Item]]:
@@ -312,6 +319,7 @@ class CaseReader(Reader):
         types_at = self.types()
         types = frozenset(name for name, _ in types_at)
         pa_at = value_at = 0
+        is_open = False
         marks: tuple[MarkAt, ...] = ()
         if access == "Fence":
             op = Op(g, n, core, thread, access, types)
@@ -326,8 +334,11 @@ class CaseReader(Reader):
             if word.piece == "Maps":
                 value, marks = self.entry()
             else:
-                value = self.number()
+                is_open = self.takes_open and access == "Read" and self.sees(OPEN)
+                value = 0 if is_open else self.number()
+                if is_open:
+                    self.take()
                 self.expect(")")
             op = Op(g, n, core, thread, access, types, va, pa, value)
         self.expect(")")
-        return OpItem(op, first.at, g_at, core_at, thread_at, types_at, pa_at, value_at, marks)
+        return OpItem(op, first.at, g_at, core_at, thread_at, types_at, pa_at, value_at, marks, is_open)

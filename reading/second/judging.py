@@ -8,6 +8,8 @@ In a refutation of version 2, whose third line is `version 2`, positions have si
 that the left one is false. `~p` says that position p does not hold: where p is a disjunction both members are denied with
 it, and where p is a literal the opposite literal is asserted. `split ~p` splits a denied conjunction.
 """
+from typing import Callable
+
 from .cases import Case
 from .evaluating import false_axioms
 from .grounding import Node
@@ -30,11 +32,7 @@ class Refused(Exception):
 
 def judge(model: Model, case: Case, second_lines: dict[bool, str], data: bytes) -> bool:
     """Whether the certificate is of an observable outcome; Refused where it is none."""
-    if len(data) > LIMIT:
-        raise Refused(0)
-    lines = data.decode("latin-1").split("\n")
-    # without its LF a last line is none
-    whole, rest = lines[:-1], lines[-1]
+    whole, rest = lines_of(data)
     verdict = whole[0] if whole else ""
     if verdict not in ("observable", "unobservable"):
         raise Refused(1)
@@ -45,13 +43,27 @@ def judge(model: Model, case: Case, second_lines: dict[bool, str], data: bytes) 
     header = 3 if has_signs else 2
     judge_line: GraphJudge | TreeJudge
     judge_line = GraphJudge(model, case) if is_observable else TreeJudge(model, case, has_signs)
+    judge_body(whole, rest, header, judge_line.accepts)
+    return is_observable
+
+
+def lines_of(data: bytes) -> tuple[list[str], str]:
+    """The lines that have their LF, and what stands behind the last LF, which is no line. Refused past the limit."""
+    if len(data) > LIMIT:
+        raise Refused(0)
+    lines = data.decode("latin-1").split("\n")
+    return lines[:-1], lines[-1]
+
+
+def judge_body(whole: list[str], rest: str, header: int, accepts: Callable[[str], bool]) -> None:
+    """Refused where a line behind the header is not accepted, or `end` is not the last one, or does not come."""
     for number, line in enumerate(whole[header:], header + 1):
-        if not judge_line.accepts(line):
+        if not accepts(line):
             raise Refused(number)
         if line == "end":
             if whole[number:] or rest:
                 raise Refused(number + 1)
-            return is_observable
+            return
     raise Refused(len(whole) + 1)
 
 

@@ -312,7 +312,7 @@ def value_slips(test: TestFile) -> Iterator[Slip]:
                 if writes[key] > 1:
                     sentence = f"{key[1]} is written to {address} a second time: a read does not tell which of the two it sees"
                     yield Slip(test.path, item.value_at, "same-value", "", sentence)
-            elif key not in writes and test.case.initial_at(key[0]) != key[1]:
+            elif not item.is_open and key not in writes and test.case.initial_at(key[0]) != key[1]:
                 sentence = f"the read gets {key[1]}, which is not the value of {address} at the start, and nothing writes it there"
                 yield Slip(test.path, item.value_at, "unwritten", "", sentence)
         elif isinstance(item, ValueItem) and item.word == "Final" and (item.pa, item.value) not in writes:

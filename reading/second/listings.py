@@ -3,6 +3,8 @@ import re
 from dataclasses import dataclass
 
 from .cases import GREATEST_CORE, MOST_OPS, Case, ExpectationItem, Item, Location, Op, OpItem, ValueItem, read_items
+from .patterns import ENDING as PATTERN_ENDING
+from .patterns import read_pattern_items
 from .tokens import Fault, Reader, Token, tokens
 
 # the ending of a file that is read as a listing where no command says how
@@ -64,7 +66,10 @@ def read_listing(data: bytes) -> Case:
 
 
 def read_file_items(path: str, data: bytes) -> "tuple[Case, list[Item]]":
-    """The case of a file, with its items: a listing or a test, as its ending says."""
+    """The case of a file, with its items: a listing, a pattern or a test, as its ending says. Open reads have 0."""
+    if path.endswith(PATTERN_ENDING):
+        pattern, items = read_pattern_items(data)
+        return pattern.case, items
     return read_listing_items(data) if path.endswith(ENDING) else read_items(data)
 
 

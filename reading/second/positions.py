@@ -12,6 +12,7 @@ from .models import NAME, Model
 from .tokens import GREATEST_NUMBER
 
 GREATEST_CORE = 63
+MOST_DIGITS = len(str(GREATEST_NUMBER))
 
 
 @dataclass(frozen=True)
@@ -105,4 +106,4 @@ class NodeNames:
 def is_decimal(word: str) -> bool:
     """Whether a word is a number of a certificate, without leading zeros."""
     digits = word.isascii() and word.isdigit() and (word == "0" or word[0] != "0")
-    return digits and int(word) <= GREATEST_NUMBER
+    return digits and len(word) <= MOST_DIGITS and int(word) <= GREATEST_NUMBER

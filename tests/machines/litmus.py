@@ -1,7 +1,7 @@
 """Litmus tests as the machines run them: each core's micro-ops in program order, and the stated outcome.
 
-This reads the files of examples/ with a few patterns, in both formats. It is made for files that are well-formed, and shares no
-code with the program or with the second reading.
+This reads the files of examples/ by a few regular expressions, in both formats, and patterns, whose reads may be open. It is
+made for files that are well-formed, and shares no code with the program or with the second reading.
 """
 import re
 from dataclasses import dataclass, replace
@@ -20,20 +20,23 @@ MICROOP = re.compile(
     re.VERBOSE,
 )
 DEPENDENCY = re.compile(r"Relationship\s+(\w+)\s+(\d+)\s+(\d+)\s*->\s*(\d+)\s+(\d+)\s*\.")
+OPEN = re.compile(r"\bAny\b")
 VALUE = re.compile(r"(Init|Final)\s*\(\s*((?:PA|Entry)[^()]*)\)\s*(\d+|\(\s*Maps[^()]*\))\s*\.")
 
 # a tag and an index, or the virtual tag of a page-table entry
 Address = tuple[int, ...]
 # a number, or what an entry holds: a physical tag, an accessed and a dirty mark
 Value = int | tuple[int, int, int]
-# the values of all reads in test order, and the last value of each address
-Outcome = tuple[tuple[Value, ...], tuple[tuple[Address, Value], ...]]
+# the values of reads in test order
+Reads = tuple[Value, ...]
+# the values of all reads, and the last value of each address
+Outcome = tuple[Reads, tuple[tuple[Address, Value], ...]]
 
 
 @dataclass(frozen=True)
 class Op:
     """A micro-op. `place` is its number in test order; `core` is the place of its core in `Test.cores`; `instruction` is
-    the number of its instruction."""
+    the number of its instruction. The value of an open read is not looked at."""
 
     place: int
     core: int
@@ -43,6 +46,7 @@ class Op:
     value: Value = 0
     instruction: int = 0
     virtual: Address = (0, 0)
+    is_open: bool = False
 
     @property
     def is_full_fence(self) -> bool:
@@ -82,10 +86,25 @@ class Test:
         addresses = sorted({op.address for op in self.ops if op.kind != "Fence"})
         return tuple((address, self.initial.get(address, default_at(address))) for address in addresses)
 
+    @property
+    def opened(self) -> "Test":
+        """The test with all of its reads open."""
+        cores = tuple(tuple(replace(op, is_open=op.kind == "Read") for op in core) for core in self.cores)
+        return replace(self, cores=cores)
+
     def shown_by(self, outcomes: Iterable[Outcome]) -> bool:
-        """Whether one of the outcomes is the stated one: the values of all reads, and the final values."""
-        wanted = tuple(op.value for op in self.ops if op.kind == "Read")
-        return any(reads == wanted and self.final.items() <= dict(memory).items() for reads, memory in outcomes)
+        """Whether one of the outcomes is a stated one: the values of the reads that are not open, and the final values."""
+        return bool(self.rows_shown_by(outcomes))
+
+    def rows_shown_by(self, outcomes: Iterable[Outcome]) -> set[Reads]:
+        """What the open reads get in the outcomes that are stated ones."""
+        ops = [op for op in self.ops if op.kind == "Read"]
+        return {
+            tuple(value for op, value in zip(ops, reads) if op.is_open)
+            for reads, memory in outcomes
+            if all(op.is_open or op.value == value for op, value in zip(ops, reads))
+            and self.final.items() <= dict(memory).items()
+        }
 
 
 def read_test(path: str) -> Test:
@@ -102,7 +121,9 @@ def read_test(path: str) -> Test:
         op = Op(place, here, kind, frozenset(types.split()), instruction=int(g))
         if address:
             virtual = int(tag), int(index)
-            op = replace(op, address=numbers(address), value=value_of(value), virtual=virtual)
+            is_open = OPEN.search(value) is not None
+            op = replace(op, address=numbers(address), virtual=virtual, is_open=is_open)
+            op = op if is_open else replace(op, value=value_of(value))
         lines[here].append((int(g), int(n), op))
     dependencies = {
         (kind, names[int(g), int(n)], names[int(h), int(m)]) for kind, g, n, h, m in DEPENDENCY.findall(text)

@@ -1,3 +1,3 @@
-" µspec models, and the litmus tests of pipecheck, which share the ending .test with other files.
+" µspec models, and the litmus tests and patterns of pipecheck, which share their endings with other files.
 autocmd BufRead,BufNewFile *.uspec setfiletype uspec
-autocmd BufRead,BufNewFile *.test if join(getline(1, 50), "\n") =~# '\(^\|\n\)\s*Litmus\s\+"' | setfiletype litmustest | endif
+autocmd BufRead,BufNewFile *.test,*.pattern if join(getline(1, 50), "\n") =~# '\(^\|\n\)\s*Litmus2\?\s\+"' | setfiletype litmustest | endif

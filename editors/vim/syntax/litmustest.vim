@@ -5,7 +5,7 @@ endif
 syntax keyword litmusItem Litmus Litmus2 Microop Relationship Init Final
 syntax keyword litmusExpectation Permitted Forbidden
 syntax keyword litmusAccess Read Write Fence
-syntax keyword litmusPart VA PA Data Entry Maps
+syntax keyword litmusPart VA PA Data Entry Maps Any
 syntax match litmusArrow "->"
 syntax match litmusNumber "\<\d\+\>"
 syntax region litmusText start=+"+ end=+"+ oneline
