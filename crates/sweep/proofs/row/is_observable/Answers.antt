@@ -1,0 +1,14 @@
+use Rattle.std.proofs.Common.{◌∙◌, sym}
+use Rattle.pc_ground.specs.Stages.{plain_axioms}
+use Rattle.pc_ground.specs.GroundTree.{closed_ground_tree}
+use Rattle.pc_ground.specs.declared.version.Version.TheVariants.{One}
+use Rattle.sweep.proofs.RowAnswers.{row_folded, answered}
+use Rattle.sweep.proofs.row.is_observable.Goals as goal
+
+pub search-requires-clause-folded : goal.search-requires-clause-folded
+search-requires-clause-folded c = λ t is. row_folded (plain_axioms c.args.axioms.now) c.args.case.now t (sym c.in_ok-tree.ensures ∙ is)
+
+pub returns : goal.returns
+returns c =
+    answered (plain_axioms c.args.axioms.now) c.args.case.now One c.in_ok-numbering.numbering c.in_ok-answer.answer
+    (c.in_ok-answer.ensures (closed_ground_tree c.args.case.now (plain_axioms c.args.axioms.now)) c.in_ok-tree.ensures)

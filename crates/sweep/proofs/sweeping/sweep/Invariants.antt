@@ -1,0 +1,11 @@
+use Rattle.std.proofs.Common.{◌≡◌, ℕ, Bool, Some, length}
+use Rattle.std.specs.List.{slice_get}
+use Rattle.pc_ground.specs.Stages.{plain_axioms}
+use Rattle.pattern_reader.specs.Rows.{row_case}
+use Rattle.sweep.specs.Sweeps.{IsAnswerTo}
+use Rattle.sweep.proofs.sweeping.sweep.Given as goal
+
+abbrev pub invariant-loop-row : goal.invariant-loop-row
+invariant-loop-row l =
+    (length l.answers.items ≡ l.row)
+    × ((k : ℕ) (b : Bool) → slice_get l.answers.items k ≡ Some b → IsAnswerTo (plain_axioms l.axioms) (row_case l.pattern k) b)

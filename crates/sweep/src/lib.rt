@@ -1,0 +1,11 @@
+//! The sweep of a pattern: for each of its rows, whether the outcome of the row's case is observable.
+//!
+//! A model is read and closed once. For each row its closed axioms are grounded in the row's case and searched, and
+//! nothing of a row is kept but its answer.
+#![tactic(auto)]
+
+mod row;
+mod sweeping;
+
+pub use pattern_reader::Pattern;
+pub use sweeping::sweep;
