@@ -126,7 +126,7 @@ in_order (c ∷ cs) s j k before below =
     subst (λ y. IsBefore (c ∷ cs) (v ∷ row_values cs j) (y ∷ row_values cs k)) heads (alike tails))
     (digits_before w j k p before)
 
-behind_first : List Value → List Value
+abbrev behind_first : List Value → List Value
 behind_first [] = []
 behind_first (v ∷ vs) = vs
 
