@@ -1,10 +1,9 @@
 -- Micro-ops with other values stay the micro-ops of a case.
-use Rattle.std.proofs.Common.{◌≡◌, ℕ, zero, suc, ◌<◌, ◌≤◌, ◌+◌, List, [], ◌∷◌, ◌++◌, Option, Some, None, length, take, get_or, refl, sym, ◌∙◌, ap, subst, arith}
+use Rattle.std.proofs.Common.{◌≡◌, ℕ, zero, suc, ◌<◌, ◌≤◌, ◌+◌, List, [], ◌∷◌, ◌++◌, Option, Some, None, length, take, refl, sym, ◌∙◌, ap, subst, arith}
 use Rattle.std.specs.Prelude.{IsNone, unwrap_or, ◌↔◌}
 use Rattle.std.specs.List.{slice_get}
 use Rattle.std.specs.Option.{option_map}
-use Rattle.std.proofs.lemmas.List.{take_more}
-use Rattle.pc_common.specs.Case.{Value, Touch, Kind, fence, MicroOp}
+use Rattle.pc_common.specs.Case.{Value, Touch, fence, MicroOp}
 use Rattle.pc_common.specs.declared.limits.TheConstants.{MAX_CORE, MAX_OPS}
 use Rattle.pc_case.specs.MicroOps.{AreMicroOps}
 use Rattle.pattern_reader.specs.Rows.{reading, filled, touch_reading}

@@ -6,3 +6,5 @@ pub mod Filling
 pub mod RowCounts
 pub mod Patterns
 pub mod RowCases
+pub mod EachOnce
+pub mod RowOrder

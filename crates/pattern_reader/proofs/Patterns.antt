@@ -1,14 +1,12 @@
 -- Bytes say one pattern or have one first fault.
-use Rattle.std.proofs.Common.{◌≡◌, ◌≢◌, ℕ, ◌≤◌, ◌<◌, ◌⊎◌, inl, inr, ⊎_elim, List, length, map, take, refl, sym, ◌∙◌, ap, subst, arith}
+use Rattle.std.proofs.Common.{◌≡◌, ◌≢◌, ℕ, ◌≤◌, ◌<◌, ◌⊎◌, inl, inr, ⊎_elim, List, length, refl, sym, ◌∙◌, ap, subst}
 use Rattle.std.proofs.Math.Seq.{take-length}
 use Rattle.pc_common.specs.Case.{Case}
 use Rattle.pc_common.specs.declared.fault.FaultKind.{FaultKind}
 use Rattle.pc_common.specs.declared.place.Place.{Place}
-use Rattle.uspec_lexer.specs.Token.{Token}
-use Rattle.uspec_lexer.specs.Spells.{Spells, IsLexicalFault}
 use Rattle.uspec_lexer.proofs.SpellsLaws.{spells-unique, spells-no_fault, lexical_fault-unique}
 use Rattle.uspec_lexer.proofs.Totality.{spells-or_fault}
-use Rattle.litmus_reader.specs.Answer.{CaseOf, IsCaseFault}
+use Rattle.litmus_reader.specs.Answer.{CaseOf}
 use Rattle.litmus_reader.specs.declared.fault.CaseFault.{CaseFault}
 use Rattle.litmus_reader.specs.declared.fault.CaseFault.TheVariants.{Lexical, Content, Memory}
 use Rattle.uspec_lexer.specs.Fault.{IsRefusal}

@@ -1,11 +1,9 @@
 -- What an open read may read, as it is gathered.
-use Rattle.std.proofs.Common.{◌≡◌, ℕ, zero, suc, ◌<◌, ◌≤◌, ◌+◌, Bool, true, false, cond, List, [], ◌∷◌, ◌++◌, Option, Some, None, length, map, take, drop, get_or, refl, sym, ◌∙◌, ap, subst, arith, length-append}
+use Rattle.std.proofs.Common.{ℕ, ◌≤◌, Bool, true, false, cond, List, [], ◌∷◌, ◌++◌, Option, Some, None, length, arith, length-append}
 use Rattle.std.specs.List.{fold, slice_get}
-use Rattle.std.proofs.lemmas.List.Sums.{fold_more}
-use Rattle.std.proofs.lemmas.List.{take-map, take_more, map-append}
 use Rattle.pc_common.specs.Case.{Address, Value, Touch, MicroOp, Case}
 use Rattle.pc_common.specs.Addresses.{initial_at}
-use Rattle.pattern_reader.specs.Rows.{written_at, once_more, values_at, values_touched, touch_of_op, values_of}
+use Rattle.pattern_reader.specs.Rows.{written_at, once_more, values_touched, touch_of_op, values_of}
 
 abbrev pub add_written : Address → List Value → MicroOp → List Value
 add_written pa vs o = once_more vs (written_at pa o.kind o.touch)

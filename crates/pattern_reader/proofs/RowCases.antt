@@ -4,7 +4,7 @@ use Rattle.std.specs.List.{fold, slice_get}
 use Rattle.std.specs.Option.{option_map}
 use Rattle.std.proofs.lemmas.List.{map-append, length-map, take-map, length-set}
 use Rattle.std.proofs.lemmas.Option.{slice_get-map}
-use Rattle.pc_common.specs.Case.{Value, MicroOp}
+use Rattle.pc_common.specs.Case.{Value}
 use Rattle.pc_common.specs.declared.value.Value.{Value as CodeValue}
 use Rattle.pc_case.specs.declared.op.Op.{Op}
 use Rattle.pc_case.specs.Plain.{plain_value, micro_op, dependency, stated_value}

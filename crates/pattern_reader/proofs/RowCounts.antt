@@ -1,12 +1,11 @@
 -- How the number of rows grows with the open values, and where it is too large.
-use Rattle.std.proofs.Common.{◌≡◌, ℕ, zero, suc, ◌<◌, ◌≤◌, ◌+◌, ◌*◌, ◌⊎◌, inl, inr, ⊎_elim, List, [], ◌∷◌, ◌++◌, Some, length, map, take, drop, refl, sym, ◌∙◌, ap, subst, arith}
+use Rattle.std.proofs.Common.{◌≡◌, ℕ, zero, suc, ◌<◌, ◌≤◌, ◌+◌, ◌*◌, ◌⊎◌, inl, inr, ⊎_elim, List, [], ◌∷◌, ◌++◌, length, take, drop, refl, sym, ◌∙◌, ap, subst, arith}
 use Rattle.std.specs.List.{slice_get}
 use Rattle.std.specs.Prelude.{unwrap_or}
 use Rattle.std.proofs.lemmas.List.{take-append-drop, take-take, take_all}
 use Rattle.std.proofs.lemmas.Option.{slice_get_cases}
 use Rattle.std.proofs.Math.Nat.{mul_assoc, le-mul_of_pos_right}
-use Rattle.pc_common.specs.Case.{Value, Case}
-use Rattle.pc_common.specs.declared.place.Place.{Place}
+use Rattle.pc_common.specs.Case.{Case}
 use Rattle.pc_common.specs.declared.fault.FaultKind.TheVariants.{TooManyRows}
 use Rattle.litmus_reader.specs.declared.fault.CaseFault.{CaseFault}
 use Rattle.litmus_reader.specs.declared.fault.CaseFault.TheVariants.{Content}

@@ -18,7 +18,7 @@
 //!
 //! `specs/Opens.antt` says which values are open, `specs/Rows.antt` what the rows are, and `specs/Answer.antt` what
 //! bytes say. The laws in `laws.rt` say that bytes say a pattern or have a first fault, one at most of each, and not
-//! both.
+//! both; and that the rows are all combinations of what the open reads may read, each once, in order.
 #![tactic(auto)]
 
 mod closing;
@@ -29,7 +29,10 @@ mod read;
 mod rows;
 mod values;
 
-pub use laws::{limits_are, no_fault, one_fault, one_pattern, pattern_or_fault};
+pub use laws::{
+    combinations_are_rows, limits_are, no_fault, one_fault, one_pattern, pattern_or_fault,
+    rows_are_combinations, rows_are_in_order, rows_come_once, values_come_once,
+};
 pub use litmus_reader::CaseFault;
 pub use pattern::{MAX_ROWS, Pattern, row_case};
 pub use read::read_pattern;

@@ -1,4 +1,4 @@
-use Rattle.std.proofs.Common.{◌∙◌, map, List, ℕ, subst, ◌≢◌}
+use Rattle.std.proofs.Common.{◌∙◌, map, subst}
 use Rattle.std.proofs.lemmas.Result.{IfErr-weaker}
 use Rattle.litmus_reader.specs.Answer.{CaseOf}
 use Rattle.litmus_reader.specs.Lists.{case_by}
