@@ -7,7 +7,7 @@ use Rattle.lifted_facts.specs.declared.way.Way.TheVariants.{Left as LeftWay, Rig
 use Rattle.lifted_facts.specs.Lifted.{LiftedStep, derive, split, close, falsity, cycle, path, absent}
 use Rattle.lifted_facts.proofs.PartTruth.{mapped}
 use Rattle.lifted_check.specs.StepLines.{keyword_of, numbers_of, value_words, HasValue}
-use Rattle.lifted_check.specs.Decoding.{only_number, two_numbers, onto_front, front_and_last, cycle_of, decoded}
+use Rattle.lifted_check.specs.Decoding.{only_number, two_numbers, onto_front, front_and_last, decoded}
 use Rattle.lifted_check.specs.declared.keyword.Keyword.{Keyword}
 use Rattle.lifted_check.specs.declared.keyword.Keyword.TheVariants.{Left, Right, Not, Bind, Inst, Member, Split, False, Cycle, Path, Absent}
 

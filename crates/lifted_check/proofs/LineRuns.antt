@@ -1,5 +1,5 @@
 -- Runs of step lines: one after another, cut in two, and that they lead to one list of branches.
-use Rattle.std.proofs.Common.{◌≡◌, ℕ, List, [], ◌∷◌, ◌++◌, refl, sym, ◌∙◌, ap, subst}
+use Rattle.std.proofs.Common.{◌≡◌, ℕ, List, [], ◌∷◌, ◌++◌, refl, sym, ◌∙◌, subst}
 use Rattle.pc_common.specs.Case.{Case}
 use Rattle.lifted_facts.specs.PlainFacts.{Branch}
 use Rattle.lifted_facts.specs.Lifted.{LiftedStep, Advances, Runs}

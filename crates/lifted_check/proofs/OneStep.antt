@@ -1,7 +1,6 @@
 -- A line is that of one step, and what its words are.
-use Rattle.std.proofs.Common.{◌≡◌, ◌≢◌, ◌⊎◌, inl, inr, ℕ, Bool, true, false, ◌==◌, List, [], ◌∷◌, ◌++◌, Option, Some, None, get_or, map, refl, sym, ◌∙◌, ap, subst, append_assoc}
+use Rattle.std.proofs.Common.{◌≡◌, ◌≢◌, ◌⊎◌, inl, inr, ℕ, ◌==◌, List, [], ◌∷◌, ◌++◌, Some, get_or, map, refl, sym, ◌∙◌, ap, subst, append_assoc}
 use Rattle.std.specs.Prelude.{All, codes, slice_get, if◌then◌else◌}
-use Rattle.std.specs.List.{join_with_byte}
 use Rattle.std.specs.Fmt.{decimal}
 use Rattle.std.proofs.lemmas.List.{append-nil}
 use Rattle.std.proofs.lemmas.List.Elements.{All-nil, All-cons, All-head, All-tail}
@@ -23,7 +22,7 @@ use Rattle.lifted_check.specs.Decoding.{decoded}
 use Rattle.lifted_check.specs.declared.keyword.Keyword.{Keyword}
 use Rattle.lifted_check.specs.declared.keyword.Keyword.TheVariants.{Left, Right, Not, Bind, Inst, Member, Split, False, Cycle, Path, Absent}
 use Rattle.lifted_check.proofs.SpacedWords.{words_joined, line_of_words}
-use Rattle.lifted_check.proofs.DecodedSteps.{IsPlain, IsInstance, kind_of, IsDecoded, decoded_is}
+use Rattle.lifted_check.proofs.DecodedSteps.{IsPlain, IsInstance, kind_of, decoded_is}
 
 -- a keyword by its first byte
 abbrev by_byte : ℕ → Keyword

@@ -1,5 +1,5 @@
 -- What the answer to a text says: which text it is, and that a lifted refutation leaves no world.
-use Rattle.std.proofs.Common.{◌≡◌, ℕ, ◌<◌, ◌≤◌, List, [], ◌∷◌, zero, suc, refl, subst, arith, length}
+use Rattle.std.proofs.Common.{◌≡◌, ℕ, ◌≤◌, List, [], ◌∷◌, zero, suc, refl, subst, arith, length}
 use Rattle.std.specs.Prelude.{IsTrue}
 use Rattle.pc_common.specs.World.{Node, World, IsWorld}
 use Rattle.pc_common.specs.declared.limits.TheConstants.{MAX_CERTIFICATE}

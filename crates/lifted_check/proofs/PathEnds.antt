@@ -1,7 +1,7 @@
 -- The step of a path by the places of its numbers.
 use Rattle.std.proofs.Common.{◌≡◌, ◌≤◌, ◌-◌, ℕ, zero, suc, List, [], ◌∷◌, Some, length, take, drop, get_or, refl, sym, ◌∙◌, ap, arith}
 use Rattle.std.specs.Option.{option_map}
-use Rattle.lifted_facts.specs.Lifted.{LiftedStep, close, path}
+use Rattle.lifted_facts.specs.Lifted.{close, path}
 use Rattle.lifted_check.specs.Decoding.{onto_front, front_and_last, path_of}
 
 front_at : (ks : List ℕ) (n : ℕ) → length ks ≡ suc n → front_and_last ks ≡ Some (take n ks, get_or ks n 0)

@@ -1,16 +1,15 @@
 -- What may stand next in a lifted text.
-use Rattle.std.proofs.Common.{◌≡◌, ◌⊎◌, inl, inr, ℕ, Bool, true, false, List, [], ◌∷◌, ◌++◌, Option, Some, None, refl, sym, ◌∙◌, ap, subst, append_assoc}
+use Rattle.std.proofs.Common.{◌≡◌, ◌⊎◌, inl, inr, ℕ, Bool, true, false, List, [], ◌∷◌, ◌++◌, refl, sym, ◌∙◌, ap, subst, append_assoc}
 use Rattle.std.specs.Prelude.{codes}
-use Rattle.pc_common.specs.Case.{Case}
 use Rattle.lifted_facts.specs.PlainFacts.{Branch, root}
 use Rattle.lifted_facts.specs.declared.open_branches.Branches.{Branches}
 use Rattle.lifted_facts.specs.Opens.{opens_at}
 use Rattle.lifted_check.specs.LiftedTexts.{Question, header, second_line, LineAdvances, LinesRun, IsPartialText, IsLiftedText, BeginsLifted}
-use Rattle.lifted_check.specs.Stages.{IsAsked, IsCase, StandsAt, AreStepsSoFar, GoesTo, HasGone, HasSteppedOn, is_end}
+use Rattle.lifted_check.specs.Stages.{IsAsked, StandsAt, AreStepsSoFar, HasGone, HasSteppedOn, is_end}
 use Rattle.lifted_check.specs.declared.stage.Stage.{Stage}
 use Rattle.lifted_check.specs.declared.stage.Stage.TheVariants.{Start, First, Second, Steps, Ended}
 use Rattle.lifted_check.proofs.OneStep.{no_end_step}
-use Rattle.lifted_check.proofs.LineRuns.{lines_then, lines_cut, line_one, lines_one}
+use Rattle.lifted_check.proofs.LineRuns.{lines_then, lines_cut, lines_one}
 
 -- what stands behind a header in lines that begin well: step lines, or these and the last line
 pub data IsBody (q : Question) (body : List (List ℕ)) : Type 0 where

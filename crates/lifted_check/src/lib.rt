@@ -1,5 +1,15 @@
 //! An independent check of lifted refutations: it judges any text against a test and closed axioms, whoever made it.
 //!
+//! ```rust
+//! use pc_front::read_parts;
+//!
+//! let parts = read_parts(alloc, b"Axiom \"x\": exists microop \"i\", True.", b"Litmus \"e\".")?;
+//! let axioms = parts.axioms.as_slice();
+//! let text = b"unobservable\ntest unstated\nlifted\nfalse 0\nend\n";
+//! assert!(rt; check_lifted(alloc, &parts.case, axioms, text)? == Lifted::Unobservable);
+//! assert!(rt; check_lifted(alloc, &parts.case, axioms, b"")? == Lifted::Refused(1));
+//! ```
+//!
 //! A lifted refutation speaks of the axioms themselves: it instantiates, takes a side, splits. The check has neither a
 //! ground tree nor its normal form. `LiftedChecker` takes a text in pieces and judges each line when it is whole;
 //! `check_lifted` takes a whole text. The answer is that the text is a lifted refutation, so that no world makes every

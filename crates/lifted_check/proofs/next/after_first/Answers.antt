@@ -1,6 +1,6 @@
-use Rattle.std.proofs.Common.{ap, subst, sym, ◌≡◌, true, false, ◌∙◌, Bool, List, ℕ, ◌∷◌, [], ◌++◌}
+use Rattle.std.proofs.Common.{ap, sym, ◌≡◌, true, false, ◌∙◌, Bool, List, ℕ, ◌∷◌, [], ◌++◌}
 use Rattle.std.specs.Prelude.{codes}
-use Rattle.pc_common.specs.Case.{Case, Expectation}
+use Rattle.pc_common.specs.Case.{Case}
 use Rattle.pc_common.specs.Lines.{unobservable, second_text}
 use Rattle.lifted_check.proofs.Texts.{first_next}
 use Rattle.lifted_check.proofs.next.after_first.Goals as goal

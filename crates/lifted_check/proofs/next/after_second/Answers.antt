@@ -1,4 +1,4 @@
-use Rattle.std.proofs.Common.{ap, subst, sym, refl, ◌≡◌, true, false, ◌∙◌, Bool, List, ℕ, ◌∷◌, [], ◌++◌}
+use Rattle.std.proofs.Common.{ap, sym, ◌≡◌, true, false, ◌∙◌, Bool, List, ℕ, ◌∷◌, [], ◌++◌}
 use Rattle.std.specs.Prelude.{codes}
 use Rattle.lifted_check.specs.LiftedTexts.{asked, second_line}
 use Rattle.lifted_check.proofs.Texts.{second_next}

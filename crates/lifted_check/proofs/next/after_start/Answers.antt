@@ -1,5 +1,4 @@
-use Rattle.std.proofs.Common.{ap, subst, sym, ◌≡◌, true, false, ◌∙◌, Bool, List, ℕ, ◌∷◌, [], ◌++◌}
-use Rattle.std.specs.Prelude.{codes}
+use Rattle.std.proofs.Common.{ap, sym, ◌≡◌, true, false, ◌∙◌, Bool, List, ℕ, ◌∷◌, [], ◌++◌}
 use Rattle.lifted_check.proofs.Texts.{start_next}
 use Rattle.lifted_check.proofs.next.after_start.Goals as goal
 

@@ -6,5 +6,6 @@ returns-in-Ok c = parts_front c.args.model.now c.args.test.now c.in-Ok.parts c.i
 
 pub returns-in-Err-Refused : goal.returns-in-Err-Refused
 returns-in-Err-Refused c =
-    refused_end c.args.model.now c.args.test.now c.in-Err-Refused.fault c.placed.result c.bytes_of.result.now c.in-Err-Refused.ensures.err
+    refused_end c.args.model.now c.args.test.now c.in-Err-Refused.fault c.placed.result c.bytes_of.result.now
+    (rw c.in-Err-Refused.field-0-is at c.in-Err-Refused.ensures.err)
     c.placed.ensures.fault c.bytes_of.ensures c.placed.ensures.placed

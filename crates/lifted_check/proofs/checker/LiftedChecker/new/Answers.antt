@@ -1,4 +1,4 @@
-use Rattle.std.proofs.Common.{refl, sym, ◌∙◌, ap, subst, [], List}
+use Rattle.std.proofs.Common.{sym, ◌∙◌, ap, subst, [], List}
 use Rattle.pc_common.specs.Case.{Case}
 use Rattle.pc_syntax.specs.declared.closed.Closed.{Closed}
 use Rattle.lifted_check.specs.LiftedTexts.{Question, asked}
