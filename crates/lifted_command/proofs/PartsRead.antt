@@ -4,7 +4,7 @@ use Rattle.pc_common.specs.declared.fault.InputFault.{InputFault}
 use Rattle.pc_ground.specs.declared.parts.Parts.{Parts}
 use Rattle.litmus_reader.specs.Answer.{CaseOf}
 use Rattle.pc_front.specs.declared.model_front.FrontEnd.TheVariants.{Refused}
-use Rattle.pc_front.specs.Front.{SayParts, SayFront, IsFirstFault}
+use Rattle.pc_front.specs.Front.{SayParts, IsFirstFault}
 use Rattle.pc_front.proofs.PartsOf.{front_is}
 use Rattle.command_base.specs.declared.refusal.Refusal.{Refusal}
 use Rattle.command_base.specs.declared.ending.Ending.TheVariants.{Refused as a_refusal}

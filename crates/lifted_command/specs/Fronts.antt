@@ -1,5 +1,4 @@
 -- The front that parts make, for definitions that speak of one: the command works with parts, and builds no ground tree.
-use Rattle.std.specs.Prelude.{◌≡◌}
 use Rattle.std.proofs.Common.{refl}
 use Rattle.pc_ground.specs.declared.front.Front.{Front}
 use Rattle.pc_ground.specs.declared.parts.Parts.{Parts}
