@@ -1,4 +1,4 @@
-//! Tests of lifted refutations through public calls: texts judged by the checker.
+//! Tests of lifted refutations through public calls: texts judged by the checker and by the top call.
 #![tactic(auto)]
 
 #[cfg(test)]
@@ -7,3 +7,5 @@ mod forms;
 mod judging;
 #[cfg(test)]
 mod texts;
+#[cfg(test)]
+mod verifying;
