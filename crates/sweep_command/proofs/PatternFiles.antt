@@ -13,7 +13,7 @@ use Rattle.pc_common.specs.declared.place.Place.{Place}
 use Rattle.pc_syntax.specs.Written.{WrittenModel}
 use Rattle.litmus_reader.specs.declared.fault.CaseFault.{CaseFault}
 use Rattle.litmus_reader.specs.declared.fault.CaseFault.TheVariants.{Lexical as a_lexical_fault, Syntax as a_syntax_fault, Content as a_fault_of_content, Memory as no_room}
-use Rattle.pc_front.specs.ModelFront.{IsModelFault, IsModelEnd, IsModelFront}
+use Rattle.pc_front.specs.ModelFront.{IsModelFault, IsModelEnd}
 use Rattle.pc_front.specs.Front.{SaysModel, fault_at, case_fault_of}
 use Rattle.pc_front.specs.Ends.{case_end}
 use Rattle.pc_front.specs.declared.model_front.FrontEnd.{FrontEnd}
@@ -25,9 +25,7 @@ use Rattle.pattern_reader.proofs.Patterns.{no_fault_beside, one_fault_of, one_pa
 use Rattle.pc_front.proofs.ModelOrFault.{model_or_fault}
 use Rattle.command_base.specs.Inputs.{Inputs, Contents, IsRead, LacksInput}
 use Rattle.command_base.specs.SecondFiles.{SaysNone, IsOfTwo, IsFrontEnd, IsForm}
-use Rattle.command_base.proofs.InputsRead.{reads_then}
-use Rattle.command_base.proofs.OneCase.{one_held}
-use Rattle.sweep_command.specs.Patterns.{ClosedCase, IsFirstFault, in_model, in_pattern, SaysPattern, SaysTask, HasTask}
+use Rattle.sweep_command.specs.Patterns.{ClosedCase, IsFirstFault, in_model, in_pattern, SaysTask, HasTask}
 use Rattle.sweep_command.specs.declared.inputs.Task.{Task}
 
 -- a model that has a fault says nothing
@@ -83,10 +81,6 @@ task_read {view = view} {old = old} failing_modelled keeps i mb tb read task say
     both_held : (holds : Contents) (i : Inputs) (mb tb : List ℕ) → IsRead holds i.model mb × IsRead holds i.test tb → LacksInput holds i → ⊥
     both_held holds i mb tb read (inl none) = some_none (sym read.0.held ∙ none)
     both_held holds i mb tb read (inr (first, none)) = some_none (sym read.1.held ∙ none)
-
--- want of memory is no fault of a pattern
-untold : (f : InputFault) → case_fault_of no_room ≡ Some f → ⊥
-untold f told = cc
 
 no_fault_of : (mb tb : List ℕ) (f : InputFault) → IsFirstFault mb tb f → SaysNone ClosedCase mb tb
 no_fault_of mb tb _ (in_model {kind} {at} is) = none_by_model mb tb kind at is

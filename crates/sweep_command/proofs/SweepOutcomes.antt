@@ -24,7 +24,7 @@ use Rattle.command_base.specs.Endings.{ending_status, ending_text}
 use Rattle.command_base.specs.Outcomes.{IsInputsEnding}
 use Rattle.sweep_command.specs.Texts.{sweep_text}
 use Rattle.sweep_command.specs.Patterns.{ClosedCase, IsFirstFault, SaysPattern, SaysTask, HasTask}
-use Rattle.sweep_command.specs.SweepAnswers.{IsVerdictOn, IsSweep, AnswersSweep, refused_sweep, swept, IsSweepDue, IsSweepOutcome}
+use Rattle.sweep_command.specs.SweepAnswers.{IsSweep, AnswersSweep, refused_sweep, swept, IsSweepDue, IsSweepOutcome}
 use Rattle.sweep_command.specs.declared.inputs.Task.{Task}
 use Rattle.sweep_command.proofs.PatternFiles.{pattern_form}
 use Rattle.sweep_command.proofs.Shown.{verdict_of}

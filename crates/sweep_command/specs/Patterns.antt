@@ -22,9 +22,10 @@ ClosedCase bytes c = (p : Pattern) × PatternOf bytes p × (c ≡ p.case)
 
 -- the first fault of a model's bytes and a pattern's: the model's, and where it has none, the pattern's
 pub data IsFirstFault (model second : List ℕ) : InputFault → Type 0 where
-  in_model : {kind : FaultKind} {at : Place} → IsModelFault model kind at → IsFirstFault model second (fault_at Model kind at)
-  in_pattern : {m : WrittenModel} {found : CaseFault} {fault : InputFault} → SaysModel model m → IsPatternFault second found
-      → case_fault_of found ≡ Some fault → IsFirstFault model second fault
+  in_model : {kind : FaultKind} {at : Place} → IsModelFault model kind at
+      → IsFirstFault model second (fault_at Model kind at)
+  in_pattern : {m : WrittenModel} {found : CaseFault} {fault : InputFault} → SaysModel model m
+      → IsPatternFault second found → case_fault_of found ≡ Some fault → IsFirstFault model second fault
 
 -- the model and the pattern that the two files say
 pub record SaysPattern (holds : Contents) (i : Inputs) (m : WrittenModel) (p : Pattern) : Type 0 where

@@ -28,8 +28,10 @@ pub record IsSweep (m : WrittenModel) (p : Pattern) (text : List ℕ) : Type 0 w
 
 -- the refusal by the first fault, or the sweep of the pattern
 pub data AnswersSweep (holds : Contents) (i : Inputs) : Status → List ℕ → Type 0 where
-  refused_sweep : {status : Status} {text : List ℕ} → IsRefusal IsFirstFault holds i status text → AnswersSweep holds i status text
-  swept : {m : WrittenModel} {p : Pattern} {text : List ℕ} → SaysPattern holds i m p → IsSweep m p text → AnswersSweep holds i Done text
+  refused_sweep : {status : Status} {text : List ℕ} → IsRefusal IsFirstFault holds i status text
+      → AnswersSweep holds i status text
+  swept : {m : WrittenModel} {p : Pattern} {text : List ℕ} → SaysPattern holds i m p → IsSweep m p text
+      → AnswersSweep holds i Done text
 
 -- done where the two files have no fault, and refused where they have one
 pub record IsSweepDue (holds : Contents) (i : Inputs) (status : Status) : Type 0 where
@@ -39,4 +41,5 @@ pub record IsSweepDue (holds : Contents) (i : Inputs) (status : Status) : Type 0
 -- what `sweep` returns
 abbrev pub IsSweepOutcome : {F : Type 0} → (F → FilesView) → Inputs → F → F → Status → List ℕ → Type 0
 IsSweepOutcome view i old new status text =
-    IsOutcome view ⊥ (IsTrue (view old).modelled) (LacksInput (view old).holds i) (AnswersSweep (view old).holds i) old new status text
+    IsOutcome view ⊥ (IsTrue (view old).modelled) (LacksInput (view old).holds i)
+    (AnswersSweep (view old).holds i) old new status text

@@ -9,7 +9,8 @@ use Rattle.sweep_command.specs.declared.command.Swept.{Swept}
 -- behind a space: a number, or an entry's tag and its two marks
 abbrev pub value_text : Value → List ℕ
 value_text (number n) = codes " " ++ decimal n
-value_text (entry e) = codes " Maps:" ++ decimal e.tag ++ codes ":" ++ decimal e.accessed ++ codes ":" ++ decimal e.dirty
+value_text (entry e) =
+    codes " Maps:" ++ decimal e.tag ++ codes ":" ++ decimal e.accessed ++ codes ":" ++ decimal e.dirty
 
 abbrev pub values_text : Pattern → ℕ → List ℕ
 values_text p row = flat_map value_text (values_in_row p row)
@@ -34,10 +35,12 @@ unobservables answers = count_by not answers
 -- how many rows are observable, and how many are not
 abbrev pub counts_text : List Bool → List ℕ
 counts_text answers =
-    codes "observable " ++ decimal (observables answers) ++ codes "\nunobservable " ++ decimal (unobservables answers) ++ codes "\nend\n"
+    codes "observable " ++ decimal (observables answers)
+    ++ codes "\nunobservable " ++ decimal (unobservables answers) ++ codes "\nend\n"
 
 abbrev pub sweep_text : Pattern → List Bool → List ℕ
-sweep_text p answers = (codes "sweep " ++ decimal (rows_of p) ++ codes "\n") ++ (rows_text p answers ++ counts_text answers)
+sweep_text p answers =
+    (codes "sweep " ++ decimal (rows_of p) ++ codes "\n") ++ (rows_text p answers ++ counts_text answers)
 
 abbrev pub swept_text : Swept → List ℕ
 swept_text s = sweep_text s.pattern s.answers.items

@@ -91,7 +91,8 @@ fn make_task(alloc: Global, model: &[u8], second: &[u8]) -> Result<Task, FrontEn
 fn task_of(alloc: Global, model: &[u8], second: &[u8]) -> Result<Task, Ending>
     requires model_short { length model.now ≤ MAX_FILE }
     requires second_short { length second.now ≤ MAX_FILE }
-    ensures { MatchResult result (SaysTask model.now second.now) (IsBytesEnding ClosedCase IsFirstFault model.now second.now) }
+    ensures { MatchResult result (SaysTask model.now second.now)
+        (IsBytesEnding ClosedCase IsFirstFault model.now second.now) }
 {
     match make_task(alloc, model, second) {
         Ok(task) => Ok(task),

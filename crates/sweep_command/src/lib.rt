@@ -1,5 +1,14 @@
 //! The command `sweep MODEL PATTERN`: which outcomes of the reads are observable on the model?
 //!
+//! ```rust
+//! // m.uspec has no axiom, and p.pattern is
+//! // `Litmus "p". Microop 0 0 0 0 (Read (VA 0 0) (PA 0 0) (Data Any)).`
+//! let inputs = Inputs { model: "m.uspec", test: "p.pattern" };
+//! let swept = sweep_files::<MemFiles>(alloc, inputs, &mut files)?;
+//! assert!(rt; write_sweep(&mut sink, &swept).is_ok());
+//! assert!(rt; sink.taken() == b"sweep 1\nrow 0 observable\nobservable 1\nunobservable 0\nend\n".as_slice());
+//! ```
+//!
 //! A pattern is a test in which reads may have `(Data Any)`. The command reads the model, then the pattern, at most
 //! 1,048,576 bytes each, and answers for every combination of values. It returns a `Swept`, whose text has a line for
 //! each row and the counts, and whose status is `Done`; or the `Ending` of the two files, or `Memory`.

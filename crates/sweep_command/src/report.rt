@@ -4,7 +4,8 @@ ghost use Rattle.pc_common.specs.Room.{Puts};
 ghost use Rattle.pc_common.specs.Writes.{Writes};
 ghost use Rattle.pc_case.specs.Plain.{plain_value};
 ghost use Rattle.pattern_reader.specs.Rows.{rows_of};
-ghost use Rattle.sweep_command.specs.Texts.{value_text, values_text, verdict_word, row_text, rows_text, observables, unobservables, counts_text, swept_text};
+ghost use Rattle.sweep_command.specs.Texts.{value_text, values_text, verdict_word, row_text, rows_text, swept_text};
+ghost use Rattle.sweep_command.specs.Texts.{observables, unobservables, counts_text};
 
 use super::command::Swept;
 use itoa::Buffer;
