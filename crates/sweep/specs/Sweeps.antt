@@ -3,6 +3,8 @@ use Rattle.std.specs.Prelude.{◌≡◌, ℕ, Bool, true, false, List, Some, len
 use Rattle.pc_common.specs.Case.{Case}
 use Rattle.pc_common.specs.World.{Node, World, IsWorld}
 use Rattle.pc_syntax.specs.Closed.{PlainClosed, closed_satisfies}
+use Rattle.solver.specs.declared.answer.Answer.{Answer}
+use Rattle.solver.specs.declared.answer.Answer.TheVariants.{Observable, Unobservable}
 use Rattle.pattern_reader.specs.Rows.{Pattern, rows_of, row_case}
 
 -- some world makes every axiom true of the case
@@ -18,3 +20,8 @@ IsAnswerTo axioms c false = IsShown axioms c → ⊥
 pub record AreAnswers (axioms : List PlainClosed) (p : Pattern) (answers : List Bool) : Type 0 where
   pub count : length answers ≡ rows_of p
   pub each : (k : ℕ) (b : Bool) → slice_get answers k ≡ Some b → IsAnswerTo axioms (row_case p k) b
+
+-- whether a search found a graph
+abbrev pub is_graph : Answer → Bool
+is_graph (Observable graph) = true
+is_graph (Unobservable steps) = false

@@ -8,7 +8,7 @@ ghost use Rattle.pc_ground.specs.Stages.{plain_axioms};
 ghost use Rattle.pc_ground.specs.GroundTree.{closed_ground_tree};
 ghost use Rattle.pc_ground.specs.declared.version.Version.TheVariants.{One};
 ghost use Rattle.solver.specs.Answers.{IsAnswer};
-ghost use Rattle.sweep.specs.Sweeps.{IsAnswerTo};
+ghost use Rattle.sweep.specs.Sweeps.{IsAnswerTo, is_graph};
 
 use grounder::ground;
 use normal_form::{normalise, number};
@@ -48,12 +48,19 @@ fn search<L: Ledger>(
     solve(alloc, tree, numbering, Version::One, &mut steps)
 }
 
+/// Whether a graph was found.
+fn has_graph(found: &Answer) -> bool
+    ensures { result ≡ is_graph found.now }
+{
+    matches!(found, Answer::Observable(_))
+}
+
 /// Whether some world makes every axiom true of the case. The one error is that memory was refused.
 pub(crate) fn is_observable(alloc: Global, axioms: &[Closed], case: &Case) -> Result<bool, Memory>
     ensures { IfOk result (IsAnswerTo (plain_axioms axioms.now) case.now) }
 {
     let tree = tree_of(alloc, axioms, case)?;
     let numbering = number(alloc, &tree)?;
-    let answer = search::<Brand>(alloc, &tree, &numbering, Blank::new(1))?;
-    Ok(matches!(answer, Answer::Observable(_)))
+    let found = search::<Brand>(alloc, &tree, &numbering, Blank::new(1))?;
+    Ok(has_graph(&found))
 }

@@ -24,8 +24,9 @@ fn row_answer(alloc: Global, axioms: &[Closed], pattern: &Pattern, row: u32) -> 
 pub fn sweep(alloc: Global, axioms: &[Closed], pattern: &Pattern) -> Result<Vec<bool>, Memory>
     ensures { IfOk result (λ answers. AreAnswers (plain_axioms axioms.now) pattern.now answers.items) }
 {
-    let mut answers = Vec::new(alloc);
-    for row in 0..pattern.rows() {
+    let rows = pattern.rows();
+    let mut answers = Vec::with_capacity(alloc, rows as usize)?;
+    for row in 0..rows {
         answers.push(row_answer(alloc, axioms, pattern, row)?)?;
     }
     Ok(answers)

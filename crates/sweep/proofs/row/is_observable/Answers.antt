@@ -10,5 +10,7 @@ search-requires-clause-folded c = λ t is. row_folded (plain_axioms c.args.axiom
 
 pub returns : goal.returns
 returns c =
-    answered (plain_axioms c.args.axioms.now) c.args.case.now One c.in_ok-numbering.numbering c.in_ok-answer.answer
-    (c.in_ok-answer.ensures (closed_ground_tree c.args.case.now (plain_axioms c.args.axioms.now)) c.in_ok-tree.ensures)
+    let axioms = plain_axioms c.args.axioms.now in
+    let case = c.args.case.now in
+    rw c.has_graph.ensures (answered axioms case One c.in_ok-numbering.numbering c.in_ok-found.found
+    (c.in_ok-found.ensures (closed_ground_tree case axioms) c.in_ok-tree.ensures))

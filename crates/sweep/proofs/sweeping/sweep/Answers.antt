@@ -1,6 +1,5 @@
-use Rattle.std.proofs.Common.{◌≡◌, ℕ, List, Bool, [], ◌∷◌, ◌++◌, Some, length, sym, ◌∙◌, subst, arith}
+use Rattle.std.proofs.Common.{ℕ, Bool, [], ◌∷◌, length, ap, ◌∙◌, arith}
 use Rattle.std.proofs.lemmas.List.{length-append}
-use Rattle.std.specs.List.{slice_get}
 use Rattle.pc_ground.specs.Stages.{plain_axioms}
 use Rattle.pattern_reader.specs.Rows.{row_case}
 use Rattle.sweep.specs.Sweeps.{IsAnswerTo}
@@ -9,12 +8,10 @@ use Rattle.sweep.proofs.sweeping.sweep.Goals as goal
 
 pub loop-row-preserved : goal.loop-row-preserved
 loop-row-preserved c =
-    let before = c.loop-row.invariant in
+    let P : ℕ → Bool → Type 0 = λ k b. IsAnswerTo (plain_axioms c.args.axioms.now) (row_case c.args.pattern.now k) b in
     let old = c.loop-row.answers.items in
-    let b = c.in_ok-row_answer.value in
-    let more = answers_more (plain_axioms c.args.axioms.now) (λ k. row_case c.args.pattern.now k) old b before.1
-    (subst (λ n. IsAnswerTo (plain_axioms c.args.axioms.now) (row_case c.args.pattern.now n) b) (sym before.0) c.in_ok-row_answer.ensures) in
-    let P : List Bool → Type 0 = λ bs. (k : ℕ) (x : Bool) → slice_get bs k ≡ Some x → IsAnswerTo (plain_axioms c.args.axioms.now) (row_case c.args.pattern.now k) x in
-    let grown = length-append old (b ∷ []) in
-    let first = before.0 in
-    (omega (arith, grown, first), more)
+    let b = c.in_ok-row_answer.field-0 in
+    let grown = c.in_ok-push.ensures.items in
+    let count = c.loop-row.invariant.0 in
+    let size = ap length grown ∙ length-append old (b ∷ []) in
+    (omega (arith, size, count), answers_more P old c.push.new.self.items b c.loop-row.row grown count c.in_ok-row_answer.ensures c.loop-row.invariant.1)

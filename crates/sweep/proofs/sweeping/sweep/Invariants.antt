@@ -1,5 +1,5 @@
-use Rattle.std.proofs.Common.{◌≡◌, ℕ, Bool, Some, length}
-use Rattle.std.specs.List.{slice_get}
+-- The rows so far have their answers.
+use Rattle.std.proofs.Common.{◌≡◌, ℕ, Bool, Some, length, slice_get}
 use Rattle.pc_ground.specs.Stages.{plain_axioms}
 use Rattle.pattern_reader.specs.Rows.{row_case}
 use Rattle.sweep.specs.Sweeps.{IsAnswerTo}
