@@ -117,16 +117,17 @@ one_pattern_said holds i m n p q x y =
       one_pattern_of y.pattern_bytes p q (subst (λ b. PatternOf b p) same x.says_pattern) y.says_pattern,
     )
 
-module _ {holds : Contents} {i : Inputs} {status : Status} {text : List ℕ} where
+module _ {holds : Contents} {i : Inputs} where
   -- the text is the sweep of what the two files say
-  pub sweep_true : AnswersSweep holds i status text → (m : WrittenModel) (p : Pattern) → SaysPattern holds i m p → IsSweep m p text
+  pub sweep_true : {status : Status} {text : List ℕ} → AnswersSweep holds i status text → (m : WrittenModel) (p : Pattern) → SaysPattern holds i m p
+      → IsSweep m p text
   sweep_true (refused_sweep (refusal {fault = f} first held)) m p says =
       absurd (no_fault_said pattern_form holds i m p.case f (closed_says says) first)
-  sweep_true (swept {m = n} {p = q} other is) m p says =
+  sweep_true (swept {m = n} {p = q} {text = t} other is) m p says =
       let one = one_pattern_said holds i n m q p other says in
-      subst (λ k. IsSweep k p text) one.0 (subst (λ r. IsSweep n r text) one.1 is)
+      subst (λ k. IsSweep k p t) one.0 (subst (λ r. IsSweep n r t) one.1 is)
 
-  pub sweep_due : AnswersSweep holds i status text → IsSweepDue holds i status
+  pub sweep_due : {status : Status} {text : List ℕ} → AnswersSweep holds i status text → IsSweepDue holds i status
   sweep_due (refused_sweep (refusal {fault = f} first held)) = record {
     found = λ m p says. absurd (no_fault_said pattern_form holds i m p.case f (closed_says says) first);
     fault = λ g fault. refl;

@@ -35,8 +35,8 @@ unobservables answers = count_by not answers
 -- how many rows are observable, and how many are not
 abbrev pub counts_text : List Bool → List ℕ
 counts_text answers =
-    codes "observable " ++ decimal (observables answers)
-    ++ codes "\nunobservable " ++ decimal (unobservables answers) ++ codes "\nend\n"
+    codes "observable " ++ (decimal (observables answers)
+    ++ (codes "\nunobservable " ++ (decimal (unobservables answers) ++ codes "\nend\n")))
 
 abbrev pub sweep_text : Pattern → List Bool → List ℕ
 sweep_text p answers =

@@ -1,4 +1,5 @@
-use Rattle.std.proofs.Common.{refl, ◌++◌}
+use Rattle.std.proofs.Common.{refl, ap, ◌∙◌, ◌++◌, ◌<◌, length, arith}
+use Rattle.std.proofs.lemmas.List.{get_or_default}
 use Rattle.pc_common.proofs.Rooms.{puts_then, puts_stop, puts_text}
 use Rattle.sweep_command.specs.Texts.{values_text, verdict_word}
 use Rattle.std.specs.Prelude.{get_or, false}
@@ -18,5 +19,7 @@ returns-in_err-put_values g c =
 pub returns : goal.returns
 returns g c =
     let s = c.args.swept.now in
+    let within : c.args.row < length s.answers.items = omega (arith, c.requires.row, c.requires.count) in
+    let read = c.index.ensures ∙ get_or_default s.answers.items c.args.row c.index.result.now false within in
     puts_then refl c.in_ok-put.ensures.puts
-    (puts_then refl c.in_ok-put_values.ensures (puts_text _ c.verdict_end.ensures c.put-2.ensures.puts))
+    (puts_then refl c.in_ok-put_values.ensures (puts_text _ (c.verdict_end.ensures ∙ ap verdict_word read) c.put-2.ensures.puts))

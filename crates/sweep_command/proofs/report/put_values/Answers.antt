@@ -7,7 +7,7 @@ use Rattle.pc_common.proofs.RoomPieces.{puts_next, puts_failed}
 use Rattle.pc_case.specs.Plain.{plain_value}
 use Rattle.pattern_reader.specs.Rows.{values_in_row}
 use Rattle.sweep_command.specs.Texts.{value_text}
-use Rattle.sweep_command.proofs.SweepTexts.{text_at, length_values}
+use Rattle.sweep_command.proofs.SweepTexts.{text_at, length_values, puts_whole}
 use Rattle.sweep_command.proofs.report.put_values.Goals as goal
 
 pub returns-in_err-put_value : goal.returns-in_err-put_value
@@ -28,4 +28,4 @@ pub returns : goal.returns
 returns g c =
     let xs = values_in_row c.args.pattern.now c.args.row in
     let all = length_values c.args.pattern.now c.args.row in
-    puts_text _ (ap (flat_map value_text) (take_all c.loop-k.k xs (omega (arith, all, c.opens.ensures)))) c.loop-k.invariant
+    puts_whole _ (ap (flat_map value_text) (take_all c.loop-k.k xs (omega (arith, all, c.opens-k-end.ensures)))) c.loop-k.invariant
