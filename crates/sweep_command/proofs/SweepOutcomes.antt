@@ -1,11 +1,9 @@
 -- The outcome of `sweep`: what its answer says, and that it is due.
-use Rattle.std.proofs.Common.{◌≡◌, ◌≢◌, ◌⊎◌, ℕ, Bool, List, [], ◌∷◌, Some, inr, refl, sym, ◌∙◌, ap, subst}
-use Rattle.std.specs.Prelude.{slice_get}
+use Rattle.std.proofs.Common.{◌≡◌, ℕ, Bool, List, [], inr, refl, sym, ap, subst}
 use Rattle.pc_common.specs.Outside.{FilesView}
 use Rattle.pc_common.specs.Case.{Case}
-use Rattle.pc_common.specs.declared.fault.InputFault.{InputFault}
 use Rattle.pc_common.specs.declared.status.Status.{Status}
-use Rattle.pc_common.specs.declared.status.Status.TheVariants.{Usage, Refused, ReadFault, Memory, Done}
+use Rattle.pc_common.specs.declared.status.Status.TheVariants.{Usage, ReadFault, Memory, Done}
 use Rattle.pc_case.specs.MicroOps.{AreMicroOps}
 use Rattle.pc_syntax.specs.Written.{WrittenModel}
 use Rattle.litmus_reader.proofs.CleanFacts.{are_micro_ops}
