@@ -143,7 +143,7 @@ fn is_refuted_ring(alloc: Global, cores: u8, expected: Option<&str>) -> Result<b
     requires { 2 ≤ cores × cores ≤ 16 }
 {
     let (model, test) = gen_texts(alloc, cores)?;
-    is_refuted(alloc, (&model, &test), expected)
+    is_refuted(alloc, (model.as_slice(), test.as_slice()), expected)
 }
 
 #[test]

@@ -75,10 +75,10 @@ fn told_at(
     failing: Failing,
     call: u64,
 ) -> Result<Option<bool>, Memory> {
-    let call = [call];
-    let (of_files, of_sink): (&[u64], &[u64]) = match failing {
-        Failing::Files => (&call, &[]),
-        Failing::Sink => (&[], &call),
+    let numbers = [call];
+    let (of_files, of_sink) = match failing {
+        Failing::Files => (numbers.as_slice(), [].as_slice()),
+        Failing::Sink => ([].as_slice(), numbers.as_slice()),
     };
     let mut files = stepped_files(alloc, plan, of_files)?;
     let mut sink = stepped_sink(alloc, plan, of_sink)?;

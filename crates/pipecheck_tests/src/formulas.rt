@@ -90,7 +90,11 @@ fn is_shown_as(alloc: Global, formula: &Formula, want: &[u8]) -> Result<bool, Me
     Ok(out.as_slice() == want)
 }
 
-fn is_shown(alloc: Global, formula: &Formula, want: Pieces) -> Result<bool, Memory> {
+fn is_shown(
+    alloc: Global,
+    formula: &Formula,
+    want: &[(&'static str, usize)],
+) -> Result<bool, Memory> {
     let want = joined(alloc, want)?;
     is_shown_as(alloc, formula, &want)
 }

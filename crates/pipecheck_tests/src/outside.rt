@@ -216,7 +216,7 @@ fn a_room_hands_on_what_it_has_no_space_for(rt: HostRuntime) -> Result<(), Fail>
     for (pieces, flushes, fails, taken, faults) in ROOMS {
         let ends = (*taken, *faults);
         assert!(rt;
-            is_handed_on(rt.alloc(), &text, (pieces, *flushes), fails, ends)?,
+            is_handed_on(rt.alloc(), &text, (*pieces, *flushes), fails, ends)?,
             "{taken} bytes after {flushes} flushes, {faults} faults"
         );
     }
