@@ -247,18 +247,30 @@ const NAMED: &[(u64, u64, Option<usize>)] = &[
 ];
 
 fn are_values(case: &Case) -> bool {
-    VALUES.iter().all(|(page, start, end)| case.initial(*page) == *start
-        && case.final_of(*page) == *end)
+    for (page, start, end) in VALUES {
+        if case.initial(*page) != *start || case.final_of(*page) != *end {
+            return false;
+        }
+    }
+    true
 }
 
 fn are_ends(case: &Case) -> bool {
-    ENDS.iter().all(|(kind, from, to, goes)| case.depends(kind, *from, *to) == *goes)
+    for (kind, from, to, goes) in ENDS {
+        if case.depends(kind, *from, *to) != *goes {
+            return false;
+        }
+    }
+    true
 }
 
 fn are_named(case: &Case) -> bool {
-    NAMED
-        .iter()
-        .all(|(g, n, place)| case.find(OpId { g: *g, n: *n }) == *place)
+    for (g, n, place) in NAMED {
+        if case.find(OpId { g: *g, n: *n }) != *place {
+            return false;
+        }
+    }
+    true
 }
 
 fn is_kind(case: &Case, k: usize, access: Access, types: usize) -> bool {

@@ -1,7 +1,7 @@
 //! Files, sinks, rooms in front of sinks, places and statuses.
 use super::texts::{calls, held};
 use pc_common::{
-    MemFiles, MemSink, Memory, Place, ReadEnd, Room, Status, SureFiles, SureSink, line_col,
+    Files, MemFiles, MemSink, Memory, Place, ReadEnd, Room, Status, SureFiles, SureSink, line_col,
     read_all, write_all,
 };
 use std::alloc::Global;
@@ -49,9 +49,9 @@ fn files(alloc: Global, step: usize, fails: &[u64]) -> Result<MemFiles, Memory> 
     })
 }
 
-fn is_read_as(
+fn is_read_as<F: Files>(
     alloc: Global,
-    files: &mut MemFiles,
+    files: &mut F,
     (name, limit): (&str, usize),
     end: Result<&str, ReadEnd>,
 ) -> bool {
@@ -91,10 +91,8 @@ fn a_file_is_read_whole_or_not_at_all(rt: HostRuntime) -> Result<(), Fail> {
 }
 
 fn are_sure(alloc: Global, files: &mut SureFiles) -> bool {
-    let held = read_all(alloc, files, "a", 5).is_ok_and(|bytes| bytes.as_slice()
-        == b"abcde".as_slice());
     // a name that was not given holds no bytes
-    held && read_all(alloc, files, "c", 0).is_ok_and(|bytes| bytes.is_empty())
+    is_read_as(alloc, files, ("a", 5), Ok("abcde")) && is_read_as(alloc, files, ("c", 0), Ok(""))
 }
 
 #[test]
