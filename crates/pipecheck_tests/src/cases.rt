@@ -303,18 +303,13 @@ fn is_mixed(case: &Case) -> bool {
     is_whole && are_ops(case) && are_values(case) && are_ends(case) && are_named(case)
 }
 
-/// The case that the text is, or None where it is too long here or has a fault.
-fn case_of(alloc: Global, text: &[u8]) -> Option<Case> {
-    if text.len() > 4000 {
-        return None;
-    }
-    read_case(alloc, text).ok()
-}
-
 fn is_mixed_text(alloc: Global, text: &[u8]) -> bool {
-    match case_of(alloc, text) {
-        Some(case) => is_mixed(&case),
-        None => false,
+    if text.len() > 4000 {
+        return false;
+    }
+    match read_case(alloc, text) {
+        Ok(case) => is_mixed(&case),
+        Err(_) => false,
     }
 }
 
@@ -332,9 +327,12 @@ fn has_names(case: &Case) -> bool {
 }
 
 fn is_text_with_names(alloc: Global, text: &[u8]) -> bool {
-    match case_of(alloc, text) {
-        Some(case) => has_names(&case),
-        None => false,
+    if text.len() > 4000 {
+        return false;
+    }
+    match read_case(alloc, text) {
+        Ok(case) => has_names(&case),
+        Err(_) => false,
     }
 }
 

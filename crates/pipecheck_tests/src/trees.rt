@@ -1,8 +1,7 @@
 //! Ground trees as rows in preorder, and the numbers of their nodes.
-use super::texts::{front_of, put, put_number};
+use super::texts::{are_refused, front_of, put, put_number};
 use example_texts::{EITHER_ORDER, EMPTY, FAR_CORE, NO_EDGES, SOME_OP, TWO_CORES, TWO_FORBIDDEN};
 use pc_common::{FaultKind, InputFault, Memory, Place, Which};
-use pc_front::FrontEnd;
 use pc_ground::{Flat, Front, Literal, NodeKey, Numbering, RowKind};
 use std::alloc::Global;
 use std::test::Fail;
@@ -208,7 +207,9 @@ fn a_fault_of_the_model_is_named_before_one_of_the_test(rt: HostRuntime) {
             place: Place { offset: *offset },
             kind: *kind,
         };
-        let end = front_of(rt.alloc(), model, test).err();
-        assert!(rt; end == Some(FrontEnd::Refused(fault)), "{model} {test}");
+        assert!(rt;
+            are_refused(rt.alloc(), model, test, fault),
+            "{model} {test}"
+        );
     }
 }
