@@ -3,7 +3,7 @@ use super::certificates::{JUDGED, REFUTED};
 use super::signs::SIGNED;
 use cert_check::Checked;
 use example_texts::{EITHER_ORDER, ORDERED, TWO, TWO_FORBIDDEN, TWO_IN_ORDER};
-use memory_runs::{End, Plan, calls_failed_in_turn, ends_over};
+use memory_runs::{End, Plan, are_failures_reported, ends_over};
 use pc_common::{Memory, Status};
 use std::alloc::Global;
 use std::test::Fail;
@@ -124,66 +124,23 @@ fn a_run_that_ends_early_says_why(rt: HostRuntime) -> Result<(), Fail> {
     Ok(())
 }
 
-const REFUTED_FILES: &[(&'static str, &'static str)] = &[
-    ("model", EITHER_ORDER),
-    ("test", TWO_FORBIDDEN),
-    ("certificate", REFUTED),
-];
-
-const GRAPH_FILES: &[(&'static str, &'static str)] = &[
-    ("model", ORDERED),
-    ("test", TWO),
-    ("certificate", TWO_IN_ORDER),
-];
-
-/// A text that is verified, and how many calls of the files and of the sink that takes. A file of few bytes is a
-/// start, a read, and a read that sees the end; byte by byte it has a read for each byte.
-const PLANS: &[(Plan<'static>, (u64, u64))] = &[
+/// Texts that are verified.
+const PLANS: &[Plan<'static>] = &[
     (
-        Plan {
-            command: WORDS,
-            contents: REFUTED_FILES,
-            step: 0,
-            end: REFUTATION_VERIFIED,
-        },
-        (9, 1),
+        WORDS,
+        &[EITHER_ORDER, TWO_FORBIDDEN, REFUTED],
+        REFUTATION_VERIFIED,
+        1,
     ),
-    (
-        Plan {
-            command: WORDS,
-            contents: REFUTED_FILES,
-            step: 1,
-            end: REFUTATION_VERIFIED,
-        },
-        (585, 22),
-    ),
-    (
-        Plan {
-            command: WORDS,
-            contents: GRAPH_FILES,
-            step: 0,
-            end: GRAPH_VERIFIED,
-        },
-        (9, 1),
-    ),
-    (
-        Plan {
-            command: WORDS,
-            contents: GRAPH_FILES,
-            step: 1,
-            end: GRAPH_VERIFIED,
-        },
-        (339, 20),
-    ),
+    (WORDS, &[ORDERED, TWO, TWO_IN_ORDER], GRAPH_VERIFIED, 1),
 ];
 
 #[test]
 fn a_failed_read_writes_nothing_and_a_failed_write_cuts_the_line(
     rt: HostRuntime,
 ) -> Result<(), Fail> {
-    for (plan, calls) in PLANS {
-        let failed = calls_failed_in_turn(rt.alloc(), *plan)?;
-        assert!(rt; failed == Some(*calls), "{} by {}", plan.end.1, plan.step);
+    for plan in PLANS {
+        assert!(rt; are_failures_reported(rt.alloc(), *plan)?, "{}", plan.2.1);
     }
     Ok(())
 }

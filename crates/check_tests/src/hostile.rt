@@ -53,7 +53,10 @@ const CHAINS: &[(u64, Link, End<'static>)] = &[
     (
         255,
         Link::Once,
-        (Status::Observable, "observable\ntest unstated\nend\n"),
+        (
+            Status::Unobservable,
+            "unobservable\ntest unstated\nfalse\nend\n",
+        ),
     ),
     (
         256,

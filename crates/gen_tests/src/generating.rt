@@ -2,7 +2,7 @@
 ghost use Rattle.std.specs.Prelude.{◌≤◌};
 
 use cert_check::{Checked, check_text};
-use memory_runs::{Plan, calls_failed_in_turn, ends_over, written};
+use memory_runs::{are_failures_reported, ends_over, written};
 use pc_common::{Memory, Status};
 use pc_ground::Front;
 use pipecheck_run::{front, gen_texts};
@@ -51,21 +51,10 @@ fn a_ring_is_searched_and_counted(rt: HostRuntime) -> Result<(), Fail> {
     Ok(())
 }
 
-/// How many bytes of the report on two cores a call takes at most (0: as many as fit), and how many calls there are.
-const STEPS: &[(usize, u64)] = &[(0, 1), (1, 49)];
-
 #[test]
 fn a_failed_write_cuts_the_report_and_no_file_is_touched(rt: HostRuntime) -> Result<(), Fail> {
-    for (step, calls) in STEPS {
-        let plan = Plan {
-            command: "gen 2",
-            contents: &[],
-            step: *step,
-            end: (Status::Done, TWO_REPORTED),
-        };
-        let failed = calls_failed_in_turn(rt.alloc(), plan)?;
-        assert!(rt; failed == Some((0, *calls)), "by {step}");
-    }
+    let plan = ("gen 2", [].as_slice(), (Status::Done, TWO_REPORTED), 1);
+    assert!(rt; are_failures_reported(rt.alloc(), plan)?);
     Ok(())
 }
 

@@ -7,6 +7,6 @@ mod failing;
 mod outside;
 mod runs;
 
-pub use failing::{Plan, calls_failed_in_turn};
+pub use failing::{Plan, are_failures_reported};
 pub use outside::{calls, files, held, sink};
 pub use runs::{End, ends_in, ends_over, words, written};

@@ -204,7 +204,7 @@ fn a_copy_is_the_same_formula(rt: HostRuntime) -> Result<(), Fail> {
     Ok(())
 }
 
-/// A text, and the model as `show_model` writes it, or the fault.
+/// A text, and the model as `show_items` writes it, or the fault.
 const MODELS: &[(&'static str, Result<&'static str, ParseFault>)] = &[
     ("", Ok("")),
     (
