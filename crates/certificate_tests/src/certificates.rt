@@ -125,17 +125,22 @@ fn in_pieces(alloc: Global, front: &Front, text: &[u8], size: usize) -> Result<C
 }
 
 /// Whether the text is this, whole and however it is cut.
+fn is_always(alloc: Global, front: &Front, text: &[u8], checked: Checked) -> bool {
+    check_text(alloc, front, text) == Ok(checked)
+        && in_pieces(alloc, front, text, 1) == Ok(checked)
+        && in_pieces(alloc, front, text, 2) == Ok(checked)
+        && in_pieces(alloc, front, text, 7) == Ok(checked)
+}
+
+/// The same of the front of the row's model and test.
 fn is_checked(alloc: Global, (model, test, text, checked): Row) -> bool {
     if model.len() > 10_000 || test.len() > 10_000 {
         return false;
     }
-    let Ok(front) = front(alloc, model.as_bytes(), test.as_bytes()) else {
-        return false;
-    };
-    check_text(alloc, &front, text.as_bytes()) == Ok(checked)
-        && in_pieces(alloc, &front, text.as_bytes(), 1) == Ok(checked)
-        && in_pieces(alloc, &front, text.as_bytes(), 2) == Ok(checked)
-        && in_pieces(alloc, &front, text.as_bytes(), 7) == Ok(checked)
+    match front(alloc, model.as_bytes(), test.as_bytes()) {
+        Ok(front) => is_always(alloc, &front, text.as_bytes(), checked),
+        Err(_) => false,
+    }
 }
 
 #[test]

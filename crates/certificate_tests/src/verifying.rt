@@ -1,28 +1,32 @@
 //! The command verify: a text judged against a model and a test, whoever made it.
-use super::certificates::JUDGED;
+use super::certificates::{JUDGED, REFUTED};
 use super::signs::SIGNED;
 use cert_check::Checked;
-use example_texts::{ORDERED, TWO, TWO_IN_ORDER};
-use memory_runs::ends_over;
+use example_texts::{EITHER_ORDER, ORDERED, TWO, TWO_FORBIDDEN, TWO_IN_ORDER};
+use memory_runs::{End, Plan, are_failures_reported, ends_over};
 use pc_common::{Memory, Status};
 use std::alloc::Global;
 use std::test::Fail;
 
-const WORDS: &str = "verify model test certificate";
+pub(crate) const WORDS: &str = "verify model test certificate";
 
-fn put(text: &mut Vec<u8>, piece: &[u8]) -> Result<(), Memory> {
-    text.extend_from_slice(piece)?;
-    Ok(())
+const REFUTATION_VERIFIED: End<'static> = (Status::Unobservable, "verified unobservable\n");
+
+const GRAPH_VERIFIED: End<'static> = (Status::Observable, "verified observable\n");
+
+/// Whether verify ends so.
+fn is_end(alloc: Global, contents: &[(&str, &str)], end: End<'_>) -> Result<bool, Memory> {
+    ends_over(alloc, WORDS, contents, (&[], &[]), end)
 }
 
-/// The line that names a refused line.
-fn refused(alloc: Global, line: u64) -> Result<Vec<u8>, Memory> {
-    let mut digits = itoa::Buffer::new();
-    let mut text = Vec::new(alloc);
-    put(&mut text, b"certificate refused at line ")?;
-    put(&mut text, digits.format(line).as_bytes())?;
-    put(&mut text, b"\n")?;
-    Ok(text)
+/// Whether verify names this line as the refused one.
+pub(crate) fn is_refused_at(
+    alloc: Global,
+    contents: &[(&str, &str)],
+    line: u64,
+) -> Result<bool, Memory> {
+    let text = format!(in alloc; "certificate refused at line {line}\n")?;
+    is_end(alloc, contents, (Status::CertRefused, &text))
 }
 
 /// Whether verify answers so to the text.
@@ -37,30 +41,9 @@ fn is_answered(
         ("certificate", certificate),
     ];
     match checked {
-        Checked::Observable => ends_over(
-            alloc,
-            WORDS,
-            contents,
-            (&[], &[]),
-            (Status::Observable, "verified observable\n"),
-        ),
-        Checked::Unobservable => ends_over(
-            alloc,
-            WORDS,
-            contents,
-            (&[], &[]),
-            (Status::Unobservable, "verified unobservable\n"),
-        ),
-        Checked::Refused(line) => match str::from_utf8(&refused(alloc, line)?) {
-            Ok(text) => ends_over(
-                alloc,
-                WORDS,
-                contents,
-                (&[], &[]),
-                (Status::CertRefused, text),
-            ),
-            Err(_) => Ok(false),
-        },
+        Checked::Observable => is_end(alloc, contents, GRAPH_VERIFIED),
+        Checked::Unobservable => is_end(alloc, contents, REFUTATION_VERIFIED),
+        Checked::Refused(line) => is_refused_at(alloc, contents, line),
     }
 }
 
@@ -137,6 +120,27 @@ fn a_run_that_ends_early_says_why(rt: HostRuntime) -> Result<(), Fail> {
             ends_over(rt.alloc(), command, contents, fails, end)?,
             "{command}: {text}"
         );
+    }
+    Ok(())
+}
+
+/// Texts that are verified.
+const PLANS: &[Plan<'static>] = &[
+    (
+        WORDS,
+        &[EITHER_ORDER, TWO_FORBIDDEN, REFUTED],
+        REFUTATION_VERIFIED,
+        1,
+    ),
+    (WORDS, &[ORDERED, TWO, TWO_IN_ORDER], GRAPH_VERIFIED, 1),
+];
+
+#[test]
+fn a_failed_read_writes_nothing_and_a_failed_write_cuts_the_line(
+    rt: HostRuntime,
+) -> Result<(), Fail> {
+    for plan in PLANS {
+        assert!(rt; are_failures_reported(rt.alloc(), *plan)?, "{}", plan.2.1);
     }
     Ok(())
 }

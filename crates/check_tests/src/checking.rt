@@ -1,9 +1,7 @@
 //! The command check: from words and files to a status and a text.
 use example_texts::{BOTH_ORDERS, EMPTY, ITSELF, ONE, ORDERED, TWO, TWO_FORBIDDEN, TWO_IN_ORDER};
-use memory_runs::{calls, ends_in, ends_over, files, held, words};
-use pc_common::{
-    Bytes, Calls, Held, HeldFile, MemFiles, MemSink, Memory, Status, SureFiles, SureSink,
-};
+use memory_runs::{Plan, are_failures_reported, ends_in, ends_over, held, words};
+use pc_common::{Bytes, Calls, Held, HeldFile, MemFiles, Memory, Status, SureFiles, SureSink};
 use pipecheck_run::run;
 use std::alloc::Global;
 use std::test::Fail;
@@ -201,132 +199,28 @@ fn a_failed_call_is_told_by_the_status(rt: HostRuntime) -> Result<(), Fail> {
     Ok(())
 }
 
-/// A model and a test whose check has an answer, and the whole answer.
-#[derive(Clone, Copy)]
-struct Answered {
-    model: &'static str,
-    test: &'static str,
-    text: &'static str,
-}
-
-const ANSWERED: &[Answered] = &[
-    Answered {
-        model: ORDERED,
-        test: TWO,
-        text: TWO_IN_ORDER,
-    },
-    Answered {
-        model: BOTH_ORDERS,
-        test: TWO_FORBIDDEN,
-        text: CYCLE,
-    },
+/// Checks that have an answer. The verdict, the second line, what is between, and the end are a piece each.
+const PLANS: &[Plan<'static>] = &[
+    (
+        "check model test",
+        &[ORDERED, TWO],
+        (Status::Observable, TWO_IN_ORDER),
+        4,
+    ),
+    (
+        "check model test",
+        &[BOTH_ORDERS, TWO_FORBIDDEN],
+        (Status::Unobservable, CYCLE),
+        4,
+    ),
 ];
-
-/// Files of which one call fails, moving so many bytes a call (0: as many as fit).
-fn failing_files(alloc: Global, row: Answered, step: usize, call: u64) -> Result<MemFiles, Memory> {
-    let files = files(alloc, &[("model", row.model), ("test", row.test)], &[call])?;
-    Ok(if step > 0 {
-        files.with_step(step)
-    } else {
-        files
-    })
-}
-
-/// A sink of which one call fails, taking so many bytes a call (0: as many as it has room for).
-fn failing_sink(alloc: Global, step: usize, call: u64) -> Result<MemSink, Memory> {
-    let sink = MemSink::new(alloc, 1024, calls(alloc, &[call])?)?;
-    Ok(if step > 0 { sink.with_step(step) } else { sink })
-}
-
-/// Whether a run over files of which one call fails writes nothing; None where it meets no failed call.
-fn silent(
-    alloc: Global,
-    words: &[String],
-    row: Answered,
-    step: usize,
-    call: u64,
-) -> Result<Option<bool>, Memory> {
-    let mut files = failing_files(alloc, row, step, call)?;
-    let is_silent = ends_in(alloc, words, &mut files, &[], (Status::ReadFault, ""))?;
-    Ok(if files.faults() == 0 {
-        None
-    } else {
-        Some(is_silent)
-    })
-}
-
-/// Whether a run over a sink of which one call fails writes a part of the text, from its start; None
-/// where it meets no failed call.
-fn cut_short(
-    alloc: Global,
-    words: &[String],
-    files: &mut MemFiles,
-    sink: &mut MemSink,
-    text: &[u8],
-) -> Option<bool> {
-    let is_told = run(alloc, words, files, sink) == Status::WriteFault;
-    if sink.faults() == 0 {
-        return None;
-    }
-    let taken = sink.taken();
-    Some(is_told && taken.len() < text.len() && text.starts_with(taken))
-}
-
-/// The same, with files and a sink of its own.
-fn cut_short_at(
-    alloc: Global,
-    words: &[String],
-    row: Answered,
-    step: usize,
-    call: u64,
-) -> Result<Option<bool>, Memory> {
-    let mut files = files(alloc, &[("model", row.model), ("test", row.test)], &[])?;
-    let mut sink = failing_sink(alloc, step, call)?;
-    Ok(cut_short(alloc, words, &mut files, &mut sink, row.text.as_bytes()))
-}
-
-/// Whether each run over failing files writes nothing. The call that fails counts up until a run meets no
-/// failed call.
-fn are_silent(alloc: Global, words: &[String], row: Answered, step: usize) -> Result<bool, Memory> {
-    for call in 1..1000u64 {
-        match silent(alloc, words, row, step, call)? {
-            Some(true) => {}
-            Some(false) => return Ok(false),
-            None => return Ok(call > 4),
-        }
-    }
-    Ok(false)
-}
-
-/// Whether each run over a failing sink is cut short. The call that fails counts up until a run meets no
-/// failed call.
-fn are_cut_short(
-    alloc: Global,
-    words: &[String],
-    row: Answered,
-    step: usize,
-) -> Result<bool, Memory> {
-    for call in 1..1000u64 {
-        match cut_short_at(alloc, words, row, step, call)? {
-            Some(true) => {}
-            Some(false) => return Ok(false),
-            None => return Ok(call > 3),
-        }
-    }
-    Ok(false)
-}
 
 #[test]
 fn a_failed_read_writes_nothing_and_a_failed_write_cuts_the_text(
     rt: HostRuntime,
 ) -> Result<(), Fail> {
-    let words = words(rt.alloc(), "check model test")?;
-    for row in ANSWERED {
-        for step in [0, 1] {
-            let is_silent = are_silent(rt.alloc(), &words, *row, step)?;
-            let is_cut = are_cut_short(rt.alloc(), &words, *row, step)?;
-            assert!(rt; is_silent && is_cut, "{} by {step}", row.text);
-        }
+    for plan in PLANS {
+        assert!(rt; are_failures_reported(rt.alloc(), *plan)?, "{}", plan.2.1);
     }
     Ok(())
 }

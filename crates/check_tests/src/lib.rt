@@ -8,6 +8,8 @@ mod answers;
 #[cfg(test)]
 mod checking;
 #[cfg(test)]
+mod hostile;
+#[cfg(test)]
 mod laws;
 #[cfg(test)]
 mod models;

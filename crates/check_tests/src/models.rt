@@ -73,7 +73,7 @@ const MODELS: &[(Pieces, End<'static>)] = &[
     ),
 ];
 
-fn joined(alloc: Global, pieces: &[(&'static str, usize)]) -> Result<String, Memory> {
+pub(crate) fn joined(alloc: Global, pieces: &[(&'static str, usize)]) -> Result<String, Memory> {
     let mut text = String::new(alloc);
     for (piece, times) in pieces {
         for _ in 0..*times {

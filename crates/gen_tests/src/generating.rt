@@ -1,22 +1,21 @@
 //! The command gen: rings of cores, searched and counted.
-ghost use Rattle.std.specs.Prelude.{◌≤◌, ◌<◌, ◌^◌, length};
+ghost use Rattle.std.specs.Prelude.{◌≤◌};
 
 use cert_check::{Checked, check_text};
-use memory_runs::{ends_over, written};
+use memory_runs::{are_failures_reported, ends_over, written};
 use pc_common::{Memory, Status};
+use pc_ground::Front;
 use pipecheck_run::{front, gen_texts};
 use std::alloc::Global;
 use std::test::Fail;
 
 const USAGE: &str = "pipecheck: bad command line\n";
 
+const TWO_REPORTED: &str = "gen 2\nunobservable\nnodes 4\nsplits 2\nleaves 3\nend\n";
+
 /// A command, and how it ends.
 const RINGS: &[(&'static str, Status, &'static str)] = &[
-    (
-        "gen 2",
-        Status::Done,
-        "gen 2\nunobservable\nnodes 4\nsplits 2\nleaves 3\nend\n",
-    ),
+    ("gen 2", Status::Done, TWO_REPORTED),
     (
         "gen 3",
         Status::Done,
@@ -52,6 +51,13 @@ fn a_ring_is_searched_and_counted(rt: HostRuntime) -> Result<(), Fail> {
     Ok(())
 }
 
+#[test]
+fn a_failed_write_cuts_the_report_and_no_file_is_touched(rt: HostRuntime) -> Result<(), Fail> {
+    let plan = ("gen 2", [].as_slice(), (Status::Done, TWO_REPORTED), 1);
+    assert!(rt; are_failures_reported(rt.alloc(), plan)?);
+    Ok(())
+}
+
 /// The report on the ring of `n` cores: 2n nodes, (n - 1)(n - 1) + 1 splits, and one leaf more.
 fn report(alloc: Global, n: u64) -> Result<String, Memory>
     requires { 2 ≤ n × n ≤ 16 }
@@ -65,50 +71,60 @@ fn report(alloc: Global, n: u64) -> Result<String, Memory>
     Ok(text)
 }
 
+/// Whether the ring of `n` cores is reported so. No file is touched, so that no call of them can fail.
+fn is_reported(alloc: Global, n: u64) -> Result<bool, Memory>
+    requires { 2 ≤ n × n ≤ 16 }
+{
+    let command = format!(in alloc; "gen {n}")?;
+    let text = report(alloc, n)?;
+    ends_over(alloc, &command, &[], (&[1], &[]), (Status::Done, &text))
+}
+
 #[test]
 fn a_ring_of_each_size_has_its_counts(rt: HostRuntime) -> Result<(), Fail> {
     for n in 2..17 {
-        let command = format!(in rt.alloc(); "gen {n}")?;
-        let text = report(rt.alloc(), n)?;
-        assert!(rt;
-            ends_over(
-                rt.alloc(),
-                &command,
-                &[],
-                (&[1], &[]),
-                (Status::Done, &text)
-            )?,
-            "{command}"
-        );
+        assert!(rt; is_reported(rt.alloc(), n)?, "gen {n}");
     }
     Ok(())
+}
+
+/// Whether the text is the expected one, where there is one, and a refutation that the checker accepts.
+fn is_accepted(alloc: Global, front: &Front, written: &[u8], expected: Option<&str>) -> bool {
+    let is_expected = match expected {
+        Some(text) => written == text.as_bytes(),
+        None => true,
+    };
+    is_expected && check_text(alloc, front, written) == Ok(Checked::Unobservable)
+}
+
+/// The same of the front of these two texts.
+fn is_accepted_of(
+    alloc: Global,
+    (model, test): (&[u8], &[u8]),
+    written: &[u8],
+    expected: Option<&str>,
+) -> bool {
+    if model.len() > 100_000 || test.len() > 100_000 {
+        return false;
+    }
+    match front(alloc, model, test) {
+        Ok(front) => is_accepted(alloc, &front, written, expected),
+        Err(_) => false,
+    }
 }
 
 /// Whether check refutes these two texts, by this text where one is given, and the checker accepts what it wrote.
 fn is_refuted(
     alloc: Global,
-    model: &[u8],
-    test: &[u8],
+    texts: (&[u8], &[u8]),
     expected: Option<&str>,
-) -> Result<bool, Memory>
-    requires model_short { length model.now < 2 ^ 32 }
-    requires test_short { length test.now < 2 ^ 32 }
-{
-    let Ok(front) = front(alloc, model, test) else {
+) -> Result<bool, Memory> {
+    let (Ok(model), Ok(test)) = (str::from_utf8(texts.0), str::from_utf8(texts.1)) else {
         return Ok(false);
     };
-    let (Ok(model), Ok(test)) = (str::from_utf8(model), str::from_utf8(test)) else {
-        return Ok(false);
-    };
-    let written = written(
-        alloc,
-        "check model test",
-        &[("model", model), ("test", test)],
-    )?;
-    Ok(
-        expected.is_none_or(|text| written.as_slice() == text.as_bytes())
-            && check_text(alloc, &front, &written) == Ok(Checked::Unobservable),
-    )
+    let contents = &[("model", model), ("test", test)];
+    let written = written(alloc, "check model test", contents)?;
+    Ok(is_accepted_of(alloc, texts, &written, expected))
 }
 
 /// The same of the ring of so many cores.
@@ -116,10 +132,7 @@ fn is_refuted_ring(alloc: Global, cores: u8, expected: Option<&str>) -> Result<b
     requires { 2 ≤ cores × cores ≤ 16 }
 {
     let (model, test) = gen_texts(alloc, cores)?;
-    if model.len() > 100_000 || test.len() > 100_000 {
-        return Ok(false);
-    }
-    is_refuted(alloc, &model, &test, expected)
+    is_refuted(alloc, (model.as_slice(), test.as_slice()), expected)
 }
 
 #[test]

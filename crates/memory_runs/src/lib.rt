@@ -3,8 +3,10 @@
 //! Each of those crates has the tests of one family of commands, so that they are proved side by side.
 #![tactic(auto)]
 
+mod failing;
 mod outside;
 mod runs;
 
+pub use failing::{Plan, are_failures_reported};
 pub use outside::{calls, files, held, sink};
 pub use runs::{End, ends_in, ends_over, words, written};

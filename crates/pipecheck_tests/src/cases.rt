@@ -2,6 +2,7 @@
 use litmus_reader::{CaseFault, read_case};
 use pc_case::{Access, Address, Case, Expect, OpId, Ops};
 use pc_common::{FaultKind, Place, Value};
+use std::alloc::Global;
 use std::test::Fail;
 
 /// A refused text, and its first fault.
@@ -146,11 +147,21 @@ const FAULTS: &[Refused] = &[
     ),
 ];
 
+/// The first fault of the text, or None where it is too long here or has none.
+fn fault_of(alloc: Global, text: &[u8]) -> Option<CaseFault> {
+    if text.len() > 4000 {
+        return None;
+    }
+    match read_case(alloc, text) {
+        Ok(_) => None,
+        Err(fault) => Some(fault),
+    }
+}
+
 #[test]
 fn the_first_fault_is_named_with_its_place_and_values(rt: HostRuntime) {
     for (text, fault) in FAULTS {
-        assert!(rt; text.len() < 200);
-        assert_eq!(rt; read_case(rt.alloc(), text).err(), Some(*fault), "{text:?}");
+        assert_eq!(rt; fault_of(rt.alloc(), text), Some(*fault), "{text:?}");
     }
 }
 
@@ -161,10 +172,9 @@ fn the_65th_micro_op_is_one_too_many(rt: HostRuntime) -> Result<(), Fail> {
     for g in 0..65u64 {
         text.push_str(&format!(in rt.alloc(); "Microop {g} 0 0 0 (Fence).\n")?)?;
     }
-    assert!(rt; text.len() < 4000);
     let limit = FaultKind::TooManyOps { limit: 64 };
     let fault = CaseFault::Content(limit, Place { offset: 1666 });
-    assert_eq!(rt; read_case(rt.alloc(), text.as_bytes()).err(), Some(fault));
+    assert_eq!(rt; fault_of(rt.alloc(), text.as_bytes()), Some(fault));
     Ok(())
 }
 
@@ -237,18 +247,30 @@ const NAMED: &[(u64, u64, Option<usize>)] = &[
 ];
 
 fn are_values(case: &Case) -> bool {
-    VALUES.iter().all(|(page, start, end)| case.initial(*page) == *start
-        && case.final_of(*page) == *end)
+    for (page, start, end) in VALUES {
+        if case.initial(*page) != *start || case.final_of(*page) != *end {
+            return false;
+        }
+    }
+    true
 }
 
 fn are_ends(case: &Case) -> bool {
-    ENDS.iter().all(|(kind, from, to, goes)| case.depends(kind, *from, *to) == *goes)
+    for (kind, from, to, goes) in ENDS {
+        if case.depends(kind, *from, *to) != *goes {
+            return false;
+        }
+    }
+    true
 }
 
 fn are_named(case: &Case) -> bool {
-    NAMED
-        .iter()
-        .all(|(g, n, place)| case.find(OpId { g: *g, n: *n }) == *place)
+    for (g, n, place) in NAMED {
+        if case.find(OpId { g: *g, n: *n }) != *place {
+            return false;
+        }
+    }
+    true
 }
 
 fn is_kind(case: &Case, k: usize, access: Access, types: usize) -> bool {
@@ -281,12 +303,19 @@ fn is_mixed(case: &Case) -> bool {
     is_whole && are_ops(case) && are_values(case) && are_ends(case) && are_named(case)
 }
 
+fn is_mixed_text(alloc: Global, text: &[u8]) -> bool {
+    if text.len() > 4000 {
+        return false;
+    }
+    match read_case(alloc, text) {
+        Ok(case) => is_mixed(&case),
+        Err(_) => false,
+    }
+}
+
 #[test]
-fn lines_in_any_order_make_one_case(rt: HostRuntime) -> Result<(), Fail> {
-    assert!(rt; MIXED.len() < 400);
-    let case = read_case(rt.alloc(), MIXED)?;
-    assert!(rt; is_mixed(&case));
-    Ok(())
+fn lines_in_any_order_make_one_case(rt: HostRuntime) {
+    assert!(rt; is_mixed_text(rt.alloc(), MIXED));
 }
 
 const WORDS: &[u8] =
@@ -297,16 +326,27 @@ fn has_names(case: &Case) -> bool {
     is_whole && is_kind(case, 0, Access::Read, 2) && case.depends(b"Fence", 0, 0)
 }
 
+fn is_text_with_names(alloc: Global, text: &[u8]) -> bool {
+    if text.len() > 4000 {
+        return false;
+    }
+    match read_case(alloc, text) {
+        Ok(case) => has_names(&case),
+        Err(_) => false,
+    }
+}
+
 #[test]
-fn no_word_is_reserved(rt: HostRuntime) -> Result<(), Fail> {
-    assert!(rt; WORDS.len() < 400);
-    let case = read_case(rt.alloc(), WORDS)?;
-    assert!(rt; has_names(&case));
-    Ok(())
+fn no_word_is_reserved(rt: HostRuntime) {
+    assert!(rt; is_text_with_names(rt.alloc(), WORDS));
+}
+
+fn has_no_core(case: &Case) -> bool {
+    case.ops() == 0 && case.cores() == 0 && case.expect() == Expect::Permitted
 }
 
 #[test]
 fn a_case_without_micro_ops_uses_no_core(rt: HostRuntime) {
     let case = Case::new(Ops::new(rt.alloc()), Expect::Permitted);
-    assert!(rt; case.ops() == 0 && case.cores() == 0 && case.expect() == Expect::Permitted);
+    assert!(rt; has_no_core(&case));
 }

@@ -2,10 +2,10 @@
 use super::shown::show;
 use super::texts::{Pieces, joined, put, put_number};
 use pc_common::{Listed, Memory, Place, Shared};
-use pc_syntax::{Arg, Formula, Item, Pred, StageItem, Takes, Word};
+use pc_syntax::{Arg, Args, Formula, Item, ModelFile, Name, Names, Pred, StageItem, Takes, Word};
 use std::alloc::Global;
 use std::test::Fail;
-use uspec_lexer::{Tokens, tokens};
+use uspec_lexer::tokens;
 use uspec_parser::{
     ParseFault, formula_texts, model_texts, one_answer, one_formula_tree, one_model_tree,
     parse_formula, parse_model, split_of_operands,
@@ -84,19 +84,41 @@ const FORMULAS: &[(Pieces, Answer)] = &[
     (&[("ExpandMacro forall", 1)], Refused(ParseFault::Syntax(1))),
 ];
 
+fn is_shown_as(alloc: Global, formula: &Formula, want: &[u8]) -> Result<bool, Memory> {
+    let mut out = Vec::new(alloc);
+    show(&mut out, formula)?;
+    Ok(out.as_slice() == want)
+}
+
+fn is_shown(
+    alloc: Global,
+    formula: &Formula,
+    want: &[(&'static str, usize)],
+) -> Result<bool, Memory> {
+    let want = joined(alloc, want)?;
+    is_shown_as(alloc, formula, &want)
+}
+
 fn is_answer(
     alloc: Global,
     parsed: &Result<Formula, ParseFault>,
     answer: &Answer,
 ) -> Result<bool, Memory> {
     match (parsed, answer) {
-        (Ok(tree), Tree(want)) => {
-            let mut out = Vec::new(alloc);
-            show(&mut out, tree)?;
-            Ok(out.as_slice() == joined(alloc, want)?.as_slice())
-        }
+        (Ok(tree), Tree(want)) => is_shown(alloc, tree, want),
         (Err(fault), Refused(want)) => Ok(fault == want),
         _ => Ok(false),
+    }
+}
+
+/// Whether the text has this answer as a formula.
+fn has_answer(alloc: Global, text: &[u8], answer: &Answer) -> Result<bool, Memory> {
+    if text.len() > 10_000 {
+        return Ok(false);
+    }
+    match tokens(alloc, text) {
+        Ok(read) => is_answer(alloc, &parse_formula(alloc, &read), answer),
+        Err(_) => Ok(false),
     }
 }
 
@@ -104,10 +126,7 @@ fn is_answer(
 fn a_formula_has_the_tree_or_the_fault_of_the_grammar(rt: HostRuntime) -> Result<(), Fail> {
     for (pieces, answer) in FORMULAS {
         let text = joined(rt.alloc(), pieces)?;
-        assert!(rt; text.len() < 10000);
-        let read = tokens(rt.alloc(), &text)?;
-        let parsed = parse_formula(rt.alloc(), &read);
-        assert!(rt; is_answer(rt.alloc(), &parsed, answer)?, "{pieces:?}");
+        assert!(rt; has_answer(rt.alloc(), &text, answer)?, "{pieces:?}");
     }
     Ok(())
 }
@@ -120,22 +139,29 @@ const ALL_FORMS: &str =
 const ALL_SHOWN: &str =
     "Bind(a b = c 4: Forall(microop i, Exists(core c, Not(Implies(Or(And(IsAnyRead i, Nodes[i@5:S;]), Edges[i:S>a@c:S;]), Expand m 3 i)))))";
 
-fn word(alloc: Global, text: &[u8]) -> Result<Word, Memory> {
-    Ok(Word {
-        name: Shared::of(Listed::from_vec(text.to_vec(alloc)?))?,
-        at: Place { offset: 7 },
-    })
+const AT: Place = Place { offset: 7 };
+
+fn name(alloc: Global, text: &[u8]) -> Result<Name, Memory> {
+    Shared::of(Listed::from_vec(text.to_vec(alloc)?))
 }
 
-/// The formula with `a` bound to `c`, and `b` to 4.
-fn bound(alloc: Global, body: Formula) -> Result<Formula, Memory> {
-    let at = Place { offset: 7 };
-    let first = word(alloc, b"a")?;
-    let second = word(alloc, b"b")?;
-    let names = Shared::of(Listed::from_vec(vec![in alloc; first.name, second.name]?))?;
-    let core = Arg::Word(word(alloc, b"c")?);
-    let args = Shared::of(Listed::from_vec(vec![in alloc; core, Arg::Number(4, at)]?))?;
-    Formula::bind(alloc, at, names, args, body)
+/// `a` and `b`.
+fn names(alloc: Global) -> Result<Names, Memory> {
+    let mut names = Listed::new(alloc);
+    for text in ["a", "b"] {
+        names.push(name(alloc, text.as_bytes())?)?;
+    }
+    Shared::of(names)
+}
+
+/// `c` and 4.
+fn args(alloc: Global) -> Result<Args, Memory> {
+    let core = Arg::Word(Word {
+        name: name(alloc, b"c")?,
+        at: AT,
+    });
+    let args = vec![in alloc; core, Arg::Number(4, AT)]?;
+    Shared::of(Listed::from_vec(args))
 }
 
 fn all_forms(alloc: Global) -> Result<Formula, ParseFault> {
@@ -149,23 +175,36 @@ fn all_forms(alloc: Global) -> Result<Formula, ParseFault> {
     }
 }
 
-fn is_shown(alloc: Global, formula: &Formula, want: &str) -> Result<bool, Memory> {
-    let mut out = Vec::new(alloc);
-    show(&mut out, formula)?;
-    Ok(out.as_slice() == want.as_bytes())
+/// That formula with `a` bound to `c`, and `b` to 4.
+fn bound(alloc: Global) -> Result<Formula, ParseFault> {
+    let names = names(alloc)?;
+    let args = args(alloc)?;
+    let body = all_forms(alloc)?;
+    match Formula::bind(alloc, AT, names, args, body) {
+        Ok(formula) => Ok(formula),
+        Err(Memory) => Err(ParseFault::Memory),
+    }
+}
+
+/// Whether a copy is shown so.
+fn is_copied(alloc: Global, formula: &Formula, want: &[u8]) -> Result<bool, Memory> {
+    let copy = formula.copy(alloc)?;
+    is_shown_as(alloc, &copy, want)
+}
+
+/// Whether the formula and a copy are shown so.
+fn are_shown(alloc: Global, formula: &Formula, want: &[u8]) -> Result<bool, Memory> {
+    Ok(is_shown_as(alloc, formula, want)? && is_copied(alloc, formula, want)?)
 }
 
 #[test]
 fn a_copy_is_the_same_formula(rt: HostRuntime) -> Result<(), Fail> {
-    let source = bound(rt.alloc(), all_forms(rt.alloc())?)?;
-    let copy = source.copy(rt.alloc())?;
-    assert!(rt;
-        is_shown(rt.alloc(), &source, ALL_SHOWN)? && is_shown(rt.alloc(), &copy, ALL_SHOWN)?
-    );
+    let formula = bound(rt.alloc())?;
+    assert!(rt; are_shown(rt.alloc(), &formula, ALL_SHOWN.as_bytes())?);
     Ok(())
 }
 
-/// A text, and the model as `show_model` writes it, or the fault.
+/// A text, and the model as `show_items` writes it, or the fault.
 const MODELS: &[(&'static str, Result<&'static str, ParseFault>)] = &[
     ("", Ok("")),
     (
@@ -229,9 +268,7 @@ fn show_item(out: &mut Vec<u8>, item: &Item) -> Result<(), Memory> {
     put(out, b"\n")
 }
 
-/// What the tokens are as a model, an item a line.
-fn show_model(out: &mut Vec<u8>, alloc: Global, read: &Tokens<'_>) -> Result<(), ParseFault> {
-    let model = parse_model(alloc, read)?;
+fn show_items(out: &mut Vec<u8>, model: &ModelFile) -> Result<(), Memory> {
     for stage in model.stages.as_slice() {
         show_stage(out, stage)?;
     }
@@ -241,20 +278,49 @@ fn show_model(out: &mut Vec<u8>, alloc: Global, read: &Tokens<'_>) -> Result<(),
     Ok(())
 }
 
+/// Whether the model is shown so, an item a line.
+fn is_model_shown(alloc: Global, model: &ModelFile, want: &str) -> Result<bool, Memory> {
+    let mut out = Vec::new(alloc);
+    show_items(&mut out, model)?;
+    Ok(out.as_slice() == want.as_bytes())
+}
+
+fn is_model_answer(
+    alloc: Global,
+    parsed: &Result<ModelFile, ParseFault>,
+    answer: &Result<&'static str, ParseFault>,
+) -> Result<bool, Memory> {
+    match (parsed, answer) {
+        (Ok(model), Ok(want)) => is_model_shown(alloc, model, want),
+        (Err(fault), Err(want)) => Ok(fault == want),
+        _ => Ok(false),
+    }
+}
+
+/// Whether the text has this answer as a model.
+fn has_model_answer(
+    alloc: Global,
+    text: &[u8],
+    answer: &Result<&'static str, ParseFault>,
+) -> Result<bool, Memory> {
+    if text.len() > 10_000 {
+        return Ok(false);
+    }
+    match tokens(alloc, text) {
+        Ok(read) => is_model_answer(alloc, &parse_model(alloc, &read), answer),
+        Err(_) => Ok(false),
+    }
+}
+
 #[test]
 fn a_model_has_its_items_in_their_order_or_the_fault_of_the_grammar(
     rt: HostRuntime,
 ) -> Result<(), Fail> {
     for (text, want) in MODELS {
-        assert!(rt; text.len() < 1000);
-        let read = tokens(rt.alloc(), text.as_bytes())?;
-        let mut out = Vec::new(rt.alloc());
-        let is_answer = match (show_model(&mut out, rt.alloc(), &read), want) {
-            (Ok(()), Ok(shown)) => out.as_slice() == shown.as_bytes(),
-            (Err(fault), Err(wanted)) => fault == *wanted,
-            _ => false,
-        };
-        assert!(rt; is_answer, "{text}");
+        assert!(rt;
+            has_model_answer(rt.alloc(), text.as_bytes(), want)?,
+            "{text}"
+        );
     }
     Ok(())
 }

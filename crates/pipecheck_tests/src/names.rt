@@ -3,7 +3,7 @@ use super::shown_closed::show_closed;
 use super::texts::{is_refused_at, put, written_model};
 use macro_expand::{expand, stage_faults};
 use pc_common::{FaultKind, Memory};
-use pc_syntax::ModelFile;
+use pc_syntax::{Expanded, ModelFile};
 use scope_check::close;
 use std::alloc::Global;
 use std::test::Fail;
@@ -89,17 +89,32 @@ const FAULTS: &[(&'static str, u32, FaultKind)] = &[
     ("ExpandMacro late j", START + 17, FaultKind::Unbound),
 ];
 
-/// Writes the closed axiom of the model, which has one; None where it has a fault.
-fn show_axiom(out: &mut Vec<u8>, alloc: Global, model: &ModelFile) -> Option<()> {
-    let axioms = expand(alloc, model).ok()?;
+/// Writes the axiom closed; false where the model or the axiom has a fault.
+fn put_closed(out: &mut Vec<u8>, alloc: Global, model: &ModelFile, axiom: &Expanded) -> bool {
     if stage_faults(model).is_some() {
-        return None;
+        return false;
     }
-    for axiom in &axioms {
-        let closed = close(alloc, model, axiom).ok()?;
-        show_closed(out, &closed.body).ok()?;
+    match close(alloc, model, axiom) {
+        Ok(closed) => show_closed(out, &closed.body).is_ok(),
+        Err(_) => false,
     }
-    Some(())
+}
+
+fn put_all(out: &mut Vec<u8>, alloc: Global, model: &ModelFile, axioms: &[Expanded]) -> bool {
+    for axiom in axioms {
+        if !put_closed(out, alloc, model, axiom) {
+            return false;
+        }
+    }
+    true
+}
+
+/// Writes the closed axiom of the model, which has one; false where it has a fault.
+fn put_axiom(out: &mut Vec<u8>, alloc: Global, model: &ModelFile) -> bool {
+    match expand(alloc, model) {
+        Ok(axioms) => put_all(out, alloc, model, axioms.as_slice()),
+        Err(_) => false,
+    }
 }
 
 /// `PIECE PIECE PIECE`, as one text.
@@ -111,19 +126,30 @@ fn three(alloc: Global, pieces: [&str; 3]) -> Result<Vec<u8>, Memory> {
     Ok(text)
 }
 
-fn is_closed_so(alloc: Global, model: &ModelFile, closed: &str) -> Result<bool, Memory> {
+/// Whether the model's closed axiom is shown so.
+fn is_shown(alloc: Global, model: &ModelFile, want: &[u8]) -> bool {
     let mut out = Vec::new(alloc);
-    let is_shown = show_axiom(&mut out, alloc, model).is_some();
+    put_axiom(&mut out, alloc, model) && out.as_slice() == want
+}
+
+/// The same of the model that a text is.
+fn is_read_so(alloc: Global, text: &[u8], want: &[u8]) -> bool {
+    match written_model(alloc, text) {
+        Some(model) => is_shown(alloc, &model, want),
+        None => false,
+    }
+}
+
+fn is_closed_so(alloc: Global, formula: &str, closed: &str) -> Result<bool, Memory> {
+    let text = three(alloc, [BEFORE, formula, "."])?;
     let whole = three(alloc, ["Forall(microop, Exists(core, ", closed, "))"])?;
-    Ok(is_shown && out.as_slice() == whole.as_slice())
+    Ok(is_read_so(alloc, &text, &whole))
 }
 
 #[test]
 fn a_formula_is_closed(rt: HostRuntime) -> Result<(), Fail> {
     for (formula, closed) in CLOSED {
-        let text = three(rt.alloc(), [BEFORE, formula, "."])?;
-        let model = written_model(rt.alloc(), &text).ok_or("no model")?;
-        assert!(rt; is_closed_so(rt.alloc(), &model, closed)?, "{formula}");
+        assert!(rt; is_closed_so(rt.alloc(), formula, closed)?, "{formula}");
     }
     Ok(())
 }

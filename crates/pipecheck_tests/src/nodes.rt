@@ -64,11 +64,21 @@ fn is_read(
     Ok(is_read_as(front, &mut sink, word.as_bytes(), want))
 }
 
+/// The first word that is read otherwise, or None.
+fn first_wrong(alloc: Global, front: &Front) -> Result<Option<&'static str>, Memory> {
+    for (word, want) in WORDS {
+        if !is_read(alloc, front, word, *want)? {
+            return Ok(Some(*word));
+        }
+    }
+    Ok(None)
+}
+
 #[test]
 fn a_node_is_read_and_written_or_told_to_be_none(rt: HostRuntime) -> Result<(), Fail> {
     let front = front_of(rt.alloc(), STAGES, OPS)?;
-    for (word, want) in WORDS {
-        assert!(rt; is_read(rt.alloc(), &front, word, *want)?, "{word}");
-    }
+    let wrong = first_wrong(rt.alloc(), &front);
+    drop(front);
+    assert_eq!(rt; wrong?, None);
     Ok(())
 }

@@ -1,7 +1,7 @@
 //! Files, sinks, rooms in front of sinks, places and statuses.
 use super::texts::{calls, held};
 use pc_common::{
-    MemFiles, MemSink, Memory, Place, ReadEnd, Room, Status, SureFiles, SureSink, line_col,
+    Files, MemFiles, MemSink, Memory, Place, ReadEnd, Room, Status, SureFiles, SureSink, line_col,
     read_all, write_all,
 };
 use std::alloc::Global;
@@ -49,9 +49,9 @@ fn files(alloc: Global, step: usize, fails: &[u64]) -> Result<MemFiles, Memory> 
     })
 }
 
-fn is_read_as(
+fn is_read_as<F: Files>(
     alloc: Global,
-    files: &mut MemFiles,
+    files: &mut F,
     (name, limit): (&str, usize),
     end: Result<&str, ReadEnd>,
 ) -> bool {
@@ -65,13 +65,25 @@ fn is_read_as(
     }
 }
 
+/// The same over files of its own, of which so many calls then failed.
+fn is_read_so(
+    alloc: Global,
+    (name, limit, step): (&str, usize, usize),
+    fails: &[u64],
+    end: Result<&str, ReadEnd>,
+    faults: u64,
+) -> Result<bool, Memory> {
+    let mut files = files(alloc, step, fails)?;
+    let is_end = is_read_as(alloc, &mut files, (name, limit), end);
+    Ok(is_end && files.faults() == faults)
+}
+
 #[test]
 fn a_file_is_read_whole_or_not_at_all(rt: HostRuntime) -> Result<(), Fail> {
     for (name, limit, step, fails, end, faults) in READS {
-        let mut files = files(rt.alloc(), *step, fails)?;
-        let is_end = is_read_as(rt.alloc(), &mut files, (name, *limit), *end);
+        let row = (*name, *limit, *step);
         assert!(rt;
-            is_end && files.faults() == *faults,
+            is_read_so(rt.alloc(), row, fails, *end, *faults)?,
             "{name} up to {limit} by {step}"
         );
     }
@@ -79,10 +91,8 @@ fn a_file_is_read_whole_or_not_at_all(rt: HostRuntime) -> Result<(), Fail> {
 }
 
 fn are_sure(alloc: Global, files: &mut SureFiles) -> bool {
-    let held = read_all(alloc, files, "a", 5).is_ok_and(|bytes| bytes.as_slice()
-        == b"abcde".as_slice());
     // a name that was not given holds no bytes
-    held && read_all(alloc, files, "c", 0).is_ok_and(|bytes| bytes.is_empty())
+    is_read_as(alloc, files, ("a", 5), Ok("abcde")) && is_read_as(alloc, files, ("c", 0), Ok(""))
 }
 
 #[test]
@@ -112,14 +122,15 @@ fn is_taken_as(sink: &mut MemSink, text: &str, faults: u64) -> bool {
     is_written == (faults == 0) && sink.taken() == text.as_bytes() && sink.faults() == faults
 }
 
+fn sink(alloc: Global, room: usize, step: usize, fails: &[u64]) -> Result<MemSink, Memory> {
+    let sink = MemSink::new(alloc, room, calls(alloc, fails)?)?;
+    Ok(if step > 0 { sink.with_step(step) } else { sink })
+}
+
 #[test]
 fn a_sink_takes_what_its_room_and_its_calls_let_through(rt: HostRuntime) -> Result<(), Fail> {
     for (room, step, fails, text, faults) in WRITES {
-        let fails = calls(rt.alloc(), fails)?;
-        let mut sink = MemSink::new(rt.alloc(), *room, fails)?;
-        if *step > 0 {
-            sink = sink.with_step(*step);
-        }
+        let mut sink = sink(rt.alloc(), *room, *step, fails)?;
         assert!(rt;
             is_taken_as(&mut sink, text, *faults),
             "{text} in {room} by {step}"
@@ -184,14 +195,26 @@ fn long_text(alloc: Global) -> Result<Vec<u8>, Memory> {
     Ok(text)
 }
 
+/// Whether the row holds of the text.
+fn is_handed_on(
+    alloc: Global,
+    text: &[u8],
+    (pieces, flushes): (&[usize], u8),
+    fails: &[u64],
+    (taken, faults): (usize, u64),
+) -> Result<bool, Memory> {
+    let mut sink = sink(alloc, 10_000, 0, fails)?;
+    let is_put = is_put(&mut sink, text, pieces, flushes);
+    Ok(is_put == (faults == 0) && is_held(&sink, text, taken, faults))
+}
+
 #[test]
 fn a_room_hands_on_what_it_has_no_space_for(rt: HostRuntime) -> Result<(), Fail> {
     let text = long_text(rt.alloc())?;
     for (pieces, flushes, fails, taken, faults) in ROOMS {
-        let mut sink = MemSink::new(rt.alloc(), 10_000, calls(rt.alloc(), fails)?)?;
-        let is_put = is_put(&mut sink, &text, pieces, *flushes);
+        let ends = (*taken, *faults);
         assert!(rt;
-            is_put == (*faults == 0) && is_held(&sink, &text, *taken, *faults),
+            is_handed_on(rt.alloc(), &text, (*pieces, *flushes), fails, ends)?,
             "{taken} bytes after {flushes} flushes, {faults} faults"
         );
     }

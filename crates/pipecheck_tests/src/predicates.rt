@@ -271,6 +271,8 @@ fn first_wrong(alloc: Global, case: &Case) -> Result<Option<(Pred, Option<bool>)
 fn each_predicate_says_what_the_case_says(rt: HostRuntime) -> Result<(), Fail> {
     assert!(rt; CASE.len() < 1000);
     let case = read_case(rt.alloc(), CASE)?;
-    assert_eq!(rt; first_wrong(rt.alloc(), &case)?, None);
+    let wrong = first_wrong(rt.alloc(), &case);
+    drop(case);
+    assert_eq!(rt; wrong?, None);
     Ok(())
 }

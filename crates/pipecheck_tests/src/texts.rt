@@ -5,7 +5,7 @@ use pc_front::{FrontEnd, front};
 use pc_ground::Front;
 use pc_syntax::ModelFile;
 use std::alloc::Global;
-use uspec_lexer::tokens;
+use uspec_lexer::{Tokens, tokens};
 use uspec_parser::parse_model;
 
 /// A text in pieces, each with how often it stands there.
@@ -36,8 +36,17 @@ pub(crate) fn written_model(alloc: Global, text: &[u8]) -> Option<ModelFile> {
     if text.len() > 1_048_576 {
         return None;
     }
-    let tokens = tokens(alloc, text).ok()?;
-    parse_model(alloc, &tokens).ok()
+    match tokens(alloc, text) {
+        Ok(tokens) => parsed(alloc, &tokens),
+        Err(_) => None,
+    }
+}
+
+fn parsed(alloc: Global, tokens: &Tokens<'_>) -> Option<ModelFile> {
+    match parse_model(alloc, tokens) {
+        Ok(model) => Some(model),
+        Err(_) => None,
+    }
 }
 
 /// What both files say, or why they say nothing.
@@ -49,6 +58,14 @@ pub(crate) fn front_of(alloc: Global, model: &str, test: &str) -> Result<Front, 
     front(alloc, model, test)
 }
 
+/// Whether the model or the test is refused, the first fault of both being this.
+pub(crate) fn are_refused(alloc: Global, model: &str, test: &str, fault: InputFault) -> bool {
+    match front_of(alloc, model, test) {
+        Ok(_) => false,
+        Err(end) => end == FrontEnd::Refused(fault),
+    }
+}
+
 /// Whether the model is refused, its first fault being this.
 pub(crate) fn is_refused_at(alloc: Global, model: &str, offset: u32, kind: FaultKind) -> bool {
     let fault = InputFault {
@@ -56,7 +73,7 @@ pub(crate) fn is_refused_at(alloc: Global, model: &str, offset: u32, kind: Fault
         place: Place { offset },
         kind,
     };
-    front_of(alloc, model, EMPTY).err() == Some(FrontEnd::Refused(fault))
+    are_refused(alloc, model, EMPTY, fault)
 }
 
 fn bytes(alloc: Global, text: &str) -> Result<Bytes, Memory> {
