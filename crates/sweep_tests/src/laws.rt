@@ -1,8 +1,9 @@
-//! The laws of patterns and of their rows.
+//! The laws of patterns, of their rows and of the text of a sweep.
 use pattern_reader::{
     Pattern, combinations_are_rows, limits_are, no_fault, one_fault, one_pattern, pattern_or_fault,
     read_pattern, rows_are_combinations, rows_are_in_order, rows_come_once, values_come_once,
 };
+use sweep_command::text_is_the_sweep;
 
 const TEXT: &[u8] = b"Litmus \"p\".
 Microop 0 0 0 0 (Read (VA 0 0) (PA 0 0) (Data Any)).
@@ -24,6 +25,7 @@ fn each_law_can_be_called(rt: HostRuntime) {
     one_pattern(TEXT);
     one_fault(TEXT);
     no_fault(TEXT);
+    text_is_the_sweep();
     if let Ok(pattern) = read_pattern(rt.alloc(), TEXT) {
         call_laws_of_rows(&pattern);
     }
