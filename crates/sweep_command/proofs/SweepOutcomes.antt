@@ -1,9 +1,9 @@
 -- The outcome of `sweep`: what its answer says, and that it is due.
-use Rattle.std.proofs.Common.{◌≡◌, ℕ, Bool, List, [], inr, refl, sym, ap, subst}
+use Rattle.std.proofs.Common.{◌≡◌, ℕ, Bool, List, refl, sym, ap, subst}
 use Rattle.pc_common.specs.Outside.{FilesView}
 use Rattle.pc_common.specs.Case.{Case}
 use Rattle.pc_common.specs.declared.status.Status.{Status}
-use Rattle.pc_common.specs.declared.status.Status.TheVariants.{Usage, ReadFault, Memory, Done}
+use Rattle.pc_common.specs.declared.status.Status.TheVariants.{Usage, ReadFault, Done}
 use Rattle.pc_case.specs.MicroOps.{AreMicroOps}
 use Rattle.pc_syntax.specs.Written.{WrittenModel}
 use Rattle.litmus_reader.proofs.CleanFacts.{are_micro_ops}
@@ -48,12 +48,6 @@ sweep_is mb tb task say answers are = record {
   text_is = refl;
 }
 
-no_usage : Memory ≡ Usage → ⊥
-no_usage e = cc
-
-no_read_fault : Memory ≡ ReadFault → ⊥
-no_read_fault e = cc
-
 done_no_usage : Done ≡ Usage → ⊥
 done_no_usage e = cc
 
@@ -83,17 +77,6 @@ module _ {F : Type 0} {view : F → FilesView} {old new : F} {i : Inputs} where
       missing_only = λ c e. absurd (done_no_fault e);
       missing_due = λ c l. absurd (f.held c l);
       answers = λ t other memory. swept (f.says t) (sweep_is f.model f.second task f.task_is answers are);
-    }
-
-    -- memory was refused after the two were read
-    pub memory_outcome : IsSweepOutcome view i old new Memory []
-    memory_outcome = record {
-      keeps = f.keeps;
-      usage_only = λ e. absurd (no_usage e);
-      cause = λ e. absurd (no_read_fault e);
-      missing_only = λ c e. absurd (no_read_fault e);
-      missing_due = λ c l. inr refl;
-      answers = λ t no_fault memory. absurd (memory refl);
     }
 
 -- the model and the case that two files say, where they say a pattern

@@ -1,3 +1,4 @@
 pub mod Patterns
 pub mod Texts
 pub mod SweepAnswers
+pub mod Laws

@@ -16,7 +16,9 @@
 
 mod command;
 mod inputs;
+mod laws;
 mod report;
 
 pub use command::{Swept, sweep_files};
+pub use laws::text_is_the_sweep;
 pub use report::write_sweep;
