@@ -13,6 +13,6 @@ mod laws;
 #[cfg(test)]
 mod many;
 #[cfg(test)]
-mod values;
+mod rows;
 #[cfg(test)]
-mod verdicts;
+mod values;
