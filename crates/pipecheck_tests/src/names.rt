@@ -140,16 +140,17 @@ fn is_read_so(alloc: Global, text: &[u8], want: &[u8]) -> bool {
     }
 }
 
-fn is_closed_so(alloc: Global, formula: &str, closed: &str) -> Result<bool, Memory> {
-    let text = three(alloc, [BEFORE, formula, "."])?;
+/// Whether the closed axiom of the model that a text is has this between its quantifiers.
+fn is_closed_so(alloc: Global, text: &[u8], closed: &str) -> Result<bool, Memory> {
     let whole = three(alloc, ["Forall(microop, Exists(core, ", closed, "))"])?;
-    Ok(is_read_so(alloc, &text, &whole))
+    Ok(is_read_so(alloc, text, &whole))
 }
 
 #[test]
 fn a_formula_is_closed(rt: HostRuntime) -> Result<(), Fail> {
     for (formula, closed) in CLOSED {
-        assert!(rt; is_closed_so(rt.alloc(), formula, closed)?, "{formula}");
+        let text = three(rt.alloc(), [BEFORE, formula, "."])?;
+        assert!(rt; is_closed_so(rt.alloc(), &text, closed)?, "{formula}");
     }
     Ok(())
 }
