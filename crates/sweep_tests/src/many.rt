@@ -26,15 +26,14 @@ fn pattern_of(alloc: Global, writes: &str, reads: u32, behind: &str) -> Result<S
     Ok(text)
 }
 
+/// The bits of a row's number, one for each of twelve open reads.
+const BITS: &[u32] = &[2048, 1024, 512, 256, 128, 64, 32, 16, 8, 4, 2, 1];
+
 /// The line of a row of twelve values, each 0 or 1.
 fn put_row(text: &mut String, row: u32) -> Result<(), Memory> {
     text.push_str("row")?;
-    for k in 0..12 {
-        let value = if (row >> (11 - k)) & 1 == 0 {
-            " 0"
-        } else {
-            " 1"
-        };
+    for bit in BITS {
+        let value = if row & *bit == 0 { " 0" } else { " 1" };
         text.push_str(value)?;
     }
     text.push_str(" observable\n")?;
