@@ -1,6 +1,6 @@
 //! The command verify-lifted: a text judged against a model and a test.
 use example_texts::{BOTH_ORDERS, EMPTY, SOME_OP, TWO_FORBIDDEN};
-use memory_runs::ends_over;
+use memory_runs::{Plan, are_failures_reported, ends_over};
 use pc_common::Status;
 use std::test::Fail;
 
@@ -195,6 +195,28 @@ fn a_run_that_ends_early_says_why(rt: HostRuntime) -> Result<(), Fail> {
             ends_over(rt.alloc(), command, contents, fails, end)?,
             "{command}: {text}"
         );
+    }
+    Ok(())
+}
+
+/// The one axiom is refuted by one line.
+const PLANS: &[Plan<'static>] = &[(
+    WORDS,
+    &[
+        SOME_OP,
+        EMPTY,
+        "unobservable\ntest unstated\nlifted\nfalse 0\nend\n",
+    ],
+    (Status::Unobservable, VERIFIED),
+    1,
+)];
+
+#[test]
+fn a_failed_read_writes_nothing_and_a_failed_write_cuts_the_line(
+    rt: HostRuntime,
+) -> Result<(), Fail> {
+    for plan in PLANS {
+        assert!(rt; are_failures_reported(rt.alloc(), *plan)?, "{}", plan.2.1);
     }
     Ok(())
 }

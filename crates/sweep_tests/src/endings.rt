@@ -1,6 +1,6 @@
 //! How the command ends without rows: words, faults of the model, and calls that fail.
 use example_texts::{ORDERED, TWO};
-use memory_runs::ends_over;
+use memory_runs::{Plan, are_failures_reported, ends_over};
 use pc_common::Status;
 use std::test::Fail;
 
@@ -85,6 +85,27 @@ fn a_failed_call_is_told_by_the_status(rt: HostRuntime) -> Result<(), Fail> {
             ends_over(rt.alloc(), command, contents, fails, end)?,
             "{command}: {text}"
         );
+    }
+    Ok(())
+}
+
+/// A pattern without open reads, whose text is one piece.
+const PLANS: &[Plan<'static>] = &[(
+    "sweep model test",
+    &[ORDERED, TWO],
+    (
+        Status::Done,
+        "sweep 1\nrow observable\nobservable 1\nunobservable 0\nend\n",
+    ),
+    1,
+)];
+
+#[test]
+fn a_failed_read_writes_nothing_and_a_failed_write_cuts_the_text(
+    rt: HostRuntime,
+) -> Result<(), Fail> {
+    for plan in PLANS {
+        assert!(rt; are_failures_reported(rt.alloc(), *plan)?, "{}", plan.2.1);
     }
     Ok(())
 }
