@@ -1,7 +1,7 @@
 //! The commands check86 and verify86, through the top call: what check and verify do, of a listing.
 use super::listings::{ONE_LOAD_OPEN, STORE_BUFFERING, STORE_BUFFERING_FORBIDDEN};
 use example_texts::{IN_ORDER, LAST_WRITE, STORE_BUFFER};
-use memory_runs::ends_over;
+use memory_runs::{Plan, are_failures_reported, ends_over};
 use pc_common::Status;
 use std::test::Fail;
 
@@ -351,6 +351,28 @@ fn a_run_that_ends_early_says_why(rt: HostRuntime) -> Result<(), Fail> {
             ends_over(rt.alloc(), command, contents, fails, end)?,
             "{command}: {text}"
         );
+    }
+    Ok(())
+}
+
+/// A model and a listing, and a refutation of them that is verified.
+const PLANS: &[Plan<'static>] = &[(
+    "verify86 model test certificate",
+    &[
+        FENCED,
+        "X86 t\n{}\nP0;\nMFENCE;\n~exists x=0\n",
+        "unobservable\ntest forbidden: ok\ncycle 0.0@0:S\nend\n",
+    ],
+    (Status::Unobservable, "verified unobservable\n"),
+    1,
+)];
+
+#[test]
+fn a_failed_read_writes_nothing_and_a_failed_write_cuts_the_line(
+    rt: HostRuntime,
+) -> Result<(), Fail> {
+    for plan in PLANS {
+        assert!(rt; are_failures_reported(rt.alloc(), *plan)?, "{}", plan.2.1);
     }
     Ok(())
 }
