@@ -1,0 +1,10 @@
+pub mod SpacedWords
+pub mod DecodedSteps
+pub mod PathEnds
+pub mod OneStep
+pub mod NumberRow
+pub mod ValueWords
+pub mod TakenLines
+pub mod LineRuns
+pub mod Texts
+pub mod Outcomes

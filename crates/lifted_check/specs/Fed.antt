@@ -1,0 +1,50 @@
+-- What a checker is after a text, and what its answer says.
+use Rattle.std.specs.Prelude.{◌≡◌, ℕ, ◌<◌, ◌≤◌, List, length, IsTrue, ⊤}
+use Rattle.pc_common.specs.World.{Node, World, IsWorld}
+use Rattle.pc_common.specs.declared.limits.TheConstants.{MAX_CERTIFICATE}
+use Rattle.pc_syntax.specs.Closed.{closed_satisfies}
+use Rattle.line_judge.specs.Texts.{IsMadeOf, IsRefusedAt}
+use Rattle.line_judge.specs.declared.feed.Finished.{Finished}
+use Rattle.line_judge.specs.declared.feed.Finished.TheVariants.{Whole as a_whole_text, Refused as refused_at}
+use Rattle.line_judge.specs.Feeds.{HasTaken}
+use Rattle.lifted_check.specs.LiftedTexts.{Question, asked, IsLiftedText, BeginsLifted}
+use Rattle.lifted_check.specs.Stages.{Stands}
+use Rattle.lifted_check.specs.declared.judge.LiftedJudge.{LiftedJudge}
+use Rattle.lifted_check.specs.declared.checker.LiftedChecker.{LiftedChecker}
+use Rattle.lifted_check.specs.declared.lifted.Lifted.{Lifted}
+use Rattle.lifted_check.specs.declared.lifted.Lifted.TheVariants.{Unobservable, Refused}
+
+-- the text is that of a lifted refutation; or, where it is none's, the first line with which it doesn't begin well any
+-- more; or 0 where it is longer than the limit
+pub data IsFound (q : Question) (text : List ℕ) : Lifted → Type 0 where
+  unseen : length text ≤ MAX_CERTIFICATE → IsMadeOf (IsLiftedText q) text → IsFound q text Unobservable
+  too_long : MAX_CERTIFICATE < length text → IsFound q text (Refused 0)
+  refused : (n : ℕ) → length text ≤ MAX_CERTIFICATE → IsRefusedAt (BeginsLifted q) (IsLiftedText q) text n → IsFound q text (Refused n)
+
+-- a refutation shows that no world makes every axiom true; a refused text says nothing
+abbrev pub SaysOutcome : Question → Lifted → Type 0
+SaysOutcome q Unobservable = (w : World Node) → IsWorld w → IsTrue (closed_satisfies q.axioms q.case w) → ⊥
+SaysOutcome q (Refused n) = ⊤
+
+-- what a text is, by what its feed found
+abbrev pub lifted_of : Finished LiftedJudge → Lifted
+lifted_of (a_whole_text judge) = Unobservable
+lifted_of (refused_at n) = Refused n
+
+abbrev pub judge_question : LiftedJudge → Question
+judge_question j = asked j.case.now j.axioms.now
+
+abbrev pub judge_begins : LiftedJudge → List (List ℕ) → Type 0
+judge_begins j lines = BeginsLifted (judge_question j) lines
+
+abbrev pub judge_whole : LiftedJudge → List (List ℕ) → Type 0
+judge_whole j lines = IsLiftedText (judge_question j) lines
+
+abbrev pub judge_stands : LiftedJudge → List (List ℕ) → Type 0
+judge_stands j lines = Stands (judge_question j) j.stage lines
+
+-- the checker is one of this question, and took this text
+pub record IsFed (c : LiftedChecker) (q : Question) (text : List ℕ) : Type 0 where
+  pub start : LiftedJudge
+  pub asks : judge_question start ≡ q
+  pub taken : HasTaken judge_begins judge_whole judge_stands start MAX_CERTIFICATE text c.feed

@@ -1,0 +1,7 @@
+pub mod Words
+pub mod StepLines
+pub mod Decoding
+pub mod LiftedTexts
+pub mod Stages
+pub mod Laws
+pub mod Fed

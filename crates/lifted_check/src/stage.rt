@@ -1,0 +1,28 @@
+ghost use Rattle.std.specs.Prelude.{◌≡◌};
+ghost use Rattle.lifted_check.specs.Stages.{is_end as is_end_of};
+
+use lifted_facts::Branches;
+
+/// How far a lifted text was read.
+#[derive(Drop)]
+pub(crate) enum Stage<'a> {
+    /// No line.
+    Start,
+    /// The first line.
+    First,
+    /// The first two lines.
+    Second,
+    /// The three lines of the header, and steps that leave these branches open.
+    Steps(Branches<'a>),
+    /// A whole text.
+    Ended,
+}
+
+impl<'a> Stage<'a> {
+    /// Whether the text is whole.
+    pub(crate) fn is_end(&self) -> bool
+        ensures { result ≡ is_end_of self.now }
+    {
+        matches!(self, Stage::Ended)
+    }
+}

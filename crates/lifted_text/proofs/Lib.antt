@@ -1,0 +1,3 @@
+pub mod StepRuns
+pub mod SpacedLines
+pub mod WholeTexts

@@ -1,0 +1,27 @@
+-- Numbers of edges that are known lead along their nodes.
+use Rattle.std.proofs.Common.{◌≡◌, ℕ, true, false, List, [], ◌∷◌, ◌++◌, Some, refl, sym, ◌∙◌, ap, subst}
+use Rattle.pc_common.specs.Case.{Case}
+use Rattle.pc_common.specs.World.{Node}
+use Rattle.pc_common.proofs.Elements.{In}
+use Rattle.pc_ground.specs.declared.row.Row.{Row}
+use Rattle.lifted_facts.specs.PlainFacts.{PlainFact, Branch}
+use Rattle.lifted_facts.specs.Lifted.{LiftedLeaf, cycle, path, absent, Follows, IsEdge, Closes}
+use Rattle.lifter.specs.KnownFacts.{PlainKey, edge, no_edge, no_node, present, Entry, entry, IsKnown, AreKnown, AreNumbers}
+
+module _ (c : Case) (rows : List (Row Node)) (b : Branch) (es : List Entry) (known : AreKnown c rows b es) where
+  pub follows_along : (x : Node) (via : List Node) (y : Node) (ks : List ℕ) → AreNumbers es x (via ++ y ∷ []) ks → Follows b x ks y
+  follows_along x [] y [] h = elim h [ ]
+  follows_along x [] y (k ∷ []) h = (y, known (edge x y) k h.0, refl)
+  follows_along x [] y (k ∷ j ∷ ks) h = elim h.1 [ ]
+  follows_along x (v ∷ via) y [] h = elim h [ ]
+  follows_along x (v ∷ via) y (k ∷ ks) h = (v, known (edge x v) k h.0, follows_along v via y ks h.1)
+
+  pub cycle_closes : (x : Node) (via : List Node) (k : ℕ) (ks : List ℕ) → AreNumbers es x (via ++ x ∷ []) (k ∷ ks) → Closes c b (cycle k ks)
+  cycle_closes x via k ks h = (x, follows_along x via x (k ∷ ks) h)
+
+  pub path_closes : (x : Node) (via : List Node) (y : Node) (k : ℕ) (ks : List ℕ) (denial : ℕ) → AreNumbers es x (via ++ y ∷ []) (k ∷ ks) → In (entry (no_edge x y) denial) es
+      → Closes c b (path k ks denial)
+  path_closes x via y k ks denial h d = (x, y, follows_along x via y (k ∷ ks) h, known (no_edge x y) denial d)
+
+  pub absent_closes : (a : Node) (denial k : ℕ) → In (entry (no_node a) denial) es → In (entry (present a) k) es → Closes c b (absent denial k)
+  absent_closes a denial k d p = (let f = known (present a) k p in (a, f.0, known (no_node a) denial d, f.1, f.2))

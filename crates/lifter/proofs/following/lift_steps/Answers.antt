@@ -1,0 +1,27 @@
+use Rattle.std.proofs.Common.{◌≡◌, ◌<◌, ◌∷◌, [], List, length, refl, sym, ◌∙◌, ap, subst, arith}
+use Rattle.pc_ground.specs.Stages.{plain_axioms}
+use Rattle.pc_ground.specs.GroundTree.{closed_ground_tree}
+use Rattle.pc_ground.proofs.FlatRows.{size_pos, length_rows}
+use Rattle.lifted_facts.specs.PlainFacts.{Branch, root}
+use Rattle.lifted_facts.specs.Lifted.{LiftedStep, Runs}
+use Rattle.lifter.proofs.RootTrees.{axioms_never, tree_open, axioms_open, root_tree, stands_whole, begun}
+use Rattle.lifter.proofs.following.lift_steps.Goals as goal
+
+pub row-requires : goal.row-requires
+row-requires c =
+    let t = closed_ground_tree c.args.case.now (plain_axioms c.args.axioms.now) in
+    let many = ap length c.requires.tree in
+    omega (arith, many, length_rows t, size_pos t)
+
+pub close_axiom-requires-clause-kind : goal.close_axiom-requires-clause-kind
+close_axiom-requires-clause-kind c =
+    axioms_never c.args.case.now (plain_axioms c.args.axioms.now) c.args.tree.now c.row.result c.requires.tree c.row.ensures.row c.in-False.is
+
+pub unfold_axioms-requires-clause-kind : goal.unfold_axioms-requires-clause-kind
+unfold_axioms-requires-clause-kind c =
+    axioms_open c.args.case.now (plain_axioms c.args.axioms.now)
+    (tree_open c.args.case.now (plain_axioms c.args.axioms.now) c.args.tree.now c.row.result c.args.refutation.now c.requires.tree c.row.ensures.row c.in_default.not-False c.requires.refuted)
+
+pub unfold_axioms-requires-clause-stands : goal.unfold_axioms-requires-clause-stands
+unfold_axioms-requires-clause-stands c =
+    stands_whole (closed_ground_tree c.args.case.now (plain_axioms c.args.axioms.now)) _ c.args.tree.now c.requires.tree (root_tree c.args.case.now (plain_axioms c.args.axioms.now))
