@@ -88,22 +88,22 @@ open_rest True b no_first e = e
 open_rest False b no_first e = absurd (no_first refl)
 open_rest Open b no_first e = ap (joined_kind true Open) e
 
-there_at : {Y : Type 0} (ys : List Y) (i : ℕ) → i < length ys → (y : Y) × (slice_get ys i ≡ Some y)
+pub there_at : {Y : Type 0} (ys : List Y) (i : ℕ) → i < length ys → (y : Y) × (slice_get ys i ≡ Some y)
 there_at [] i h = absurd (omega (arith, h))
 there_at (y ∷ ys) zero h = (y, refl)
 there_at (y ∷ ys) (suc i) h = there_at ys i (omega (arith, h))
 
-both_open : (a b : Kind) → joined_kind true a b ≡ Open → (a ≡ False → ⊥) × (b ≡ False → ⊥)
+pub both_open : (a b : Kind) → joined_kind true a b ≡ Open → (a ≡ False → ⊥) × (b ≡ False → ⊥)
 both_open True b e = (λ h. cc, λ h. cc)
 both_open False b e = cc
 both_open Open True e = (λ h. cc, λ h. cc)
 both_open Open False e = cc
 both_open Open Open e = (λ h. cc, λ h. cc)
 
-open_not_false : (k : Kind) → k ≡ Open → k ≡ False → ⊥
+pub open_not_false : (k : Kind) → k ≡ Open → k ≡ False → ⊥
 open_not_false k e f = (let clash : Open ≡ False = sym e ∙ f in cc)
 
-only_true : (k : Kind) → (k ≡ False → ⊥) → (k ≡ Open → ⊥) → k ≡ True
+pub only_true : (k : Kind) → (k ≡ False → ⊥) → (k ≡ Open → ⊥) → k ≡ True
 only_true True e f = refl
 only_true False e f = absurd (e refl)
 only_true Open e f = absurd (f refl)

@@ -17,11 +17,7 @@ use static_preds::{bind_next, copy_of, holds, range_len, value_in_range, with_va
 pub(crate) fn kind_of_count(all: bool, count: usize) -> Kind
     ensures { result ≡ kind_over all count }
 {
-    if count == 0 {
-        neutral(all)
-    } else {
-        Kind::Open
-    }
+    if count == 0 { neutral(all) } else { Kind::Open }
 }
 
 /// Which constant a truth value under a sign is.

@@ -86,7 +86,13 @@ pub fn lift(alloc: Global, front: &Front, refutation: &Refutation) -> Result<Vec
 {
     let case = &front.case;
     show_ops(case);
-    let steps = lift_steps(alloc, case, front.axioms.as_slice(), &front.tree, refutation)?;
+    let steps = lift_steps(
+        alloc,
+        case,
+        front.axioms.as_slice(),
+        &front.tree,
+        refutation,
+    )?;
     show_steps(&steps);
     let mut text = Vec::new(alloc);
     put_header(&mut text, case)?;

@@ -1,16 +1,19 @@
 -- A fact that is False closes its branch: by itself, by its two sides, or by a part.
-use Rattle.std.proofs.Common.{◌≡◌, ℕ, ◌+◌, Bool, true, false, List, [], ◌∷◌, ◌++◌, Some, refl, sym, ◌∙◌, ap}
+use Rattle.std.proofs.Common.{◌≡◌, ℕ, ◌+◌, Bool, true, false, List, [], ◌∷◌, ◌++◌, Some, None, map, refl, sym, ◌∙◌, ap}
 use Rattle.pc_common.specs.Case.{Case}
 use Rattle.lifted_facts.specs.declared.way.Way.{Way}
-use Rattle.lifted_facts.specs.PlainFacts.{PlainFact, Branch}
+use Rattle.lifted_facts.specs.declared.fact.Fact.{Fact}
+use Rattle.lifted_facts.specs.declared.fact.Fact.TheVariants.{Said, Node as NodeFact, Edge as EdgeFact}
+use Rattle.lifted_facts.specs.PlainFacts.{PlainFact, Branch, plain_fact, plain_part}
 use Rattle.lifted_facts.specs.Parts.{part_of, sides, is_false}
 use Rattle.lifted_facts.specs.Lifted.{LiftedStep, derive, split, close, falsity}
-use Rattle.lifted_kinds.specs.Trees.{fact_tree}
+use Rattle.lifted_kinds.specs.Trees.{fact_tree, joined_trees}
+use Rattle.lifted_kinds.specs.PartLists.{parts}
 use Rattle.lifted_kinds.specs.declared.kind.Kind.{Kind}
 use Rattle.lifted_kinds.specs.declared.kind.Kind.TheVariants.{True, False, Open}
 use Rattle.lifted_kinds.specs.Kinds.{kind_of, joined_kind}
 use Rattle.lifted_kinds.proofs.KindLaws.{kind_joined}
-use Rattle.lifted_kinds.proofs.SideLaws.{sides_tree}
+use Rattle.lifted_kinds.proofs.SideLaws.{sides_tree, parts_tree}
 use Rattle.lifter.specs.Closings.{HasClosed}
 use Rattle.lifter.proofs.RunsMore.{last_fact, one_longer, ran_derive, ran_split, ran_close}
 
@@ -40,3 +43,12 @@ either_false Open Open e = cc
 pub sides_false : (c : Case) (f g h : PlainFact) → sides c f ≡ Some (g, h) → kind_of (fact_tree c f) ≡ False → (kind_of (fact_tree c g) ≡ False) × (kind_of (fact_tree c h) ≡ False)
 sides_false c f g h are no =
     either_false (kind_of (fact_tree c g)) (kind_of (fact_tree c h)) (sym (ap kind_of (sides_tree c f g h are) ∙ kind_joined false (fact_tree c g) (fact_tree c h)) ∙ no)
+
+-- a fact that is False with no sides, and not by itself, has a part that is so
+pub parts_false : (c : Case) (f : Fact) → sides c (plain_fact f) ≡ None → is_false c (plain_fact f) ≡ false → kind_of (fact_tree c (plain_fact f)) ≡ False
+    → kind_of (joined_trees true (map (fact_tree c) (parts c (plain_fact f)))) ≡ False
+parts_false c (Said s) none fine no = sym (ap kind_of (parts_tree c (plain_part s) tt none fine)) ∙ no
+parts_false c (NodeFact true a) none fine no = cc
+parts_false c (NodeFact false a) none fine no = cc
+parts_false c (EdgeFact true a b) none fine no = cc
+parts_false c (EdgeFact false a b) none fine no = cc

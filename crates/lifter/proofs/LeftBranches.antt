@@ -1,7 +1,8 @@
 -- The branches that wait, once the first one is closed.
 use Rattle.std.proofs.Common.{◌≡◌, ◌⊎◌, inl, inr, ℕ, ◌+◌, ◌≤◌, true, false, List, [], ◌∷◌, ◌++◌, Option, Some, length, map, take, drop, reverse, refl, sym, ◌∙◌, ap, subst, arith}
 use Rattle.std.specs.Prelude.{All}
-use Rattle.std.proofs.lemmas.List.{take-append-drop, length-take-le}
+use Rattle.std.proofs.lemmas.List.{take-append-drop, take-map, length-take-le, reverse-append}
+use Rattle.std.proofs.lemmas.List.Elements.{All-pop, All-take, All-push}
 use Rattle.std.proofs.Math.Seq.{take-length}
 use Rattle.pc_common.specs.Case.{Case}
 use Rattle.pc_common.specs.World.{Node}
@@ -23,7 +24,7 @@ use Rattle.lifter.specs.declared.state.Later.{Later}
 use Rattle.lifter.specs.declared.state.State.{State}
 use Rattle.lifter.specs.Closings.{HasClosed}
 use Rattle.lifter.specs.KnownFacts.{Entry, IsPart, AreKnown, HaveMore, TellsAll}
-use Rattle.lifter.specs.States.{branch_of, waiting, AreLater, IsGood, IsGoodState, IsCovered, IsSide, AreMatched, no_more, due, side, IsMatchedState, Moves}
+use Rattle.lifter.specs.States.{branch_of, waiting, IsDue, AreKept, AreLater, IsGood, IsGoodState, IsCovered, IsSide, AreMatched, no_more, due, side, IsMatchedState, Moves}
 use Rattle.lifter.specs.Unfoldings.{HasUnfolded}
 use Rattle.lifter.specs.Progress.{IsOn, IsLeft, HasLeft, IsNext, CanEnter, HasClosedBy}
 use Rattle.lifter.proofs.RunsMore.{last_fact, one_longer, ran_close}
@@ -33,6 +34,58 @@ use Rattle.lifter.proofs.CoveredBranches.{covered_more, covered_side}
 
 close_not_side : (p : ℕ) → Close ≡ Side p → ⊥
 close_not_side p e = cc
+
+-- the branch that waits last is the next one
+pub popped : (old new : List Later) (l : Later) → old ≡ new ++ l ∷ [] → reverse old ≡ l ∷ reverse new
+popped old new l is = ap reverse is ∙ reverse-append new (l ∷ [])
+
+pub kept_popped : (c : Case) (old new : State) (l : Later) → new.facts.items ≡ old.facts.items → old.later.items ≡ new.later.items ++ l ∷ [] → AreKept c old
+    → AreKept c new × IsProper c l.fact × IsDue c l l.task
+kept_popped c old new l facts is h =
+    let F : Later → Type 0 = λ w. IsProper c w.fact in
+    let D : Later → Type 0 = λ w. IsDue c w w.task in
+    let P : List Fact → Type 0 = λ fs. All (IsProper c) fs in
+    let a = All-pop F old.later.items new.later.items (Some l) is h.later_proper in
+    let d = All-pop D old.later.items new.later.items (Some l) is h.due in
+    (record { proper = subst P (sym facts) h.proper; later_proper = a.0; due = d.0 }, a.1, d.1)
+
+-- the first facts of a branch, and one more
+pub kept_entered : (c : Case) (old mid : State) (n : ℕ) (x : Fact) → IsProper c x → mid.facts.items ≡ take n old.facts.items ++ x ∷ [] → mid.later ≡ old.later
+    → AreKept c old → AreKept c mid
+kept_entered c old mid n x proper facts later h =
+    let L : List Later → Type 0 = λ ls. All (λ l. IsProper c l.fact) ls in
+    let D : List Later → Type 0 = λ ls. All (λ l. IsDue c l l.task) ls in
+    let P : List Fact → Type 0 = λ fs. All (IsProper c) fs in
+    record {
+      proper = subst P (sym facts) (All-push (IsProper c) (take n old.facts.items) x (All-take (IsProper c) n old.facts.items h.proper) proper);
+      later_proper = subst L (sym (ap (λ v. v.items) later)) h.later_proper;
+      due = subst D (sym (ap (λ v. v.items) later)) h.due;
+    }
+
+pub entered_branch : (old mid : State) (l : Later) (x : Fact) → mid.facts.items ≡ take l.count old.facts.items ++ x ∷ [] → plain_fact x ≡ plain_fact l.fact
+    → branch_of mid ≡ take l.count (branch_of old) ++ plain_fact l.fact ∷ []
+entered_branch old mid l x facts same =
+    branch_push (take l.count old.facts.items) mid.facts.items x (plain_fact l.fact) facts same
+    ∙ ap (λ (y : Branch). y ++ plain_fact l.fact ∷ []) (sym (take-map plain_fact l.count old.facts.items))
+
+pub entered_fact : (old mid : State) (l : Later) (x : Fact) → mid.facts.items ≡ take l.count old.facts.items ++ x ∷ [] → plain_fact x ≡ plain_fact l.fact
+    → l.count ≤ length (branch_of old) → HasFact (branch_of mid) l.count (plain_fact l.fact)
+entered_fact old mid l x facts same within =
+    let b = take l.count (branch_of old) in
+    let P : Branch → Type 0 = λ y. HasFact y l.count (plain_fact l.fact) in
+    subst P (sym (entered_branch old mid l x facts same)) (last_fact b (plain_fact l.fact) l.count (length-take-le l.count (branch_of old) within))
+
+-- a leaf changes no fact and no branch that waits
+pub kept_closed : (c : Case) (old new : State) → HasClosedBy old new → AreKept c old → AreKept c new
+kept_closed c old new by h =
+    let L : List Later → Type 0 = λ ls. All (λ l. IsProper c l.fact) ls in
+    let D : List Later → Type 0 = λ ls. All (λ l. IsDue c l l.task) ls in
+    let P : List Fact → Type 0 = λ fs. All (IsProper c) fs in
+    record {
+      proper = subst P (sym (ap (λ v. v.items) by.facts)) h.proper;
+      later_proper = subst L (sym (ap (λ v. v.items) by.later)) h.later_proper;
+      due = subst D (sym (ap (λ v. v.items) by.later)) h.due;
+    }
 
 module _ (c : Case) (rows : List (Row Node)) (start : List Branch) where
   left_same : (b b2 : Branch) (es es2 : List Entry) (ls ls2 : List Later) (ss ss2 : List LiftedStep) (opens : List TreeBranch) → b ≡ b2 → es ≡ es2 → ls ≡ ls2 → ss ≡ ss2
@@ -119,15 +172,15 @@ module _ (c : Case) (rows : List (Row Node)) (start : List Branch) where
 
   -- the next branch is entered
   pub entered : (old mid new : State) (l : Later) (x : Fact) (p : ℕ) (ps : TreeBranch) (rest : List TreeBranch) → CanEnter c rows start old l p ps rest
-      → mid.facts.items ≡ take l.count old.facts.items ++ x ∷ [] → plain_fact x ≡ plain_fact l.fact → map plain_fact (take l.count old.facts.items) ≡ take l.count (branch_of old)
+      → mid.facts.items ≡ take l.count old.facts.items ++ x ∷ [] → plain_fact x ≡ plain_fact l.fact
       → mid.known ≡ take l.known old.known → mid.later ≡ old.later → mid.steps ≡ old.steps
       → HasUnfolded c rows (fact_tree c (plain_fact l.fact)) p mid new → IsOn c rows start new (ps ∷ rest)
-  entered old mid new l x p ps rest h facts same cut known later steps unfolded =
+  entered old mid new l x p ps rest h facts same known later steps unfolded =
       let b = take l.count (branch_of old) in
       let es = take l.known old.known in
       let f = plain_fact l.fact in
       let ls = reverse old.later.items in
-      let branch : branch_of mid ≡ b ++ f ∷ [] = branch_push (take l.count old.facts.items) mid.facts.items x f facts same ∙ ap (λ (y : Branch). y ++ f ∷ []) cut in
+      let branch : branch_of mid ≡ b ++ f ∷ [] = entered_branch old mid l x facts same in
       let turned : reverse mid.later.items ≡ ls = ap (λ v. reverse v.items) later in
       let good : IsGoodState c rows start mid =
       good_same c rows start (b ++ f ∷ []) (branch_of mid) es mid.known ls (reverse mid.later.items) old.steps mid.steps (sym branch) (sym known) (sym turned) (sym steps)

@@ -14,3 +14,4 @@ pub mod SplitOrs
 pub mod UnfoldedFacts
 pub mod PartRows
 pub mod LiftedRoots
+pub mod KeyedEdges

@@ -1,6 +1,6 @@
 -- One step more: what it makes of the open branches.
 use Rattle.std.proofs.Common.{◌≡◌, ℕ, zero, suc, ◌+◌, List, [], ◌∷◌, ◌++◌, Option, Some, length, refl, sym, ◌∙◌, ap, subst, arith, length-append}
-use Rattle.std.specs.Prelude.{slice_get}
+use Rattle.std.specs.Prelude.{slice_get, Result, Ok, Err, OnOk, is_ok, if◌then◌else◌}
 use Rattle.pc_common.specs.Case.{Case}
 use Rattle.lifted_facts.specs.declared.way.Way.{Way}
 use Rattle.lifted_facts.specs.PlainFacts.{PlainFact, Branch}
@@ -41,3 +41,8 @@ module _ (c : Case) (start : List Branch) where
   pub ran_close : (old new : List LiftedStep) (l : LiftedLeaf) (b : Branch) (opens : List Branch) → Closes c b l
       → new ≡ old ++ close l ∷ [] → Runs c old start (b ∷ opens) → Runs c new start opens
   ran_close old new l b opens closes is r = ran old new (close l) (b ∷ opens) opens is r ([], (closes, refl), refl)
+
+-- what follows from one step more, where memory for it was there
+pub pushed : {T E P : Type 0} (r : Result T E) (new one old : List LiftedStep) → new ≡ (if is_ok r then one else old) → (new ≡ one → P) → OnOk r P
+pushed (Ok x) new one old is h = h is
+pushed (Err e) new one old is h = tt

@@ -1,15 +1,22 @@
 -- An Or of the ground tree is split by the fact that it is the tree of.
-use Rattle.std.proofs.Common.{◌≡◌, ℕ, ◌+◌, true, false, List, [], ◌∷◌, ◌++◌, Option, Some, length, map, take, reverse, refl, sym, ◌∙◌, ap, subst}
+use Rattle.std.proofs.Common.{◌≡◌, ℕ, ◌+◌, true, false, ◌<◌, List, [], ◌∷◌, ◌++◌, Option, Some, None, length, get_or, map, take, reverse, refl, sym, ◌∙◌, ap, subst, arith}
+use Rattle.std.specs.Prelude.{slice_get, All}
+use Rattle.std.specs.Option.{option_map}
 use Rattle.std.proofs.Math.Seq.{take-length}
+use Rattle.std.proofs.lemmas.List.Elements.{All-get_or}
+use Rattle.std.proofs.lemmas.Option.{slice_get-map, slice_get_within, slice_get_read}
 use Rattle.pc_common.specs.Case.{Case}
 use Rattle.pc_common.specs.World.{Node}
+use Rattle.pc_common.proofs.Elements.{In}
 use Rattle.pc_ground.specs.declared.row.Row.{Row}
 use Rattle.pc_ground.specs.declared.version.Version.TheVariants.{One}
 use Rattle.pc_ground.specs.Tree.{Tree, either, size_of}
 use Rattle.pc_ground.specs.Rows.{rows_of}
 use Rattle.pc_ground.specs.Refutes.{subtree_at, asserted, all_signed, left_branch, right_branch, Branch as TreeBranch}
 use Rattle.pc_ground.proofs.FlatRows.{one_part, subtree_part, parts_either}
-use Rattle.lifted_facts.specs.PlainFacts.{PlainFact, Branch, plain_fact}
+use Rattle.lifted_facts.specs.declared.fact.Fact.{Fact}
+use Rattle.lifted_facts.specs.PlainFacts.{PlainFact, Branch, plain_fact, IsProper}
+use Rattle.lifted_facts.specs.Lifted.{HasFact, HasSides}
 use Rattle.lifted_facts.specs.Parts.{sides}
 use Rattle.lifted_kinds.specs.Trees.{fact_tree}
 use Rattle.lifted_kinds.specs.declared.kind.Kind.TheVariants.{Open}
@@ -17,11 +24,12 @@ use Rattle.lifted_kinds.specs.Kinds.{kind_of}
 use Rattle.lifter.specs.declared.state.Task.TheVariants.{Close, Side}
 use Rattle.lifter.specs.declared.state.Later.{Later}
 use Rattle.lifter.specs.declared.state.State.{State}
-use Rattle.lifter.specs.KnownFacts.{Entry, IsPart, IsOr, HaveMore}
+use Rattle.lifter.specs.KnownFacts.{Entry, entry, at_position, IsPart, IsOr, HaveMore}
 use Rattle.lifter.specs.States.{branch_of, IsGoodState, IsCovered, IsSide, AreMatched, side, IsMatchedState, Moves}
 use Rattle.lifter.specs.Unfoldings.{HasUnfolded}
 use Rattle.lifter.specs.Progress.{IsOn, HasSplitOr}
 use Rattle.lifter.proofs.KnownLaws.{matched_same}
+use Rattle.lifter.proofs.StateMoves.{mapped_length}
 use Rattle.lifter.proofs.CoveredBranches.{covered_more, covered_side}
 
 abbrev pair : PlainFact → PlainFact → PlainFact × PlainFact
@@ -40,6 +48,33 @@ or_sides c rows f g h p is are =
     let P : PlainFact → Type 0 = λ x. IsPart rows p (either (fact_tree c x) (fact_tree c is.second)) in
     let Q : PlainFact → Type 0 = λ x. IsPart rows p (either (fact_tree c g) (fact_tree c x)) in
     (subst G s.0 is.first_open, subst G s.1 is.second_open, subst Q s.1 (subst P s.0 is.stands))
+
+-- the fact of a number in the code
+pub fact_within : (facts : List Fact) (k : ℕ) (f : PlainFact) → HasFact (map plain_fact facts) k f → k < length facts
+fact_within facts k f h = (let within = slice_get_within (map plain_fact facts) k f h in let same = mapped_length facts in omega (arith, within, same))
+
+one_some : (f g : PlainFact) → Some f ≡ Some g → f ≡ g
+one_some f g e = cc
+
+pub fact_read : (facts : List Fact) (k : ℕ) (x : Fact) (f : PlainFact) → HasFact (map plain_fact facts) k f → x ≡ get_or facts k x → plain_fact x ≡ f
+fact_read facts k x f h is =
+    let there = slice_get_read facts (length facts) k x refl (fact_within facts k f h) is in
+    one_some (plain_fact x) f (sym (slice_get-map plain_fact facts k ∙ ap (option_map plain_fact) there) ∙ h)
+
+pub proper_read : (c : Case) (facts : List Fact) (k : ℕ) (x : Fact) → All (IsProper c) facts → k < length facts → x ≡ get_or facts k x → IsProper c x
+proper_read c facts k x all within is = (let P : Fact → Type 0 = λ y. IsProper c y in subst P (sym is) (All-get_or (IsProper c) facts k x within all))
+
+-- the Or at a position that is known, by its fact in the code
+module _ (c : Case) (rows : List (Row Node)) (start : List Branch) (s : State) (p n : ℕ) (good : IsGoodState c rows start s) (key : In (entry (at_position p) n) s.known) where
+  pub or_within : n < length s.facts.items
+  or_within = (let k = good.known (at_position p) n key in fact_within s.facts.items n k.0 k.1)
+
+  pub or_fact : (x : Fact) → x ≡ get_or s.facts.items n x → HasFact (branch_of s) n (plain_fact x) × IsOr c rows (plain_fact x) p
+  or_fact x is =
+      let k = good.known (at_position p) n key in
+      let same = sym (fact_read s.facts.items n x k.0 k.1 is) in
+      let P : PlainFact → Type 0 = λ f. HasFact (branch_of s) n f × IsOr c rows f p in
+      subst P same (k.1, k.2)
 
 same_trees : (a b x y : Tree Node) → either a b ≡ either x y → (a ≡ x) × (b ≡ y)
 same_trees a b x y e = (cc, cc)

@@ -1,8 +1,11 @@
 -- One step of the refutation of the ground tree: that it can be taken, and what is ahead behind it.
-use Rattle.std.proofs.Common.{◌≡◌, ◌⊎◌, inl, inr, ℕ, ◌+◌, Bool, true, false, List, [], ◌∷◌, ◌++◌, Option, Some, map, refl, sym, ◌∙◌, ap, subst}
+use Rattle.std.proofs.Common.{◌≡◌, ◌⊎◌, inl, inr, ℕ, ◌+◌, Bool, true, false, ◌<◌, List, [], ◌∷◌, ◌++◌, Option, Some, length, map, drop, refl, sym, ◌∙◌, ap, subst}
+use Rattle.std.specs.Prelude.{Result, IfOk}
+use Rattle.std.proofs.lemmas.Result.{IfOk-weaker}
 use Rattle.pc_common.specs.Case.{Case}
 use Rattle.pc_common.specs.World.{Node}
 use Rattle.pc_common.specs.Steps.{Leaf, cycle, path, absent, false_step, Step, split, close}
+use Rattle.static_preds.proofs.Walked.{drop_at}
 use Rattle.pc_ground.specs.declared.row.Row.{Row}
 use Rattle.pc_ground.specs.declared.version.Version.TheVariants.{One}
 use Rattle.pc_ground.specs.Tree.{Tree, never, either}
@@ -10,6 +13,7 @@ use Rattle.pc_ground.specs.Rows.{rows_of}
 use Rattle.pc_ground.specs.Refutes.{Branch as TreeBranch, Runs as TreeRuns, Closes as TreeCloses, literals_of, IsSplit, subtree_at, left_branch, right_branch}
 use Rattle.lifted_facts.specs.PlainFacts.{Branch}
 use Rattle.lifted_facts.specs.Lifted.{LiftedStep, Runs}
+use Rattle.lifted_kinds.proofs.PartWays.{there_at}
 use Rattle.lifter.specs.declared.state.State.{State}
 use Rattle.lifter.specs.KnownFacts.{at_position, no_node, present, Entry, HasKey, IsCycleKnown, IsPathKnown}
 use Rattle.lifter.specs.States.{IsGoodState, IsCovered, IsMatchedState}
@@ -79,7 +83,23 @@ module _ (c : Case) (rows : List (Row Node)) (start : List Branch) (s : State) w
   pub none_left : (x : Step Node) (rest : List (Step Node)) → IsAhead c rows start s false (x ∷ rest) → ⊥
   none_left x rest h = no_step h.tree x rest h.opens h.at.0 h.run
 
+  pub none_left_at : (is_open : Bool) (steps : List (Step Node)) (k : ℕ) → is_open ≡ false → k < length steps → IsAhead c rows start s is_open (drop k steps) → ⊥
+  none_left_at is_open steps k no within h =
+      let x = there_at steps k within in
+      let P : Bool → Type 0 = λ b. IsAhead c rows start s b (drop k steps) in
+      let Q : List (Step Node) → Type 0 = λ ss. IsAhead c rows start s false ss in
+      none_left x.0 (drop (k + 1) steps) (subst Q (drop_at steps k (k + 1) x.0 x.1 refl) (subst P no h))
+
   -- and no branch where no step is left
   pub all_closed : (is_open : Bool) → IsAhead c rows start s is_open [] → Runs c s.steps start []
   all_closed false h = h.at.1
   all_closed true h = (let e : h.at.first ∷ h.at.rest ≡ [] = sym h.at.are ∙ h.run in cc)
+
+-- a leaf closed the first branch, and then the next one was entered
+pub leaf_taken : {E : Type 0} (c : Case) (rows : List (Row Node)) (s mid new : State) (l : Leaf Node) (r : Result Bool E) → HasClosedBy s mid
+    → IfOk r (λ is_open. (start : List Branch) (opens : List TreeBranch) → HasLeft c rows start mid opens → IsAt c rows start new is_open opens)
+    → IfOk r (λ is_open. (start : List Branch) (rest : List (Step Node)) → IsAhead c rows start s true (close l ∷ rest) → IsAhead c rows start new is_open rest)
+leaf_taken c rows s mid new l r by goes =
+    IfOk-weaker r (λ is_open. (start : List Branch) (opens : List TreeBranch) → HasLeft c rows start mid opens → IsAt c rows start new is_open opens)
+    (λ is_open. (start : List Branch) (rest : List (Step Node)) → IsAhead c rows start s true (close l ∷ rest) → IsAhead c rows start new is_open rest)
+    (λ is_open go start rest h. did_leaf c rows start s mid new is_open l rest by (go start) h) goes

@@ -13,7 +13,7 @@ use Rattle.lifted_kinds.specs.Trees.{fact_tree, joined_tree, joined_trees}
 use Rattle.lifted_kinds.specs.declared.kind.Kind.{Kind}
 use Rattle.lifted_kinds.specs.declared.kind.Kind.TheVariants.{True, False, Open}
 use Rattle.lifted_kinds.specs.Kinds.{kind_of}
-use Rattle.lifted_kinds.proofs.PartWays.{rest_next}
+use Rattle.lifted_kinds.proofs.PartWays.{rest_next, kind_rest, is_always, only_true, both_open}
 use Rattle.lifter.specs.declared.state.State.{State}
 use Rattle.lifter.specs.KnownFacts.{Entry, IsPart, TellsAll, HaveMore}
 use Rattle.lifter.specs.States.{Moves}
@@ -115,6 +115,13 @@ module _ (c : Case) (rows : List (Row Node)) (fs : List PlainFact) where
         stands = subst P same here;
         told = λ es more rest. (let R : Tree Node → Type 0 = λ t. TellsAll rows es (asserted t at) in subst R (sym same) rest);
       }
+
+  -- a fact of And that is no constant is True where it is one
+  pub true_here : (k : ℕ) (f : PlainFact) → slice_get fs k ≡ Some f → kind_of (facts_from c fs k) ≡ Open → (kind_of (fact_tree c f) ≡ Open → ⊥) → fact_tree c f ≡ always
+  true_here k f there whole other =
+      let kind = kind_of (fact_tree c f) in
+      let two = both_open kind (kind_of (facts_from c fs (k + 1))) (sym (kind_rest (fact_tree c) fs k f there) ∙ whole) in
+      is_always (fact_tree c f) (only_true kind two.0 other)
 
   -- the last one that is no constant
   pub last_is : (k : ℕ) (f : PlainFact) → slice_get fs k ≡ Some f → facts_from c fs (k + 1) ≡ always → facts_from c fs k ≡ fact_tree c f

@@ -7,10 +7,10 @@ ghost use Rattle.pc_ground.specs.Stages.{plain_axioms};
 ghost use Rattle.pc_ground.specs.Refutes.{Branch as TreeBranch, IsRefutation};
 ghost use Rattle.pc_ground.specs.declared.version.Version.TheVariants.{One};
 ghost use Rattle.refutation.specs.Steps.{plain_step};
-ghost use Rattle.lifted_facts.specs.PlainFacts.{Branch, IsProper};
+ghost use Rattle.lifted_facts.specs.PlainFacts.{Branch, root, IsProper};
 ghost use Rattle.lifted_facts.specs.Lifted.{Runs, IsLiftedRefutation};
 ghost use Rattle.lifter.specs.KnownFacts.{at_position, HasKey};
-ghost use Rattle.lifter.specs.States.{AreKept, IsGoodState};
+ghost use Rattle.lifter.specs.States.{branch_of, AreKept, IsGoodState};
 ghost use Rattle.lifter.specs.Progress.{IsAhead, IsAt, IsOn, HasLeft, CanEnter, HasSplitOr};
 
 use super::closing::close_due;
@@ -162,6 +162,31 @@ fn follow<'a>(
     Ok(())
 }
 
+/// Adds the steps that close the one branch of no step, whose facts are the axioms.
+fn close_all<'a>(
+    alloc: Global,
+    case: &Case,
+    axioms: &'a [Closed],
+    tree: &Flat,
+    state: &mut State<'a>,
+    refutation: &Refutation,
+) -> Result<(), Memory>
+    requires tree { tree.now ≡ rows_of (closed_ground_tree case.now (plain_axioms axioms.now)) }
+    requires refuted { IsRefutation One (closed_ground_tree case.now (plain_axioms axioms.now)) refutation.now }
+    requires facts { branch_of state.old ≡ root (plain_axioms axioms.now) }
+    requires none { (state.old.known ≡ []) × (state.old.later.items ≡ []) × (state.old.steps ≡ []) }
+    requires kept { AreKept case.now state.old }
+    ensures { OnOk result (IsLiftedRefutation case.now (plain_axioms axioms.now) state.new.steps) }
+{
+    match tree.row(0).kind {
+        RowKind::False => close_axiom(case, state, axioms),
+        _ => {
+            unfold_axioms(case, tree, state, axioms)?;
+            follow(alloc, case, tree, state, refutation)
+        }
+    }
+}
+
 /// The steps of a lifted refutation of the axioms, made of a refutation of version 1 of their ground tree.
 pub fn lift_steps(
     alloc: Global,
@@ -175,13 +200,7 @@ pub fn lift_steps(
     ensures { IfOk result (λ steps. IsLiftedRefutation case.now (plain_axioms axioms.now) steps) }
 {
     let mut state = begin(alloc, axioms)?;
-    match tree.row(0).kind {
-        RowKind::False => close_axiom(case, &mut state, axioms)?,
-        _ => {
-            unfold_axioms(case, tree, &mut state, axioms)?;
-            follow(alloc, case, tree, &mut state, refutation)?;
-        }
-    }
+    close_all(alloc, case, axioms, tree, &mut state, refutation)?;
     let State { steps, .. } = state;
     Ok(steps)
 }

@@ -56,10 +56,7 @@ fn numbers_to(
     ensures { IfOk result (λ r. AreNumbers known.now (key_node from) (map key_node via.now ++ key_node to ∷ []) (r.0 ∷ r.1)) }
 {
     match via {
-        [] => Ok((
-            number_of(known, Key::Edge(from, to)),
-            Listed::new(alloc),
-        )),
+        [] => Ok((number_of(known, Key::Edge(from, to)), Listed::new(alloc))),
         [next, rest @ ..] => {
             let first = number_of(known, Key::Edge(from, *next));
             let more = numbers_along(alloc, known, *next, rest, to)?;
@@ -69,7 +66,11 @@ fn numbers_to(
 }
 
 /// Closes the first branch by the edges from each of these nodes to the next, and from the last to the first.
-pub(crate) fn add_cycle(alloc: Global, state: &mut State<'_>, nodes: &[NodeKey]) -> Result<(), Memory>
+pub(crate) fn add_cycle(
+    alloc: Global,
+    state: &mut State<'_>,
+    nodes: &[NodeKey],
+) -> Result<(), Memory>
     requires { IsCycleKnown state.old.known (map key_node nodes.now) }
     ensures { OnOk result (HasClosedBy state.old state.new) }
 {
@@ -84,7 +85,11 @@ pub(crate) fn add_cycle(alloc: Global, state: &mut State<'_>, nodes: &[NodeKey])
 
 /// Closes the first branch by the edges from each of these nodes to the next, and the denial of one from the first to
 /// the last.
-pub(crate) fn add_path(alloc: Global, state: &mut State<'_>, nodes: &[NodeKey]) -> Result<(), Memory>
+pub(crate) fn add_path(
+    alloc: Global,
+    state: &mut State<'_>,
+    nodes: &[NodeKey],
+) -> Result<(), Memory>
     requires { IsPathKnown state.old.known (map key_node nodes.now) }
     ensures { OnOk result (HasClosedBy state.old state.new) }
 {

@@ -78,7 +78,13 @@ pub(crate) fn lose_first<'a>(
 {
     let count = state.facts.len();
     state.steps.push(Line::Split(number))?;
-    close(case, first, count as u64, count as u64 + 1, &mut state.steps)?;
+    close(
+        case,
+        first,
+        count as u64,
+        count as u64 + 1,
+        &mut state.steps,
+    )?;
     state.facts.push(copy_fact(second))?;
     Ok(count as u64)
 }
@@ -112,7 +118,12 @@ pub(crate) fn lose_second<'a>(
 }
 
 /// Knows a key from now on, with the number of its fact.
-pub(crate) fn mark<'a>(case: &Case, state: &mut State<'a>, key: Key, number: u64) -> Result<(), Memory>
+pub(crate) fn mark<'a>(
+    case: &Case,
+    state: &mut State<'a>,
+    key: Key,
+    number: u64,
+) -> Result<(), Memory>
     requires { (rows : List (PlainRow Node)) × IsKnown case.now rows (branch_of state.old) (plain_key key) number }
     ensures moves { OnOk result ((rows : List (PlainRow Node)) → IsKnown case.now rows (branch_of state.old) (plain_key key) number
         → Moves case.now rows state.old state.new) }

@@ -72,8 +72,8 @@ fn false_axiom<'a>(case: &Case, axioms: &'a [Closed]) -> (usize, Fact<'a>)
     ensures kind { kind_of (fact_tree case.now (plain_fact result.1)) ≡ False }
     ensures proper { IsProper case.now result.1 }
 {
-    for (k, axiom) in axioms.iter().enumerate() {
-        let fact = axiom_fact(axiom);
+    for k in 0..axioms.len() {
+        let fact = axiom_fact(&axioms[k]);
         match kind_of_fact(case, &fact) {
             Kind::False => return (k, fact),
             _ => {}
@@ -91,7 +91,8 @@ fn last_axiom(case: &Case, axioms: &[Closed]) -> usize
 {
     for k in 0..axioms.len() {
         let at = axioms.len() - 1 - k;
-        match kind_of_fact(case, &axiom_fact(&axioms[at])) {
+        let fact = axiom_fact(&axioms[at]);
+        match kind_of_fact(case, &fact) {
             Kind::Open => return at,
             _ => {}
         }
@@ -143,11 +144,16 @@ pub(crate) fn unfold_axioms<'a>(
     for k in 0..last {
         at = unfold_next_axiom(case, tree, state, axioms, k, at)?;
     }
-    unfold(case, tree, state, &axiom_fact(&axioms[last]), last as u64, at)
+    let fact = axiom_fact(&axioms[last]);
+    unfold(case, tree, state, &fact, last as u64, at)
 }
 
 /// Closes the one branch of no step by an axiom that is False, of which there is one.
-pub(crate) fn close_axiom(case: &Case, state: &mut State<'_>, axioms: &[Closed]) -> Result<(), Memory>
+pub(crate) fn close_axiom(
+    case: &Case,
+    state: &mut State<'_>,
+    axioms: &[Closed],
+) -> Result<(), Memory>
     requires facts { branch_of state.old ≡ root (plain_axioms axioms.now) }
     requires kind { kind_of (facts_from case.now (root (plain_axioms axioms.now)) 0) ≡ False }
     ensures { OnOk result ((start opens : List Branch) → Runs case.now state.old.steps start (root (plain_axioms axioms.now) ∷ opens)

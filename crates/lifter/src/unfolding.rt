@@ -89,14 +89,14 @@ pub(crate) fn unfold<'a>(
     requires stands { IsPart tree.now at (fact_tree case.now (plain_fact fact.now)) }
     ensures { OnOk result (HasUnfolded case.now tree.now (fact_tree case.now (plain_fact fact.now)) at state.old state.new) }
 {
-    if let Some(literal) = literal_of(fact) {
-        return mark_literal(case, tree, state, literal, number, at);
-    }
-    match sides(case, fact) {
-        Some((first, second)) => {
-            unfold_either(case, tree, state, fact, &first, &second, number, at)
-        }
-        None => unfold_all(case, tree, state, fact, number, at),
+    match literal_of(fact) {
+        Some(literal) => mark_literal(case, tree, state, literal, number, at),
+        None => match sides(case, fact) {
+            Some((first, second)) => {
+                unfold_either(case, tree, state, fact, &first, &second, number, at)
+            }
+            None => unfold_all(case, tree, state, fact, number, at),
+        },
     }
 }
 

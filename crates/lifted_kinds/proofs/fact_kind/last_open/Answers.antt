@@ -1,8 +1,12 @@
-use Rattle.std.proofs.Common.{◌≡◌, ◌≤◌, ◌+◌, ◌-◌, length, sym, ◌∙◌, arith}
+use Rattle.std.proofs.Common.{◌≡◌, ◌≤◌, ◌<◌, ◌+◌, ◌-◌, ℕ, length, sym, ◌∙◌, ap, subst, arith}
+use Rattle.std.proofs.lemmas.Option.{slice_get_within}
+use Rattle.pc_ground.specs.Tree.{always}
 use Rattle.lifted_facts.specs.PlainFacts.{plain_fact}
 use Rattle.lifted_kinds.specs.Trees.{fact_tree}
+use Rattle.lifted_kinds.specs.declared.kind.Kind.TheVariants.{True, Open}
+use Rattle.lifted_kinds.specs.Kinds.{kind_of}
 use Rattle.lifted_kinds.specs.PartLists.{parts}
-use Rattle.lifted_kinds.proofs.PartWays.{rest_end, true_part, last_found}
+use Rattle.lifted_kinds.proofs.PartWays.{rest_of, rest_end, true_part, last_found}
 use Rattle.lifted_kinds.proofs.fact_kind.last_open.Goals as goal
 
 pub loop-k-init : goal.loop-k-init
@@ -23,3 +27,23 @@ loop-k-preserved c =
     rw (sym here)
     (true_part (fact_tree case) ps at (count - c.loop-k.k) (plain_fact c.part_at.result.1) c.part_at.ensures.member step c.loop-k.invariant c.requires.kind
     (λ e. c.in_default.not-Open (c.kind_of_fact.ensures ∙ e)))
+
+pub returns-in-Open : goal.returns-in-Open
+returns-in-Open c =
+    let case = c.args.case.now in
+    let ps = parts case (plain_fact c.args.fact.now) in
+    let count = c.part_count-count.result in
+    let at = count - 1 - c.loop-k.k in
+    let step : at + 1 ≡ count - c.loop-k.k = omega (arith, c.loop-k-test.true) in
+    let found = last_found (fact_tree case) ps at (count - c.loop-k.k) (plain_fact c.part_at.result.1) c.part_at.ensures.member step c.loop-k.invariant c.requires.kind
+    (sym c.kind_of_fact.ensures ∙ c.in-Open.is) in
+    record { within = slice_get_within ps at (plain_fact c.part_at.result.1) c.part_at.ensures.member; rest = found.0; open = found.1 }
+
+pub prove-unreachable-requires : goal.prove-unreachable-requires
+prove-unreachable-requires c =
+    let case = c.args.case.now in
+    let ps = parts case (plain_fact c.args.fact.now) in
+    let none : c.part_count-count.result - c.loop-k.k ≡ 0 = omega (arith, c.loop-k-test.false) in
+    let P : ℕ → Type 0 = λ n. rest_of (fact_tree case) ps n ≡ always in
+    let clash : Open ≡ True = sym c.requires.kind ∙ ap kind_of (subst P none c.loop-k.invariant) in
+    cc

@@ -1,0 +1,69 @@
+-- The numbers of the edges that lead along node keys, one by one.
+use Rattle.std.proofs.Common.{◌≡◌, ◌≤◌, ℕ, ◌+◌, List, [], ◌∷◌, ◌++◌, Some, length, map, drop, refl, sym, ◌∙◌, ap, subst, append_assoc}
+use Rattle.std.specs.Prelude.{slice_get}
+use Rattle.std.proofs.lemmas.List.{map-append, drop_all}
+use Rattle.pc_common.specs.World.{Node}
+use Rattle.pc_common.proofs.Elements.{In}
+use Rattle.pc_ground.specs.Keys.{key_node}
+use Rattle.pc_ground.specs.declared.node_key.NodeKey.{NodeKey}
+use Rattle.static_preds.proofs.Walked.{drop_at}
+use Rattle.lifter.specs.KnownFacts.{edge, no_edge, Entry, entry, HasKey, AreEdges, AreNumbers, IsCycleKnown, IsPathKnown}
+
+-- the nodes behind the first one
+abbrev pub along : List NodeKey → NodeKey → List Node
+along via to = map key_node via ++ key_node to ∷ []
+
+module _ (es : List Entry) (to : NodeKey) (via : List NodeKey) where
+  -- the next edge, and those behind it
+  pub next_edges : (at : NodeKey) (k : ℕ) (x : NodeKey) → slice_get via k ≡ Some x → AreEdges es (key_node at) (along (drop k via) to)
+      → HasKey es (edge (key_node at) (key_node x)) × AreEdges es (key_node x) (along (drop (k + 1) via) to)
+  next_edges at k x there h = (let P : List NodeKey → Type 0 = λ ys. AreEdges es (key_node at) (along ys to) in subst P (drop_at via k (k + 1) x there refl) h)
+
+  -- the last edge
+  pub last_edge : (at : NodeKey) (k : ℕ) → length via ≤ k → AreEdges es (key_node at) (along (drop k via) to) → HasKey es (edge (key_node at) (key_node to))
+  last_edge at k past h = (let P : List NodeKey → Type 0 = λ ys. AreEdges es (key_node at) (along ys to) in let last = subst P (drop_all k via past) h in last.0)
+
+  module _ (from : NodeKey) where
+    -- with these numbers in front of those of the edges from a place on, all have theirs
+    abbrev pub HaveSoFar : List ℕ → NodeKey → ℕ → Type 0
+    HaveSoFar old at k = (ks : List ℕ) → AreNumbers es (key_node at) (along (drop k via) to) ks → AreNumbers es (key_node from) (along via to) (old ++ ks)
+
+    pub next_numbers : (at : NodeKey) (k n : ℕ) (x : NodeKey) (old new : List ℕ) → slice_get via k ≡ Some x → In (entry (edge (key_node at) (key_node x)) n) es
+        → new ≡ old ++ n ∷ [] → HaveSoFar old at k → HaveSoFar new x (k + 1)
+    next_numbers at k n x old new there here is h ks rest =
+        let P : List NodeKey → Type 0 = λ ys. AreNumbers es (key_node at) (along ys to) (n ∷ ks) in
+        let Q : List ℕ → Type 0 = λ ns. AreNumbers es (key_node from) (along via to) ns in
+        subst Q (sym (append_assoc old (n ∷ []) ks) ∙ ap (λ (ns : List ℕ). ns ++ ks) (sym is)) (h (n ∷ ks) (subst P (sym (drop_at via k (k + 1) x there refl)) (here, rest)))
+
+    pub all_numbers : (at : NodeKey) (k n : ℕ) (old new : List ℕ) → length via ≤ k → In (entry (edge (key_node at) (key_node to)) n) es → new ≡ old ++ n ∷ []
+        → HaveSoFar old at k → AreNumbers es (key_node from) (along via to) new
+    all_numbers at k n old new past here is h =
+        let P : List NodeKey → Type 0 = λ ys. AreNumbers es (key_node at) (along ys to) (n ∷ []) in
+        let Q : List ℕ → Type 0 = λ ns. AreNumbers es (key_node from) (along via to) ns in
+        subst Q (sym is) (h (n ∷ []) (subst P (sym (drop_all k via past)) (here, tt)))
+
+pub cycle_edges : (es : List Entry) (nodes via : List NodeKey) (from : NodeKey) → nodes ≡ from ∷ via → IsCycleKnown es (map key_node nodes)
+    → AreEdges es (key_node from) (along via from)
+cycle_edges es nodes via from e h = (let P : List NodeKey → Type 0 = λ ks. IsCycleKnown es (map key_node ks) in subst P e h)
+
+same_last : {X : Type 0} (xs ys : List X) (x y : X) → xs ++ x ∷ [] ≡ ys ++ y ∷ [] → x ≡ y
+same_last [] [] x y e = cc
+same_last [] (b ∷ []) x y e = cc
+same_last [] (b ∷ d ∷ ys) x y e = cc
+same_last (a ∷ []) [] x y e = cc
+same_last (a ∷ d ∷ xs) [] x y e = cc
+same_last (a ∷ xs) (b ∷ ys) x y e = (let tails : xs ++ x ∷ [] ≡ ys ++ y ∷ [] = cc in same_last xs ys x y tails)
+
+pub path_edges : (es : List Entry) (nodes via : List NodeKey) (from to : NodeKey) → nodes ≡ from ∷ (via ++ to ∷ []) → IsPathKnown es (map key_node nodes)
+    → AreEdges es (key_node from) (along via to) × HasKey es (no_edge (key_node from) (key_node to))
+path_edges es nodes via from to e h =
+    let all : h.first ∷ (h.via ++ h.last ∷ []) ≡ key_node from ∷ along via to =
+    sym h.all ∙ ap (map key_node) e ∙ ap (λ (ns : List Node). key_node from ∷ ns) (map-append key_node via (to ∷ [])) in
+    let first : h.first ≡ key_node from = cc in
+    let tails : h.via ++ h.last ∷ [] ≡ along via to = cc in
+    let last = same_last h.via (map key_node via) h.last (key_node to) tails in
+    let P : Node → Type 0 = λ a. AreEdges es a (h.via ++ h.last ∷ []) in
+    let Q : List Node → Type 0 = λ ns. AreEdges es (key_node from) ns in
+    let F : Node → Type 0 = λ a. HasKey es (no_edge a h.last) in
+    let L : Node → Type 0 = λ a. HasKey es (no_edge (key_node from) a) in
+    (subst Q tails (subst P first h.edges), subst L last (subst F first h.denied))
