@@ -1,7 +1,7 @@
 -- The numbers of the edges that lead along node keys, one by one.
-use Rattle.std.proofs.Common.{◌≡◌, ◌≤◌, ℕ, ◌+◌, List, [], ◌∷◌, ◌++◌, Some, length, map, drop, refl, sym, ◌∙◌, ap, subst, append_assoc}
+use Rattle.std.proofs.Common.{◌≡◌, ◌≤◌, ℕ, zero, suc, ◌+◌, ◌-◌, List, [], ◌∷◌, ◌++◌, Some, length, get_or, map, take, drop, refl, sym, ◌∙◌, ap, subst, arith, append_assoc}
 use Rattle.std.specs.Prelude.{slice_get}
-use Rattle.std.proofs.lemmas.List.{map-append, drop_all}
+use Rattle.std.proofs.lemmas.List.{map-append, take_all, drop_all}
 use Rattle.pc_common.specs.World.{Node}
 use Rattle.pc_common.proofs.Elements.{In}
 use Rattle.pc_ground.specs.Keys.{key_node}
@@ -67,3 +67,26 @@ path_edges es nodes via from to e h =
     let F : Node → Type 0 = λ a. HasKey es (no_edge a h.last) in
     let L : Node → Type 0 = λ a. HasKey es (no_edge (key_node from) a) in
     (subst Q tails (subst P first h.edges), subst L last (subst F first h.denied))
+
+-- a list by its first item and the others
+pub first_rest : {X : Type 0} (xs : List X) (x : X) → 1 ≤ length xs → x ≡ get_or xs 0 x → xs ≡ x ∷ take (length xs - 1) (drop 1 xs)
+first_rest [] x some is = absurd (omega (arith, some))
+first_rest (y ∷ ys) x some is = ap (λ z. z ∷ ys) (sym is) ∙ ap (λ zs. x ∷ zs) (sym (take_all (length (y ∷ ys) - 1) ys (omega arith)))
+
+last_of : {X : Type 0} (ys : List X) (n : ℕ) (y : X) → length ys ≡ suc n → y ≡ get_or ys n y → ys ≡ take n ys ++ y ∷ []
+last_of [] n y e is = absurd (omega (arith, e))
+last_of (x ∷ []) zero y e is = ap (λ z. z ∷ []) (sym is)
+last_of (x ∷ []) (suc n) y e is = absurd (omega (arith, e))
+last_of (x ∷ z ∷ zs) zero y e is = absurd (omega (arith, e))
+last_of (x ∷ z ∷ zs) (suc n) y e is = ap (λ r. x ∷ r) (last_of (z ∷ zs) n y (omega (arith, e)) is)
+
+-- by its first item, its last one and those between them
+pub first_last : {X : Type 0} (xs : List X) (x y : X) → 2 ≤ length xs → x ≡ get_or xs 0 x → y ≡ get_or xs (length xs - 1) y
+    → xs ≡ x ∷ (take (length xs - 1 - 1) (drop 1 xs) ++ y ∷ [])
+first_last [] x y some a b = absurd (omega (arith, some))
+first_last (z ∷ []) x y some a b = absurd (omega (arith, some))
+first_last (z ∷ w ∷ ws) x y some a b =
+    let one : length (z ∷ w ∷ ws) - 1 ≡ suc (length ws) = omega arith in
+    let two : length (z ∷ w ∷ ws) - 1 - 1 ≡ length ws = omega arith in
+    let last = last_of (w ∷ ws) (length ws) y refl (b ∙ ap (λ n. get_or (z ∷ w ∷ ws) n y) one) in
+    ap (λ u. u ∷ w ∷ ws) (sym a) ∙ ap (λ r. x ∷ r) (last ∙ ap (λ n. take n (w ∷ ws) ++ y ∷ []) (sym two))

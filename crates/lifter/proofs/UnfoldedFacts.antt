@@ -1,5 +1,6 @@
 -- A fact is unfolded by its sides or by its parts.
 use Rattle.std.proofs.Common.{◌≡◌, ℕ, ◌+◌, Bool, true, false, List, [], ◌∷◌, Some, None, map, refl, sym, ◌∙◌, ap, subst}
+use Rattle.std.specs.Prelude.{Result, Ok, Err, OnOk}
 use Rattle.pc_common.specs.Case.{Case}
 use Rattle.pc_common.specs.World.{Node}
 use Rattle.pc_ground.specs.declared.literal.Literal.{Literal}
@@ -20,11 +21,11 @@ use Rattle.lifted_kinds.proofs.KindLaws.{kind_joined}
 use Rattle.lifted_kinds.proofs.SideLaws.{sides_tree, parts_tree, false_tree}
 use Rattle.lifted_kinds.proofs.PartWays.{is_never}
 use Rattle.lifter.specs.declared.state.State.{State}
-use Rattle.lifter.specs.KnownFacts.{at_position, HasKey, IsPart, IsOr, TellsAll}
+use Rattle.lifter.specs.KnownFacts.{at_position, HasKey, IsPart, IsOr, TellsLiteral, TellsAll}
 use Rattle.lifter.specs.States.{Moves}
 use Rattle.lifter.specs.Unfoldings.{fact_of, parts_from, HasUnfolded}
 use Rattle.lifter.proofs.StateMoves.{moves_then}
-use Rattle.lifter.proofs.Tellings.{tells_either}
+use Rattle.lifter.proofs.Tellings.{tells_leaf, tells_either}
 use Rattle.lifter.proofs.TakenParts.{open_either, disjoined_never}
 
 pub literal_tree : (c : Case) (l : Literal Node) → fact_tree c (fact_of l) ≡ leaf l
@@ -101,3 +102,13 @@ not_false false t h e = refl
 -- a fact without sides is And over its parts
 pub over_parts : (c : Case) (f : PlainFact) → IsSaid f → sides c f ≡ None → kind_of (fact_tree c f) ≡ Open → fact_tree c f ≡ parts_from c f 0
 over_parts c f is none is_open = parts_tree c f is none (not_false (is_false c f) (fact_tree c f) (false_tree c f) is_open)
+
+-- what follows from two facts of one result
+pub both_ok : {T E P Q R : Type 0} (r : Result T E) → (P → Q → R) → OnOk r P → OnOk r Q → OnOk r R
+both_ok (Ok x) f p q = f p q
+both_ok (Err e) f p q = tt
+
+-- a literal of which all is known
+pub literal_unfolded : (c : Case) (rows : List (Row Node)) (old new : State) (l : Literal Node) (at : ℕ) → IsPart rows at (leaf l) → Moves c rows old new → TellsLiteral new.known l
+    → HasUnfolded c rows (leaf l) at old new
+literal_unfolded c rows old new l at here moves told = record { moves = moves; told = tells_leaf rows new.known at l here told }

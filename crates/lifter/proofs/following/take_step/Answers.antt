@@ -39,7 +39,7 @@ add_cycle-requires c =
     let A : Step → Type 0 = λ x. (start : List Branch) × (rest : List (PlainStep Node)) × IsAhead c.args.case.now c.args.tree.now start s true (plain_step x ∷ rest) in
     let a = subst A c.in-Cycle.is c.requires.ahead in
     let K : List NodeKey → Type 0 = λ ns. IsCycleKnown s.known (map key_node ns) in
-    subst K (sym c.as_slice.ensures.value) (can_cycle c.args.case.now c.args.tree.now a.0 s (map key_node c.in-Cycle.nodes.now) a.1 a.2)
+    subst K (sym c.as_slice.ensures.value) (can_cycle c.args.case.now c.args.tree.now a.0 s (map key_node c.in-Cycle.nodes) a.1 a.2)
 
 pub go_on-requires : goal.go_on-requires
 go_on-requires c =
@@ -51,7 +51,7 @@ go_on-requires c =
     let mid = c.add_cycle.new.state in
     record {
       kept = kept_closed case s mid c.in_ok-add_cycle-in-Cycle.ensures c.requires.kept;
-      left = (a.0, a.2.at.rest, left_leaf case rows a.0 s mid (cycle (map key_node c.in-Cycle.nodes.now)) a.1 c.in_ok-add_cycle-in-Cycle.ensures a.2);
+      left = (a.0, a.2.at.rest, left_leaf case rows a.0 s mid (cycle (map key_node c.in-Cycle.nodes)) a.1 c.in_ok-add_cycle-in-Cycle.ensures a.2);
     }
 
 pub returns-in_ok-add_cycle-in-Cycle-clause-ahead : goal.returns-in_ok-add_cycle-in-Cycle-clause-ahead
@@ -61,7 +61,7 @@ returns-in_ok-add_cycle-in-Cycle-clause-ahead c =
     let s = c.args.state.now in
     let g = c.go_on in
     let Q : Step → Type 0 = λ x. IfOk g.result (λ is_open. (start : List Branch) (rest : List (PlainStep Node)) → IsAhead case rows start s true (plain_step x ∷ rest) → IsAhead case rows start g.new.state is_open rest) in
-    subst Q (sym c.in-Cycle.is) (leaf_taken case rows s c.add_cycle.new.state g.new.state (cycle (map key_node c.in-Cycle.nodes.now)) g.result c.in_ok-add_cycle-in-Cycle.ensures g.ensures.at)
+    subst Q (sym c.in-Cycle.is) (leaf_taken case rows s c.add_cycle.new.state g.new.state (cycle (map key_node c.in-Cycle.nodes)) g.result c.in_ok-add_cycle-in-Cycle.ensures g.ensures.at)
 
 pub add_path-requires : goal.add_path-requires
 add_path-requires c =
@@ -69,7 +69,7 @@ add_path-requires c =
     let A : Step → Type 0 = λ x. (start : List Branch) × (rest : List (PlainStep Node)) × IsAhead c.args.case.now c.args.tree.now start s true (plain_step x ∷ rest) in
     let a = subst A c.in-Path.is c.requires.ahead in
     let K : List NodeKey → Type 0 = λ ns. IsPathKnown s.known (map key_node ns) in
-    subst K (sym c.as_slice-in-Path.ensures.value) (can_path c.args.case.now c.args.tree.now a.0 s (map key_node c.in-Path.nodes.now) a.1 a.2)
+    subst K (sym c.as_slice-in-Path.ensures.value) (can_path c.args.case.now c.args.tree.now a.0 s (map key_node c.in-Path.nodes) a.1 a.2)
 
 pub go_on-requires-in-Path : goal.go_on-requires-in-Path
 go_on-requires-in-Path c =
@@ -81,7 +81,7 @@ go_on-requires-in-Path c =
     let mid = c.add_path.new.state in
     record {
       kept = kept_closed case s mid c.in_ok-add_path-in-Path.ensures c.requires.kept;
-      left = (a.0, a.2.at.rest, left_leaf case rows a.0 s mid (path (map key_node c.in-Path.nodes.now)) a.1 c.in_ok-add_path-in-Path.ensures a.2);
+      left = (a.0, a.2.at.rest, left_leaf case rows a.0 s mid (path (map key_node c.in-Path.nodes)) a.1 c.in_ok-add_path-in-Path.ensures a.2);
     }
 
 pub returns-in_ok-add_path-in-Path-clause-ahead : goal.returns-in_ok-add_path-in-Path-clause-ahead
@@ -91,7 +91,7 @@ returns-in_ok-add_path-in-Path-clause-ahead c =
     let s = c.args.state.now in
     let g = c.go_on-in-Path in
     let Q : Step → Type 0 = λ x. IfOk g.result (λ is_open. (start : List Branch) (rest : List (PlainStep Node)) → IsAhead case rows start s true (plain_step x ∷ rest) → IsAhead case rows start g.new.state is_open rest) in
-    subst Q (sym c.in-Path.is) (leaf_taken case rows s c.add_path.new.state g.new.state (path (map key_node c.in-Path.nodes.now)) g.result c.in_ok-add_path-in-Path.ensures g.ensures.at)
+    subst Q (sym c.in-Path.is) (leaf_taken case rows s c.add_path.new.state g.new.state (path (map key_node c.in-Path.nodes)) g.result c.in_ok-add_path-in-Path.ensures g.ensures.at)
 
 pub add_absent-requires : goal.add_absent-requires
 add_absent-requires c =
