@@ -2,7 +2,7 @@
 use Rattle.std.proofs.Common.{◌≡◌, ◌⊎◌, inl, inr, ℕ, ◌+◌, ◌≤◌, true, false, List, [], ◌∷◌, ◌++◌, Option, Some, length, map, take, drop, reverse, refl, sym, ◌∙◌, ap, subst, arith}
 use Rattle.std.specs.Prelude.{All}
 use Rattle.std.proofs.lemmas.List.{take-append-drop, take-map, length-take-le, reverse-append}
-use Rattle.std.proofs.lemmas.List.Elements.{All-pop, All-take, All-push}
+use Rattle.std.proofs.lemmas.List.Elements.{All-nil, All-pop, All-take, All-push}
 use Rattle.std.proofs.Math.Seq.{take-length}
 use Rattle.pc_common.specs.Case.{Case}
 use Rattle.pc_common.specs.World.{Node}
@@ -49,8 +49,24 @@ kept_popped c old new l facts is h =
     let d = All-pop D old.later.items new.later.items (Some l) is h.due in
     (record { proper = subst P (sym facts) h.proper; later_proper = a.0; due = d.0 }, a.1, d.1)
 
+-- no branch waits
+pub no_items : {X : Type 0} (xs : List X) → length xs ≡ 0 → xs ≡ []
+no_items [] e = refl
+no_items (x ∷ xs) e = absurd (omega (arith, e))
+
+pub kept_none : (c : Case) (old new : State) → new.facts.items ≡ old.facts.items → new.later.items ≡ [] → AreKept c old → AreKept c new
+kept_none c old new facts none h =
+    let L : List Later → Type 0 = λ ls. All (λ l. IsProper c l.fact) ls in
+    let D : List Later → Type 0 = λ ls. All (λ l. IsDue c l l.task) ls in
+    let P : List Fact → Type 0 = λ fs. All (IsProper c) fs in
+    record {
+      proper = subst P (sym facts) h.proper;
+      later_proper = subst L (sym none) (All-nil (λ (l : Later). IsProper c l.fact));
+      due = subst D (sym none) (All-nil (λ (l : Later). IsDue c l l.task));
+    }
+
 -- the first facts of a branch, and one more
-pub kept_entered : (c : Case) (old mid : State) (n : ℕ) (x : Fact) → IsProper c x → mid.facts.items ≡ take n old.facts.items ++ x ∷ [] → mid.later ≡ old.later
+pub kept_entered : (c : Case) (old mid : State) (n : ℕ) (x : Fact) → IsProper c x → mid.facts.items ≡ take n old.facts.items ++ x ∷ [] → mid.later.items ≡ old.later.items
     → AreKept c old → AreKept c mid
 kept_entered c old mid n x proper facts later h =
     let L : List Later → Type 0 = λ ls. All (λ l. IsProper c l.fact) ls in
@@ -58,8 +74,8 @@ kept_entered c old mid n x proper facts later h =
     let P : List Fact → Type 0 = λ fs. All (IsProper c) fs in
     record {
       proper = subst P (sym facts) (All-push (IsProper c) (take n old.facts.items) x (All-take (IsProper c) n old.facts.items h.proper) proper);
-      later_proper = subst L (sym (ap (λ v. v.items) later)) h.later_proper;
-      due = subst D (sym (ap (λ v. v.items) later)) h.due;
+      later_proper = subst L (sym later) h.later_proper;
+      due = subst D (sym later) h.due;
     }
 
 pub entered_branch : (old mid : State) (l : Later) (x : Fact) → mid.facts.items ≡ take l.count old.facts.items ++ x ∷ [] → plain_fact x ≡ plain_fact l.fact
@@ -82,9 +98,9 @@ kept_closed c old new by h =
     let D : List Later → Type 0 = λ ls. All (λ l. IsDue c l l.task) ls in
     let P : List Fact → Type 0 = λ fs. All (IsProper c) fs in
     record {
-      proper = subst P (sym (ap (λ v. v.items) by.facts)) h.proper;
-      later_proper = subst L (sym (ap (λ v. v.items) by.later)) h.later_proper;
-      due = subst D (sym (ap (λ v. v.items) by.later)) h.due;
+      proper = subst P (sym by.facts) h.proper;
+      later_proper = subst L (sym by.later) h.later_proper;
+      due = subst D (sym by.later) h.due;
     }
 
 module _ (c : Case) (rows : List (Row Node)) (start : List Branch) where
@@ -102,7 +118,7 @@ module _ (c : Case) (rows : List (Row Node)) (start : List Branch) where
   left_by old new opens by good found =
       let l = by.closes c rows good.known in
       left_same (branch_of old) (branch_of new) old.known new.known (reverse old.later.items) (reverse new.later.items) new.steps new.steps opens
-      (ap (λ fs. map plain_fact fs.items) (sym by.facts)) (sym by.known) (ap (λ ls. reverse ls.items) (sym by.later)) refl
+      (ap (map plain_fact) (sym by.facts)) (sym by.known) (ap reverse (sym by.later)) refl
       (record {
         run = ran_close c start old.steps new.steps l.0 (branch_of old) (waiting (branch_of old) (reverse old.later.items)) l.1 l.2 good.run;
         later = good.later;
@@ -173,7 +189,7 @@ module _ (c : Case) (rows : List (Row Node)) (start : List Branch) where
   -- the next branch is entered
   pub entered : (old mid new : State) (l : Later) (x : Fact) (p : ℕ) (ps : TreeBranch) (rest : List TreeBranch) → CanEnter c rows start old l p ps rest
       → mid.facts.items ≡ take l.count old.facts.items ++ x ∷ [] → plain_fact x ≡ plain_fact l.fact
-      → mid.known ≡ take l.known old.known → mid.later ≡ old.later → mid.steps ≡ old.steps
+      → mid.known ≡ take l.known old.known → mid.later.items ≡ old.later.items → mid.steps ≡ old.steps
       → HasUnfolded c rows (fact_tree c (plain_fact l.fact)) p mid new → IsOn c rows start new (ps ∷ rest)
   entered old mid new l x p ps rest h facts same known later steps unfolded =
       let b = take l.count (branch_of old) in
@@ -181,7 +197,7 @@ module _ (c : Case) (rows : List (Row Node)) (start : List Branch) where
       let f = plain_fact l.fact in
       let ls = reverse old.later.items in
       let branch : branch_of mid ≡ b ++ f ∷ [] = entered_branch old mid l x facts same in
-      let turned : reverse mid.later.items ≡ ls = ap (λ v. reverse v.items) later in
+      let turned : reverse mid.later.items ≡ ls = ap reverse later in
       let good : IsGoodState c rows start mid =
       good_same c rows start (b ++ f ∷ []) (branch_of mid) es mid.known ls (reverse mid.later.items) old.steps mid.steps (sym branch) (sym known) (sym turned) (sym steps)
       (good_waits c rows start b f es ls old.steps h.run h.later.2 h.later.3) in

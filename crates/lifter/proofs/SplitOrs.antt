@@ -39,6 +39,9 @@ same_sides : (o : Option (PlainFact × PlainFact)) (f g x y : PlainFact) → o �
 same_sides o f g x y e h =
     (let same : pair f g ≡ pair x y = cc in (ap (λ (z : PlainFact × PlainFact). z.0) same, ap (λ (z : PlainFact × PlainFact). z.1) same))
 
+pub no_sides : (o : Option (PlainFact × PlainFact)) (f g : PlainFact) → o ≡ Some (pair f g) → o ≡ None → ⊥
+no_sides o f g e h = cc
+
 -- what is known of an Or, of its two sides by their names
 pub or_sides : (c : Case) (rows : List (Row Node)) (f g h : PlainFact) (p : ℕ) → IsOr c rows f p → sides c f ≡ Some (g, h)
     → (kind_of (fact_tree c g) ≡ Open) × (kind_of (fact_tree c h) ≡ Open) × IsPart rows p (either (fact_tree c g) (fact_tree c h))

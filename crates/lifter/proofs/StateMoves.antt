@@ -195,18 +195,18 @@ module _ (c : Case) (rows : List (Row Node)) where
 
   -- a key more
   pub marked : (old new : State) (key : PlainKey) (k : ℕ) → HasMarked old.known key k new.known → IsKnown c rows (branch_of old) key k
-      → new.facts ≡ old.facts → new.later ≡ old.later → new.steps ≡ old.steps → Moves c rows old new
+      → new.facts.items ≡ old.facts.items → new.later.items ≡ old.later.items → new.steps ≡ old.steps → Moves c rows old new
   marked old new key k m is facts later steps =
-      let same : branch_of new ≡ branch_of old = ap (λ fs. map plain_fact fs.items) facts in
-      let turned : reverse new.later.items ≡ reverse old.later.items = ap (λ ls. reverse ls.items) later in
+      let same : branch_of new ≡ branch_of old = ap (map plain_fact) facts in
+      let turned : reverse new.later.items ≡ reverse old.later.items = ap reverse later in
       record {
         more = [];
         facts = same ∙ sym (append_none (branch_of old));
         keys = (let P : List Entry → Type 0 = λ es. HaveMore old.known es in subst P (sym m.first) (keys_front old.known m.more));
         kept = λ h. record {
-          proper = (let P : List Fact → Type 0 = λ fs. All (IsProper c) fs in subst P (sym (ap (λ fs. fs.items) facts)) h.proper);
-          later_proper = (let P : List Later → Type 0 = λ ls. All (λ l. IsProper c l.fact) ls in subst P (sym (ap (λ ls. ls.items) later)) h.later_proper);
-          due = (let P : List Later → Type 0 = λ ls. All (λ l. IsDue c l l.task) ls in subst P (sym (ap (λ ls. ls.items) later)) h.due);
+          proper = (let P : List Fact → Type 0 = λ fs. All (IsProper c) fs in subst P (sym facts) h.proper);
+          later_proper = (let P : List Later → Type 0 = λ ls. All (λ l. IsProper c l.fact) ls in subst P (sym later) h.later_proper);
+          due = (let P : List Later → Type 0 = λ ls. All (λ l. IsDue c l l.task) ls in subst P (sym later) h.due);
         };
         good = λ start h.
             good_same c rows start (branch_of old) (branch_of new) new.known new.known (reverse old.later.items) (reverse new.later.items) old.steps new.steps

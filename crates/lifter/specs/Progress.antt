@@ -67,8 +67,8 @@ HasSplitOr c rows p old new =
 
 -- a leaf closed the first branch
 pub record HasClosedBy (old new : State) : Type 0 where
-  pub facts : new.facts ≡ old.facts
+  pub facts : new.facts.items ≡ old.facts.items
   pub known : new.known ≡ old.known
-  pub later : new.later ≡ old.later
+  pub later : new.later.items ≡ old.later.items
   pub closes : (c : Case) (rows : List (Row Node)) → AreKnown c rows (branch_of old) old.known
       → (l : LiftedLeaf) × LiftedCloses c (branch_of old) l × (new.steps ≡ old.steps ++ close l ∷ [])

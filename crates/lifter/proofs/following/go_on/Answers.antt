@@ -1,4 +1,4 @@
-use Rattle.std.proofs.Common.{◌≡◌, true, List, [], ◌∷◌, reverse, refl, sym, ◌∙◌, ap, subst}
+use Rattle.std.proofs.Common.{◌≡◌, true, List, [], ◌∷◌, length, reverse, refl, sym, ◌∙◌, ap, subst, arith}
 use Rattle.pc_ground.specs.Refutes.{Branch as TreeBranch}
 use Rattle.lifted_facts.specs.PlainFacts.{Branch}
 use Rattle.lifter.specs.declared.state.Task.{Task}
@@ -6,7 +6,7 @@ use Rattle.lifter.specs.declared.state.Later.{Later}
 use Rattle.lifter.specs.declared.state.State.{State}
 use Rattle.lifter.specs.States.{branch_of, IsDue, AreKept}
 use Rattle.lifter.specs.Progress.{IsLeft, HasLeft, IsAt}
-use Rattle.lifter.proofs.LeftBranches.{popped, kept_popped, left_due, left_side, left_none}
+use Rattle.lifter.proofs.LeftBranches.{popped, no_items, kept_none, kept_popped, left_due, left_side, left_none}
 use Rattle.lifter.proofs.following.go_on.Goals as goal
 
 -- a branch that only waits to be closed
@@ -66,8 +66,10 @@ pub returns : goal.returns
 returns c =
     let case = c.args.case.now in
     let s = c.loop-next.state in
+    let new : State = record { facts = s.facts; known = s.known; later = c.pop.new.self; steps = s.steps } in
+    let none = no_items s.later.items (omega (arith, c.in-None.ensures.cases.0, s.later.ok.0)) in
     record {
-      kept = c.loop-next.invariant.kept;
+      kept = kept_none case s new refl (no_items c.pop.new.self.items (omega (arith, c.in-None.ensures.cases.1, c.pop.new.self.ok.0))) c.loop-next.invariant.kept;
       at = λ start opens h.
-          left_none case c.args.tree.now start (branch_of s) s.known (reverse s.later.items) s.steps opens (ap reverse c.in-None.ensures.items) (c.loop-next.invariant.left start opens h);
+          left_none case c.args.tree.now start (branch_of s) s.known (reverse s.later.items) s.steps opens (ap reverse none) (c.loop-next.invariant.left start opens h);
     }

@@ -16,7 +16,7 @@ use Rattle.lifter.specs.States.{branch_of}
 use Rattle.lifter.specs.Unfoldings.{fact_of, HasUnfolded, IsTakenTo, facts_from, parts_from}
 use Rattle.lifter.proofs.StateMoves.{moves_same, moves_then, moved_fact, gained_fact}
 use Rattle.lifter.proofs.TakenParts.{stands_here, taken_open, passed_over, true_here, taken_start, taken_more, taken_all, last_is}
-use Rattle.lifter.proofs.UnfoldedFacts.{literal_tree, unfolded_by, first_lost, second_lost, both_stay, both_told, over_parts}
+use Rattle.lifter.proofs.UnfoldedFacts.{both_ok, literal_tree, unfolded_by, first_lost, second_lost, both_stay, both_told, over_parts}
 use Rattle.lifter.proofs.unfolding.+unfold.Goals as goal
 
 -- the literal of a fact
@@ -60,19 +60,106 @@ pub unfold_either-mark-requires : goal.unfold_either-mark-requires
 unfold_either-mark-requires t c =
     let case = c.args.case.now in
     let rows = c.args.tree.now in
+    let s = c.args.state.now in
     let f = plain_fact c.args.fact.now in
     let g = plain_fact c.args.first.now in
     let h = plain_fact c.args.second.now in
-    (rows, (f, c.requires.has, both_stay case rows f g h c.requires.are c.requires.kind c.args.at (sym c.kind_of_fact.ensures ∙ c.in-Open.is) (sym c.kind_of_fact-2.ensures ∙ c.in-Open-2.is) c.requires.stands))
+    (rows, (f, c.requires.has, both_stay case rows f g h c.requires.are c.requires.kind c.args.at (sym c.kind_of_fact.ensures ∙ c.in-Open.is) (sym c.kind_of_fact-in-Open.ensures ∙ c.in-Open-2.is) c.requires.stands))
 
--- the first side is False, or only the second one
+pub unfold_either-returns-in-Open : goal.unfold_either-returns-in-Open
+unfold_either-returns-in-Open t c =
+    let case = c.args.case.now in
+    let rows = c.args.tree.now in
+    let s = c.args.state.now in
+    let f = plain_fact c.args.fact.now in
+    let g = plain_fact c.args.first.now in
+    let h = plain_fact c.args.second.now in
+    let one = sym c.kind_of_fact.ensures ∙ c.in-Open.is in
+    let two = sym c.kind_of_fact-in-Open.ensures ∙ c.in-Open-2.is in
+    both_ok c.mark.result
+    (λ moves has. both_told case rows f g h c.requires.are c.requires.kind s c.mark.new.state c.args.at one two c.requires.stands
+    (moves rows (f, c.requires.has, both_stay case rows f g h c.requires.are c.requires.kind c.args.at one two c.requires.stands)) has)
+    c.mark.ensures.moves c.mark.ensures.has
+
+-- only the second side is False
+pub unfold_either-lose_second-next-requires : goal.unfold_either-lose_second-next-requires
+unfold_either-lose_second-next-requires t c =
+    let case = c.args.case.now in
+    let rows = c.args.tree.now in
+    let s = c.args.state.now in
+    let f = plain_fact c.args.fact.now in
+    let g = plain_fact c.args.first.now in
+    let h = plain_fact c.args.second.now in
+    let open_first = sym c.kind_of_fact.ensures ∙ c.in-Open.is in
+    let lost = second_lost case rows f g h c.requires.are c.requires.kind open_first (λ e. c.in_default-2.not-Open (c.kind_of_fact-in-Open.ensures ∙ e)) in
+    record { first_proper = c.requires.first_proper; second_proper = c.requires.second_proper; are = (f, c.requires.has, c.requires.are); kind = lost.0 }
+
+pub unfold_either-unfold-requires : goal.unfold_either-unfold-requires
+unfold_either-unfold-requires t c =
+    let case = c.args.case.now in
+    let rows = c.args.tree.now in
+    let s = c.args.state.now in
+    let f = plain_fact c.args.fact.now in
+    let g = plain_fact c.args.first.now in
+    let h = plain_fact c.args.second.now in
+    let open_first = sym c.kind_of_fact.ensures ∙ c.in-Open.is in
+    let lost = second_lost case rows f g h c.requires.are c.requires.kind open_first (λ e. c.in_default-2.not-Open (c.kind_of_fact-in-Open.ensures ∙ e)) in
+    let P : Tree Node → Type 0 = λ u. IsPart rows c.args.at u in
+    let low = (sides_rank case f g h c.requires.are).0 in
+    let gained = c.in_ok-next-in-Open.ensures rows in
+    (omega (arith, c.decreases, low), (c.requires.first_proper, gained_fact case rows s c.lose_second-next.new.state c.in_ok-next-in-Open.next g gained, open_first, subst P lost.1 c.requires.stands))
+
+pub unfold_either-returns-in_ok-next-in-Open : goal.unfold_either-returns-in_ok-next-in-Open
+unfold_either-returns-in_ok-next-in-Open t c =
+    let case = c.args.case.now in
+    let rows = c.args.tree.now in
+    let s = c.args.state.now in
+    let f = plain_fact c.args.fact.now in
+    let g = plain_fact c.args.first.now in
+    let h = plain_fact c.args.second.now in
+    let open_first = sym c.kind_of_fact.ensures ∙ c.in-Open.is in
+    let lost = second_lost case rows f g h c.requires.are c.requires.kind open_first (λ e. c.in_default-2.not-Open (c.kind_of_fact-in-Open.ensures ∙ e)) in
+    on_ok_weaker c.unfold.result
+    (λ u. unfolded_by case rows s c.lose_second-next.new.state c.unfold.new.state (fact_tree case g) (fact_tree case f) c.args.at (c.in_ok-next-in-Open.ensures rows).moves lost.1 u) c.unfold.ensures
+
+-- the first side is False
 pub unfold_either-lose_first-next-requires : goal.unfold_either-lose_first-next-requires
 unfold_either-lose_first-next-requires t c =
     let case = c.args.case.now in
+    let rows = c.args.tree.now in
+    let s = c.args.state.now in
     let f = plain_fact c.args.fact.now in
-    let lost = first_lost case c.args.tree.now f (plain_fact c.args.first.now) (plain_fact c.args.second.now) c.requires.are c.requires.kind
-    (λ e. c.in_default.not-Open (c.kind_of_fact.ensures ∙ e)) in
+    let g = plain_fact c.args.first.now in
+    let h = plain_fact c.args.second.now in
+    let lost = first_lost case rows f g h c.requires.are c.requires.kind (λ e. c.in_default.not-Open (c.kind_of_fact.ensures ∙ e)) in
     record { first_proper = c.requires.first_proper; second_proper = c.requires.second_proper; are = (f, c.requires.has, c.requires.are); kind = lost.0 }
+
+pub unfold_either-unfold-requires-in_default : goal.unfold_either-unfold-requires-in_default
+unfold_either-unfold-requires-in_default t c =
+    let case = c.args.case.now in
+    let rows = c.args.tree.now in
+    let s = c.args.state.now in
+    let f = plain_fact c.args.fact.now in
+    let g = plain_fact c.args.first.now in
+    let h = plain_fact c.args.second.now in
+    let lost = first_lost case rows f g h c.requires.are c.requires.kind (λ e. c.in_default.not-Open (c.kind_of_fact.ensures ∙ e)) in
+    let P : Tree Node → Type 0 = λ u. IsPart rows c.args.at u in
+    let low = (sides_rank case f g h c.requires.are).1 in
+    let gained = c.in_ok-next-in_default.ensures rows in
+    (omega (arith, c.decreases, low), (c.requires.second_proper, gained_fact case rows s c.lose_first-next.new.state c.in_ok-next-in_default.next h gained, lost.1, subst P lost.2 c.requires.stands))
+
+pub unfold_either-returns-in_ok-next-in_default : goal.unfold_either-returns-in_ok-next-in_default
+unfold_either-returns-in_ok-next-in_default t c =
+    let case = c.args.case.now in
+    let rows = c.args.tree.now in
+    let s = c.args.state.now in
+    let f = plain_fact c.args.fact.now in
+    let g = plain_fact c.args.first.now in
+    let h = plain_fact c.args.second.now in
+    let lost = first_lost case rows f g h c.requires.are c.requires.kind (λ e. c.in_default.not-Open (c.kind_of_fact.ensures ∙ e)) in
+    on_ok_weaker c.unfold-in_default.result
+    (λ u. unfolded_by case rows s c.lose_first-next.new.state c.unfold-in_default.new.state (fact_tree case h) (fact_tree case f) c.args.at (c.in_ok-next-in_default.ensures rows).moves lost.2 u)
+    c.unfold-in_default.ensures
 
 -- the parts before the last one that is no constant
 pub unfold_all-loop-k-init : goal.unfold_all-loop-k-init
@@ -133,3 +220,108 @@ unfold_all-returns t c =
     let end : c.loop-k.k ≡ last = omega (arith, c.loop-k-test.false, c.loop-k.auto) in
     let N : ℕ → Type 0 = λ n. IsTakenTo case rows fs n c.args.at c.loop-k.at old mid in
     on_ok_weaker c.unfold_last.result (λ h. taken_all case rows fs last c.args.at c.loop-k.at old mid c.unfold_last.new.state (subst N end c.loop-k.invariant) h) c.unfold_last.ensures
+
+-- one part
+pub unfold_next-right_of-right-requires : goal.unfold_next-right_of-right-requires
+unfold_next-right_of-right-requires t c =
+    let case = c.args.case.now in
+    let rows = c.args.tree.now in
+    let s = c.args.state.now in
+    let f = plain_fact c.args.fact.now in
+    let fs = parts case f in
+    let g = plain_fact c.part_at.result.1 in
+    let there = c.part_at.ensures.member in
+    let kind = sym c.kind_of_fact.ensures ∙ c.in-Open.is in
+    let here = (stands_here case rows fs c.args.k c.args.at g there kind c.requires.rest c.requires.stands).0 in
+    (fact_tree case g, here)
+
+pub unfold_next-derive-next-requires : goal.unfold_next-derive-next-requires
+unfold_next-derive-next-requires t c = record { proper = c.part_at.ensures.proper; is = (plain_fact c.args.fact.now, c.requires.has, c.part_at.ensures.is) }
+
+pub unfold_next-overflow_add-unfold : goal.unfold_next-overflow_add-unfold
+unfold_next-overflow_add-unfold t c =
+    let case = c.args.case.now in
+    let rows = c.args.tree.now in
+    let s = c.args.state.now in
+    let f = plain_fact c.args.fact.now in
+    let fs = parts case f in
+    let g = plain_fact c.part_at.result.1 in
+    let there = c.part_at.ensures.member in
+    let kind = sym c.kind_of_fact.ensures ∙ c.in-Open.is in
+    let here = (stands_here case rows fs c.args.k c.args.at g there kind c.requires.rest c.requires.stands).0 in
+    omega (arith, c.right_of-right.ensures (fact_tree case g) here)
+
+pub unfold_next-unfold-requires : goal.unfold_next-unfold-requires
+unfold_next-unfold-requires t c =
+    let case = c.args.case.now in
+    let rows = c.args.tree.now in
+    let s = c.args.state.now in
+    let f = plain_fact c.args.fact.now in
+    let fs = parts case f in
+    let g = plain_fact c.part_at.result.1 in
+    let there = c.part_at.ensures.member in
+    let kind = sym c.kind_of_fact.ensures ∙ c.in-Open.is in
+    let here = (stands_here case rows fs c.args.k c.args.at g there kind c.requires.rest c.requires.stands).0 in
+    let low = part_rank case c.part_at.result.0 f g c.part_at.ensures.is in
+    let gained = c.in_ok-next-in-Open.ensures rows in
+    (omega (arith, c.decreases, low), (c.part_at.ensures.proper, gained_fact case rows s c.derive-next.new.state c.in_ok-next-in-Open.next g gained, kind, here))
+
+pub unfold_next-returns-in_ok-unfold-in-Open : goal.unfold_next-returns-in_ok-unfold-in-Open
+unfold_next-returns-in_ok-unfold-in-Open t c =
+    let case = c.args.case.now in
+    let rows = c.args.tree.now in
+    let s = c.args.state.now in
+    let f = plain_fact c.args.fact.now in
+    let fs = parts case f in
+    let g = plain_fact c.part_at.result.1 in
+    let there = c.part_at.ensures.member in
+    let kind = sym c.kind_of_fact.ensures ∙ c.in-Open.is in
+    let here = (stands_here case rows fs c.args.k c.args.at g there kind c.requires.rest c.requires.stands).0 in
+    let u = c.in_ok-unfold-in-Open.ensures in
+    let gained = c.in_ok-next-in-Open.ensures rows in
+    taken_open case rows fs c.args.k c.args.at c.right_of-right.result g s c.unfold.new.state there kind c.requires.rest c.requires.stands (c.right_of-right.ensures (fact_tree case g) here)
+    (moves_then case rows s c.derive-next.new.state c.unfold.new.state gained.moves u.moves) u.told
+
+pub unfold_next-returns-in_default : goal.unfold_next-returns-in_default
+unfold_next-returns-in_default t c =
+    let case = c.args.case.now in
+    let rows = c.args.tree.now in
+    let s = c.args.state.now in
+    let f = plain_fact c.args.fact.now in
+    let fs = parts case f in
+    let g = plain_fact c.part_at.result.1 in
+    let there = c.part_at.ensures.member in
+    let yes = true_here case rows fs c.args.k g there c.requires.kind (λ e. c.in_default.not-Open (c.kind_of_fact.ensures ∙ e)) in
+    passed_over case rows fs c.args.k c.args.at g s there yes c.requires.stands
+
+-- the last one
+pub unfold_last-derive-next-requires : goal.unfold_last-derive-next-requires
+unfold_last-derive-next-requires t c = record { proper = c.part_at.ensures.proper; is = (plain_fact c.args.fact.now, c.requires.has, c.part_at.ensures.is) }
+
+pub unfold_last-unfold-requires : goal.unfold_last-unfold-requires
+unfold_last-unfold-requires t c =
+    let case = c.args.case.now in
+    let rows = c.args.tree.now in
+    let s = c.args.state.now in
+    let f = plain_fact c.args.fact.now in
+    let fs = parts case f in
+    let g = plain_fact c.part_at.result.1 in
+    let there = c.part_at.ensures.member in
+    let only = last_is case rows fs c.args.k g there c.requires.rest in
+    let P : Tree Node → Type 0 = λ u. IsPart rows c.args.at u in
+    let low = part_rank case c.part_at.result.0 f g c.part_at.ensures.is in
+    let gained = c.in_ok-next.ensures rows in
+    (omega (arith, c.decreases, low), (c.part_at.ensures.proper, gained_fact case rows s c.derive-next.new.state c.in_ok-next.next g gained, ap kind_of (sym only) ∙ c.requires.kind, subst P only c.requires.stands))
+
+pub unfold_last-returns : goal.unfold_last-returns
+unfold_last-returns t c =
+    let case = c.args.case.now in
+    let rows = c.args.tree.now in
+    let s = c.args.state.now in
+    let f = plain_fact c.args.fact.now in
+    let fs = parts case f in
+    let g = plain_fact c.part_at.result.1 in
+    let there = c.part_at.ensures.member in
+    let only = last_is case rows fs c.args.k g there c.requires.rest in
+    on_ok_weaker c.unfold.result
+    (λ u. unfolded_by case rows s c.derive-next.new.state c.unfold.new.state (fact_tree case g) (facts_from case fs c.args.k) c.args.at (c.in_ok-next.ensures rows).moves only u) c.unfold.ensures
