@@ -1,5 +1,5 @@
 -- The tree of a formula by those of its parts.
-use Rattle.std.proofs.Common.{◌≡◌, ℕ, zero, Bool, true, false, not, List, [], ◌∷◌, ◌++◌, map, drop, refl, sym, ap}
+use Rattle.std.proofs.Common.{◌≡◌, ℕ, zero, Bool, true, false, not, List, [], ◌∷◌, ◌++◌, map, drop, refl, sym, ◌∙◌, ap}
 use Rattle.pc_common.specs.Case.{Case}
 use Rattle.pc_common.specs.World.{Node}
 use Rattle.pc_syntax.specs.declared.term.Sort.{Sort}
