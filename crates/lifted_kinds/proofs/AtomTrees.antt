@@ -22,7 +22,8 @@ use Rattle.pc_ground.specs.Unfolded.{node_said, edge_said}
 use Rattle.static_preds.specs.Slots.{AreInRange}
 use Rattle.static_preds.specs.Values.{meanings, sort_bound, scope_of}
 use Rattle.static_preds.proofs.Terms.{node_named}
-use Rattle.lifted_kinds.specs.Trees.{signed_tree, said_tree, joined_trees, node_tree, edge_tree}
+use Rattle.lifted_facts.specs.PlainFacts.{said}
+use Rattle.lifted_kinds.specs.Trees.{signed_tree, said_tree, joined_trees, node_tree, edge_tree, fact_tree}
 use Rattle.lifted_kinds.specs.declared.kind.Kind.TheVariants.{Open}
 use Rattle.lifted_kinds.specs.Kinds.{kind_of, kind_over}
 use Rattle.lifted_kinds.proofs.TreeLaws.{nodes_tree, edges_tree}
@@ -129,6 +130,12 @@ module _ (c : Case) (slots : List Bound) (range : AreInRange c slots) where
       ap (λ x. kind_of (said_tree c plus x (meanings slots))) e ∙ ap kind_of (edges_tree c (meanings slots) plus ts)
       ∙ kind_of_members plus (edge_tree c plus (meanings slots)) ts (open_edges c slots plus ts 0 fit range)
 
+  fit_nodes : (f : PlainClosed) (ts : List ClosedNode) → f ≡ closed_nodes ts → IsClosed (scope_of slots) f → FitNodes (scope_of slots) ts
+  fit_nodes f ts e closed = subst (IsClosed (scope_of slots)) e closed
+
+  fit_edges : (f : PlainClosed) (ts : List ClosedEdge) → f ≡ closed_edges ts → IsClosed (scope_of slots) f → FitEdges (scope_of slots) ts
+  fit_edges f ts e closed = subst (IsClosed (scope_of slots)) e closed
+
   pub nodes_left : (ts : List ClosedNode) (s : ℕ) → FitNodes (scope_of slots) ts
       → kind_of (joined_trees false (map (node_tree c false (meanings slots)) (drop s ts))) ≡ kind_over false (length ts - s)
   nodes_left ts s fit =
@@ -138,3 +145,28 @@ module _ (c : Case) (slots : List Bound) (range : AreInRange c slots) where
       → kind_of (joined_trees false (map (edge_tree c false (meanings slots)) (drop s ts))) ≡ kind_over false (length ts - s)
   edges_left ts s fit =
       kind_of_members false (edge_tree c false (meanings slots)) (drop s ts) (open_edges c slots false ts s fit range) ∙ ap (kind_over false) (length-drop s ts)
+
+  -- the same of a fact, by its sign
+  pub nodes_held : (f : PlainClosed) (ts : List ClosedNode) (s : ℕ) (plus : Bool) → f ≡ closed_nodes ts → IsClosed (scope_of slots) f → plus ≡ true
+      → kind_of (fact_tree c (said plus f (meanings slots) s)) ≡ kind_over true (length ts)
+  nodes_held f ts s plus e closed yes =
+      ap (λ x. kind_of (fact_tree c (said plus x (meanings slots) s))) e ∙ ap (λ b. kind_of (fact_tree c (said b (closed_nodes ts) (meanings slots) s))) yes
+      ∙ nodes_kind true (closed_nodes ts) ts refl (fit_nodes f ts e closed)
+
+  pub nodes_denied : (f : PlainClosed) (ts : List ClosedNode) (s : ℕ) (plus : Bool) → f ≡ closed_nodes ts → IsClosed (scope_of slots) f → plus ≡ false
+      → kind_of (fact_tree c (said plus f (meanings slots) s)) ≡ kind_over false (length ts - s)
+  nodes_denied f ts s plus e closed no =
+      ap (λ x. kind_of (fact_tree c (said plus x (meanings slots) s))) e ∙ ap (λ b. kind_of (fact_tree c (said b (closed_nodes ts) (meanings slots) s))) no
+      ∙ nodes_left ts s (fit_nodes f ts e closed)
+
+  pub edges_held : (f : PlainClosed) (ts : List ClosedEdge) (s : ℕ) (plus : Bool) → f ≡ closed_edges ts → IsClosed (scope_of slots) f → plus ≡ true
+      → kind_of (fact_tree c (said plus f (meanings slots) s)) ≡ kind_over true (length ts)
+  edges_held f ts s plus e closed yes =
+      ap (λ x. kind_of (fact_tree c (said plus x (meanings slots) s))) e ∙ ap (λ b. kind_of (fact_tree c (said b (closed_edges ts) (meanings slots) s))) yes
+      ∙ edges_kind true (closed_edges ts) ts refl (fit_edges f ts e closed)
+
+  pub edges_denied : (f : PlainClosed) (ts : List ClosedEdge) (s : ℕ) (plus : Bool) → f ≡ closed_edges ts → IsClosed (scope_of slots) f → plus ≡ false
+      → kind_of (fact_tree c (said plus f (meanings slots) s)) ≡ kind_over false (length ts - s)
+  edges_denied f ts s plus e closed no =
+      ap (λ x. kind_of (fact_tree c (said plus x (meanings slots) s))) e ∙ ap (λ b. kind_of (fact_tree c (said b (closed_edges ts) (meanings slots) s))) no
+      ∙ edges_left ts s (fit_edges f ts e closed)

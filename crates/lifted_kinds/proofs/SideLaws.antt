@@ -26,6 +26,7 @@ use Rattle.lifted_kinds.specs.Trees.{signed_tree, said_tree, joined_tree, joined
 use Rattle.lifted_kinds.specs.PartLists.{parts, IsSaid}
 use Rattle.lifted_kinds.specs.Ranks.{weight, rank}
 use Rattle.lifted_kinds.proofs.TreeLaws.{start_tree, forall_tree, exists_tree, nodes_tree, edges_tree}
+use Rattle.lifted_kinds.proofs.PartWays.{there_at}
 
 -- what an optional value was made of
 mapped : {X Y : Type 0} (f : X → Y) (o : Option X) (y : Y) → option_map f o ≡ Some y → (x : X) × (o ≡ Some x) × (f x ≡ y)
@@ -109,9 +110,14 @@ module _ (c : Case) where
   -- a fact with a member left has sides
   sided : {X : Type 0} (fact : X → PlainFact) (xs : List X) (s : ℕ) (later : PlainFact) → not (nat_lt s (length xs)) ≡ false
       → or_later (option_map fact (slice_get xs s)) later ≡ None → ⊥
-  sided fact [] s later left e = cc
-  sided fact (x ∷ xs) zero later left e = cc
-  sided fact (x ∷ xs) (suc s) later left e = sided fact xs s later left e
+  sided fact xs s later left e =
+      let x = there_at xs s (ltb-true s (length xs) (is_yes (nat_lt s (length xs)) left)) in
+      let clash : or_later (option_map fact (Some x.0)) later ≡ None = sym (ap (λ o. or_later (option_map fact o) later) x.1) ∙ e in
+      cc
+    where
+      is_yes : (b : Bool) → not b ≡ false → b ≡ true
+      is_yes true h = refl
+      is_yes false h = cc
 
   pub parts_tree : (f : PlainFact) → IsSaid f → sides c f ≡ None → is_false c f ≡ false → fact_tree c f ≡ joined_trees true (map (fact_tree c) (parts c f))
   parts_tree (said true (closed_and p q) slots s) is none fine = two_parts true true p q slots

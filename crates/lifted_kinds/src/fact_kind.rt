@@ -34,9 +34,9 @@ pub fn false_part<'a>(case: &Case, fact: &Fact<'a>) -> (Way, Fact<'a>)
     ensures proper { IsProper case.now result.1 }
 {
     for k in 0..part_count(case, fact) {
-        let (way, part) = part_at(case, fact, k);
-        match kind_of_fact(case, &part) {
-            Kind::False => return (way, part),
+        let named = part_at(case, fact, k);
+        match kind_of_fact(case, &named.1) {
+            Kind::False => return named,
             _ => {}
         }
     }
@@ -49,14 +49,14 @@ pub fn last_open(case: &Case, fact: &Fact<'_>) -> usize
     requires kind { kind_of (joined_trees true (map (fact_tree case.now) (parts case.now (plain_fact fact.now)))) ≡ Open }
     ensures within { result < length (parts case.now (plain_fact fact.now)) }
     ensures rest { joined_trees true (map (fact_tree case.now) (drop (result + 1) (parts case.now (plain_fact fact.now)))) ≡ always }
-    ensures open { (j : ℕ) → j < result + 1
+    ensures up_to { (j : ℕ) → j < result + 1
         → kind_of (joined_trees true (map (fact_tree case.now) (drop j (parts case.now (plain_fact fact.now))))) ≡ Open }
 {
     let count = part_count(case, fact);
     for k in 0..count {
         let at = count - 1 - k;
-        let (_, part) = part_at(case, fact, at);
-        match kind_of_fact(case, &part) {
+        let named = part_at(case, fact, at);
+        match kind_of_fact(case, &named.1) {
             Kind::Open => return at,
             _ => {}
         }

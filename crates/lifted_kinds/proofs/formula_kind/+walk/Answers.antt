@@ -1,4 +1,4 @@
-use Rattle.std.proofs.Common.{◌≡◌, ◌<◌, ◌≤◌, ◌+◌, ◌++◌, ◌∷◌, [], length, ap, sym, ◌∙◌, arith}
+use Rattle.std.proofs.Common.{not, ◌≡◌, ◌<◌, ◌≤◌, ◌+◌, ◌++◌, ◌∷◌, [], length, ap, sym, ◌∙◌, arith}
 use Rattle.std.proofs.Math.Seq.{take-length}
 use Rattle.pc_syntax.specs.Truth.{range_of}
 use Rattle.pc_syntax.specs.Closed.{plain_closed}
@@ -20,11 +20,13 @@ kind_of_formula-holds-requires-clause-below t c = slots_below (length c.args.cas
 pub kind_of_formula-returns-in-Forall : goal.kind_of_formula-returns-in-Forall
 kind_of_formula-returns-in-Forall t c =
     c.kind_of_range.ensures
+    ∙ ap (λ b. kind_of (joined_trees c.args.plus (bodies c.args.case.now c.args.plus c.in-Forall.sort (plain_closed b) (meanings c.args.env.now.items) 0))) c.deref-in-Forall.ensures
     ∙ ap kind_of (sym (forall_of c.args.case.now (meanings c.args.env.now.items) c.args.plus (plain_closed c.args.formula.now) _ _ (ap plain_closed c.in-Forall.is)))
 
 pub kind_of_formula-returns-in-Exists : goal.kind_of_formula-returns-in-Exists
 kind_of_formula-returns-in-Exists t c =
     c.kind_of_range-in-Exists.ensures
+    ∙ ap (λ b. kind_of (joined_trees (not c.args.plus) (bodies c.args.case.now c.args.plus c.in-Exists.sort (plain_closed b) (meanings c.args.env.now.items) 0))) c.deref-in-Exists.ensures
     ∙ ap kind_of (sym (exists_of c.args.case.now (meanings c.args.env.now.items) c.args.plus (plain_closed c.args.formula.now) _ _ (ap plain_closed c.in-Exists.is)))
 
 pub kind_of_formula-returns-in-Nodes : goal.kind_of_formula-returns-in-Nodes
