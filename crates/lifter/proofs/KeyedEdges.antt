@@ -1,5 +1,5 @@
 -- The numbers of the edges that lead along node keys, one by one.
-use Rattle.std.proofs.Common.{◌≡◌, ◌≤◌, ℕ, zero, suc, ◌+◌, ◌-◌, List, [], ◌∷◌, ◌++◌, Some, length, get_or, map, take, drop, refl, sym, ◌∙◌, ap, subst, arith, append_assoc}
+use Rattle.std.proofs.Common.{◌≡◌, ◌≤◌, ◌<◌, ℕ, zero, suc, ◌+◌, ◌-◌, List, [], ◌∷◌, ◌++◌, Some, length, get_or, map, take, drop, refl, sym, ◌∙◌, ap, subst, arith, append_assoc}
 use Rattle.std.specs.Prelude.{slice_get}
 use Rattle.std.proofs.lemmas.List.{map-append, take_all, drop_all}
 use Rattle.pc_common.specs.World.{Node}
@@ -90,3 +90,33 @@ first_last (z ∷ w ∷ ws) x y some a b =
     let two : length (z ∷ w ∷ ws) - 1 - 1 ≡ length ws = omega arith in
     let last = last_of (w ∷ ws) (length ws) y refl (b ∙ ap (λ n. get_or (z ∷ w ∷ ws) n y) one) in
     ap (λ u. u ∷ w ∷ ws) (sym a) ∙ ap (λ r. x ∷ r) (last ∙ ap (λ n. take n (w ∷ ws) ++ y ∷ []) (sym two))
+
+module _ (es : List Entry) (from to : NodeKey) (via rest : List NodeKey) (next : NodeKey) (e : via ≡ next ∷ rest) where
+  -- the first edge of some, and its number
+  pub first_edge : AreEdges es (key_node from) (along via to) → HasKey es (edge (key_node from) (key_node next)) × AreEdges es (key_node next) (along rest to)
+  first_edge h = (let P : List NodeKey → Type 0 = λ ys. AreEdges es (key_node from) (along ys to) in subst P e h)
+
+  pub first_number : (n : ℕ) (ks : List ℕ) → In (entry (edge (key_node from) (key_node next)) n) es → AreNumbers es (key_node next) (along rest to) ks
+      → AreNumbers es (key_node from) (along via to) (n ∷ ks)
+  first_number n ks here more = (let P : List NodeKey → Type 0 = λ ys. AreNumbers es (key_node from) (along ys to) (n ∷ ks) in subst P (sym e) (here, more))
+
+-- the one edge where no node stands between
+pub one_number : (es : List Entry) (from to : NodeKey) (via : List NodeKey) (n : ℕ) (ks : List ℕ) → length via ≤ 0 → In (entry (edge (key_node from) (key_node to)) n) es → ks ≡ []
+    → AreNumbers es (key_node from) (along via to) (n ∷ ks)
+one_number es from to [] n ks none here is =
+    (let P : List ℕ → Type 0 = λ ms. AreNumbers es (key_node from) (along [] to) (n ∷ ms) in subst P (sym is) (here, tt))
+one_number es from to (v ∷ vs) n ks none here is = absurd (omega (arith, none))
+
+-- a cycle has a node, and a path two
+pub no_cycle : (es : List Entry) (nodes : List NodeKey) → length nodes ≤ 0 → IsCycleKnown es (map key_node nodes) → ⊥
+no_cycle es [] none h = h
+no_cycle es (n ∷ ns) none h = absurd (omega (arith, none))
+
+no_tail : {X : Type 0} (xs : List X) (x : X) → [] ≡ xs ++ x ∷ [] → ⊥
+no_tail [] x e = cc
+no_tail (y ∷ ys) x e = cc
+
+pub no_path : (es : List Entry) (nodes : List NodeKey) → length nodes ≤ 1 → IsPathKnown es (map key_node nodes) → ⊥
+no_path es [] few h = (let e = h.all in cc)
+no_path es (n ∷ []) few h = (let e = h.all in let tails : [] ≡ h.via ++ h.last ∷ [] = cc in no_tail h.via h.last tails)
+no_path es (n ∷ m ∷ ns) few h = absurd (omega (arith, few))

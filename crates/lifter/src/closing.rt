@@ -45,9 +45,9 @@ pub(crate) fn close(
             close(case, &second, count, more, steps)
         }
         None => {
-            let (way, part) = false_part(case, fact);
-            steps.push(Line::Derive(way, number))?;
-            close(case, &part, count, more, steps)
+            let named = false_part(case, fact);
+            steps.push(Line::Derive(named.0, number))?;
+            close(case, &named.1, count, more, steps)
         }
     }
 }

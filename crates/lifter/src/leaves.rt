@@ -77,8 +77,8 @@ pub(crate) fn add_cycle(
     match nodes {
         [] => unreachable!(),
         [from, via @ ..] => {
-            let (first, more) = numbers_to(alloc, &state.known, *from, via, *from)?;
-            state.steps.push(Line::Cycle(first, more))
+            let numbers = numbers_to(alloc, &state.known, *from, via, *from)?;
+            state.steps.push(Line::Cycle(numbers.0, numbers.1))
         }
     }
 }
@@ -95,9 +95,9 @@ pub(crate) fn add_path(
 {
     match nodes {
         [from, via @ .., to] => {
-            let (first, more) = numbers_to(alloc, &state.known, *from, via, *to)?;
+            let numbers = numbers_to(alloc, &state.known, *from, via, *to)?;
             let denial = number_of(&state.known, Key::NoEdge(*from, *to));
-            state.steps.push(Line::Path(first, more, denial))
+            state.steps.push(Line::Path(numbers.0, numbers.1, denial))
         }
         _ => unreachable!(),
     }

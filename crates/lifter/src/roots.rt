@@ -87,7 +87,7 @@ fn last_axiom(case: &Case, axioms: &[Closed]) -> usize
     requires { kind_of (facts_from case.now (root (plain_axioms axioms.now)) 0) ≡ Open }
     ensures within { result < length axioms.now }
     ensures rest { facts_from case.now (root (plain_axioms axioms.now)) (result + 1) ≡ always }
-    ensures open { (j : ℕ) → j < result + 1 → kind_of (facts_from case.now (root (plain_axioms axioms.now)) j) ≡ Open }
+    ensures up_to { (j : ℕ) → j < result + 1 → kind_of (facts_from case.now (root (plain_axioms axioms.now)) j) ≡ Open }
 {
     for k in 0..axioms.len() {
         let at = axioms.len() - 1 - k;
@@ -159,7 +159,7 @@ pub(crate) fn close_axiom(
     ensures { OnOk result ((start opens : List Branch) → Runs case.now state.old.steps start (root (plain_axioms axioms.now) ∷ opens)
         → Runs case.now state.new.steps start opens) }
 {
-    let (k, fact) = false_axiom(case, axioms);
+    let found = false_axiom(case, axioms);
     let count = state.facts.len() as u64;
-    close(case, &fact, k as u64, count, &mut state.steps)
+    close(case, &found.1, found.0 as u64, count, &mut state.steps)
 }

@@ -179,12 +179,12 @@ fn unfold_next<'a>(
     requires stands { IsPart tree.now at (parts_from case.now (plain_fact fact.now) k) }
     ensures { IfOk result (λ next. HasTaken case.now tree.now (parts case.now (plain_fact fact.now)) k at next state.old state.new) }
 {
-    let (way, part) = part_at(case, fact, k);
-    match kind_of_fact(case, &part) {
+    let named = part_at(case, fact, k);
+    match kind_of_fact(case, &named.1) {
         Kind::Open => {
             let right = right_of(tree, at);
-            let next = derive(case, state, way, number, &part)?;
-            unfold(case, tree, state, &part, next, at + 1)?;
+            let next = derive(case, state, named.0, number, &named.1)?;
+            unfold(case, tree, state, &named.1, next, at + 1)?;
             Ok(right)
         }
         _ => Ok(at),
@@ -210,7 +210,7 @@ fn unfold_last<'a>(
     requires stands { IsPart tree.now at (parts_from case.now (plain_fact fact.now) k) }
     ensures { OnOk result (HasUnfolded case.now tree.now (parts_from case.now (plain_fact fact.now) k) at state.old state.new) }
 {
-    let (way, part) = part_at(case, fact, k);
-    let next = derive(case, state, way, number, &part)?;
-    unfold(case, tree, state, &part, next, at)
+    let named = part_at(case, fact, k);
+    let next = derive(case, state, named.0, number, &named.1)?;
+    unfold(case, tree, state, &named.1, next, at)
 }

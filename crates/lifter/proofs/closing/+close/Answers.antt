@@ -46,8 +46,8 @@ returns-in_ok-close-in-Some t c =
     (sym c.in-Some.ensures.is) c.in_ok-more.ensures c.in_ok-push-in-Some.ensures c.in_ok-close-in-Some.ensures last) c.close-in-Some.ensures
 
 -- by a part
-pub false_part-requires : goal.false_part-requires
-false_part-requires t c =
+pub false_part-named-requires : goal.false_part-named-requires
+false_part-named-requires t c =
     record {
       proper = c.requires.proper;
       kind = parts_false c.args.case.now c.args.fact.now (sym c.in-None.ensures.is) (sym c.is_false.ensures ∙ c.if-is_false.false) c.requires.kind;
@@ -55,13 +55,13 @@ false_part-requires t c =
 
 pub close-requires-in-None : goal.close-requires-in-None
 close-requires-in-None t c =
-    let low = part_rank c.args.case.now c.false_part.result.0 (plain_fact c.args.fact.now) (plain_fact c.false_part.result.1) c.false_part.ensures.is in
-    (omega (arith, c.decreases, low), (c.false_part.ensures.proper, c.false_part.ensures.kind))
+    let low = part_rank c.args.case.now c.false_part-named.result.0 (plain_fact c.args.fact.now) (plain_fact c.false_part-named.result.1) c.false_part-named.ensures.is in
+    (omega (arith, c.decreases, low), (c.false_part-named.ensures.proper, c.false_part-named.ensures.kind))
 
 pub returns-in_ok-push-in-None : goal.returns-in_ok-push-in-None
 returns-in_ok-push-in-None t c =
     let f = plain_fact c.args.fact.now in
-    let g = plain_fact c.false_part.result.1 in
+    let g = plain_fact c.false_part-named.result.1 in
     on_ok_weaker c.close-in-None.result
-    (λ rest. closed_by_part c.args.case.now f g c.false_part.result.0 c.args.number c.args.count c.in_ok-more.more c.args.steps.now c.push-in-None.new.self c.close-in-None.new.steps
-    c.false_part.ensures.is c.in_ok-more.ensures c.in_ok-push-in-None.ensures rest) c.close-in-None.ensures
+    (λ rest. closed_by_part c.args.case.now f g c.false_part-named.result.0 c.args.number c.args.count c.in_ok-more.more c.args.steps.now c.push-in-None.new.self c.close-in-None.new.steps
+    c.false_part-named.ensures.is c.in_ok-more.ensures c.in_ok-push-in-None.ensures rest) c.close-in-None.ensures

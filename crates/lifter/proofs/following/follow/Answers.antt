@@ -8,8 +8,8 @@ use Rattle.lifter.specs.Progress.{IsAhead}
 use Rattle.lifter.proofs.StepsAhead.{none_left_at, all_closed}
 use Rattle.lifter.proofs.following.follow.Goals as goal
 
-pub prove-unreachable-requires : goal.prove-unreachable-requires
-prove-unreachable-requires c =
+pub unreachable-requires : goal.unreachable-requires
+unreachable-requires c =
     let a = c.requires.ahead in
     none_left_at c.args.case.now c.args.tree.now a.0 c.loop-k.state c.loop-k.is_open c.args.refutation.now c.loop-k.k c.if-not-is_open.true (omega (arith, c.loop-k-test.true))
     (c.loop-k.invariant.ahead a.0 a.1)

@@ -16,8 +16,8 @@ use Rattle.lifter.proofs.StateMoves.{put_off}
 use Rattle.lifter.proofs.SplitOrs.{or_within, or_fact, or_sides, no_sides, proper_read, split_on}
 use Rattle.lifter.proofs.following.split_or.Goals as goal
 
-pub prove-unreachable-requires : goal.prove-unreachable-requires
-prove-unreachable-requires c = c.in-None.ensures c.requires.known.0 c.requires.known.1
+pub unreachable-requires : goal.unreachable-requires
+unreachable-requires c = c.in-None.ensures c.requires.known.0 c.requires.known.1
 
 pub index-requires : goal.index-requires
 index-requires c =
@@ -30,8 +30,8 @@ sides-requires c =
     proper_read c.args.case.now s.facts.items c.in-Some.number c.index-state-number.result c.requires.kept.proper within c.index-state-number.is
 
 -- the fact has sides
-pub prove-unreachable-requires-2 : goal.prove-unreachable-requires-2
-prove-unreachable-requires-2 c =
+pub unreachable-requires-2 : goal.unreachable-requires-2
+unreachable-requires-2 c =
     let x = c.index-state-number.result in
     let o = or_fact c.args.case.now c.args.tree.now c.requires.good.0 c.args.state.now c.args.position c.in-Some.number c.requires.good.1 c.in-Some.ensures x c.index-state-number.is in
     no_sides (sides c.args.case.now (plain_fact x)) o.1.first o.1.second o.1.are (sym c.in-None-2.ensures.is)

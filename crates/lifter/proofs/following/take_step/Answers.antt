@@ -123,8 +123,8 @@ returns-in_ok-add_absent-in-Absent-clause-ahead c =
     let Q : Step → Type 0 = λ x. IfOk g.result (λ is_open. (start : List Branch) (rest : List (PlainStep Node)) → IsAhead case rows start s true (plain_step x ∷ rest) → IsAhead case rows start g.new.state is_open rest) in
     subst Q (sym c.in-Absent.is) (leaf_taken case rows s c.add_absent.new.state g.new.state (absent (key_node c.in-Absent.node)) g.result c.in_ok-add_absent-in-Absent.ensures g.ensures.at)
 
-pub prove-unreachable-requires : goal.prove-unreachable-requires
-prove-unreachable-requires c =
+pub unreachable-requires : goal.unreachable-requires
+unreachable-requires c =
     let s = c.args.state.now in
     let A : Step → Type 0 = λ x. (start : List Branch) × (rest : List (PlainStep Node)) × IsAhead c.args.case.now c.args.tree.now start s true (plain_step x ∷ rest) in
     let a = subst A c.in-False.is c.requires.ahead in

@@ -1,4 +1,4 @@
 use Rattle.lifter.proofs.leaves.number_of.Goals as goal
 
-pub prove-unreachable-requires : goal.prove-unreachable-requires
-prove-unreachable-requires c = c.in-None.ensures c.requires.0 c.requires.1
+pub unreachable-requires : goal.unreachable-requires
+unreachable-requires c = c.in-None.ensures c.requires.0 c.requires.1

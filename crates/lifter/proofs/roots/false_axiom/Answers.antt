@@ -22,8 +22,8 @@ loop-k-preserved c =
     (axiom_said axioms c.loop-k.k c.index-axioms-k.result (plain_fact c.axiom_fact-fact.result) c.loop-k-test.true c.index-axioms-k.is c.axiom_fact-fact.ensures.is)
     c.loop-k.invariant (λ e. c.in_default.not-False (c.kind_of_fact.ensures ∙ e))
 
-pub prove-unreachable-requires : goal.prove-unreachable-requires
-prove-unreachable-requires c =
+pub unreachable-requires : goal.unreachable-requires
+unreachable-requires c =
     let axioms = c.args.axioms.now in
     let past : length (root (plain_axioms axioms)) ≤ c.loop-k.k = omega (arith, as_many axioms, c.loop-k-test.false) in
     end_not_false (fact_tree c.args.case.now) (root (plain_axioms axioms)) c.loop-k.k past c.loop-k.invariant

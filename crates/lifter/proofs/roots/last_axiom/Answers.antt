@@ -35,4 +35,4 @@ returns-in-Open c =
     let found = last_found (fact_tree c.args.case.now) (root (plain_axioms axioms)) at (length axioms - c.loop-k.k) f
     (axiom_said axioms at c.index-axioms-at.result f within c.index-axioms-at.is c.axiom_fact-fact.ensures.is)
     step c.loop-k.invariant c.requires (sym c.kind_of_fact.ensures ∙ c.in-Open.is) in
-    record { within = within; rest = found.0; open = found.1 }
+    record { within = within; rest = found.0; up_to = found.1 }

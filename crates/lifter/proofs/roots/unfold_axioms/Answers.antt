@@ -31,8 +31,8 @@ unfold_next_axiom-at-requires c =
       has = λ f there.
           let P : Branch → Type 0 = λ b. HasFact b k f in
           moved_fact case c.args.tree.now c.args.state.now c.loop-k.state k f inv.moves (subst P (sym c.requires.facts) there);
-      kind = c.last_axiom-last.ensures.open k (omega (arith, low));
-      rest = c.last_axiom-last.ensures.open (k + 1) (omega (arith, low));
+      kind = c.last_axiom-last.ensures.up_to k (omega (arith, low));
+      rest = c.last_axiom-last.ensures.up_to (k + 1) (omega (arith, low));
       stands = inv.stands;
     }
 
@@ -59,7 +59,7 @@ unfold-requires c =
     record {
       proper = c.axiom_fact-fact.ensures.proper case;
       has = moved_fact case rows c.args.state.now c.loop-k.state last f inv.moves (subst B (sym c.requires.facts) there);
-      kind = ap kind_of (sym only) ∙ c.last_axiom-last.ensures.open last (omega arith);
+      kind = ap kind_of (sym only) ∙ c.last_axiom-last.ensures.up_to last (omega arith);
       stands = subst T only (subst S end inv.stands);
     }
 

@@ -183,8 +183,8 @@ unfold_all-unfold_next-at-requires t c =
         c.requires.proper,
         moved_fact case c.args.tree.now c.args.state.now c.loop-k.state c.args.number f inv.moves c.requires.has,
         omega (arith, low, c.last_open-last.ensures.within),
-        c.last_open-last.ensures.open k (omega (arith, low)),
-        c.last_open-last.ensures.open (k + 1) (omega (arith, low)),
+        c.last_open-last.ensures.up_to k (omega (arith, low)),
+        c.last_open-last.ensures.up_to (k + 1) (omega (arith, low)),
         inv.stands,
       ),
     )
@@ -203,7 +203,7 @@ unfold_all-unfold_last-requires t c =
         c.requires.proper,
         moved_fact case c.args.tree.now c.args.state.now c.loop-k.state c.args.number f inv.moves c.requires.has,
         c.last_open-last.ensures.within,
-        c.last_open-last.ensures.open last (omega arith),
+        c.last_open-last.ensures.up_to last (omega arith),
         c.last_open-last.ensures.rest,
         subst S end inv.stands,
       ),
@@ -229,14 +229,14 @@ unfold_next-right_of-right-requires t c =
     let s = c.args.state.now in
     let f = plain_fact c.args.fact.now in
     let fs = parts case f in
-    let g = plain_fact c.part_at.result.1 in
-    let there = c.part_at.ensures.member in
+    let g = plain_fact c.part_at-named.result.1 in
+    let there = c.part_at-named.ensures.member in
     let kind = sym c.kind_of_fact.ensures ∙ c.in-Open.is in
     let here = (stands_here case rows fs c.args.k c.args.at g there kind c.requires.rest c.requires.stands).0 in
     (fact_tree case g, here)
 
 pub unfold_next-derive-next-requires : goal.unfold_next-derive-next-requires
-unfold_next-derive-next-requires t c = record { proper = c.part_at.ensures.proper; is = (plain_fact c.args.fact.now, c.requires.has, c.part_at.ensures.is) }
+unfold_next-derive-next-requires t c = record { proper = c.part_at-named.ensures.proper; is = (plain_fact c.args.fact.now, c.requires.has, c.part_at-named.ensures.is) }
 
 pub unfold_next-overflow_add-unfold : goal.unfold_next-overflow_add-unfold
 unfold_next-overflow_add-unfold t c =
@@ -245,8 +245,8 @@ unfold_next-overflow_add-unfold t c =
     let s = c.args.state.now in
     let f = plain_fact c.args.fact.now in
     let fs = parts case f in
-    let g = plain_fact c.part_at.result.1 in
-    let there = c.part_at.ensures.member in
+    let g = plain_fact c.part_at-named.result.1 in
+    let there = c.part_at-named.ensures.member in
     let kind = sym c.kind_of_fact.ensures ∙ c.in-Open.is in
     let here = (stands_here case rows fs c.args.k c.args.at g there kind c.requires.rest c.requires.stands).0 in
     omega (arith, c.right_of-right.ensures (fact_tree case g) here)
@@ -258,13 +258,13 @@ unfold_next-unfold-requires t c =
     let s = c.args.state.now in
     let f = plain_fact c.args.fact.now in
     let fs = parts case f in
-    let g = plain_fact c.part_at.result.1 in
-    let there = c.part_at.ensures.member in
+    let g = plain_fact c.part_at-named.result.1 in
+    let there = c.part_at-named.ensures.member in
     let kind = sym c.kind_of_fact.ensures ∙ c.in-Open.is in
     let here = (stands_here case rows fs c.args.k c.args.at g there kind c.requires.rest c.requires.stands).0 in
-    let low = part_rank case c.part_at.result.0 f g c.part_at.ensures.is in
+    let low = part_rank case c.part_at-named.result.0 f g c.part_at-named.ensures.is in
     let gained = c.in_ok-next-in-Open.ensures rows in
-    (omega (arith, c.decreases, low), (c.part_at.ensures.proper, gained_fact case rows s c.derive-next.new.state c.in_ok-next-in-Open.next g gained, kind, here))
+    (omega (arith, c.decreases, low), (c.part_at-named.ensures.proper, gained_fact case rows s c.derive-next.new.state c.in_ok-next-in-Open.next g gained, kind, here))
 
 pub unfold_next-returns-in_ok-unfold-in-Open : goal.unfold_next-returns-in_ok-unfold-in-Open
 unfold_next-returns-in_ok-unfold-in-Open t c =
@@ -273,8 +273,8 @@ unfold_next-returns-in_ok-unfold-in-Open t c =
     let s = c.args.state.now in
     let f = plain_fact c.args.fact.now in
     let fs = parts case f in
-    let g = plain_fact c.part_at.result.1 in
-    let there = c.part_at.ensures.member in
+    let g = plain_fact c.part_at-named.result.1 in
+    let there = c.part_at-named.ensures.member in
     let kind = sym c.kind_of_fact.ensures ∙ c.in-Open.is in
     let here = (stands_here case rows fs c.args.k c.args.at g there kind c.requires.rest c.requires.stands).0 in
     let u = c.in_ok-unfold-in-Open.ensures in
@@ -289,14 +289,14 @@ unfold_next-returns-in_default t c =
     let s = c.args.state.now in
     let f = plain_fact c.args.fact.now in
     let fs = parts case f in
-    let g = plain_fact c.part_at.result.1 in
-    let there = c.part_at.ensures.member in
+    let g = plain_fact c.part_at-named.result.1 in
+    let there = c.part_at-named.ensures.member in
     let yes = true_here case rows fs c.args.k g there c.requires.kind (λ e. c.in_default.not-Open (c.kind_of_fact.ensures ∙ e)) in
     passed_over case rows fs c.args.k c.args.at g s there yes c.requires.stands
 
 -- the last one
 pub unfold_last-derive-next-requires : goal.unfold_last-derive-next-requires
-unfold_last-derive-next-requires t c = record { proper = c.part_at.ensures.proper; is = (plain_fact c.args.fact.now, c.requires.has, c.part_at.ensures.is) }
+unfold_last-derive-next-requires t c = record { proper = c.part_at-named.ensures.proper; is = (plain_fact c.args.fact.now, c.requires.has, c.part_at-named.ensures.is) }
 
 pub unfold_last-unfold-requires : goal.unfold_last-unfold-requires
 unfold_last-unfold-requires t c =
@@ -305,13 +305,13 @@ unfold_last-unfold-requires t c =
     let s = c.args.state.now in
     let f = plain_fact c.args.fact.now in
     let fs = parts case f in
-    let g = plain_fact c.part_at.result.1 in
-    let there = c.part_at.ensures.member in
+    let g = plain_fact c.part_at-named.result.1 in
+    let there = c.part_at-named.ensures.member in
     let only = last_is case rows fs c.args.k g there c.requires.rest in
     let P : Tree Node → Type 0 = λ u. IsPart rows c.args.at u in
-    let low = part_rank case c.part_at.result.0 f g c.part_at.ensures.is in
+    let low = part_rank case c.part_at-named.result.0 f g c.part_at-named.ensures.is in
     let gained = c.in_ok-next.ensures rows in
-    (omega (arith, c.decreases, low), (c.part_at.ensures.proper, gained_fact case rows s c.derive-next.new.state c.in_ok-next.next g gained, ap kind_of (sym only) ∙ c.requires.kind, subst P only c.requires.stands))
+    (omega (arith, c.decreases, low), (c.part_at-named.ensures.proper, gained_fact case rows s c.derive-next.new.state c.in_ok-next.next g gained, ap kind_of (sym only) ∙ c.requires.kind, subst P only c.requires.stands))
 
 pub unfold_last-returns : goal.unfold_last-returns
 unfold_last-returns t c =
@@ -320,8 +320,8 @@ unfold_last-returns t c =
     let s = c.args.state.now in
     let f = plain_fact c.args.fact.now in
     let fs = parts case f in
-    let g = plain_fact c.part_at.result.1 in
-    let there = c.part_at.ensures.member in
+    let g = plain_fact c.part_at-named.result.1 in
+    let there = c.part_at-named.ensures.member in
     let only = last_is case rows fs c.args.k g there c.requires.rest in
     on_ok_weaker c.unfold.result
     (λ u. unfolded_by case rows s c.derive-next.new.state c.unfold.new.state (fact_tree case g) (facts_from case fs c.args.k) c.args.at (c.in_ok-next.ensures rows).moves only u) c.unfold.ensures
