@@ -149,24 +149,24 @@ module _ (c : Case) (slots : List Bound) (range : AreInRange c slots) where
   -- the same of a fact, by its sign
   pub nodes_held : (f : PlainClosed) (ts : List ClosedNode) (s : ℕ) (plus : Bool) → f ≡ closed_nodes ts → IsClosed (scope_of slots) f → plus ≡ true
       → kind_of (fact_tree c (said plus f (meanings slots) s)) ≡ kind_over true (length ts)
-  nodes_held f ts s plus e closed yes =
-      ap (λ x. kind_of (fact_tree c (said plus x (meanings slots) s))) e ∙ ap (λ b. kind_of (fact_tree c (said b (closed_nodes ts) (meanings slots) s))) yes
+  nodes_held f ts s plus e closed held =
+      ap (λ x. kind_of (fact_tree c (said plus x (meanings slots) s))) e ∙ ap (λ b. kind_of (fact_tree c (said b (closed_nodes ts) (meanings slots) s))) held
       ∙ nodes_kind true (closed_nodes ts) ts refl (fit_nodes f ts e closed)
 
   pub nodes_denied : (f : PlainClosed) (ts : List ClosedNode) (s : ℕ) (plus : Bool) → f ≡ closed_nodes ts → IsClosed (scope_of slots) f → plus ≡ false
       → kind_of (fact_tree c (said plus f (meanings slots) s)) ≡ kind_over false (length ts - s)
-  nodes_denied f ts s plus e closed no =
-      ap (λ x. kind_of (fact_tree c (said plus x (meanings slots) s))) e ∙ ap (λ b. kind_of (fact_tree c (said b (closed_nodes ts) (meanings slots) s))) no
+  nodes_denied f ts s plus e closed denied =
+      ap (λ x. kind_of (fact_tree c (said plus x (meanings slots) s))) e ∙ ap (λ b. kind_of (fact_tree c (said b (closed_nodes ts) (meanings slots) s))) denied
       ∙ nodes_left ts s (fit_nodes f ts e closed)
 
   pub edges_held : (f : PlainClosed) (ts : List ClosedEdge) (s : ℕ) (plus : Bool) → f ≡ closed_edges ts → IsClosed (scope_of slots) f → plus ≡ true
       → kind_of (fact_tree c (said plus f (meanings slots) s)) ≡ kind_over true (length ts)
-  edges_held f ts s plus e closed yes =
-      ap (λ x. kind_of (fact_tree c (said plus x (meanings slots) s))) e ∙ ap (λ b. kind_of (fact_tree c (said b (closed_edges ts) (meanings slots) s))) yes
+  edges_held f ts s plus e closed held =
+      ap (λ x. kind_of (fact_tree c (said plus x (meanings slots) s))) e ∙ ap (λ b. kind_of (fact_tree c (said b (closed_edges ts) (meanings slots) s))) held
       ∙ edges_kind true (closed_edges ts) ts refl (fit_edges f ts e closed)
 
   pub edges_denied : (f : PlainClosed) (ts : List ClosedEdge) (s : ℕ) (plus : Bool) → f ≡ closed_edges ts → IsClosed (scope_of slots) f → plus ≡ false
       → kind_of (fact_tree c (said plus f (meanings slots) s)) ≡ kind_over false (length ts - s)
-  edges_denied f ts s plus e closed no =
-      ap (λ x. kind_of (fact_tree c (said plus x (meanings slots) s))) e ∙ ap (λ b. kind_of (fact_tree c (said b (closed_edges ts) (meanings slots) s))) no
+  edges_denied f ts s plus e closed denied =
+      ap (λ x. kind_of (fact_tree c (said plus x (meanings slots) s))) e ∙ ap (λ b. kind_of (fact_tree c (said b (closed_edges ts) (meanings slots) s))) denied
       ∙ edges_left ts s (fit_edges f ts e closed)

@@ -91,7 +91,7 @@ pub lacks_line : (xs : List ℕ) → Lacks 10 xs → IsLine xs
 lacks_line [] h = All-nil (λ byte. byte ≢ 10)
 lacks_line (x ∷ xs) h =
     let parts = or_parts (x == 10) (list_any (λ c. c == 10) xs) h in
-    All-cons (λ byte. byte ≢ 10) x xs (λ same. let yes = eq-eqb x 10 same in let clash : true ≡ false = sym yes ∙ parts.0 in cc) (lacks_line xs parts.1)
+    All-cons (λ byte. byte ≢ 10) x xs (λ same. let agreed = eq-eqb x 10 same in let clash : true ≡ false = sym agreed ∙ parts.0 in cc) (lacks_line xs parts.1)
 
 pub line_fits : (ops : List MicroOp) (s : LiftedStep) → All IsSmall (numbers_of s) → HasValue ops s → IsLine (line_of ops s)
 line_fits ops s small value =

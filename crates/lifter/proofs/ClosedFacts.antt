@@ -18,7 +18,7 @@ use Rattle.lifter.specs.Closings.{HasClosed}
 use Rattle.lifter.proofs.RunsMore.{last_fact, one_longer, ran_derive, ran_split, ran_close}
 
 pub closed_by_falsity : (c : Case) (f : PlainFact) (k n : ℕ) (old new : List LiftedStep) → is_false c f ≡ true → new ≡ old ++ close (falsity k) ∷ [] → HasClosed c f k n old new
-closed_by_falsity c f k n old new no is = λ start b opens len has r. ran_close c start old new (falsity k) b opens (f, has, no) is r
+closed_by_falsity c f k n old new refused is = λ start b opens len has r. ran_close c start old new (falsity k) b opens (f, has, refused) is r
 
 pub closed_by_sides : (c : Case) (f g h : PlainFact) (k n m : ℕ) (old one two new : List LiftedStep) → sides c f ≡ Some (g, h) → m ≡ n + 1 → one ≡ old ++ split k ∷ []
     → HasClosed c g n m one two → HasClosed c h n m two new → HasClosed c f k n old new
@@ -41,14 +41,14 @@ either_false Open Open e = cc
 
 -- both sides of a fact that is False are so
 pub sides_false : (c : Case) (f g h : PlainFact) → sides c f ≡ Some (g, h) → kind_of (fact_tree c f) ≡ False → (kind_of (fact_tree c g) ≡ False) × (kind_of (fact_tree c h) ≡ False)
-sides_false c f g h are no =
-    either_false (kind_of (fact_tree c g)) (kind_of (fact_tree c h)) (sym (ap kind_of (sides_tree c f g h are) ∙ kind_joined false (fact_tree c g) (fact_tree c h)) ∙ no)
+sides_false c f g h are refused =
+    either_false (kind_of (fact_tree c g)) (kind_of (fact_tree c h)) (sym (ap kind_of (sides_tree c f g h are) ∙ kind_joined false (fact_tree c g) (fact_tree c h)) ∙ refused)
 
 -- a fact that is False with no sides, and not by itself, has a part that is so
 pub parts_false : (c : Case) (f : Fact) → sides c (plain_fact f) ≡ None → is_false c (plain_fact f) ≡ false → kind_of (fact_tree c (plain_fact f)) ≡ False
     → kind_of (joined_trees true (map (fact_tree c) (parts c (plain_fact f)))) ≡ False
-parts_false c (Said s) none fine no = sym (ap kind_of (parts_tree c (plain_part s) tt none fine)) ∙ no
-parts_false c (NodeFact true a) none fine no = cc
-parts_false c (NodeFact false a) none fine no = cc
-parts_false c (EdgeFact true a b) none fine no = cc
-parts_false c (EdgeFact false a b) none fine no = cc
+parts_false c (Said s) none fine refused = sym (ap kind_of (parts_tree c (plain_part s) tt none fine)) ∙ refused
+parts_false c (NodeFact true a) none fine refused = cc
+parts_false c (NodeFact false a) none fine refused = cc
+parts_false c (EdgeFact true a b) none fine refused = cc
+parts_false c (EdgeFact false a b) none fine refused = cc

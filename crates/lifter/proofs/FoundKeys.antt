@@ -102,8 +102,8 @@ pub found_none : (key : Key) (es : List (Key × ℕ)) → lookup (known_eq key) 
 found_none key [] e k i = i
 found_none key (x ∷ es) e k (inl same) =
     let n = first_none (known_eq key x.0) x.1 (lookup (known_eq key) es) e in
-    let yes = plain_same key x.0 (sym (both_parts (plain_key x.0) (plain_key key) x.1 k same)) in
-    let clash : true ≡ false = sym yes ∙ n.0 in cc
+    let agreed = plain_same key x.0 (sym (both_parts (plain_key x.0) (plain_key key) x.1 k same)) in
+    let clash : true ≡ false = sym agreed ∙ n.0 in cc
 found_none key (x ∷ es) e k (inr i) = found_none key es (first_none (known_eq key x.0) x.1 (lookup (known_eq key) es) e).1 k i
 
 append_none : {X : Type 0} (xs : List X) → xs ++ [] ≡ xs

@@ -68,11 +68,11 @@ row_never (both a b) e = cc
 row_never (either a b) e = cc
 
 pub row_open : (t : Tree Node) (steps : List (Step Node)) → (root_kind t ≡ False → ⊥) → IsRefutation One t steps → kind_of t ≡ Open
-row_open always steps no r = absurd (no_always always steps refl r)
-row_open never steps no r = absurd (no refl)
-row_open (leaf l) steps no r = refl
-row_open (both a b) steps no r = refl
-row_open (either a b) steps no r = refl
+row_open always steps refused r = absurd (no_always always steps refl r)
+row_open never steps refused r = absurd (refused refl)
+row_open (leaf l) steps refused r = refl
+row_open (both a b) steps refused r = refl
+row_open (either a b) steps refused r = refl
 
 open_some : (t : Tree Node) → kind_of t ≡ Open → t ≡ never → ⊥
 open_some always e f = cc

@@ -173,9 +173,9 @@ module _ (c : Case) (rows : List (Row Node)) where
       → l.task ≡ Close → kind_of (fact_tree c (plain_fact l.fact)) ≡ False
       → new.facts.items ≡ old.facts.items ++ x ∷ [] → new.known ≡ old.known → new.later.items ≡ old.later.items ++ l ∷ [] → new.steps ≡ old.steps ++ split k ∷ []
       → HasGained c rows old new n g
-  lost_second old new k n x g l proper same sides number count keys later_proper task no is known later steps =
+  lost_second old new k n x g l proper same sides number count keys later_proper task refused is known later steps =
       let D : Task → Type 0 = λ u. IsDue c l u in
-      let p = put_off old new k n x g l proper same sides number count keys later_proper (subst D (sym task) no) is known later steps in
+      let p = put_off old new k n x g l proper same sides number count keys later_proper (subst D (sym task) refused) is known later steps in
       record {
         number = p.0;
         last = p.1;

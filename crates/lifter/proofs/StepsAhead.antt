@@ -84,11 +84,11 @@ module _ (c : Case) (rows : List (Row Node)) (start : List Branch) (s : State) w
   none_left x rest h = no_step h.tree x rest h.opens h.at.0 h.run
 
   pub none_left_at : (is_open : Bool) (steps : List (Step Node)) (k : ℕ) → is_open ≡ false → k < length steps → IsAhead c rows start s is_open (drop k steps) → ⊥
-  none_left_at is_open steps k no within h =
+  none_left_at is_open steps k refused within h =
       let x = there_at steps k within in
       let P : Bool → Type 0 = λ b. IsAhead c rows start s b (drop k steps) in
       let Q : List (Step Node) → Type 0 = λ ss. IsAhead c rows start s false ss in
-      none_left x.0 (drop (k + 1) steps) (subst Q (drop_at steps k (k + 1) x.0 x.1 refl) (subst P no h))
+      none_left x.0 (drop (k + 1) steps) (subst Q (drop_at steps k (k + 1) x.0 x.1 refl) (subst P refused h))
 
   -- and no branch where no step is left
   pub all_closed : (is_open : Bool) → IsAhead c rows start s is_open [] → Runs c s.steps start []

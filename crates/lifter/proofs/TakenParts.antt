@@ -107,8 +107,8 @@ module _ (c : Case) (rows : List (Row Node)) (fs : List PlainFact) where
 
   -- the fact is True
   pub passed_over : (k at : ℕ) (f : PlainFact) (s : State) → slice_get fs k ≡ Some f → fact_tree c f ≡ always → IsPart rows at (facts_from c fs k) → HasTaken c rows fs k at at s s
-  passed_over k at f s there yes here =
-      let same : facts_from c fs k ≡ facts_from c fs (k + 1) = rest_next (fact_tree c) fs k f there ∙ ap (λ t. conjoined t (facts_from c fs (k + 1))) yes in
+  passed_over k at f s there agreed here =
+      let same : facts_from c fs k ≡ facts_from c fs (k + 1) = rest_next (fact_tree c) fs k f there ∙ ap (λ t. conjoined t (facts_from c fs (k + 1))) agreed in
       let P : Tree Node → Type 0 = λ t. IsPart rows at t in
       record {
         moves = moves_same c rows s;

@@ -96,7 +96,7 @@ module _ (c : Case) (rows : List (Row Node)) where
         }
 
 not_false : (b : Bool) (t : Tree Node) → (b ≡ true → t ≡ never) → kind_of t ≡ Open → b ≡ false
-not_false true t h e = (let no : kind_of t ≡ False = ap kind_of (h refl) in let clash : False ≡ Open = sym no ∙ e in cc)
+not_false true t h e = (let refused : kind_of t ≡ False = ap kind_of (h refl) in let clash : False ≡ Open = sym refused ∙ e in cc)
 not_false false t h e = refl
 
 -- a fact without sides is And over its parts

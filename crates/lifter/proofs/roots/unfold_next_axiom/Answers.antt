@@ -55,5 +55,5 @@ returns-in_default c =
     let fs = root (plain_axioms c.args.axioms.now) in
     let f = plain_fact c.axiom_fact-fact.result in
     let there = axiom_said c.args.axioms.now c.args.k c.index-axioms-k.result f c.requires.within c.index-axioms-k.is c.axiom_fact-fact.ensures.is in
-    let yes = true_here case c.args.tree.now fs c.args.k f there c.requires.kind (λ e. c.in_default.not-Open (c.kind_of_fact.ensures ∙ e)) in
-    passed_over case c.args.tree.now fs c.args.k c.args.at f c.args.state.now there yes c.requires.stands
+    let agreed = true_here case c.args.tree.now fs c.args.k f there c.requires.kind (λ e. c.in_default.not-Open (c.kind_of_fact.ensures ∙ e)) in
+    passed_over case c.args.tree.now fs c.args.k c.args.at f c.args.state.now there agreed c.requires.stands

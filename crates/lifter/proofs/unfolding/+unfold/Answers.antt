@@ -291,8 +291,8 @@ unfold_next-returns-in_default t c =
     let fs = parts case f in
     let g = plain_fact c.part_at-named.result.1 in
     let there = c.part_at-named.ensures.member in
-    let yes = true_here case rows fs c.args.k g there c.requires.kind (λ e. c.in_default.not-Open (c.kind_of_fact.ensures ∙ e)) in
-    passed_over case rows fs c.args.k c.args.at g s there yes c.requires.stands
+    let agreed = true_here case rows fs c.args.k g there c.requires.kind (λ e. c.in_default.not-Open (c.kind_of_fact.ensures ∙ e)) in
+    passed_over case rows fs c.args.k c.args.at g s there agreed c.requires.stands
 
 -- the last one
 pub unfold_last-derive-next-requires : goal.unfold_last-derive-next-requires
