@@ -27,13 +27,13 @@ use pc_syntax::{Closed, Env};
 use std::alloc::Global;
 
 /// An axiom as a fact.
-fn axiom_fact<'a>(axiom: &'a Closed) -> Fact<'a>
-    ensures is { plain_fact result ≡ said true (plain_closed axiom.now.body) [] 0 }
+fn axiom_fact<'a>(closed: &'a Closed) -> Fact<'a>
+    ensures is { plain_fact result ≡ said true (plain_closed closed.now.body) [] 0 }
     ensures proper { (c : PlainCase) → IsProper c result }
 {
     Fact::Said(Said {
         plus: true,
-        formula: &axiom.body,
+        formula: &closed.body,
         env: Env::new(),
         start: 0,
     })

@@ -176,8 +176,7 @@ unfold_all-unfold_next-at-requires t c =
     let f = plain_fact c.args.fact.now in
     let k = c.loop-k.k in
     let inv = c.loop-k.invariant in
-    let low : k < c.last_open-last.result = omega (arith, c.loop-k-test.true) in
-    (
+    let low : k < c.last_open-last.result = omega (arith, c.loop-k-test.true) in (
       omega (arith, c.decreases),
       (
         c.requires.proper,
@@ -196,8 +195,7 @@ unfold_all-unfold_last-requires t c =
     let last = c.last_open-last.result in
     let inv = c.loop-k.invariant in
     let end : c.loop-k.k ≡ last = omega (arith, c.loop-k-test.false, c.loop-k.auto) in
-    let S : ℕ → Type 0 = λ n. IsPart c.args.tree.now c.loop-k.at (parts_from case f n) in
-    (
+    let S : ℕ → Type 0 = λ n. IsPart c.args.tree.now c.loop-k.at (parts_from case f n) in (
       omega (arith, c.decreases),
       (
         c.requires.proper,

@@ -95,9 +95,9 @@ returns-in_ok-mark-in-Edge-2 c =
     let second = moved_fact case rows s1 s2 n f two first in
     subst U (sym c.in-Edge.is) (both_ok c.mark-in-Edge-3.result
     (λ moves key.
-        let three = moves rows (f, second, inr refl) in
-        literal_unfolded case rows s s3 (an_edge x y) c.args.at here (moves_then case rows s s2 s3 (moves_then case rows s s1 s2 one two) three)
-        (three.keys (edge x y) (two.keys (edge x y) c.in_ok-mark-in-Edge.ensures.has), three.keys (present x) c.in_ok-mark-in-Edge-2.ensures.has, key))
+    let three = moves rows (f, second, inr refl) in
+    literal_unfolded case rows s s3 (an_edge x y) c.args.at here (moves_then case rows s s2 s3 (moves_then case rows s s1 s2 one two) three)
+    (three.keys (edge x y) (two.keys (edge x y) c.in_ok-mark-in-Edge.ensures.has), three.keys (present x) c.in_ok-mark-in-Edge-2.ensures.has, key))
     c.mark-in-Edge-3.ensures.moves c.mark-in-Edge-3.ensures.has)
 
 pub mark-requires-in-NoNode : goal.mark-requires-in-NoNode
