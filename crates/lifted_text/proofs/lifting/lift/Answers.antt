@@ -30,8 +30,8 @@ put_lines-requires c =
     let L : List Closed → Type 0 = λ as_. IsLiftedRefutation f.case (plain_axioms as_) steps in
     values_fit f.case steps (root (plain_axioms f.axioms) ∷ []) [] c.show_ops.ensures c.show_steps.ensures.cores (subst L c.as_slice.ensures.value c.in_ok-steps.ensures)
 
-pub returns-in_ok-put : goal.returns-in_ok-put
-returns-in_ok-put c =
+pub returns : goal.returns
+returns c =
     let f = c.args.front.now in
     let steps = c.in_ok-steps.steps in
     let L : List Closed → Type 0 = λ as_. IsLiftedRefutation f.case (plain_axioms as_) steps in

@@ -5,8 +5,8 @@ use Rattle.lifted_text.specs.WrittenLines.{spaced}
 use Rattle.lifted_text.proofs.PutLines.{put_then, put_as}
 use Rattle.lifted_text.proofs.lines.put_many.Goals as goal
 
-pub returns-in_ok-put_one : goal.returns-in_ok-put_one
-returns-in_ok-put_one c =
+pub returns : goal.returns
+returns c =
     let first = codes " " ++ decimal c.args.first in
     let more = spaced (map decimal c.args.more.now) in
     put_as c.put_numbers.result c.args.text.now.items c.put_numbers.new.text.items ((c.args.keyword.now ++ first) ++ more) (c.args.keyword.now ++ (first ++ more))

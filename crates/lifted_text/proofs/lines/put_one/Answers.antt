@@ -4,7 +4,7 @@ use Rattle.std.specs.Fmt.{decimal}
 use Rattle.lifted_text.proofs.PutLines.{put_then}
 use Rattle.lifted_text.proofs.lines.put_one.Goals as goal
 
-pub returns-in_ok-put : goal.returns-in_ok-put
-returns-in_ok-put c =
+pub returns : goal.returns
+returns c =
     put_then c.put_number.result c.args.text.now.items c.put.new.text.items c.put_number.new.text.items c.args.keyword.now (codes " " ++ decimal c.args.number) c.in_ok-put.ensures
     c.put_number.ensures

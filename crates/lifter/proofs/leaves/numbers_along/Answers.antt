@@ -31,8 +31,8 @@ number_of-requires-2 c =
     let past : length via ≤ c.loop-next.next-index = omega (arith, c.loop-next-test.false) in
     last_edge c.args.known.now c.args.to via c.loop-next.at c.loop-next.next-index past c.loop-next.invariant.edges
 
-pub returns-in_ok-push-2 : goal.returns-in_ok-push-2
-returns-in_ok-push-2 c =
+pub returns : goal.returns
+returns c =
     let via = c.args.via.now in
     let past : length via ≤ c.loop-next.next-index = omega (arith, c.loop-next-test.false) in
     all_numbers c.args.known.now c.args.to via c.args.from c.loop-next.at c.loop-next.next-index c.number_of-2.result c.loop-next.numbers c.push-2.new.self past c.number_of-2.ensures

@@ -8,5 +8,5 @@ abbrev pub invariant-loop-next : goal.invariant-loop-next
 invariant-loop-next l = record {
   edges : AreEdges l.known (key_node l.at) (map key_node (drop l.next-index l.via) ++ key_node l.to ∷ []);
   numbers : (ks : List ℕ) → AreNumbers l.known (key_node l.at) (map key_node (drop l.next-index l.via) ++ key_node l.to ∷ []) ks
-      → AreNumbers l.known (key_node l.from) (map key_node l.via ++ key_node l.to ∷ []) (l.numbers ++ ks);
+      → AreNumbers l.known (key_node l.fn.from) (map key_node l.via ++ key_node l.to ∷ []) (l.numbers ++ ks);
 }

@@ -4,8 +4,8 @@ use Rattle.lifter.specs.declared.state.State.{State}
 use Rattle.lifter.proofs.StateMoves.{derived}
 use Rattle.lifter.proofs.moving.derive.Goals as goal
 
-pub returns-in_ok-push-2 : goal.returns-in_ok-push-2
-returns-in_ok-push-2 c = λ rows.
+pub returns : goal.returns
+returns c = λ rows.
     let s = c.args.state.now in
     let new : State = record { facts = c.push-2.new.self; known = s.known; later = s.later; steps = c.push.new.self } in
     let count : c.len-count.result ≡ length s.facts.items = omega (arith, c.len-count.ensures) in

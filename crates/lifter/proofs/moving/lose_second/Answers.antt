@@ -10,8 +10,8 @@ use Rattle.lifter.specs.States.{branch_of}
 use Rattle.lifter.proofs.StateMoves.{lost_second}
 use Rattle.lifter.proofs.moving.lose_second.Goals as goal
 
-pub returns-in_ok-push-3 : goal.returns-in_ok-push-3
-returns-in_ok-push-3 c = λ rows.
+pub returns : goal.returns
+returns c = λ rows.
     let case = c.args.case.now in
     let s = c.args.state.now in
     let new : State = record { facts = c.push-3.new.self; known = s.known; later = c.push-2.new.self; steps = c.push.new.self } in
