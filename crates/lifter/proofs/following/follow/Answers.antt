@@ -14,8 +14,8 @@ unreachable-requires c =
     none_left_at c.args.case.now c.args.tree.now a.0 c.loop-k.state c.loop-k.is_open c.args.refutation.now c.loop-k.k c.if-not-is_open.true (omega (arith, c.loop-k-test.true))
     (c.loop-k.invariant.ahead a.0 a.1)
 
-pub take_step-is_open-requires : goal.take_step-is_open-requires
-take_step-is_open-requires c =
+pub take_step-requires : goal.take_step-requires
+take_step-requires c =
     let a = c.requires.ahead in
     let k = c.loop-k.k in
     let steps = c.args.refutation.now in

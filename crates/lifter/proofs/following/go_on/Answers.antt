@@ -29,7 +29,7 @@ loop-next-preserved c =
       left = λ start opens h.
           let A : List Later → Type 0 = λ ls. IsLeft case c.args.tree.now start (branch_of s) s.known ls s.steps opens in
           left_due case c.args.tree.now start (branch_of s) s.known l (reverse c.pop.new.self.items) s.steps c.close_due.new.steps opens c.in-Close.is
-          (subst A (popped s.later.items c.pop.new.self.items l c.in-Some.ensures.items) (c.loop-next.invariant.left start opens h)) c.in_ok-close_due.ensures;
+          (subst A (popped s.later.items c.pop.new.self.items l c.in-Some.ensures.items) (c.loop-next.invariant.left start opens h)) c.in_ok-close_due-in-Close.ensures;
     }
 
 -- one that takes a side
@@ -67,9 +67,9 @@ returns c =
     let case = c.args.case.now in
     let s = c.loop-next.state in
     let new : State = record { facts = s.facts; known = s.known; later = c.pop.new.self; steps = s.steps } in
-    let none = no_items s.later.items (omega (arith, c.in-None.ensures.cases.0, s.later.ok.0)) in
+    let none = no_items s.later.items (omega (arith, c.in_default.ensures.cases.0, s.later.ok.0)) in
     record {
-      kept = kept_none case s new refl (no_items c.pop.new.self.items (omega (arith, c.in-None.ensures.cases.1, c.pop.new.self.ok.0))) c.loop-next.invariant.kept;
+      kept = kept_none case s new refl (no_items c.pop.new.self.items (omega (arith, c.in_default.ensures.cases.1, c.pop.new.self.ok.0))) c.loop-next.invariant.kept;
       at = λ start opens h.
           left_none case c.args.tree.now start (branch_of s) s.known (reverse s.later.items) s.steps opens (ap reverse none) (c.loop-next.invariant.left start opens h);
     }

@@ -27,13 +27,13 @@ pub sides-requires : goal.sides-requires
 sides-requires c =
     let s = c.args.state.now in
     let within = or_within c.args.case.now c.args.tree.now c.requires.good.0 s c.args.position c.in-Some.number c.requires.good.1 c.in-Some.ensures in
-    proper_read c.args.case.now s.facts.items c.in-Some.number c.index-state-number.result c.requires.kept.proper within c.index-state-number.is
+    proper_read c.args.case.now s.facts.items c.in-Some.number c.index.result c.requires.kept.proper within c.index.is
 
 -- the fact has sides
 pub unreachable-requires-2 : goal.unreachable-requires-2
 unreachable-requires-2 c =
-    let x = c.index-state-number.result in
-    let o = or_fact c.args.case.now c.args.tree.now c.requires.good.0 c.args.state.now c.args.position c.in-Some.number c.requires.good.1 c.in-Some.ensures x c.index-state-number.is in
+    let x = c.index.result in
+    let o = or_fact c.args.case.now c.args.tree.now c.requires.good.0 c.args.state.now c.args.position c.in-Some.number c.requires.good.1 c.in-Some.ensures x c.index.is in
     no_sides (sides c.args.case.now (plain_fact x)) o.1.first o.1.second o.1.are (sym c.in-None-2.ensures.is)
 
 pub right_of-right-requires : goal.right_of-right-requires
@@ -43,30 +43,14 @@ right_of-right-requires c =
     let s = c.args.state.now in
     let at = c.args.position in
     let number = c.in-Some.number in
-    let x = c.index-state-number.result in
+    let x = c.index.result in
     let g = plain_fact c.in-Some-2.first in
     let h = plain_fact c.in-Some-2.second in
-    let o = or_fact case rows c.requires.good.0 s at number c.requires.good.1 c.in-Some.ensures x c.index-state-number.is in
+    let o = or_fact case rows c.requires.good.0 s at number c.requires.good.1 c.in-Some.ensures x c.index.is in
     let are = sym c.in-Some-2.ensures.is in
     let two = or_sides case rows (plain_fact x) g h at o.1 are in
     let below = parts_either rows at (fact_tree case g) (fact_tree case h) two.2 in
     (fact_tree case g, below.0)
-
-pub overflow_add-unfold : goal.overflow_add-unfold
-overflow_add-unfold c =
-    let case = c.args.case.now in
-    let rows = c.args.tree.now in
-    let s = c.args.state.now in
-    let at = c.args.position in
-    let number = c.in-Some.number in
-    let x = c.index-state-number.result in
-    let g = plain_fact c.in-Some-2.first in
-    let h = plain_fact c.in-Some-2.second in
-    let o = or_fact case rows c.requires.good.0 s at number c.requires.good.1 c.in-Some.ensures x c.index-state-number.is in
-    let are = sym c.in-Some-2.ensures.is in
-    let two = or_sides case rows (plain_fact x) g h at o.1 are in
-    let below = parts_either rows at (fact_tree case g) (fact_tree case h) two.2 in
-    omega (arith, c.right_of-right.ensures (fact_tree case g) below.0)
 
 pub unfold-requires : goal.unfold-requires
 unfold-requires c =
@@ -75,10 +59,10 @@ unfold-requires c =
     let s = c.args.state.now in
     let at = c.args.position in
     let number = c.in-Some.number in
-    let x = c.index-state-number.result in
+    let x = c.index.result in
     let g = plain_fact c.in-Some-2.first in
     let h = plain_fact c.in-Some-2.second in
-    let o = or_fact case rows c.requires.good.0 s at number c.requires.good.1 c.in-Some.ensures x c.index-state-number.is in
+    let o = or_fact case rows c.requires.good.0 s at number c.requires.good.1 c.in-Some.ensures x c.index.is in
     let are = sym c.in-Some-2.ensures.is in
     let two = or_sides case rows (plain_fact x) g h at o.1 are in
     let below = parts_either rows at (fact_tree case g) (fact_tree case h) two.2 in
@@ -97,10 +81,10 @@ returns-clause-kept c =
     let s = c.args.state.now in
     let at = c.args.position in
     let number = c.in-Some.number in
-    let x = c.index-state-number.result in
+    let x = c.index.result in
     let g = plain_fact c.in-Some-2.first in
     let h = plain_fact c.in-Some-2.second in
-    let o = or_fact case rows c.requires.good.0 s at number c.requires.good.1 c.in-Some.ensures x c.index-state-number.is in
+    let o = or_fact case rows c.requires.good.0 s at number c.requires.good.1 c.in-Some.ensures x c.index.is in
     let are = sym c.in-Some-2.ensures.is in
     let two = or_sides case rows (plain_fact x) g h at o.1 are in
     let below = parts_either rows at (fact_tree case g) (fact_tree case h) two.2 in
@@ -118,10 +102,10 @@ returns-clause-split c =
     let s = c.args.state.now in
     let at = c.args.position in
     let number = c.in-Some.number in
-    let x = c.index-state-number.result in
+    let x = c.index.result in
     let g = plain_fact c.in-Some-2.first in
     let h = plain_fact c.in-Some-2.second in
-    let o = or_fact case rows c.requires.good.0 s at number c.requires.good.1 c.in-Some.ensures x c.index-state-number.is in
+    let o = or_fact case rows c.requires.good.0 s at number c.requires.good.1 c.in-Some.ensures x c.index.is in
     let are = sym c.in-Some-2.ensures.is in
     let two = or_sides case rows (plain_fact x) g h at o.1 are in
     let below = parts_either rows at (fact_tree case g) (fact_tree case h) two.2 in

@@ -12,13 +12,13 @@ unreachable-requires c =
     let none : length c.args.nodes.now ≤ 0 = omega (arith, c.in-empty.len_below) in
     no_cycle c.args.state.now.known c.args.nodes.now none c.requires
 
-pub numbers_to-numbers-requires : goal.numbers_to-numbers-requires
-numbers_to-numbers-requires c =
+pub numbers_to-requires : goal.numbers_to-requires
+numbers_to-requires c =
     let nodes = c.args.nodes.now in
     cycle_edges c.args.state.now.known nodes (take (length nodes - 1) (drop 1 nodes)) c.from-item.result (first_rest nodes c.from-item.result c.in-len1-up.len_at_least c.from-item.is) c.requires
 
-pub returns-in_ok-numbers-in-len1-up : goal.returns-in_ok-numbers-in-len1-up
-returns-in_ok-numbers-in-len1-up c =
+pub returns : goal.returns
+returns c =
     let s = c.args.state.now in
     let nodes = c.args.nodes.now in
     let ns = c.in_ok-numbers-in-len1-up.numbers in

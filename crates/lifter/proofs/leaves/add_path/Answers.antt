@@ -7,8 +7,8 @@ use Rattle.lifter.proofs.KeyedEdges.{first_last, path_edges, no_path}
 use Rattle.lifter.proofs.NumberedEdges.{path_closes, added_leaf}
 use Rattle.lifter.proofs.leaves.add_path.Goals as goal
 
-pub numbers_to-numbers-requires : goal.numbers_to-numbers-requires
-numbers_to-numbers-requires c =
+pub numbers_to-requires : goal.numbers_to-requires
+numbers_to-requires c =
     let nodes = c.args.nodes.now in
     let all = first_last nodes c.from-item.result c.to-item.result c.in-len2-up.len_at_least c.from-item.is c.to-item.is in
     (path_edges c.args.state.now.known nodes (take (length nodes - 1 - 1) (drop 1 nodes)) c.from-item.result c.to-item.result all c.requires).0
@@ -19,8 +19,8 @@ number_of-denial-requires c =
     let all = first_last nodes c.from-item.result c.to-item.result c.in-len2-up.len_at_least c.from-item.is c.to-item.is in
     (path_edges c.args.state.now.known nodes (take (length nodes - 1 - 1) (drop 1 nodes)) c.from-item.result c.to-item.result all c.requires).1
 
-pub returns-in_ok-numbers-in-len2-up : goal.returns-in_ok-numbers-in-len2-up
-returns-in_ok-numbers-in-len2-up c =
+pub returns : goal.returns
+returns c =
     let s = c.args.state.now in
     let nodes = c.args.nodes.now in
     let ns = c.in_ok-numbers-in-len2-up.numbers in

@@ -17,8 +17,8 @@ number_of-first-requires c =
     let via = c.args.via.now in
     (first_edge c.args.known.now c.args.from c.args.to via (take (length via - 1) (drop 1 via)) c.next-item.result (first_rest via c.next-item.result c.in-len1-up.len_at_least c.next-item.is) c.requires).0
 
-pub numbers_along-more-requires : goal.numbers_along-more-requires
-numbers_along-more-requires c =
+pub numbers_along-requires : goal.numbers_along-requires
+numbers_along-requires c =
     let via = c.args.via.now in
     (first_edge c.args.known.now c.args.from c.args.to via (take (length via - 1) (drop 1 via)) c.next-item.result (first_rest via c.next-item.result c.in-len1-up.len_at_least c.next-item.is) c.requires).1
 

@@ -19,8 +19,8 @@ use Rattle.lifter.proofs.roots.unfold_axioms.Goals as goal
 pub loop-k-init : goal.loop-k-init
 loop-k-init c = taken_start c.args.case.now c.args.tree.now (root (plain_axioms c.args.axioms.now)) 0 c.args.state.now c.requires.stands
 
-pub unfold_next_axiom-at-requires : goal.unfold_next_axiom-at-requires
-unfold_next_axiom-at-requires c =
+pub unfold_next_axiom-requires : goal.unfold_next_axiom-requires
+unfold_next_axiom-requires c =
     let case = c.args.case.now in
     let fs = root (plain_axioms c.args.axioms.now) in
     let k = c.loop-k.k in
@@ -38,7 +38,7 @@ unfold_next_axiom-at-requires c =
 
 pub loop-k-preserved : goal.loop-k-preserved
 loop-k-preserved c =
-    taken_more c.args.case.now c.args.tree.now (root (plain_axioms c.args.axioms.now)) c.loop-k.k 0 c.loop-k.at c.in_ok-at.at c.args.state.now c.loop-k.state c.unfold_next_axiom-at.new.state
+    taken_more c.args.case.now c.args.tree.now (root (plain_axioms c.args.axioms.now)) c.loop-k.k 0 c.loop-k.at c.in_ok-at.at c.args.state.now c.loop-k.state c.unfold_next_axiom.new.state
     c.loop-k.invariant c.in_ok-at.ensures
 
 pub unfold-requires : goal.unfold-requires

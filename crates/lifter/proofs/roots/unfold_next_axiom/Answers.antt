@@ -6,22 +6,13 @@ use Rattle.lifter.proofs.LiftedRoots.{axiom_said}
 use Rattle.lifter.proofs.TakenParts.{stands_here, taken_open, passed_over, true_here}
 use Rattle.lifter.proofs.roots.unfold_next_axiom.Goals as goal
 
-pub right_of-requires : goal.right_of-requires
-right_of-requires c =
+pub right_of-right-requires : goal.right_of-right-requires
+right_of-right-requires c =
     let case = c.args.case.now in
     let fs = root (plain_axioms c.args.axioms.now) in
     let f = plain_fact c.axiom_fact-fact.result in
     let there = axiom_said c.args.axioms.now c.args.k c.index-axioms-k.result f c.requires.within c.index-axioms-k.is c.axiom_fact-fact.ensures.is in
     (fact_tree case f, (stands_here case c.args.tree.now fs c.args.k c.args.at f there (sym c.kind_of_fact.ensures ∙ c.in-Open.is) c.requires.rest c.requires.stands).0)
-
-pub overflow_add-unfold : goal.overflow_add-unfold
-overflow_add-unfold c =
-    let case = c.args.case.now in
-    let fs = root (plain_axioms c.args.axioms.now) in
-    let f = plain_fact c.axiom_fact-fact.result in
-    let there = axiom_said c.args.axioms.now c.args.k c.index-axioms-k.result f c.requires.within c.index-axioms-k.is c.axiom_fact-fact.ensures.is in
-    let part = (stands_here case c.args.tree.now fs c.args.k c.args.at f there (sym c.kind_of_fact.ensures ∙ c.in-Open.is) c.requires.rest c.requires.stands).0 in
-    omega (arith, c.right_of-right.ensures (fact_tree case f) part)
 
 pub unfold-requires : goal.unfold-requires
 unfold-requires c =

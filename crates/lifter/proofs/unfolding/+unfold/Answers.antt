@@ -42,15 +42,15 @@ pub unfold-unfold_all-requires : goal.unfold-unfold_all-requires
 unfold-unfold_all-requires t c =
     let case = c.args.case.now in
     let f = plain_fact c.args.fact.now in
-    let all = over_parts case f c.in-None.ensures (sym c.in-None-2.ensures.is) c.requires.kind in
+    let all = over_parts case f c.in-None.ensures (sym c.in-None-sides.ensures.is) c.requires.kind in
     let P : Tree Node → Type 0 = λ u. IsPart c.args.tree.now c.args.at u in
-    (omega (arith, c.decreases), (c.requires.proper, c.requires.has, ap kind_of (sym all) ∙ c.requires.kind, subst P all c.requires.stands))
+    (omega (arith, c.decreases), (c.requires.proper, (c.requires.has, (ap kind_of (sym all) ∙ c.requires.kind, subst P all c.requires.stands))))
 
 pub unfold-returns-in-None : goal.unfold-returns-in-None
 unfold-returns-in-None t c =
     let case = c.args.case.now in
     let f = plain_fact c.args.fact.now in
-    let all = over_parts case f c.in-None.ensures (sym c.in-None-2.ensures.is) c.requires.kind in
+    let all = over_parts case f c.in-None.ensures (sym c.in-None-sides.ensures.is) c.requires.kind in
     on_ok_weaker c.unfold_all.result
     (λ h. unfolded_by case c.args.tree.now c.args.state.now c.args.state.now c.unfold_all.new.state (parts_from case f 0) (fact_tree case f) c.args.at
     (moves_same case c.args.tree.now c.args.state.now) all h) c.unfold_all.ensures
@@ -64,7 +64,7 @@ unfold_either-mark-requires t c =
     let f = plain_fact c.args.fact.now in
     let g = plain_fact c.args.first.now in
     let h = plain_fact c.args.second.now in
-    (rows, (f, c.requires.has, both_stay case rows f g h c.requires.are c.requires.kind c.args.at (sym c.kind_of_fact.ensures ∙ c.in-Open.is) (sym c.kind_of_fact-in-Open.ensures ∙ c.in-Open-2.is) c.requires.stands))
+    (rows, (f, c.requires.has, both_stay case rows f g h c.requires.are c.requires.kind c.args.at (sym c.kind_of_fact.ensures ∙ c.in-Open.is) (sym c.kind_of_fact-in-Open.ensures ∙ c.in-Open-kind_of_fact.is) c.requires.stands))
 
 pub unfold_either-returns-in-Open : goal.unfold_either-returns-in-Open
 unfold_either-returns-in-Open t c =
@@ -75,15 +75,15 @@ unfold_either-returns-in-Open t c =
     let g = plain_fact c.args.first.now in
     let h = plain_fact c.args.second.now in
     let one = sym c.kind_of_fact.ensures ∙ c.in-Open.is in
-    let two = sym c.kind_of_fact-in-Open.ensures ∙ c.in-Open-2.is in
+    let two = sym c.kind_of_fact-in-Open.ensures ∙ c.in-Open-kind_of_fact.is in
     both_ok c.mark.result
     (λ moves has. both_told case rows f g h c.requires.are c.requires.kind s c.mark.new.state c.args.at one two c.requires.stands
     (moves rows (f, c.requires.has, both_stay case rows f g h c.requires.are c.requires.kind c.args.at one two c.requires.stands)) has)
     c.mark.ensures.moves c.mark.ensures.has
 
 -- only the second side is False
-pub unfold_either-lose_second-next-requires : goal.unfold_either-lose_second-next-requires
-unfold_either-lose_second-next-requires t c =
+pub unfold_either-lose_second-requires : goal.unfold_either-lose_second-requires
+unfold_either-lose_second-requires t c =
     let case = c.args.case.now in
     let rows = c.args.tree.now in
     let s = c.args.state.now in
@@ -91,7 +91,7 @@ unfold_either-lose_second-next-requires t c =
     let g = plain_fact c.args.first.now in
     let h = plain_fact c.args.second.now in
     let open_first = sym c.kind_of_fact.ensures ∙ c.in-Open.is in
-    let lost = second_lost case rows f g h c.requires.are c.requires.kind open_first (λ e. c.in_default-2.not-Open (c.kind_of_fact-in-Open.ensures ∙ e)) in
+    let lost = second_lost case rows f g h c.requires.are c.requires.kind open_first (λ e. c.in_default-kind_of_fact.not-Open (c.kind_of_fact-in-Open.ensures ∙ e)) in
     record { first_proper = c.requires.first_proper; second_proper = c.requires.second_proper; are = (f, c.requires.has, c.requires.are); kind = lost.0 }
 
 pub unfold_either-unfold-requires : goal.unfold_either-unfold-requires
@@ -103,11 +103,11 @@ unfold_either-unfold-requires t c =
     let g = plain_fact c.args.first.now in
     let h = plain_fact c.args.second.now in
     let open_first = sym c.kind_of_fact.ensures ∙ c.in-Open.is in
-    let lost = second_lost case rows f g h c.requires.are c.requires.kind open_first (λ e. c.in_default-2.not-Open (c.kind_of_fact-in-Open.ensures ∙ e)) in
+    let lost = second_lost case rows f g h c.requires.are c.requires.kind open_first (λ e. c.in_default-kind_of_fact.not-Open (c.kind_of_fact-in-Open.ensures ∙ e)) in
     let P : Tree Node → Type 0 = λ u. IsPart rows c.args.at u in
     let low = (sides_rank case f g h c.requires.are).0 in
     let gained = c.in_ok-next-in-Open.ensures rows in
-    (omega (arith, c.decreases, low), (c.requires.first_proper, gained_fact case rows s c.lose_second-next.new.state c.in_ok-next-in-Open.next g gained, open_first, subst P lost.1 c.requires.stands))
+    (omega (arith, c.decreases, low), (c.requires.first_proper, gained_fact case rows s c.lose_second.new.state c.in_ok-next-in-Open.next g gained, open_first, subst P lost.1 c.requires.stands))
 
 pub unfold_either-returns-in_ok-next-in-Open : goal.unfold_either-returns-in_ok-next-in-Open
 unfold_either-returns-in_ok-next-in-Open t c =
@@ -118,13 +118,13 @@ unfold_either-returns-in_ok-next-in-Open t c =
     let g = plain_fact c.args.first.now in
     let h = plain_fact c.args.second.now in
     let open_first = sym c.kind_of_fact.ensures ∙ c.in-Open.is in
-    let lost = second_lost case rows f g h c.requires.are c.requires.kind open_first (λ e. c.in_default-2.not-Open (c.kind_of_fact-in-Open.ensures ∙ e)) in
+    let lost = second_lost case rows f g h c.requires.are c.requires.kind open_first (λ e. c.in_default-kind_of_fact.not-Open (c.kind_of_fact-in-Open.ensures ∙ e)) in
     on_ok_weaker c.unfold.result
-    (λ u. unfolded_by case rows s c.lose_second-next.new.state c.unfold.new.state (fact_tree case g) (fact_tree case f) c.args.at (c.in_ok-next-in-Open.ensures rows).moves lost.1 u) c.unfold.ensures
+    (λ u. unfolded_by case rows s c.lose_second.new.state c.unfold.new.state (fact_tree case g) (fact_tree case f) c.args.at (c.in_ok-next-in-Open.ensures rows).moves lost.1 u) c.unfold.ensures
 
 -- the first side is False
-pub unfold_either-lose_first-next-requires : goal.unfold_either-lose_first-next-requires
-unfold_either-lose_first-next-requires t c =
+pub unfold_either-lose_first-requires : goal.unfold_either-lose_first-requires
+unfold_either-lose_first-requires t c =
     let case = c.args.case.now in
     let rows = c.args.tree.now in
     let s = c.args.state.now in
@@ -146,7 +146,7 @@ unfold_either-unfold-requires-in_default t c =
     let P : Tree Node → Type 0 = λ u. IsPart rows c.args.at u in
     let low = (sides_rank case f g h c.requires.are).1 in
     let gained = c.in_ok-next-in_default.ensures rows in
-    (omega (arith, c.decreases, low), (c.requires.second_proper, gained_fact case rows s c.lose_first-next.new.state c.in_ok-next-in_default.next h gained, lost.1, subst P lost.2 c.requires.stands))
+    (omega (arith, c.decreases, low), (c.requires.second_proper, gained_fact case rows s c.lose_first.new.state c.in_ok-next-in_default.next h gained, lost.1, subst P lost.2 c.requires.stands))
 
 pub unfold_either-returns-in_ok-next-in_default : goal.unfold_either-returns-in_ok-next-in_default
 unfold_either-returns-in_ok-next-in_default t c =
@@ -158,7 +158,7 @@ unfold_either-returns-in_ok-next-in_default t c =
     let h = plain_fact c.args.second.now in
     let lost = first_lost case rows f g h c.requires.are c.requires.kind (λ e. c.in_default.not-Open (c.kind_of_fact.ensures ∙ e)) in
     on_ok_weaker c.unfold-in_default.result
-    (λ u. unfolded_by case rows s c.lose_first-next.new.state c.unfold-in_default.new.state (fact_tree case h) (fact_tree case f) c.args.at (c.in_ok-next-in_default.ensures rows).moves lost.2 u)
+    (λ u. unfolded_by case rows s c.lose_first.new.state c.unfold-in_default.new.state (fact_tree case h) (fact_tree case f) c.args.at (c.in_ok-next-in_default.ensures rows).moves lost.2 u)
     c.unfold-in_default.ensures
 
 -- the parts before the last one that is no constant
@@ -168,10 +168,10 @@ unfold_all-loop-k-init t c = taken_start c.args.case.now c.args.tree.now (parts 
 pub unfold_all-loop-k-preserved : goal.unfold_all-loop-k-preserved
 unfold_all-loop-k-preserved t c =
     taken_more c.args.case.now c.args.tree.now (parts c.args.case.now (plain_fact c.args.fact.now)) c.loop-k.k c.args.at c.loop-k.at c.in_ok-at.at c.args.state.now c.loop-k.state
-    c.unfold_next-at.new.state c.loop-k.invariant c.in_ok-at.ensures
+    c.unfold_next.new.state c.loop-k.invariant c.in_ok-at.ensures
 
-pub unfold_all-unfold_next-at-requires : goal.unfold_all-unfold_next-at-requires
-unfold_all-unfold_next-at-requires t c =
+pub unfold_all-unfold_next-requires : goal.unfold_all-unfold_next-requires
+unfold_all-unfold_next-requires t c =
     let case = c.args.case.now in
     let f = plain_fact c.args.fact.now in
     let k = c.loop-k.k in
@@ -233,21 +233,8 @@ unfold_next-right_of-right-requires t c =
     let here = (stands_here case rows fs c.args.k c.args.at g there kind c.requires.rest c.requires.stands).0 in
     (fact_tree case g, here)
 
-pub unfold_next-derive-next-requires : goal.unfold_next-derive-next-requires
-unfold_next-derive-next-requires t c = record { proper = c.part_at-named.ensures.proper; is = (plain_fact c.args.fact.now, c.requires.has, c.part_at-named.ensures.is) }
-
-pub unfold_next-overflow_add-unfold : goal.unfold_next-overflow_add-unfold
-unfold_next-overflow_add-unfold t c =
-    let case = c.args.case.now in
-    let rows = c.args.tree.now in
-    let s = c.args.state.now in
-    let f = plain_fact c.args.fact.now in
-    let fs = parts case f in
-    let g = plain_fact c.part_at-named.result.1 in
-    let there = c.part_at-named.ensures.member in
-    let kind = sym c.kind_of_fact.ensures ∙ c.in-Open.is in
-    let here = (stands_here case rows fs c.args.k c.args.at g there kind c.requires.rest c.requires.stands).0 in
-    omega (arith, c.right_of-right.ensures (fact_tree case g) here)
+pub unfold_next-derive-requires : goal.unfold_next-derive-requires
+unfold_next-derive-requires t c = record { proper = c.part_at-named.ensures.proper; is = (plain_fact c.args.fact.now, c.requires.has, c.part_at-named.ensures.is) }
 
 pub unfold_next-unfold-requires : goal.unfold_next-unfold-requires
 unfold_next-unfold-requires t c =
@@ -262,7 +249,7 @@ unfold_next-unfold-requires t c =
     let here = (stands_here case rows fs c.args.k c.args.at g there kind c.requires.rest c.requires.stands).0 in
     let low = part_rank case c.part_at-named.result.0 f g c.part_at-named.ensures.is in
     let gained = c.in_ok-next-in-Open.ensures rows in
-    (omega (arith, c.decreases, low), (c.part_at-named.ensures.proper, gained_fact case rows s c.derive-next.new.state c.in_ok-next-in-Open.next g gained, kind, here))
+    (omega (arith, c.decreases, low), (c.part_at-named.ensures.proper, gained_fact case rows s c.derive.new.state c.in_ok-next-in-Open.next g gained, kind, here))
 
 pub unfold_next-returns-in_ok-unfold-in-Open : goal.unfold_next-returns-in_ok-unfold-in-Open
 unfold_next-returns-in_ok-unfold-in-Open t c =
@@ -278,7 +265,7 @@ unfold_next-returns-in_ok-unfold-in-Open t c =
     let u = c.in_ok-unfold-in-Open.ensures in
     let gained = c.in_ok-next-in-Open.ensures rows in
     taken_open case rows fs c.args.k c.args.at c.right_of-right.result g s c.unfold.new.state there kind c.requires.rest c.requires.stands (c.right_of-right.ensures (fact_tree case g) here)
-    (moves_then case rows s c.derive-next.new.state c.unfold.new.state gained.moves u.moves) u.told
+    (moves_then case rows s c.derive.new.state c.unfold.new.state gained.moves u.moves) u.told
 
 pub unfold_next-returns-in_default : goal.unfold_next-returns-in_default
 unfold_next-returns-in_default t c =
@@ -293,8 +280,8 @@ unfold_next-returns-in_default t c =
     passed_over case rows fs c.args.k c.args.at g s there agreed c.requires.stands
 
 -- the last one
-pub unfold_last-derive-next-requires : goal.unfold_last-derive-next-requires
-unfold_last-derive-next-requires t c = record { proper = c.part_at-named.ensures.proper; is = (plain_fact c.args.fact.now, c.requires.has, c.part_at-named.ensures.is) }
+pub unfold_last-derive-requires : goal.unfold_last-derive-requires
+unfold_last-derive-requires t c = record { proper = c.part_at-named.ensures.proper; is = (plain_fact c.args.fact.now, c.requires.has, c.part_at-named.ensures.is) }
 
 pub unfold_last-unfold-requires : goal.unfold_last-unfold-requires
 unfold_last-unfold-requires t c =
@@ -309,7 +296,7 @@ unfold_last-unfold-requires t c =
     let P : Tree Node → Type 0 = λ u. IsPart rows c.args.at u in
     let low = part_rank case c.part_at-named.result.0 f g c.part_at-named.ensures.is in
     let gained = c.in_ok-next.ensures rows in
-    (omega (arith, c.decreases, low), (c.part_at-named.ensures.proper, gained_fact case rows s c.derive-next.new.state c.in_ok-next.next g gained, ap kind_of (sym only) ∙ c.requires.kind, subst P only c.requires.stands))
+    (omega (arith, c.decreases, low), (c.part_at-named.ensures.proper, gained_fact case rows s c.derive.new.state c.in_ok-next.next g gained, ap kind_of (sym only) ∙ c.requires.kind, subst P only c.requires.stands))
 
 pub unfold_last-returns : goal.unfold_last-returns
 unfold_last-returns t c =
@@ -322,4 +309,4 @@ unfold_last-returns t c =
     let there = c.part_at-named.ensures.member in
     let only = last_is case rows fs c.args.k g there c.requires.rest in
     on_ok_weaker c.unfold.result
-    (λ u. unfolded_by case rows s c.derive-next.new.state c.unfold.new.state (fact_tree case g) (facts_from case fs c.args.k) c.args.at (c.in_ok-next.ensures rows).moves only u) c.unfold.ensures
+    (λ u. unfolded_by case rows s c.derive.new.state c.unfold.new.state (fact_tree case g) (facts_from case fs c.args.k) c.args.at (c.in_ok-next.ensures rows).moves only u) c.unfold.ensures
