@@ -40,4 +40,4 @@ pub returns : goal.returns
 returns c = λ start h.
     let P : List (Step Node) → Type 0 = λ ss. IsAhead c.args.case.now c.args.tree.now start c.loop-k.state c.loop-k.is_open ss in
     all_closed c.args.case.now c.args.tree.now start c.loop-k.state c.loop-k.is_open
-    (subst P (drop_all c.loop-k.k c.args.refutation.now c.loop-k-test.false) (c.loop-k.invariant.ahead start h))
+    (subst P (drop_all c.loop-k.k c.args.refutation.now (omega (arith, c.len-k-end.ensures.count, c.loop-k-test.false))) (c.loop-k.invariant.ahead start h))

@@ -45,8 +45,8 @@ enter-requires c =
     (subst A (popped s.later.items c.pop.new.self.items l c.in-Some.ensures.items) (c.loop-next.invariant.left a.0 a.1 a.2)) in
     record { proper = (kept_popped case s mid l refl c.in-Some.ensures.items c.loop-next.invariant.kept).1; can = (a.0, n.0, n.1, n.3) }
 
-pub returns-in_ok-enter-in-Side : goal.returns-in_ok-enter-in-Side
-returns-in_ok-enter-in-Side c =
+pub returns-in-Side : goal.returns-in-Side
+returns-in-Side c =
     let case = c.args.case.now in
     let s = c.loop-next.state in
     let l = c.in-Some.next in

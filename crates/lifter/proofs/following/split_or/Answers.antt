@@ -17,7 +17,7 @@ use Rattle.lifter.proofs.SplitOrs.{or_within, or_fact, or_sides, no_sides, prope
 use Rattle.lifter.proofs.following.split_or.Goals as goal
 
 pub unreachable-requires : goal.unreachable-requires
-unreachable-requires c = c.in-None.ensures c.requires.known.0 c.requires.known.1
+unreachable-requires c = c.in_default.ensures c.requires.known.0 c.requires.known.1
 
 pub index-requires : goal.index-requires
 index-requires c =
@@ -30,11 +30,11 @@ sides-requires c =
     proper_read c.args.case.now s.facts.items c.in-Some.number c.index.result c.requires.kept.proper within c.index.is
 
 -- the fact has sides
-pub unreachable-requires-2 : goal.unreachable-requires-2
-unreachable-requires-2 c =
+pub unreachable-requires-in_default-sides : goal.unreachable-requires-in_default-sides
+unreachable-requires-in_default-sides c =
     let x = c.index.result in
     let o = or_fact c.args.case.now c.args.tree.now c.requires.good.0 c.args.state.now c.args.position c.in-Some.number c.requires.good.1 c.in-Some.ensures x c.index.is in
-    no_sides (sides c.args.case.now (plain_fact x)) o.1.first o.1.second o.1.are (sym c.in-None-2.ensures.is)
+    no_sides (sides c.args.case.now (plain_fact x)) o.1.first o.1.second o.1.are (sym c.in_default-sides.ensures.is)
 
 pub right_of-right-requires : goal.right_of-right-requires
 right_of-right-requires c =
@@ -44,10 +44,10 @@ right_of-right-requires c =
     let at = c.args.position in
     let number = c.in-Some.number in
     let x = c.index.result in
-    let g = plain_fact c.in-Some-2.first in
-    let h = plain_fact c.in-Some-2.second in
+    let g = plain_fact c.in-Some-sides.first in
+    let h = plain_fact c.in-Some-sides.second in
     let o = or_fact case rows c.requires.good.0 s at number c.requires.good.1 c.in-Some.ensures x c.index.is in
-    let are = sym c.in-Some-2.ensures.is in
+    let are = sym c.in-Some-sides.ensures.is in
     let two = or_sides case rows (plain_fact x) g h at o.1 are in
     let below = parts_either rows at (fact_tree case g) (fact_tree case h) two.2 in
     (fact_tree case g, below.0)
@@ -60,19 +60,19 @@ unfold-requires c =
     let at = c.args.position in
     let number = c.in-Some.number in
     let x = c.index.result in
-    let g = plain_fact c.in-Some-2.first in
-    let h = plain_fact c.in-Some-2.second in
+    let g = plain_fact c.in-Some-sides.first in
+    let h = plain_fact c.in-Some-sides.second in
     let o = or_fact case rows c.requires.good.0 s at number c.requires.good.1 c.in-Some.ensures x c.index.is in
-    let are = sym c.in-Some-2.ensures.is in
+    let are = sym c.in-Some-sides.ensures.is in
     let two = or_sides case rows (plain_fact x) g h at o.1 are in
     let below = parts_either rows at (fact_tree case g) (fact_tree case h) two.2 in
     let mid : State = record { facts = c.push-3.new.self; known = s.known; later = c.push-2.new.self; steps = c.push.new.self } in
     let count : c.len-count.result ≡ length s.facts.items = omega (arith, c.len-count.ensures) in
-    let l : Later = record { count = c.len-count.result; known = c.len-known.result; fact = c.in-Some-2.second; task = Side c.right_of-right.result } in
-    let put = put_off case rows s mid number c.len-count.result c.copy_fact.result g l (c.copy_fact.ensures.proper case c.in-Some-2.ensures.proper.0) c.copy_fact.ensures.is
-    (plain_fact x, o.0, are) count refl c.len-known.ensures c.in-Some-2.ensures.proper.1 tt c.in_ok-push-3.ensures.items refl c.in_ok-push-2.ensures.items c.in_ok-push.ensures in
+    let l : Later = record { count = c.len-count.result; known = c.len-known.result; fact = c.in-Some-sides.second; task = Side c.right_of-right.result } in
+    let put = put_off case rows s mid number c.len-count.result c.copy_fact.result g l (c.copy_fact.ensures.proper case c.in-Some-sides.ensures.proper.0) c.copy_fact.ensures.is
+    (plain_fact x, o.0, are) count refl c.len-known.ensures c.in-Some-sides.ensures.proper.1 tt c.in_ok-push-3.ensures.items refl c.in_ok-push-2.ensures.items c.in_ok-push.ensures in
     let B : Branch → Type 0 = λ b. HasFact b c.len-count.result g in
-    record { proper = c.in-Some-2.ensures.proper.0; has = subst B (sym put.1) (last_fact (branch_of s) g c.len-count.result (sym put.0)); kind = two.0; stands = below.0 }
+    record { proper = c.in-Some-sides.ensures.proper.0; has = subst B (sym put.1) (last_fact (branch_of s) g c.len-count.result (sym put.0)); kind = two.0; stands = below.0 }
 
 pub returns-clause-kept : goal.returns-clause-kept
 returns-clause-kept c =
@@ -82,17 +82,17 @@ returns-clause-kept c =
     let at = c.args.position in
     let number = c.in-Some.number in
     let x = c.index.result in
-    let g = plain_fact c.in-Some-2.first in
-    let h = plain_fact c.in-Some-2.second in
+    let g = plain_fact c.in-Some-sides.first in
+    let h = plain_fact c.in-Some-sides.second in
     let o = or_fact case rows c.requires.good.0 s at number c.requires.good.1 c.in-Some.ensures x c.index.is in
-    let are = sym c.in-Some-2.ensures.is in
+    let are = sym c.in-Some-sides.ensures.is in
     let two = or_sides case rows (plain_fact x) g h at o.1 are in
     let below = parts_either rows at (fact_tree case g) (fact_tree case h) two.2 in
     let mid : State = record { facts = c.push-3.new.self; known = s.known; later = c.push-2.new.self; steps = c.push.new.self } in
     let count : c.len-count.result ≡ length s.facts.items = omega (arith, c.len-count.ensures) in
-    let l : Later = record { count = c.len-count.result; known = c.len-known.result; fact = c.in-Some-2.second; task = Side c.right_of-right.result } in
-    let put = put_off case rows s mid number c.len-count.result c.copy_fact.result g l (c.copy_fact.ensures.proper case c.in-Some-2.ensures.proper.0) c.copy_fact.ensures.is
-    (plain_fact x, o.0, are) count refl c.len-known.ensures c.in-Some-2.ensures.proper.1 tt c.in_ok-push-3.ensures.items refl c.in_ok-push-2.ensures.items c.in_ok-push.ensures in
+    let l : Later = record { count = c.len-count.result; known = c.len-known.result; fact = c.in-Some-sides.second; task = Side c.right_of-right.result } in
+    let put = put_off case rows s mid number c.len-count.result c.copy_fact.result g l (c.copy_fact.ensures.proper case c.in-Some-sides.ensures.proper.0) c.copy_fact.ensures.is
+    (plain_fact x, o.0, are) count refl c.len-known.ensures c.in-Some-sides.ensures.proper.1 tt c.in_ok-push-3.ensures.items refl c.in_ok-push-2.ensures.items c.in_ok-push.ensures in
     on_ok_weaker c.unfold.result (λ u. u.moves.kept (put.2 c.requires.kept)) c.unfold.ensures
 
 pub returns-clause-split : goal.returns-clause-split
@@ -103,17 +103,17 @@ returns-clause-split c =
     let at = c.args.position in
     let number = c.in-Some.number in
     let x = c.index.result in
-    let g = plain_fact c.in-Some-2.first in
-    let h = plain_fact c.in-Some-2.second in
+    let g = plain_fact c.in-Some-sides.first in
+    let h = plain_fact c.in-Some-sides.second in
     let o = or_fact case rows c.requires.good.0 s at number c.requires.good.1 c.in-Some.ensures x c.index.is in
-    let are = sym c.in-Some-2.ensures.is in
+    let are = sym c.in-Some-sides.ensures.is in
     let two = or_sides case rows (plain_fact x) g h at o.1 are in
     let below = parts_either rows at (fact_tree case g) (fact_tree case h) two.2 in
     let mid : State = record { facts = c.push-3.new.self; known = s.known; later = c.push-2.new.self; steps = c.push.new.self } in
     let count : c.len-count.result ≡ length s.facts.items = omega (arith, c.len-count.ensures) in
-    let l : Later = record { count = c.len-count.result; known = c.len-known.result; fact = c.in-Some-2.second; task = Side c.right_of-right.result } in
-    let put = put_off case rows s mid number c.len-count.result c.copy_fact.result g l (c.copy_fact.ensures.proper case c.in-Some-2.ensures.proper.0) c.copy_fact.ensures.is
-    (plain_fact x, o.0, are) count refl c.len-known.ensures c.in-Some-2.ensures.proper.1 tt c.in_ok-push-3.ensures.items refl c.in_ok-push-2.ensures.items c.in_ok-push.ensures in
+    let l : Later = record { count = c.len-count.result; known = c.len-known.result; fact = c.in-Some-sides.second; task = Side c.right_of-right.result } in
+    let put = put_off case rows s mid number c.len-count.result c.copy_fact.result g l (c.copy_fact.ensures.proper case c.in-Some-sides.ensures.proper.0) c.copy_fact.ensures.is
+    (plain_fact x, o.0, are) count refl c.len-known.ensures c.in-Some-sides.ensures.proper.1 tt c.in_ok-push-3.ensures.items refl c.in_ok-push-2.ensures.items c.in_ok-push.ensures in
     on_ok_weaker c.unfold.result
     (λ u. split_on case rows s mid c.unfold.new.state g h l at c.right_of-right.result two.1 two.2 refl refl (c.right_of-right.ensures (fact_tree case g) below.0) c.len-known.ensures refl put.4 put.3 u)
     c.unfold.ensures

@@ -46,8 +46,8 @@ unfold-unfold_all-requires t c =
     let P : Tree Node → Type 0 = λ u. IsPart c.args.tree.now c.args.at u in
     (omega (arith, c.decreases), (c.requires.proper, (c.requires.has, (ap kind_of (sym all) ∙ c.requires.kind, subst P all c.requires.stands))))
 
-pub unfold-returns-in-None : goal.unfold-returns-in-None
-unfold-returns-in-None t c =
+pub unfold-returns-in-None-sides : goal.unfold-returns-in-None-sides
+unfold-returns-in-None-sides t c =
     let case = c.args.case.now in
     let f = plain_fact c.args.fact.now in
     let all = over_parts case f c.in-None.ensures (sym c.in-None-sides.ensures.is) c.requires.kind in
@@ -66,8 +66,8 @@ unfold_either-mark-requires t c =
     let h = plain_fact c.args.second.now in
     (rows, (f, c.requires.has, both_stay case rows f g h c.requires.are c.requires.kind c.args.at (sym c.kind_of_fact.ensures ∙ c.in-Open.is) (sym c.kind_of_fact-in-Open.ensures ∙ c.in-Open-kind_of_fact.is) c.requires.stands))
 
-pub unfold_either-returns-in-Open : goal.unfold_either-returns-in-Open
-unfold_either-returns-in-Open t c =
+pub unfold_either-returns-in-Open-kind_of_fact : goal.unfold_either-returns-in-Open-kind_of_fact
+unfold_either-returns-in-Open-kind_of_fact t c =
     let case = c.args.case.now in
     let rows = c.args.tree.now in
     let s = c.args.state.now in
@@ -106,11 +106,11 @@ unfold_either-unfold-requires t c =
     let lost = second_lost case rows f g h c.requires.are c.requires.kind open_first (λ e. c.in_default-kind_of_fact.not-Open (c.kind_of_fact-in-Open.ensures ∙ e)) in
     let P : Tree Node → Type 0 = λ u. IsPart rows c.args.at u in
     let low = (sides_rank case f g h c.requires.are).0 in
-    let gained = c.in_ok-next-in-Open.ensures rows in
-    (omega (arith, c.decreases, low), (c.requires.first_proper, gained_fact case rows s c.lose_second.new.state c.in_ok-next-in-Open.next g gained, open_first, subst P lost.1 c.requires.stands))
+    let gained = c.in_ok-next-in_default-kind_of_fact.ensures rows in
+    (omega (arith, c.decreases, low), (c.requires.first_proper, gained_fact case rows s c.lose_second.new.state c.in_ok-next-in_default-kind_of_fact.next g gained, open_first, subst P lost.1 c.requires.stands))
 
-pub unfold_either-returns-in_ok-next-in-Open : goal.unfold_either-returns-in_ok-next-in-Open
-unfold_either-returns-in_ok-next-in-Open t c =
+pub unfold_either-returns-in_ok-next-in_default-kind_of_fact : goal.unfold_either-returns-in_ok-next-in_default-kind_of_fact
+unfold_either-returns-in_ok-next-in_default-kind_of_fact t c =
     let case = c.args.case.now in
     let rows = c.args.tree.now in
     let s = c.args.state.now in
@@ -120,7 +120,7 @@ unfold_either-returns-in_ok-next-in-Open t c =
     let open_first = sym c.kind_of_fact.ensures ∙ c.in-Open.is in
     let lost = second_lost case rows f g h c.requires.are c.requires.kind open_first (λ e. c.in_default-kind_of_fact.not-Open (c.kind_of_fact-in-Open.ensures ∙ e)) in
     on_ok_weaker c.unfold.result
-    (λ u. unfolded_by case rows s c.lose_second.new.state c.unfold.new.state (fact_tree case g) (fact_tree case f) c.args.at (c.in_ok-next-in-Open.ensures rows).moves lost.1 u) c.unfold.ensures
+    (λ u. unfolded_by case rows s c.lose_second.new.state c.unfold.new.state (fact_tree case g) (fact_tree case f) c.args.at (c.in_ok-next-in_default-kind_of_fact.ensures rows).moves lost.1 u) c.unfold.ensures
 
 -- the first side is False
 pub unfold_either-lose_first-requires : goal.unfold_either-lose_first-requires
