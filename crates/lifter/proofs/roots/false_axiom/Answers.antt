@@ -27,3 +27,6 @@ unreachable-requires c =
     let axioms = c.args.axioms.now in
     let past : length (root (plain_axioms axioms)) ≤ c.loop-k.k = omega (arith, as_many axioms, c.loop-k-test.false) in
     end_not_false (fact_tree c.args.case.now) (root (plain_axioms axioms)) c.loop-k.k past c.loop-k.invariant
+
+pub kind_of_fact-requires : goal.kind_of_fact-requires
+kind_of_fact-requires c = c.axiom_fact-fact.ensures.proper c.args.case.now

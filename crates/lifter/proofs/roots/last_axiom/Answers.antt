@@ -36,3 +36,6 @@ returns-in-Open c =
     (axiom_said axioms at c.index-axioms-at.result f within c.index-axioms-at.is c.axiom_fact-fact.ensures.is)
     step c.loop-k.invariant c.requires (sym c.kind_of_fact.ensures ∙ c.in-Open.is) in
     record { within = within; rest = found.0; up_to = found.1 }
+
+pub kind_of_fact-requires : goal.kind_of_fact-requires
+kind_of_fact-requires c = c.axiom_fact-fact.ensures.proper c.args.case.now

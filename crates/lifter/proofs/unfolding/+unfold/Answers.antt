@@ -107,7 +107,7 @@ unfold_either-unfold-requires t c =
     let P : Tree Node → Type 0 = λ u. IsPart rows c.args.at u in
     let low = (sides_rank case f g h c.requires.are).0 in
     let gained = c.in_ok-next-in_default-kind_of_fact.ensures rows in
-    (omega (arith, c.decreases, low), (c.requires.first_proper, gained_fact case rows s c.lose_second.new.state c.in_ok-next-in_default-kind_of_fact.next g gained, open_first, subst P lost.1 c.requires.stands))
+    (omega (arith, c.decreases, low), (c.requires.first_proper, (gained_fact case rows s c.lose_second.new.state c.in_ok-next-in_default-kind_of_fact.next g gained, (open_first, subst P lost.1 c.requires.stands))))
 
 pub unfold_either-returns-in_ok-next-in_default-kind_of_fact : goal.unfold_either-returns-in_ok-next-in_default-kind_of_fact
 unfold_either-returns-in_ok-next-in_default-kind_of_fact t c =
@@ -146,7 +146,7 @@ unfold_either-unfold-requires-in_default t c =
     let P : Tree Node → Type 0 = λ u. IsPart rows c.args.at u in
     let low = (sides_rank case f g h c.requires.are).1 in
     let gained = c.in_ok-next-in_default.ensures rows in
-    (omega (arith, c.decreases, low), (c.requires.second_proper, gained_fact case rows s c.lose_first.new.state c.in_ok-next-in_default.next h gained, lost.1, subst P lost.2 c.requires.stands))
+    (omega (arith, c.decreases, low), (c.requires.second_proper, (gained_fact case rows s c.lose_first.new.state c.in_ok-next-in_default.next h gained, (lost.1, subst P lost.2 c.requires.stands))))
 
 pub unfold_either-returns-in_ok-next-in_default : goal.unfold_either-returns-in_ok-next-in_default
 unfold_either-returns-in_ok-next-in_default t c =
@@ -178,14 +178,7 @@ unfold_all-unfold_next-requires t c =
     let inv = c.loop-k.invariant in
     let low : k < c.last_open-last.result = omega (arith, c.loop-k-test.true) in (
       omega (arith, c.decreases),
-      (
-        c.requires.proper,
-        moved_fact case c.args.tree.now c.args.state.now c.loop-k.state c.args.number f inv.moves c.requires.has,
-        omega (arith, low, c.last_open-last.ensures.within),
-        c.last_open-last.ensures.up_to k (omega (arith, low)),
-        c.last_open-last.ensures.up_to (k + 1) (omega (arith, low)),
-        inv.stands,
-      ),
+      (c.requires.proper, (moved_fact case c.args.tree.now c.args.state.now c.loop-k.state c.args.number f inv.moves c.requires.has, (omega (arith, low, c.last_open-last.ensures.within), (c.last_open-last.ensures.up_to k (omega (arith, low)), (c.last_open-last.ensures.up_to (k + 1) (omega (arith, low)), inv.stands))))),
     )
 
 pub unfold_all-unfold_last-requires : goal.unfold_all-unfold_last-requires
@@ -197,14 +190,7 @@ unfold_all-unfold_last-requires t c =
     let end : c.loop-k.k ≡ last = omega (arith, c.loop-k-test.false, c.loop-k.auto) in
     let S : ℕ → Type 0 = λ n. IsPart c.args.tree.now c.loop-k.at (parts_from case f n) in (
       omega (arith, c.decreases),
-      (
-        c.requires.proper,
-        moved_fact case c.args.tree.now c.args.state.now c.loop-k.state c.args.number f inv.moves c.requires.has,
-        c.last_open-last.ensures.within,
-        c.last_open-last.ensures.up_to last (omega arith),
-        c.last_open-last.ensures.rest,
-        subst S end inv.stands,
-      ),
+      (c.requires.proper, (moved_fact case c.args.tree.now c.args.state.now c.loop-k.state c.args.number f inv.moves c.requires.has, (c.last_open-last.ensures.within, (c.last_open-last.ensures.up_to last (omega arith), (c.last_open-last.ensures.rest, subst S end inv.stands))))),
     )
 
 pub unfold_all-returns : goal.unfold_all-returns
@@ -249,7 +235,7 @@ unfold_next-unfold-requires t c =
     let here = (stands_here case rows fs c.args.k c.args.at g there kind c.requires.rest c.requires.stands).0 in
     let low = part_rank case c.part_at-named.result.0 f g c.part_at-named.ensures.is in
     let gained = c.in_ok-next-in-Open.ensures rows in
-    (omega (arith, c.decreases, low), (c.part_at-named.ensures.proper, gained_fact case rows s c.derive.new.state c.in_ok-next-in-Open.next g gained, kind, here))
+    (omega (arith, c.decreases, low), (c.part_at-named.ensures.proper, (gained_fact case rows s c.derive.new.state c.in_ok-next-in-Open.next g gained, (kind, here))))
 
 pub unfold_next-returns-in_ok-unfold-in-Open : goal.unfold_next-returns-in_ok-unfold-in-Open
 unfold_next-returns-in_ok-unfold-in-Open t c =
@@ -296,7 +282,7 @@ unfold_last-unfold-requires t c =
     let P : Tree Node → Type 0 = λ u. IsPart rows c.args.at u in
     let low = part_rank case c.part_at-named.result.0 f g c.part_at-named.ensures.is in
     let gained = c.in_ok-next.ensures rows in
-    (omega (arith, c.decreases, low), (c.part_at-named.ensures.proper, gained_fact case rows s c.derive.new.state c.in_ok-next.next g gained, ap kind_of (sym only) ∙ c.requires.kind, subst P only c.requires.stands))
+    (omega (arith, c.decreases, low), (c.part_at-named.ensures.proper, (gained_fact case rows s c.derive.new.state c.in_ok-next.next g gained, (ap kind_of (sym only) ∙ c.requires.kind, subst P only c.requires.stands))))
 
 pub unfold_last-returns : goal.unfold_last-returns
 unfold_last-returns t c =
