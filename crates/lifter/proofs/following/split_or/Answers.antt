@@ -1,5 +1,6 @@
 use Rattle.std.proofs.Common.{◌≡◌, ◌<◌, ◌+◌, Some, List, ◌∷◌, length, refl, sym, ◌∙◌, ap, subst, arith}
 use Rattle.std.proofs.lemmas.Result.{on_ok_weaker}
+use Rattle.std.proofs.lemmas.List.{get_or_read}
 use Rattle.pc_ground.specs.Tree.{either}
 use Rattle.pc_ground.proofs.FlatRows.{parts_either}
 use Rattle.lifted_facts.specs.PlainFacts.{PlainFact, Branch, plain_fact}
@@ -21,19 +22,20 @@ unreachable-requires c = c.in_default.ensures c.requires.known.0 c.requires.know
 
 pub index-requires : goal.index-requires
 index-requires c =
-    or_within c.args.case.now c.args.tree.now c.requires.good.0 c.args.state.now c.args.position c.in-Some.number c.requires.good.1 c.in-Some.ensures
+    let within = or_within c.args.case.now c.args.tree.now c.requires.good.0 c.args.state.now c.args.position c.in-Some.number c.requires.good.1 c.in-Some.ensures in
+    omega (arith, within, c.args.state.now.facts.ok.0)
 
 pub sides-requires : goal.sides-requires
 sides-requires c =
     let s = c.args.state.now in
     let within = or_within c.args.case.now c.args.tree.now c.requires.good.0 s c.args.position c.in-Some.number c.requires.good.1 c.in-Some.ensures in
-    proper_read c.args.case.now s.facts.items c.in-Some.number c.index.result c.requires.kept.proper within c.index.is
+    proper_read c.args.case.now s.facts.items c.in-Some.number c.index.result.now c.requires.kept.proper within (get_or_read c.args.state.now.facts.items c.in-Some.number c.index.result.now (or_within c.args.case.now c.args.tree.now c.requires.good.0 c.args.state.now c.args.position c.in-Some.number c.requires.good.1 c.in-Some.ensures) c.index.ensures c.index.result.now)
 
 -- the fact has sides
 pub unreachable-requires-in_default-sides : goal.unreachable-requires-in_default-sides
 unreachable-requires-in_default-sides c =
-    let x = c.index.result in
-    let o = or_fact c.args.case.now c.args.tree.now c.requires.good.0 c.args.state.now c.args.position c.in-Some.number c.requires.good.1 c.in-Some.ensures x c.index.is in
+    let x = c.index.result.now in
+    let o = or_fact c.args.case.now c.args.tree.now c.requires.good.0 c.args.state.now c.args.position c.in-Some.number c.requires.good.1 c.in-Some.ensures x (get_or_read c.args.state.now.facts.items c.in-Some.number c.index.result.now (or_within c.args.case.now c.args.tree.now c.requires.good.0 c.args.state.now c.args.position c.in-Some.number c.requires.good.1 c.in-Some.ensures) c.index.ensures c.index.result.now) in
     no_sides (sides c.args.case.now (plain_fact x)) o.1.first o.1.second o.1.are (sym c.in_default-sides.ensures.is)
 
 pub right_of-right-requires : goal.right_of-right-requires
@@ -43,10 +45,10 @@ right_of-right-requires c =
     let s = c.args.state.now in
     let at = c.args.position in
     let number = c.in-Some.number in
-    let x = c.index.result in
+    let x = c.index.result.now in
     let g = plain_fact c.in-Some-sides.first in
     let h = plain_fact c.in-Some-sides.second in
-    let o = or_fact case rows c.requires.good.0 s at number c.requires.good.1 c.in-Some.ensures x c.index.is in
+    let o = or_fact case rows c.requires.good.0 s at number c.requires.good.1 c.in-Some.ensures x (get_or_read c.args.state.now.facts.items c.in-Some.number c.index.result.now (or_within c.args.case.now c.args.tree.now c.requires.good.0 c.args.state.now c.args.position c.in-Some.number c.requires.good.1 c.in-Some.ensures) c.index.ensures c.index.result.now) in
     let are = sym c.in-Some-sides.ensures.is in
     let two = or_sides case rows (plain_fact x) g h at o.1 are in
     let below = parts_either rows at (fact_tree case g) (fact_tree case h) two.2 in
@@ -59,10 +61,10 @@ unfold-requires c =
     let s = c.args.state.now in
     let at = c.args.position in
     let number = c.in-Some.number in
-    let x = c.index.result in
+    let x = c.index.result.now in
     let g = plain_fact c.in-Some-sides.first in
     let h = plain_fact c.in-Some-sides.second in
-    let o = or_fact case rows c.requires.good.0 s at number c.requires.good.1 c.in-Some.ensures x c.index.is in
+    let o = or_fact case rows c.requires.good.0 s at number c.requires.good.1 c.in-Some.ensures x (get_or_read c.args.state.now.facts.items c.in-Some.number c.index.result.now (or_within c.args.case.now c.args.tree.now c.requires.good.0 c.args.state.now c.args.position c.in-Some.number c.requires.good.1 c.in-Some.ensures) c.index.ensures c.index.result.now) in
     let are = sym c.in-Some-sides.ensures.is in
     let two = or_sides case rows (plain_fact x) g h at o.1 are in
     let below = parts_either rows at (fact_tree case g) (fact_tree case h) two.2 in
@@ -81,10 +83,10 @@ returns-clause-kept c =
     let s = c.args.state.now in
     let at = c.args.position in
     let number = c.in-Some.number in
-    let x = c.index.result in
+    let x = c.index.result.now in
     let g = plain_fact c.in-Some-sides.first in
     let h = plain_fact c.in-Some-sides.second in
-    let o = or_fact case rows c.requires.good.0 s at number c.requires.good.1 c.in-Some.ensures x c.index.is in
+    let o = or_fact case rows c.requires.good.0 s at number c.requires.good.1 c.in-Some.ensures x (get_or_read c.args.state.now.facts.items c.in-Some.number c.index.result.now (or_within c.args.case.now c.args.tree.now c.requires.good.0 c.args.state.now c.args.position c.in-Some.number c.requires.good.1 c.in-Some.ensures) c.index.ensures c.index.result.now) in
     let are = sym c.in-Some-sides.ensures.is in
     let two = or_sides case rows (plain_fact x) g h at o.1 are in
     let below = parts_either rows at (fact_tree case g) (fact_tree case h) two.2 in
@@ -102,10 +104,10 @@ returns-clause-split c =
     let s = c.args.state.now in
     let at = c.args.position in
     let number = c.in-Some.number in
-    let x = c.index.result in
+    let x = c.index.result.now in
     let g = plain_fact c.in-Some-sides.first in
     let h = plain_fact c.in-Some-sides.second in
-    let o = or_fact case rows c.requires.good.0 s at number c.requires.good.1 c.in-Some.ensures x c.index.is in
+    let o = or_fact case rows c.requires.good.0 s at number c.requires.good.1 c.in-Some.ensures x (get_or_read c.args.state.now.facts.items c.in-Some.number c.index.result.now (or_within c.args.case.now c.args.tree.now c.requires.good.0 c.args.state.now c.args.position c.in-Some.number c.requires.good.1 c.in-Some.ensures) c.index.ensures c.index.result.now) in
     let are = sym c.in-Some-sides.ensures.is in
     let two = or_sides case rows (plain_fact x) g h at o.1 are in
     let below = parts_either rows at (fact_tree case g) (fact_tree case h) two.2 in
@@ -117,3 +119,19 @@ returns-clause-split c =
     on_ok_weaker c.unfold.result
     (λ u. split_on case rows s mid c.unfold.new.state g h l at c.right_of-right.result two.1 two.2 refl refl (c.right_of-right.ensures (fact_tree case g) below.0) c.len-known.ensures refl put.4 put.3 u)
     c.unfold.ensures
+
+pub overflow_add-position : goal.overflow_add-position
+overflow_add-position c =
+    let case = c.args.case.now in
+    let rows = c.args.tree.now in
+    let s = c.args.state.now in
+    let at = c.args.position in
+    let number = c.in-Some.number in
+    let x = c.index.result.now in
+    let g = plain_fact c.in-Some-sides.first in
+    let h = plain_fact c.in-Some-sides.second in
+    let o = or_fact case rows c.requires.good.0 s at number c.requires.good.1 c.in-Some.ensures x (get_or_read c.args.state.now.facts.items c.in-Some.number c.index.result.now (or_within c.args.case.now c.args.tree.now c.requires.good.0 c.args.state.now c.args.position c.in-Some.number c.requires.good.1 c.in-Some.ensures) c.index.ensures c.index.result.now) in
+    let are = sym c.in-Some-sides.ensures.is in
+    let two = or_sides case rows (plain_fact x) g h at o.1 are in
+    let below = parts_either rows at (fact_tree case g) (fact_tree case h) two.2 in
+    omega (arith, c.right_of-right.ensures (fact_tree case g) below.0)

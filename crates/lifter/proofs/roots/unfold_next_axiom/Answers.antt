@@ -48,3 +48,15 @@ returns-in_default c =
     let there = axiom_said c.args.axioms.now c.args.k c.index-axioms-k.result f c.requires.within c.index-axioms-k.is c.axiom_fact-fact.ensures.is in
     let agreed = true_here case c.args.tree.now fs c.args.k f there c.requires.kind (λ e. c.in_default.not-Open (c.kind_of_fact.ensures ∙ e)) in
     passed_over case c.args.tree.now fs c.args.k c.args.at f c.args.state.now there agreed c.requires.stands
+
+pub kind_of_fact-requires : goal.kind_of_fact-requires
+kind_of_fact-requires c = c.axiom_fact-fact.ensures.proper c.args.case.now
+
+pub overflow_add-at : goal.overflow_add-at
+overflow_add-at c =
+    let case = c.args.case.now in
+    let fs = root (plain_axioms c.args.axioms.now) in
+    let f = plain_fact c.axiom_fact-fact.result in
+    let there = axiom_said c.args.axioms.now c.args.k c.index-axioms-k.result f c.requires.within c.index-axioms-k.is c.axiom_fact-fact.ensures.is in
+    let part = (stands_here case c.args.tree.now fs c.args.k c.args.at f there (sym c.kind_of_fact.ensures ∙ c.in-Open.is) c.requires.rest c.requires.stands).0 in
+    omega (arith, c.right_of-right.ensures (fact_tree case f) part)

@@ -296,3 +296,15 @@ unfold_last-returns t c =
     let only = last_is case rows fs c.args.k g there c.requires.rest in
     on_ok_weaker c.unfold.result
     (λ u. unfolded_by case rows s c.derive.new.state c.unfold.new.state (fact_tree case g) (facts_from case fs c.args.k) c.args.at (c.in_ok-next.ensures rows).moves only u) c.unfold.ensures
+
+pub unfold_next-overflow_add-at : goal.unfold_next-overflow_add-at
+unfold_next-overflow_add-at t c =
+    let case = c.args.case.now in
+    let rows = c.args.tree.now in
+    let f = plain_fact c.args.fact.now in
+    let fs = parts case f in
+    let g = plain_fact c.part_at-named.result.1 in
+    let there = c.part_at-named.ensures.member in
+    let kind = sym c.kind_of_fact.ensures ∙ c.in-Open.is in
+    let here = (stands_here case rows fs c.args.k c.args.at g there kind c.requires.rest c.requires.stands).0 in
+    omega (arith, c.right_of-right.ensures (fact_tree case g) here)
