@@ -78,7 +78,8 @@ asked w = w
 
 -- the formula is a denial
 abbrev pub IsDenial : Written → Type 0
-IsDenial w = (p : Written) × (w ≡ not_ p)
+IsDenial (not_ p) = Unit {0}
+IsDenial _ = ⊥
 
 -- the fault without its file
 abbrev pub unfiled : Option FiledFault → Option Fault
