@@ -69,12 +69,13 @@ module _ (m : WrittenModel) (f : Written) (bytes : List ℕ) (of : FormulaOf byt
       let none : sizes ≡ None = or_none (first_macro_fault (with_denial m f)) (first_size_fault (with_denial m f)) expandable.0 ∙ expandable.1 in
       of_tree of (or_none (filed Query sizes) (query_fault m.stages (macros_of m) [] (not_ f)) (ap (filed Query) none) ∙ is)
 
-  -- no fault
-  pub no_query_fault : IsExpandable (with_denial m f) → query_fault m.stages (macros_of m) [] (not_ f) ≡ None → first_query_fault m f ≡ None
-  unfolding sizes
-  no_query_fault expandable names =
-      let none : sizes ≡ None = or_none (first_macro_fault (with_denial m f)) (first_size_fault (with_denial m f)) expandable.0 ∙ expandable.1 in
-      or_none (filed Query sizes) (query_fault m.stages (macros_of m) [] (not_ f)) (ap (filed Query) none) ∙ names
+-- no fault of macros, sizes and names is none
+pub no_fault_asked : (m : WrittenModel) (f : Written) → IsExpandable (with_denial m f) → query_fault m.stages (macros_of m) [] (not_ f) ≡ None
+    → first_query_fault m f ≡ None
+no_fault_asked m f expandable names =
+    let sizes = option_or (first_macro_fault (with_denial m f)) (first_size_fault (with_denial m f)) in
+    let none : sizes ≡ None = or_none (first_macro_fault (with_denial m f)) (first_size_fault (with_denial m f)) expandable.0 ∙ expandable.1 in
+    or_none (filed Query sizes) (query_fault m.stages (macros_of m) [] (not_ f)) (ap (filed Query) none) ∙ names
 
 -- the last members of two lists that are equal
 no_end : {A : Type 0} (xs : List A) (x : A) → xs ++ x ∷ [] ≡ [] → ⊥

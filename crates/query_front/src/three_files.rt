@@ -1,7 +1,5 @@
-ghost use Rattle.std.specs.Prelude.{◌≡◌, ◌<◌, ◌^◌, ℕ, List, None, length, map, IfOk, IfErr};
-ghost use Rattle.litmus_reader.specs.Answer.{CaseOf};
-ghost use Rattle.pc_syntax.specs.Written.{WrittenModel, written_model};
-ghost use Rattle.pc_syntax.specs.ModelFault.{first_model_fault};
+ghost use Rattle.std.specs.Prelude.{◌≡◌, ◌<◌, ◌^◌, ℕ, List, length, map, IfOk, IfErr};
+ghost use Rattle.pc_syntax.specs.Written.{written_model};
 ghost use Rattle.pc_ground.specs.Stages.{plain_stage, plain_axioms, numbers_of, AreStages, AxiomsWithin};
 ghost use Rattle.pc_front.specs.ModelFront.{ModelOf};
 ghost use Rattle.pc_front.specs.Front.{IsEnd as IsEndOfTwo};
@@ -66,7 +64,7 @@ pub fn read_inquiry(
 {
     let model = parsed(alloc, model_bytes)?;
     let parts = judged_parts(alloc, &model, test_bytes)?;
-    let formula = read_formula(alloc, query_bytes)?;
-    let formula = close_formula(alloc, model, formula)?;
+    let written = read_formula(alloc, query_bytes)?;
+    let formula = close_formula(alloc, model, written)?;
     Ok(Inquiry { parts, formula })
 }
