@@ -119,3 +119,7 @@ pub query_ends : (model test query : List ℕ) (m : WrittenModel) (c : Case) (e 
     → IsQueryEnd m query e → IsEnd model test query e
 query_ends model test query m c (Refused fault) says said is = in_query says said is
 query_ends model test query m c Memory says said is = tt
+
+-- the denial changes no stage
+pub stage_fault_kept : (n m : WrittenModel) (f : Written) → n ≡ with_denial m f → first_stage_fault m ≡ None → first_stage_fault n ≡ None
+stage_fault_kept n m f is none = ap first_stage_fault is ∙ none

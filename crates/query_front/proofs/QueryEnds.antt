@@ -1,7 +1,7 @@
 -- The first fault of a query, as an end.
-use Rattle.std.proofs.Common.{◌≡◌, ℕ, List, [], ◌++◌, ◌∷◌, Option, Some, None, map, refl, sym, ◌∙◌, ap, subst}
-use Rattle.std.specs.Option.{option_or, option_to_list}
-use Rattle.std.specs.Prelude.{MatchOption, unwrap_or}
+use Rattle.std.proofs.Common.{◌≡◌, ℕ, List, [], ◌++◌, ◌∷◌, Option, Some, None, length, map, refl, sym, ◌∙◌, ap, arith}
+use Rattle.std.specs.Option.{option_or}
+use Rattle.std.specs.Prelude.{MatchOption}
 use Rattle.pc_common.specs.declared.fault.Which.{Which}
 use Rattle.pc_common.specs.declared.fault.Which.TheVariants.{Query}
 use Rattle.pc_syntax.specs.declared.expanded.Expanded.{Expanded}
@@ -115,3 +115,8 @@ some_expanded n m w es is expansions none =
     let axioms : axioms_of n ≡ axioms_of m ++ w ∷ [] = ap axioms_of is ∙ axioms_more m w in
     no_end (map (expansion_of (macros_of n)) (axioms_of m)) (expansion_of (macros_of n) w)
     (sym (map_end (expansion_of (macros_of n)) (axioms_of m) w) ∙ ap (map (expansion_of (macros_of n))) (sym axioms) ∙ sym expansions ∙ ap (map body) none)
+
+-- so its expanded axioms are not none of them
+pub popped_none : (n m : WrittenModel) (w : Written) (es : List Expanded) → n ≡ with_axiom m w → AreExpansions n es → length es ≡ 0 → ⊥
+popped_none n m w [] is expansions none = some_expanded n m w [] is expansions refl
+popped_none n m w (e ∷ es) is expansions none = absurd (omega arith)
