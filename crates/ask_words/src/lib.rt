@@ -18,10 +18,12 @@
 mod asking;
 mod copies;
 mod fronts;
+mod laws;
 mod outcome;
 mod search;
 mod telling;
 
 pub use asking::{ask, ask_parts};
+pub use laws::words_are_true;
 pub use outcome::{AskWord, Asked};
-pub use telling::{word, words_are_true};
+pub use telling::word;

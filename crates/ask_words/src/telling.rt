@@ -1,6 +1,5 @@
 ghost use Rattle.std.specs.Prelude.{◌≡◌};
 ghost use Rattle.ask_words.specs.Asking.{word_of};
-ghost use Rattle.ask_words.specs.Words.{WordsAreTrue};
 
 use super::outcome::AskWord;
 use solver::Answer;
@@ -20,10 +19,3 @@ pub fn word(added: &Answer, against: &Answer) -> AskWord
         },
     }
 }
-
-/// The word that two answers tell is true of the formula over the worlds in which the closed axioms are true. It does
-/// nothing: its contract is the law.
-#[tactic(auto, using(crate::proofs::TrueWords::words_true))]
-pub fn words_are_true()
-    ensures { WordsAreTrue }
-{}
