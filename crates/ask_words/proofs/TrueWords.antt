@@ -33,10 +33,10 @@ module _ (Allowed : World Node → Type 0) (holds : World Node → Bool) where
 
   -- where it has one value nowhere, it has the other everywhere
   only_false : ((w : World Node) → Allowed w → holds w ≡ true → ⊥) → Everywhere Allowed holds false
-  only_false none w is = elim (true_or_false (holds w)) [ inl yes ↦ absurd (none w is yes) | inr no_ ↦ no_ ]
+  only_false none w is = elim (true_or_false (holds w)) [ inl holding ↦ absurd (none w is holding) | inr failing ↦ failing ]
 
   only_true : ((w : World Node) → Allowed w → holds w ≡ false → ⊥) → Everywhere Allowed holds true
-  only_true none w is = elim (true_or_false (holds w)) [ inl yes ↦ yes | inr no_ ↦ absurd (none w is no_) ]
+  only_true none w is = elim (true_or_false (holds w)) [ inl holding ↦ holding | inr failing ↦ absurd (none w is failing) ]
 
   -- the two answers tell the word
   pub word_is : (x y : Answer) → Told true x → Told false y → IsWord Allowed holds (word_of x y)
@@ -67,8 +67,8 @@ module _ (c : Case) (stages : List Stage) (ps : List PlainClosed) (p : PlainClos
   unseen : (front : Front) → IsFrontMore c stages ps p front
       → ((w : World Node) → IsWorld w → IsTrue (closed_satisfies (plain_axioms front.axioms) front.case w) → ⊥)
       → (w : World Node) → IsClosedWorld c ps w → closed_true c w [] p ≡ true → ⊥
-  unseen front is none w allowed yes =
-      none w allowed.0 (satisfied_more front is w ∙ and_both (closed_satisfies ps c w) (closed_true c w [] p) allowed.1 yes)
+  unseen front is none w allowed holding =
+      none w allowed.0 (satisfied_more front is w ∙ and_both (closed_satisfies ps c w) (closed_true c w [] p) allowed.1 holding)
 
 module _ (c : Case) (stages : List Stage) (ps : List PlainClosed) (p : PlainClosed) where
   added_told : (front : Front) (x : Answer) → IsFrontMore c stages ps p front → IsFound front x → Told (IsClosedWorld c ps) (λ w. closed_true c w [] p) true x
@@ -84,7 +84,7 @@ module _ (c : Case) (stages : List Stage) (ps : List PlainClosed) (p : PlainClos
       let there = seen c stages ps (closed_not p) front is shown.0 shown.1 shown.2 in
       (shown.0, there.0, not_true (closed_true c shown.0 [] p) there.1)
   against_told front (Unobservable r) is found =
-      λ w allowed no_. unseen c stages ps (closed_not p) front is (found_none front r found) w allowed (true_not (closed_true c w [] p) no_)
+      λ w allowed failing. unseen c stages ps (closed_not p) front is (found_none front r found) w allowed (true_not (closed_true c w [] p) failing)
 
 pub words_true : WordsAreTrue
 words_true c stages ps p a is =
