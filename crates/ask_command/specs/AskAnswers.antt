@@ -38,17 +38,16 @@ pub data IsAskText (m : WrittenModel) (c : Case) (f : Written) : Status → List
       → IsCertified One (with_axiom m f) c s added → IsCertified One (with_denial m f) c t against
       → IsAskText m c f Done (ask_text word added against)
 
-module _ (holds : Contents) (i : Inputs) (query : List ℕ) where
-  -- the refusal by the first fault, or the word with its certificates
-  pub data AnswersAsk : Status → List ℕ → Type 0 where
-    refused : {status : Status} {text : List ℕ} → IsRefusal holds i query status text → AnswersAsk status text
-    found : {m : WrittenModel} {c : Case} {f : Written} {status : Status} {text : List ℕ} → SaysAll holds i query m c f
-        → IsAskText m c f status text → AnswersAsk status text
+-- the refusal by the first fault, or the word with its certificates
+pub data AnswersAsk (holds : Contents) (i : Inputs) (query : List ℕ) : Status → List ℕ → Type 0 where
+  refused : {status : Status} {text : List ℕ} → IsRefusal holds i query status text → AnswersAsk holds i query status text
+  found : {m : WrittenModel} {c : Case} {f : Written} {status : Status} {text : List ℕ} → SaysAll holds i query m c f
+      → IsAskText m c f status text → AnswersAsk holds i query status text
 
-  -- refused wherever the files have a fault, and done wherever they say what is asked
-  pub record IsAskDue (status : Status) : Type 0 where
-    pub answered : (m : WrittenModel) (c : Case) (f : Written) → SaysAll holds i query m c f → status ≡ Done
-    pub fault : (x : InputFault) → IsFirstFault holds i query x → status ≡ Refused
+-- refused wherever the files have a fault, and done wherever they say what is asked
+pub record IsAskDue (holds : Contents) (i : Inputs) (query : List ℕ) (status : Status) : Type 0 where
+  pub answered : (m : WrittenModel) (c : Case) (f : Written) → SaysAll holds i query m c f → status ≡ Done
+  pub fault : (x : InputFault) → IsFirstFault holds i query x → status ≡ Refused
 
 -- the outcome of `ask`
 abbrev pub IsAskOutcome : {F : Type 0} → (F → FilesView) → Inputs → List ℕ → F → F → Status → List ℕ → Type 0

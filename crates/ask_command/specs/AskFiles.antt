@@ -41,39 +41,40 @@ IsBytesEnding model test query (a_refusal r) =
 IsBytesEnding model test query a_memory = ⊤
 IsBytesEnding model test query a_read_fault = ⊥
 
-module _ (holds : Contents) (i : Inputs) (query : List ℕ) where
-  -- all three are read
-  pub record AreRead (mb tb qb : List ℕ) : Type 0 where
-    pub model : IsRead holds i.model mb
-    pub test : IsRead holds i.test tb
-    pub third : IsRead holds query qb
+-- all three are read
+pub record AreRead (holds : Contents) (i : Inputs) (query mb tb qb : List ℕ) : Type 0 where
+  pub model : IsRead holds i.model mb
+  pub test : IsRead holds i.test tb
+  pub third : IsRead holds query qb
 
-  -- what the three files say
-  pub record SaysAll (m : WrittenModel) (c : Case) (f : Written) : Type 0 where
-    pub two : Says CaseOf holds i m c
-    pub bytes : List ℕ
-    pub query_read : IsRead holds query bytes
-    pub says_query : SaysQuery m bytes f
+-- what the three files say
+pub record SaysAll (holds : Contents) (i : Inputs) (query : List ℕ) (m : WrittenModel) (c : Case) (f : Written) : Type 0 where
+  pub two : Says CaseOf holds i m c
+  pub bytes : List ℕ
+  pub query_read : IsRead holds query bytes
+  pub says_query : SaysQuery m bytes f
 
-  -- the first fault: size as the files are read, in their order; then that of the bytes of the three
-  pub data IsFirstFault : InputFault → Type 0 where
-    large_model : IsTooLarge holds i.model → IsFirstFault (too_large Model)
-    large_test : {mb : List ℕ} → IsRead holds i.model mb → IsTooLarge holds i.test → IsFirstFault (too_large Test)
-    large_query : {mb tb : List ℕ} → IsRead holds i.model mb → IsRead holds i.test tb → IsTooLarge holds query
-        → IsFirstFault (too_large Query)
-    in_bytes : {mb tb qb : List ℕ} {fault : InputFault} → AreRead mb tb qb → IsFaultOfBytes mb tb qb fault
-        → IsFirstFault fault
+-- the first fault: size as the files are read, in their order; then that of the bytes of the three
+pub data IsFirstFault (holds : Contents) (i : Inputs) (query : List ℕ) : InputFault → Type 0 where
+  large_model : IsTooLarge holds i.model → IsFirstFault holds i query (too_large Model)
+  large_test : {mb : List ℕ} → IsRead holds i.model mb → IsTooLarge holds i.test
+      → IsFirstFault holds i query (too_large Test)
+  large_query : {mb tb : List ℕ} → IsRead holds i.model mb → IsRead holds i.test tb → IsTooLarge holds query
+      → IsFirstFault holds i query (too_large Query)
+  in_bytes : {mb tb qb : List ℕ} {fault : InputFault} → AreRead holds i query mb tb qb → IsFaultOfBytes mb tb qb fault
+      → IsFirstFault holds i query fault
 
-  -- the refusal by it
-  pub data IsRefusal : Status → List ℕ → Type 0 where
-    refusal : {bytes : List ℕ} {fault : InputFault} → IsFirstFault fault → holds (name_of fault.file i query) ≡ Some bytes
-        → IsRefusal Refused (refused_text bytes fault)
+-- the refusal by it
+pub data IsRefusal (holds : Contents) (i : Inputs) (query : List ℕ) : Status → List ℕ → Type 0 where
+  refusal : {bytes : List ℕ} {fault : InputFault} → IsFirstFault holds i query fault
+      → holds (name_of fault.file i query) ≡ Some bytes
+      → IsRefusal holds i query Refused (refused_text bytes fault)
 
-  -- a name that is come to is not held: one of the first two, or where these were read, the query's
-  abbrev pub LacksOne : Type 0
-  LacksOne =
-      LacksInput holds i
-      ⊎ (((mb : List ℕ) × IsRead holds i.model mb) × ((tb : List ℕ) × IsRead holds i.test tb) × (holds query ≡ None))
+-- a name that is come to is not held: one of the first two, or where these were read, the query's
+abbrev pub LacksOne : Contents → Inputs → List ℕ → Type 0
+LacksOne holds i query =
+    LacksInput holds i
+    ⊎ (((mb : List ℕ) × IsRead holds i.model mb) × ((tb : List ℕ) × IsRead holds i.test tb) × (holds query ≡ None))
 
 -- what is asked of a model and a case, which (view files).modelled say; (view files).only_missing_fail hold all names
 pub record HasInquiry {F : Type 0} (view : F → FilesView) (i : Inputs) (query : List ℕ) (old new : F)
