@@ -31,7 +31,7 @@ use Rattle.command_base.specs.Endings.{refusal_text, IsUnread}
 use Rattle.command_base.proofs.InputsRead.{refusal_is}
 use Rattle.command_base.proofs.OneCase.{one_held, never_both}
 use Rattle.command_base.proofs.TestForm.{test_form}
-use Rattle.ask_command.specs.AskFiles.{name_of, bytes_of, IsBytesEnding, AreRead, SaysAll, IsFirstFault, large_model, large_test, large_query, in_bytes, IsRefusal, refusal, LacksOne, HasInquiry, IsFilesEnding}
+use Rattle.ask_command.specs.AskFiles.{name_of, bytes_of, IsBytesEnding, AreRead, SaysAll, IsFirstFault, large_model, large_test, large_query, in_bytes, IsRefusal, refusal, WasRead, LacksOne, HasInquiry, IsFilesEnding}
 
 some_none : {x : List ℕ} → Some x ≡ None → ⊥
 some_none e = cc
@@ -79,8 +79,8 @@ module _ (holds : Contents) (i : Inputs) (query : List ℕ) where
   -- what came before a file was read
   abbrev pub WereRead : Which → Type 0
   WereRead Model = Unit {0}
-  WereRead Test = (mb : List ℕ) × IsRead holds i.model mb
-  WereRead Query = ((mb : List ℕ) × IsRead holds i.model mb) × ((tb : List ℕ) × IsRead holds i.test tb)
+  WereRead Test = WasRead holds i.model
+  WereRead Query = WasRead holds i.model × WasRead holds i.test
 
   -- a file past the limit is held
   large_held : (file : Which) → IsTooLarge holds (name_of file i query) → WereRead file → LacksOne holds i query → ⊥

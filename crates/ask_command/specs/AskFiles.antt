@@ -70,11 +70,12 @@ pub data IsRefusal (holds : Contents) (i : Inputs) (query : List ℕ) : Status �
       → holds (name_of fault.file i query) ≡ Some bytes
       → IsRefusal holds i query Refused (refused_text bytes fault)
 
+abbrev pub WasRead : Contents → List ℕ → Type 0
+WasRead holds name = (bytes : List ℕ) × IsRead holds name bytes
+
 -- a name that is come to is not held: one of the first two, or where these were read, the query's
 abbrev pub LacksOne : Contents → Inputs → List ℕ → Type 0
-LacksOne holds i query =
-    LacksInput holds i
-    ⊎ (((mb : List ℕ) × IsRead holds i.model mb) × ((tb : List ℕ) × IsRead holds i.test tb) × (holds query ≡ None))
+LacksOne holds i query = LacksInput holds i ⊎ (WasRead holds i.model × WasRead holds i.test × (holds query ≡ None))
 
 -- what is asked of a model and a case, which (view files).modelled say; (view files).only_missing_fail hold all names
 pub record HasInquiry {F : Type 0} (view : F → FilesView) (i : Inputs) (query : List ℕ) (old new : F)

@@ -22,12 +22,7 @@ fn bytes_of<'a>(file: Which, model: &'a [u8], test: &'a [u8], query: &'a [u8]) -
 }
 
 /// What the bytes of the three files say, or the refusal of their first fault, or want of memory.
-fn inquiry_of(
-    alloc: Global,
-    model: &[u8],
-    test: &[u8],
-    query: &[u8],
-) -> Result<Inquiry, Ending>
+fn inquiry_of(alloc: Global, model: &[u8], test: &[u8], query: &[u8]) -> Result<Inquiry, Ending>
     requires model_short { length model.now ≤ MAX_FILE }
     requires test_short { length test.now ≤ MAX_FILE }
     requires query_short { length query.now ≤ MAX_FILE }

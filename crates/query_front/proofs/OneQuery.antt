@@ -68,12 +68,12 @@ one_token_place bytes ts us f g p q spelled other same at there =
     (at ∙ ap (λ vs. token_place bytes vs (number_of f)) (spells-unique spelled other)
     ∙ ap (λ h. token_place bytes us (number_of h)) same ∙ sym there)
 
-input_fault : FiledFault → InputFault
+abbrev input_fault : FiledFault → InputFault
 input_fault (file, (kind, at)) = fault_at file kind at
 
 -- bytes have one first fault as a query
 pub one_fault : (m : WrittenModel) (bytes : List ℕ) (x y : InputFault) → IsQueryFault m bytes x → IsQueryFault m bytes y → x ≡ y
-unfolding number_of, input_fault
+unfolding number_of
 one_fault m bytes _ _ (lexical {at = p} x) (lexical {at = q} y) = ap (fault_at Query Lexical) (place_is p q (lexical_fault-unique x y))
 one_fault m bytes _ _ (lexical x) (syntax spelled f at) = absurd (spells-no_fault spelled x)
 one_fault m bytes _ _ (lexical x) (depth spelled f at) = absurd (spells-no_fault spelled x)

@@ -16,11 +16,7 @@ use scope_check::close_query;
 use std::alloc::Global;
 
 /// The model with the denial of the formula as its last axiom, whose place is the query's first byte.
-fn with_denial(
-    alloc: Global,
-    mut model: ModelFile,
-    formula: Formula,
-) -> Result<ModelFile, Memory>
+fn with_denial(alloc: Global, mut model: ModelFile, formula: Formula) -> Result<ModelFile, Memory>
     ensures { IfOk result (λ m. written_model m ≡ with_denial_of (written_model model) (written formula)) }
 {
     let body = Formula::negation(alloc, formula)?;

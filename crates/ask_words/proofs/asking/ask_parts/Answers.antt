@@ -20,8 +20,8 @@ returns c =
     let p = plain_closed c.args.formula.now.body in record {
       added =
           found_same parts.case parts.stages (plain_axioms parts.axioms) (plain_closed c.in_ok-copy.field-0.body) p c.in_ok-added.added c.in_ok-copy.ensures
-              c.in_ok-added.ensures;
+          c.in_ok-added.ensures;
       against =
           found_same parts.case parts.stages (plain_axioms parts.axioms) (plain_closed c.in_ok-denial.field-0.body) (closed_not p) c.in_ok-against.against
-              c.in_ok-denial.ensures c.in_ok-against.ensures;
+          c.in_ok-denial.ensures c.in_ok-against.ensures;
     }

@@ -7,7 +7,7 @@ invariant_of-result c =
       named = named_copies parts.stages c.in_ok-stages.stages c.in_ok-stages.ensures parts.named;
       within =
           within_all parts.stages c.in_ok-stages.stages parts.axioms c.in_ok-axioms.axioms c.push.new.self c.args.last c.in_ok-stages.ensures
-              c.in_ok-axioms.ensures c.in_ok-push.ensures parts.within c.requires;
+          c.in_ok-axioms.ensures c.in_ok-push.ensures parts.within c.requires;
     }
 
 pub returns-clause-axioms : goal.returns-clause-axioms
