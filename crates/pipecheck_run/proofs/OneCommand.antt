@@ -7,7 +7,7 @@ use Rattle.std.proofs.lemmas.Bool.{cases_order}
 use Rattle.std.proofs.lemmas.Fmt.{decimal_injective}
 use Rattle.pc_ground.specs.declared.version.Version.TheVariants.{One, Two}
 use Rattle.command_base.specs.Inputs.{Inputs}
-use Rattle.pipecheck_run.specs.Command.{Command, check, verify, find_core, check_listing, verify_listing, gen, words_of, IsWithin, IsCommand, IsNoCommand}
+use Rattle.pipecheck_run.specs.Command.{Command, check, verify, find_core, check_listing, verify_listing, ask_query, gen, words_of, IsWithin, IsCommand, IsNoCommand}
 
 name_at : ℕ → List (List ℕ) → List ℕ
 name_at k [] = []
@@ -58,6 +58,7 @@ command_by words =
     ∷ (codes "core", find_core (inputs_at words))
     ∷ (codes "check86", check_listing (inputs_at words))
     ∷ (codes "verify86", verify_listing (inputs_at words) (name_at 3 words))
+    ∷ (codes "ask", ask_query (inputs_at words) (name_at 3 words))
     ∷ []) (gen (number_in 16 (name_at 1 words)))
 
 spelt : (c : Command) → IsWithin c → command_by (words_of c) ≡ c
@@ -68,6 +69,7 @@ spelt (verify i certificate) within = refl
 spelt (find_core i) within = refl
 spelt (check_listing i) within = refl
 spelt (verify_listing i certificate) within = refl
+spelt (ask_query i query) within = refl
 spelt (gen n) within = ap gen (let some = within.0 in number_found 16 n (omega arith) (omega arith) within.1)
 
 pub one_command : (words : List (List ℕ)) (c d : Command) → IsCommand words c → IsCommand words d → c ≡ d
@@ -82,6 +84,7 @@ module _ (words : List (List ℕ)) (no_check : (i : Inputs) → words ≡ codes 
     (no_core : (i : Inputs) → words ≡ codes "core" ∷ i.model ∷ i.test ∷ [] → ⊥)
     (no_check86 : (i : Inputs) → words ≡ codes "check86" ∷ i.model ∷ i.test ∷ [] → ⊥)
     (no_verify86 : (i : Inputs) (third : List ℕ) → words ≡ codes "verify86" ∷ i.model ∷ i.test ∷ third ∷ [] → ⊥)
+    (no_ask : (i : Inputs) (third : List ℕ) → words ≡ codes "ask" ∷ i.model ∷ i.test ∷ third ∷ [] → ⊥)
     (no_gen : (n : ℕ) → IsCommand words (gen n) → ⊥) where
   -- words of no form
   pub no_form : IsNoCommand words
@@ -91,4 +94,5 @@ module _ (words : List (List ℕ)) (no_check : (i : Inputs) → words ≡ codes 
   no_form (find_core i) is = no_core i is.0
   no_form (check_listing i) is = no_check86 i is.0
   no_form (verify_listing i certificate) is = no_verify86 i certificate is.0
+  no_form (ask_query i query) is = no_ask i query is.0
   no_form (gen n) is = no_gen n is

@@ -7,9 +7,10 @@ use Rattle.command_base.specs.Endings.{ending_status, ending_text}
 use Rattle.verdicts.specs.Verdicts.{verdict_text, status_of, IsWritable}
 use Rattle.verify_command.specs.CheckedTexts.{checked_status, checked_text}
 use Rattle.core_command.specs.Found.{found_text, IsCoreWritable}
+use Rattle.ask_command.specs.FoundAsks.{found_text as ask_found_text, IsAskWritable}
 use Rattle.gen_command.specs.Reports.{report_text}
 use Rattle.pipecheck_run.specs.declared.answer.Answer.{Answer}
-use Rattle.pipecheck_run.specs.declared.answer.Answer.TheVariants.{Usage as a_usage, Ended as an_ending, Checked as a_verdict, Verified as a_check, Core as a_core, Generated as a_report}
+use Rattle.pipecheck_run.specs.declared.answer.Answer.TheVariants.{Usage as a_usage, Ended as an_ending, Checked as a_verdict, Verified as a_check, Core as a_core, Asked as an_ask, Generated as a_report}
 use Rattle.pipecheck_run.specs.Answers.{usage_text}
 
 abbrev pub answer_text : Answer → List ℕ
@@ -18,6 +19,7 @@ answer_text (an_ending e) = ending_text e
 answer_text (a_verdict v) = verdict_text v
 answer_text (a_check found) = checked_text found
 answer_text (a_core f) = found_text f
+answer_text (an_ask q) = ask_found_text q
 answer_text (a_report r) = report_text r
 
 abbrev pub answer_status : Answer → Status
@@ -26,6 +28,7 @@ answer_status (an_ending e) = ending_status e
 answer_status (a_verdict v) = status_of v.found
 answer_status (a_check found) = checked_status found
 answer_status (a_core f) = Done
+answer_status (an_ask q) = Done
 answer_status (a_report r) = Done
 
 -- each node of a verdict is of its front
@@ -35,4 +38,5 @@ CanBeWritten (an_ending e) = ⊤
 CanBeWritten (a_verdict v) = IsWritable (names_of v.front) v.found
 CanBeWritten (a_check found) = ⊤
 CanBeWritten (a_core f) = IsCoreWritable f
+CanBeWritten (an_ask q) = IsAskWritable q
 CanBeWritten (a_report r) = ⊤

@@ -12,8 +12,10 @@ use Rattle.core_command.specs.CoreAnswers.{AnswersCore}
 use Rattle.x86_litmus.specs.Answer.{CaseOf as ListingCase}
 use Rattle.listing_form.specs.Listings.{IsFirstFault as IsListingFault}
 use Rattle.pc_ground.specs.declared.version.Version.TheVariants.{One}
+use Rattle.ask_command.specs.AskFiles.{LacksOne}
+use Rattle.ask_command.specs.AskAnswers.{AnswersAsk}
 use Rattle.gen_command.specs.GenAnswers.{AnswersGen}
-use Rattle.pipecheck_run.specs.Command.{Command, check, verify, find_core, check_listing, verify_listing, gen, IsCommand, IsNoCommand}
+use Rattle.pipecheck_run.specs.Command.{Command, check, verify, find_core, check_listing, verify_listing, ask_query, gen, IsCommand, IsNoCommand}
 
 abbrev pub usage_text : List ℕ
 usage_text = codes "pipecheck: bad command line\n"
@@ -25,6 +27,7 @@ AnswersCommand holds (verify i certificate) = AnswersVerify CaseOf IsTestFault h
 AnswersCommand holds (find_core i) = AnswersCore CaseOf IsTestFault holds i
 AnswersCommand holds (check_listing i) = AnswersCheck ListingCase IsListingFault holds i One
 AnswersCommand holds (verify_listing i certificate) = AnswersVerify ListingCase IsListingFault holds i certificate
+AnswersCommand holds (ask_query i query) = AnswersAsk holds i query
 AnswersCommand holds (gen n) = AnswersGen n
 
 -- the answer to the words, where the names hold these contents, with its text
@@ -40,6 +43,7 @@ Lacks holds (verify i certificate) = LacksInput holds i ⊎ LacksThird CaseOf ho
 Lacks holds (find_core i) = LacksInput holds i
 Lacks holds (check_listing i) = LacksInput holds i
 Lacks holds (verify_listing i certificate) = LacksInput holds i ⊎ LacksThird ListingCase holds i certificate
+Lacks holds (ask_query i query) = LacksOne holds i query
 Lacks holds (gen n) = ⊥
 
 -- so it is with the command that the words are

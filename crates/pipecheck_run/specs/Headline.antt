@@ -12,12 +12,13 @@ use Rattle.verify_command.specs.VerifyAnswers.{IsVerifyDue}
 use Rattle.core_command.specs.CoreAnswers.{IsCoreDue}
 use Rattle.x86_litmus.specs.Answer.{CaseOf as ListingCase}
 use Rattle.listing_form.specs.Listings.{IsFirstFault as IsListingFault}
+use Rattle.ask_command.specs.AskAnswers.{IsAskDue}
 use Rattle.gen_command.specs.GenAnswers.{IsGenDue}
-use Rattle.pipecheck_run.specs.Command.{Command, check, verify, find_core, check_listing, verify_listing, gen, IsCommand}
+use Rattle.pipecheck_run.specs.Command.{Command, check, verify, find_core, check_listing, verify_listing, ask_query, gen, IsCommand}
 
 -- what the statuses of a verdict say to a command: observable only where some choice of nodes with some strict order
--- makes every axiom true of the case, and unobservable only where none does; whatever a third file holds. `core` and
--- `gen` have no such status
+-- makes every axiom true of the case, and unobservable only where none does; whatever a third file holds. `core`,
+-- `ask` and `gen` have no such status
 abbrev pub IsTrueTo : Contents → Command → Status → Type 0
 IsTrueTo holds (check version i) status = (m : WrittenModel) (c : Case) → Says CaseOf holds i m c
     → IsTrueStatus m c status
@@ -28,6 +29,7 @@ IsTrueTo holds (check_listing i) status = (m : WrittenModel) (c : Case) → Says
     → IsTrueStatus m c status
 IsTrueTo holds (verify_listing i certificate) status = (m : WrittenModel) (c : Case) → Says ListingCase holds i m c
     → IsTrueStatus m c status
+IsTrueTo holds (ask_query i query) status = ⊤
 IsTrueTo holds (gen n) status = ⊤
 
 abbrev pub IsTrueOf : List (List ℕ) → Contents → Status → Type 0
@@ -40,6 +42,7 @@ IsDueTo holds (verify i certificate) = IsVerifyDue CaseOf IsTestFault holds i ce
 IsDueTo holds (find_core i) = IsCoreDue CaseOf IsTestFault holds i
 IsDueTo holds (check_listing i) = IsCheckDue ListingCase IsListingFault holds i
 IsDueTo holds (verify_listing i certificate) = IsVerifyDue ListingCase IsListingFault holds i certificate
+IsDueTo holds (ask_query i query) = IsAskDue holds i query
 IsDueTo holds (gen n) = IsGenDue n
 
 abbrev pub IsDue : List (List ℕ) → Contents → Status → Type 0

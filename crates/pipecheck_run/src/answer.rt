@@ -2,6 +2,7 @@ ghost use Rattle.std.specs.Prelude.{◌≡◌};
 ghost use Rattle.pc_common.specs.Writes.{Writes};
 ghost use Rattle.pipecheck_run.specs.AnswerTexts.{answer_text, answer_status, CanBeWritten};
 
+use ask_command::{FoundAsk, write_ask};
 use cert_check::Checked;
 use command_base::{Ending, ending_status, write_ending};
 use core_command::{FoundCore, write_core};
@@ -23,6 +24,8 @@ pub(crate) enum Answer {
     Verified(Checked),
     /// `core` finds these axioms to forbid the outcome.
     Core(FoundCore),
+    /// `ask` finds this of a formula.
+    Asked(FoundAsk),
     /// `gen` finds this of the texts that it makes.
     Generated(Report),
 }
@@ -38,6 +41,7 @@ pub(crate) fn write_answer<K: Sink>(out: &mut K, answer: &Answer) -> Result<(), 
         Answer::Checked(verdict) => write_verdict(out, verdict),
         Answer::Verified(checked) => write_checked(out, *checked),
         Answer::Core(found) => write_core(out, found),
+        Answer::Asked(found) => write_ask(out, found),
         Answer::Generated(report) => write_report(out, report),
     }
 }
@@ -52,6 +56,7 @@ pub(crate) fn status(answer: &Answer) -> Status
         Answer::Checked(verdict) => verdict_status(verdict),
         Answer::Verified(checked) => checked_status(*checked),
         Answer::Core(_) => Status::Done,
+        Answer::Asked(_) => Status::Done,
         Answer::Generated(_) => Status::Done,
     }
 }

@@ -6,7 +6,7 @@ ghost use Rattle.pc_common.specs.Pieces.{IsCutShort};
 ghost use Rattle.pc_common.specs.declared.status.Status.TheVariants.{Usage as SUsage, ReadFault as SReadFault, WriteFault as SWriteFault, Memory as SMemory};
 ghost use Rattle.command_base.specs.Inputs.{plain_inputs};
 ghost use Rattle.gen_command.specs.GenAnswers.{IsGenOutcome};
-ghost use Rattle.pipecheck_run.specs.Command.{plain_command, check as check_of, verify as verify_of, verify_listing as verify_listing_of, check_listing as check_listing_of, find_core as find_core_of, IsNoCommand, IsIdle, IsKnown, IsWithin, inputs_of};
+ghost use Rattle.pipecheck_run.specs.Command.{plain_command, check as check_of, verify as verify_of, ask_query as ask_query_of, verify_listing as verify_listing_of, check_listing as check_listing_of, find_core as find_core_of, IsNoCommand, IsIdle, IsKnown, IsWithin, inputs_of};
 ghost use Rattle.pipecheck_run.specs.Answers.{Answers, usage_text, WordsLack};
 ghost use Rattle.pipecheck_run.specs.Headline.{IsTrueOf, IsDue};
 ghost use Rattle.pipecheck_run.specs.AnswerTexts.{answer_text, answer_status, CanBeWritten};
@@ -14,6 +14,7 @@ ghost use Rattle.pipecheck_run.specs.Decides.{IsCommandOutcome, IsWordsOutcome};
 
 use super::answer::{Answer, status, write_answer};
 use super::command::{Command, parse};
+use ask_command::ask_files;
 use check_command::check;
 use command_base::{Ending, Inputs, TestFile};
 use core_command::find_core;
@@ -99,6 +100,18 @@ fn verify_listing_answer<F: Files>(
     }
 }
 
+/// The answer to `ask MODEL TEST QUERY`.
+fn ask_answer<F: Files>(alloc: Global, inputs: Inputs<'_>, query: &str, files: &mut F) -> Answer
+    ensures outcome { IsCommandOutcome F.view (ask_query_of (plain_inputs inputs.entry) query.now)
+        files.old files.new (answer_status result) (answer_text result) }
+    ensures writable { CanBeWritten result }
+{
+    match ask_files::<F>(alloc, inputs, query, files) {
+        Ok(found) => Answer::Asked(found),
+        Err(ending) => Answer::Ended(ending),
+    }
+}
+
 /// The answer to `gen N`, which touches no file.
 fn gen_answer(alloc: Global, n: u8) -> Answer
     requires { 2 ≤ n × n ≤ 16 }
@@ -132,6 +145,7 @@ fn answer_to<F: Files>(alloc: Global, command: Command<'_>, files: &mut F) -> An
             inputs,
             certificate,
         } => verify_listing_answer(alloc, inputs, certificate, files),
+        Command::Ask { inputs, query } => ask_answer(alloc, inputs, query, files),
         Command::Gen(n) => gen_answer(alloc, n),
     }
 }
@@ -181,7 +195,8 @@ fn tell<K: Sink>(out: &mut K, answer: &Answer) -> Status
 /// and where they have no fault the third, to its end or to one byte past 67,108,864: it writes the
 /// verdict whose certificate the third is, or the line at which it is refused, without a search. `core MODEL TEST`
 /// reads as `check` does, and names a minimal set of axioms that forbid the outcome, or none, each with certificates.
-/// `gen N`,
+/// `ask MODEL TEST QUERY` reads the first two so and then the third, all before it judges any, and says whether the
+/// query's formula holds in all worlds, in some, in none, or whether there is no world, with two certificates. `gen N`,
 /// with N from 2 to 16 in decimal, makes the two texts of the ring of N cores, searches as `check` does,
 /// and writes N, the verdict, and how many nodes, splits and leaves there are, or the first fault of the
 /// two texts. Other words are no command, and that is written.
@@ -196,12 +211,12 @@ fn tell<K: Sink>(out: &mut K, answer: &Answer) -> Status
 /// - `usage` to `usage_text`: `Usage` comes exactly on words that are no command, whatever the memory.
 /// - `read_cause` to `read_due`: `ReadFault` comes only where a call of the files failed. Where only missing names
 ///   fail it comes exactly where a name that is not held is come to: the model's, then the test's, and
-///   of `verify`, where these two have no fault, the third.
+///   of `verify`, where these two have no fault, the third. Of `ask` the third is come to where these two are read.
 /// - `write_cause`: `WriteFault` comes only where a call of the sink failed.
 /// - `quiet`, `answers`, `short`: what was written.
 /// - `headline`, `due`: the verdict is true of the bytes of the two files, whatever a third holds, and it
-///   comes: from `check` and `check2` by the outcome, from `verify` by what the third file is. From `core` and `gen`
-///   `Done` comes, or `Refused` where the two texts have a fault.
+///   comes: from `check` and `check2` by the outcome, from `verify` by what the third file is. From `core`, `ask` and
+///   `gen` `Done` comes, or `Refused` where the texts have a fault.
 pub fn run<F: Files, K: Sink>(alloc: Global, words: &[String], files: &mut F, out: &mut K) -> Status
     ensures files { Reads F.view files.old files.new }
     ensures idle { IsIdle (map string_bytes words.now) → (files.new ≡ files.old) × (result ≢ SReadFault) }

@@ -17,6 +17,9 @@ returns-in-CheckListing-clause-outcome g c = rw c.in-CheckListing.is c.check_lis
 pub returns-in-VerifyListing-clause-outcome : goal.returns-in-VerifyListing-clause-outcome
 returns-in-VerifyListing-clause-outcome g c = rw c.in-VerifyListing.is c.verify_listing_answer.ensures.outcome
 
+pub returns-in-Ask-clause-outcome : goal.returns-in-Ask-clause-outcome
+returns-in-Ask-clause-outcome g c = rw c.in-Ask.is c.ask_answer.ensures.outcome
+
 pub returns-in-Check-clause-outcome : goal.returns-in-Check-clause-outcome
 returns-in-Check-clause-outcome g c = rw c.in-Check.is c.check_answer.ensures.outcome
 
