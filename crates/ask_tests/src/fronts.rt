@@ -33,6 +33,9 @@ fn is_told(
     value: bool,
     told: AskWord,
 ) -> Result<bool, Memory> {
+    if model.len() > 10_000 || test.len() > 10_000 {
+        return Ok(false);
+    }
     let Ok(front) = front(alloc, model.as_bytes(), test.as_bytes()) else {
         return Ok(false);
     };
@@ -51,6 +54,9 @@ fn a_constant_holds_in_all_worlds_or_in_none(rt: HostRuntime) -> Result<(), Fail
 
 /// Whether the three say something that may be asked, of so many axioms.
 fn says(alloc: Global, model: &str, test: &str, query: &str, axioms: usize) -> bool {
+    if model.len() > 10_000 || test.len() > 10_000 || query.len() > 10_000 {
+        return false;
+    }
     match read_inquiry(alloc, model.as_bytes(), test.as_bytes(), query.as_bytes()) {
         Ok(inquiry) => {
             inquiry.parts.axioms.len() == axioms
