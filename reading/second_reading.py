@@ -82,7 +82,11 @@ def read_three(model_path: str, test_path: str, query_path: str) -> tuple[Model,
     """The model, the test and the query. All are read whole before one is judged."""
     model_data = file_bytes("model", model_path)
     test_data = file_bytes("test", test_path)
-    query_data = file_bytes("query", query_path)
+    return judged_three(model_data, test_data, file_bytes("query", query_path))
+
+
+def judged_three(model_data: bytes, test_data: bytes, query_data: bytes) -> tuple[Model, Case, Formula]:
+    """What the bytes of a model, a test and a query say, or the refusal by their first fault."""
     model, case = judged("model", read_model, model_data), judged("test", read_case, test_data)
     try:
         return model, case, read_query(query_data, model)
