@@ -9,8 +9,8 @@ found_more-requires c =
     let numbers = numbers_of (map plain_stage c.args.parts.now.stages) in
     within_same numbers (plain_closed c.in_ok-copy.field-0.body) (plain_closed c.args.formula.now.body) c.in_ok-copy.ensures c.requires
 
-pub found_more-2-requires : goal.found_more-2-requires
-found_more-2-requires c =
+pub found_more-requires-2 : goal.found_more-requires-2
+found_more-requires-2 c =
     let numbers = numbers_of (map plain_stage c.args.parts.now.stages) in
     within_same numbers (plain_closed c.in_ok-denial.field-0.body) (closed_not (plain_closed c.args.formula.now.body)) c.in_ok-denial.ensures c.requires
 
