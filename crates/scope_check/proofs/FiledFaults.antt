@@ -12,7 +12,7 @@ use Rattle.pc_syntax.specs.Fault.{Fault, first_fault}
 use Rattle.pc_syntax.specs.NameFaults.{scope_fault, static_fault, node_fault, edge_fault, binding_fault, name_fault}
 use Rattle.pc_syntax.proofs.ExpansionLaws.{expansion_faults}
 use Rattle.scope_check.specs.FirstFault.{IsNoneOr}
-use Rattle.scope_check.specs.QueryFaults.{FiledFault, filed, query_fault, body_file, IsFiledOr, unfiled, QueryFaultsAreNameFaults}
+use Rattle.scope_check.specs.QueryFaults.{FiledFault, filed, query_fault, body_file, IsFiledOr, unfiled}
 
 -- without its file a fault is what it was
 pub unfiled_filed : (file : Which) (o : Option Fault) → unfiled (filed file o) ≡ o
@@ -30,7 +30,8 @@ unfiled_cond false x y v w e f = f
 unfiled_both : (a b : Option FiledFault) (x y : Option Fault) → unfiled a ≡ x → unfiled b ≡ y → unfiled (option_or a b) ≡ option_or x y
 unfiled_both a b x y e f = unfiled_or a b ∙ ap (λ o. option_or o (unfiled b)) e ∙ ap (option_or x) f
 
-pub query_faults : QueryFaultsAreNameFaults
+pub query_faults : (stages : List StageItem) (ms : List MacroAt) (scope : Scope) (w : Written)
+    → unfiled (query_fault stages ms scope w) ≡ name_fault stages ms scope w
 query_faults stages ms scope (not_ p) = query_faults stages ms scope p
 query_faults stages ms scope (and_ p q) =
     unfiled_both (query_fault stages ms scope p) (query_fault stages ms scope q) (name_fault stages ms scope p) (name_fault stages ms scope q)
@@ -111,12 +112,14 @@ query_expansion stages (m ∷ ms) scope (expand_ at name args) =
 -- the first fault of what stands in the query, of what stands in the model, and of two parts, from that of the first
 pub query_answers : (first : Option Fault) (file : Which) (given : Option Fault) → file ≡ Query → IsNoneOr first given → IsFiledOr (filed Query first) file given
 query_answers first file None here is = here
-query_answers first file (Some f) here is = ap (filed Query) is ∙ ap (λ w. Some (w, f)) (sym here)
+query_answers first file (Some f) here is =
+    let put : Which → Option FiledFault = λ w. Some (w, f) in ap (filed Query) is ∙ ap put (sym here)
 
 pub model_answers : (first : Option Fault) (file : Which) (given : Option Fault) → file ≡ body_file given → IsNoneOr first given
     → IsFiledOr (filed Model first) file given
 model_answers first file None here is = here
-model_answers first file (Some f) here is = ap (filed Model) is ∙ ap (λ w. Some (w, f)) (sym here)
+model_answers first file (Some f) here is =
+    let put : Which → Option FiledFault = λ w. Some (w, f) in ap (filed Model) is ∙ ap put (sym here)
 
 pub or_filed : (a b : Option FiledFault) (file : Which) (given : Option Fault) → IsFiledOr a file given → IsFiledOr (option_or a b) file given
 or_filed a b file None h = h
