@@ -1,28 +1,22 @@
 -- The outcome of `ask`: what its answer says, and that it is due.
-use Rattle.std.proofs.Common.{◌≡◌, ◌≢◌, ◌⊎◌, ℕ, Bool, List, [], inl, inr, None, refl, subst}
-use Rattle.std.specs.Prelude.{IsTrue}
+use Rattle.std.proofs.Common.{◌≡◌, ◌≢◌, ◌⊎◌, ℕ, List, [], inr, refl, subst}
 use Rattle.pc_common.specs.Outside.{FilesView}
 use Rattle.pc_common.specs.Case.{Case}
-use Rattle.pc_common.specs.declared.fault.InputFault.{InputFault}
 use Rattle.pc_common.specs.declared.status.Status.{Status}
-use Rattle.pc_common.specs.declared.status.Status.TheVariants.{Done, Usage, Refused, ReadFault, Memory}
+use Rattle.pc_common.specs.declared.status.Status.TheVariants.{Done, Usage, ReadFault, Memory}
 use Rattle.pc_syntax.specs.Written.{Written, not_, WrittenModel}
 use Rattle.pc_syntax.specs.Closed.{PlainClosed, plain_closed, closed_not}
-use Rattle.pc_ground.specs.declared.front.Front.{Front}
-use Rattle.pc_ground.specs.NodeForm.{names_of}
 use Rattle.pc_ground.specs.Stages.{plain_axioms}
 use Rattle.pc_front.specs.Front.{IsFrontOf}
-use Rattle.pc_front.specs.ModelFront.{closed_axiom}
 use Rattle.query_front.specs.Queries.{with_axiom, with_denial}
 use Rattle.query_front.specs.declared.inquiry.Inquiry.{Inquiry}
 use Rattle.query_front.proofs.FaultlessQueries.{denial_faultless, axiom_faultless}
 use Rattle.ask_words.specs.declared.outcome.Asked.{Asked}
-use Rattle.ask_words.specs.Asking.{IsFrontMore, IsAsked, word_of}
-use Rattle.verdicts.specs.Verdicts.{IsWritable}
+use Rattle.ask_words.specs.Asking.{IsFrontMore, IsAsked}
 use Rattle.command_base.specs.declared.ending.Ending.{Ending}
 use Rattle.command_base.specs.Inputs.{Inputs, Contents}
 use Rattle.command_base.specs.Endings.{ending_status, ending_text}
-use Rattle.ask_command.specs.AskFiles.{SaysAll, IsFirstFault, IsRefusal, refusal, HasInquiry, IsFilesEnding}
+use Rattle.ask_command.specs.AskFiles.{refusal, HasInquiry, IsFilesEnding}
 use Rattle.ask_command.specs.AskAnswers.{IsAskText, asked, AnswersAsk, refused, found, IsAskDue, IsAskOutcome}
 use Rattle.ask_command.specs.FoundAsks.{verdicts_of, found_text, IsAskWritable}
 use Rattle.ask_command.proofs.ThreeFiles.{no_fault_said}

@@ -1,9 +1,8 @@
 -- The two verdicts tell the word of the formula.
-use Rattle.std.proofs.Common.{◌≡◌, Bool, true, false, not, ◌&&◌, List, [], refl, sym, ◌∙◌, ap}
-use Rattle.std.specs.Prelude.{ℕ, IsTrue}
+use Rattle.std.proofs.Common.{◌≡◌, true, false, ◌&&◌, List, [], refl, sym, ◌∙◌}
+use Rattle.std.specs.Prelude.{ℕ}
 use Rattle.pc_common.specs.Case.{Case}
 use Rattle.pc_common.specs.World.{Node, World}
-use Rattle.pc_common.specs.declared.status.Status.TheVariants.{Observable as is_observable, Unobservable as is_unobservable}
 use Rattle.pc_syntax.specs.Written.{Written, not_, WrittenModel}
 use Rattle.pc_syntax.specs.Observable.{macros_of, setting, satisfies, Observable}
 use Rattle.pc_syntax.specs.Truth.{is_true}

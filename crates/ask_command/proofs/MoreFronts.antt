@@ -1,5 +1,5 @@
 -- The front with one axiom more is the front of the model with one axiom more, and what is found of it is a verdict.
-use Rattle.std.proofs.Common.{◌≡◌, ℕ, List, [], ◌∷◌, ◌++◌, None, map, refl, sym, ◌∙◌, ap, subst}
+use Rattle.std.proofs.Common.{◌≡◌, ℕ, List, [], ◌∷◌, ◌++◌, None, map, sym, ◌∙◌, ap, subst}
 use Rattle.std.proofs.lemmas.List.{map-append}
 use Rattle.pc_common.specs.Case.{Case}
 use Rattle.pc_common.specs.World.{Node}
@@ -24,7 +24,7 @@ use Rattle.pc_ground.specs.GroundTree.{closed_ground_tree}
 use Rattle.pc_ground.specs.NodeForm.{names_of}
 use Rattle.pc_ground.specs.Stages.{plain_stage, plain_axioms, numbers_of}
 use Rattle.pc_ground.proofs.KeptTrees.{closed_tree}
-use Rattle.pc_front.specs.ModelFront.{closed_axiom, written_stage}
+use Rattle.pc_front.specs.ModelFront.{closed_axiom}
 use Rattle.pc_front.specs.Front.{ArePartsOf, IsFrontOf}
 use Rattle.pc_front.proofs.FrontLaws.{satisfied_alike}
 use Rattle.pc_front.proofs.PartsOf.{no_name_fault}
@@ -35,7 +35,7 @@ use Rattle.query_front.proofs.WithAxiom.{axioms_more, macros_same}
 use Rattle.query_front.proofs.FaultlessQueries.{denial_names}
 use Rattle.solver.specs.Answers.{IsAnswer}
 use Rattle.solver.specs.declared.answer.Answer.{Answer}
-use Rattle.ask_words.specs.Asking.{IsFrontMore, IsFound, IsFoundMore}
+use Rattle.ask_words.specs.Asking.{IsFrontMore, IsFound}
 use Rattle.command_base.proofs.AskedAlike.{numbers_same, same_tree}
 use Rattle.verdicts.specs.Verdicts.{IsVerdict, IsWritable, status_of, verdict_text}
 use Rattle.verdicts.specs.Certified.{IsCertified}

@@ -1,5 +1,5 @@
 -- How `ask` ends at its three files, and what it knows where they have no fault.
-use Rattle.std.proofs.Common.{◌≡◌, ◌≢◌, ◌⊎◌, inl, inr, ℕ, ◌≤◌, Bool, List, Some, None, length, refl, sym, ◌∙◌, subst}
+use Rattle.std.proofs.Common.{◌≡◌, ◌≢◌, ◌⊎◌, inl, inr, ℕ, ◌≤◌, List, Some, None, refl, sym, ◌∙◌, subst}
 use Rattle.std.specs.Prelude.{IsTrue}
 use Rattle.pc_common.specs.Outside.{FilesView}
 use Rattle.pc_common.specs.LineColumn.{line_of, column_of}
@@ -16,8 +16,7 @@ use Rattle.pc_case.specs.MicroOps.{AreMicroOps}
 use Rattle.pc_syntax.specs.Written.{Written, WrittenModel}
 use Rattle.litmus_reader.specs.Answer.{CaseOf}
 use Rattle.litmus_reader.proofs.CleanFacts.{are_micro_ops}
-use Rattle.pc_front.specs.declared.limits.TheConstants.{MAX_FILE}
-use Rattle.pc_front.specs.Front.{SaysModel, IsFirstFault as IsFaultOfTwo}
+use Rattle.pc_front.specs.Front.{SaysModel}
 use Rattle.pc_front.proofs.OneModel.{one_whole_model}
 use Rattle.query_front.specs.Queries.{SaysQuery, IsQueryFault}
 use Rattle.query_front.specs.Inquiries.{IsFirstFault as IsFaultOfBytes, in_two, in_query, SaysInquiry}
@@ -26,7 +25,7 @@ use Rattle.query_front.proofs.OneQuery.{no_fault_beside}
 use Rattle.command_base.specs.declared.refusal.Refusal.{Refusal}
 use Rattle.command_base.specs.declared.ending.Ending.{Ending}
 use Rattle.command_base.specs.declared.ending.Ending.TheVariants.{ReadFault as a_read_fault, Memory as a_memory, Refused as a_refusal}
-use Rattle.command_base.specs.Inputs.{Inputs, Contents, IsRead, IsTooLarge, too_large, LacksInput}
+use Rattle.command_base.specs.Inputs.{Inputs, Contents, IsRead, IsTooLarge, too_large}
 use Rattle.command_base.specs.Endings.{refusal_text, IsUnread}
 use Rattle.command_base.proofs.InputsRead.{refusal_is}
 use Rattle.command_base.proofs.OneCase.{one_held, never_both}

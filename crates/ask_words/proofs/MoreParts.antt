@@ -1,10 +1,10 @@
 -- Parts and fronts with one axiom more: their stages stay within, and what is asked of parts that are alike.
-use Rattle.std.proofs.Common.{◌≡◌, List, [], ◌∷◌, ◌++◌, Result, Ok, Err, map, refl, sym, ◌∙◌, ap, subst}
+use Rattle.std.proofs.Common.{◌≡◌, List, [], ◌∷◌, ◌++◌, Result, Ok, Err, map, sym, ◌∙◌, ap, subst}
 use Rattle.std.specs.Prelude.{ℕ, IfOk}
 use Rattle.std.proofs.lemmas.List.{map-append}
 use Rattle.pc_common.specs.Case.{Case}
 use Rattle.pc_syntax.specs.declared.closed.Closed.{Closed}
-use Rattle.pc_syntax.specs.Closed.{PlainClosed, plain_closed, closed_not}
+use Rattle.pc_syntax.specs.Closed.{PlainClosed, plain_closed}
 use Rattle.pc_syntax.specs.StagesWithin.{StagesWithin}
 use Rattle.pc_ground.specs.declared.front.Front.{Front}
 use Rattle.pc_ground.specs.declared.parts.Parts.{Parts}

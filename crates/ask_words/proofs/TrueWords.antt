@@ -1,5 +1,5 @@
 -- The word that two answers tell is true of the formula.
-use Rattle.std.proofs.Common.{◌≡◌, ◌⊎◌, inl, inr, Bool, true, false, not, ◌&&◌, List, [], ◌∷◌, ◌++◌, refl, sym, ◌∙◌, ap, subst}
+use Rattle.std.proofs.Common.{◌≡◌, ◌⊎◌, inl, inr, Bool, true, false, not, ◌&&◌, List, [], ◌∷◌, ◌++◌, refl, sym, ◌∙◌, ap}
 use Rattle.std.specs.List.{list_all}
 use Rattle.std.specs.Prelude.{IsTrue}
 use Rattle.std.proofs.Math.Bool.{and-true}
@@ -12,9 +12,8 @@ use Rattle.pc_ground.specs.declared.stage.Stage.{Stage}
 use Rattle.pc_ground.specs.Stages.{plain_axioms}
 use Rattle.solver.specs.declared.answer.Answer.{Answer}
 use Rattle.solver.specs.declared.answer.Answer.TheVariants.{Observable, Unobservable}
-use Rattle.ask_words.specs.declared.outcome.Asked.{Asked}
-use Rattle.ask_words.specs.Asking.{IsFrontMore, IsFound, IsAsked, word_of}
-use Rattle.ask_words.specs.Words.{Somewhere, Everywhere, NoWorld, IsWord, IsClosedWorld, WordsAreTrue}
+use Rattle.ask_words.specs.Asking.{IsFrontMore, IsFound, word_of}
+use Rattle.ask_words.specs.Words.{Somewhere, Everywhere, IsWord, IsClosedWorld, WordsAreTrue}
 use Rattle.ask_words.proofs.FrontTrees.{found_world, found_none}
 
 pub not_true : (b : Bool) → (not b) ≡ true → b ≡ false

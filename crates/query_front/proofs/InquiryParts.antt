@@ -32,9 +32,9 @@ use Rattle.pc_front.specs.Ends.{end_of}
 use Rattle.pc_front.specs.ModelFront.{closed_axiom, IsModelEnd}
 use Rattle.pc_front.specs.Front.{SaysModel, IsEnd as IsEndOfTwo}
 use Rattle.pc_front.proofs.PartsOf.{model_end}
-use Rattle.query_front.specs.Queries.{FormulaOf, first_byte, with_axiom, with_denial, first_query_fault, IsQueryEnd}
+use Rattle.query_front.specs.Queries.{FormulaOf, first_byte, with_denial, first_query_fault, IsQueryEnd}
 use Rattle.query_front.specs.Denials.{moved_end, IsLastExpansion}
-use Rattle.query_front.specs.Inquiries.{IsFirstFault, in_two, in_query, IsEnd}
+use Rattle.query_front.specs.Inquiries.{in_two, in_query, IsEnd}
 use Rattle.query_front.proofs.WithAxiom.{macros_same}
 use Rattle.query_front.proofs.QueryEnds.{macro_ends, name_ends, no_fault_asked}
 

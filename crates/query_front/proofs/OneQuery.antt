@@ -1,10 +1,8 @@
 -- Bytes are one formula at most, and none where they have a fault as a query; and they have one first fault at most.
-use Rattle.std.proofs.Common.{◌≡◌, ℕ, List, Some, None, unwrap_or, refl, sym, ◌∙◌, ap, subst}
+use Rattle.std.proofs.Common.{◌≡◌, ℕ, List, Some, None, unwrap_or, sym, ◌∙◌, ap, subst}
 use Rattle.pc_common.specs.declared.place.Place.{Place}
-use Rattle.pc_common.specs.declared.fault.FaultKind.{FaultKind}
 use Rattle.pc_common.specs.declared.fault.FaultKind.TheVariants.{Lexical, Syntax, Depth}
 use Rattle.pc_common.specs.declared.fault.InputFault.{InputFault}
-use Rattle.pc_common.specs.declared.fault.Which.{Which}
 use Rattle.pc_common.specs.declared.fault.Which.TheVariants.{Query}
 use Rattle.ll_grammar.specs.FirstFault.{IsFirstFault}
 use Rattle.ll_grammar.specs.declared.fault.Fault.{Fault as TokenFault}

@@ -5,7 +5,7 @@ use Rattle.std.specs.Prelude.{MatchOption}
 use Rattle.pc_common.specs.declared.fault.Which.{Which}
 use Rattle.pc_common.specs.declared.fault.Which.TheVariants.{Query}
 use Rattle.pc_syntax.specs.declared.expanded.Expanded.{Expanded}
-use Rattle.pc_syntax.specs.Written.{Written, written, not_, axiom_, WrittenItem, WrittenModel}
+use Rattle.pc_syntax.specs.Written.{Written, written, not_, WrittenModel}
 use Rattle.pc_syntax.specs.Observable.{axioms_of, macros_of}
 use Rattle.pc_syntax.specs.Expansion.{expansion_of}
 use Rattle.pc_syntax.specs.Fault.{Fault}
@@ -21,9 +21,9 @@ use Rattle.uspec_parser.specs.Answers.{terminals, IsRefusal as IsParseRefusal}
 use Rattle.uspec_parser.specs.declared.fault.ParseFault.{ParseFault}
 use Rattle.uspec_parser.specs.declared.fault.ParseFault.TheVariants.{Syntax as a_syntax_fault, Depth as a_depth_fault, Memory as no_memory_to_parse}
 use Rattle.macro_expand.specs.Faults.{IsExpandable, AreExpansions}
-use Rattle.scope_check.specs.QueryFaults.{FiledFault, filed, query_fault, IsFiledOr}
+use Rattle.scope_check.specs.QueryFaults.{filed, query_fault, IsFiledOr}
 use Rattle.pc_front.specs.Ends.{end_of, lexical_end}
-use Rattle.query_front.specs.Queries.{FormulaOf, with_axiom, with_denial, first_query_fault, IsQueryFault, lexical, syntax, depth, of_tree, IsQueryEnd}
+use Rattle.query_front.specs.Queries.{FormulaOf, with_axiom, with_denial, first_query_fault, lexical, syntax, depth, of_tree, IsQueryEnd}
 use Rattle.query_front.specs.Denials.{moved_end, parse_end}
 use Rattle.query_front.proofs.WithAxiom.{axioms_more}
 

@@ -1,5 +1,5 @@
 -- The steps of reading a query: its denial as a model's last axiom, and the ends of its faults.
-use Rattle.std.specs.Prelude.{◌≡◌, ℕ, List, Option, Some, None}
+use Rattle.std.specs.Prelude.{◌≡◌, ℕ, List}
 use Rattle.pc_common.specs.declared.fault.FaultKind.TheVariants.{Syntax, Depth}
 use Rattle.pc_common.specs.declared.fault.Which.{Which}
 use Rattle.pc_common.specs.declared.fault.Which.TheVariants.{Query}

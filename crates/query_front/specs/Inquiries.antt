@@ -1,5 +1,5 @@
 -- What the bytes of a model, of a test and of a query say together: what is asked, or the first fault of the three files.
-use Rattle.std.specs.Prelude.{◌≡◌, ⊤, ℕ, List, map}
+use Rattle.std.specs.Prelude.{◌≡◌, ⊤, ℕ, List}
 use Rattle.pc_common.specs.Case.{Case}
 use Rattle.pc_common.specs.declared.fault.InputFault.{InputFault}
 use Rattle.litmus_reader.specs.Answer.{CaseOf}
@@ -9,7 +9,7 @@ use Rattle.pc_front.specs.Front.{SaysModel, IsFirstFault as IsFaultOfTwo, ArePar
 use Rattle.pc_front.specs.ModelFront.{closed_axiom}
 use Rattle.pc_front.specs.declared.model_front.FrontEnd.{FrontEnd}
 use Rattle.pc_front.specs.declared.model_front.FrontEnd.TheVariants.{Refused, Memory}
-use Rattle.query_front.specs.Queries.{SaysQuery, IsQueryFault, first_query_fault}
+use Rattle.query_front.specs.Queries.{SaysQuery, IsQueryFault}
 use Rattle.query_front.specs.declared.inquiry.Inquiry.{Inquiry}
 
 -- the first fault of three files: that of the model and the test, and where they have none, the query's

@@ -9,7 +9,7 @@ use Rattle.pc_common.specs.declared.fault.FaultKind.TheVariants.{Lexical, Syntax
 use Rattle.pc_common.specs.declared.fault.InputFault.{InputFault}
 use Rattle.pc_common.specs.declared.fault.Which.{Which}
 use Rattle.pc_common.specs.declared.fault.Which.TheVariants.{Query}
-use Rattle.pc_syntax.specs.Written.{Written, not_, WrittenItem, axiom_, WrittenModel}
+use Rattle.pc_syntax.specs.Written.{Written, not_, axiom_, WrittenModel}
 use Rattle.pc_syntax.specs.Observable.{macros_of}
 use Rattle.pc_syntax.specs.MacroFaults.{first_macro_fault}
 use Rattle.pc_syntax.specs.Sizes.{first_size_fault}

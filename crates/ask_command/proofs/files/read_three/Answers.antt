@@ -2,7 +2,7 @@ use Rattle.std.proofs.Common.{ap, Err, arith, ◌≡◌}
 use Rattle.std.specs.Prelude.{IsTrue}
 use Rattle.std.proofs.lemmas.Result.{MatchResult-weaker}
 use Rattle.pc_common.specs.declared.fault.Which.TheVariants.{Model, Test, Query}
-use Rattle.command_base.specs.Inputs.{IsRead, plain_inputs}
+use Rattle.command_base.specs.Inputs.{plain_inputs}
 use Rattle.command_base.proofs.InputsRead.{read_of, large_of, reads_then, rose_later}
 use Rattle.ask_command.specs.AskFiles.{AreRead}
 use Rattle.ask_command.proofs.ThreeFiles.{unread_ends, bytes_end, inquiry_read, read_all_three}

@@ -1,4 +1,4 @@
-use Rattle.std.proofs.Common.{◌≡◌, ℕ, length, arith}
+use Rattle.std.proofs.Common.{◌≡◌, length, arith}
 use Rattle.pc_syntax.specs.Written.{written_model}
 use Rattle.query_front.proofs.QueryEnds.{last_expanded, popped_none}
 use Rattle.query_front.proofs.denial.last_expansion.Goals as goal
