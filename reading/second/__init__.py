@@ -7,6 +7,7 @@ one way:
     bytes    tokens.py      cut into tokens
     model    models.py      the written axioms, by the grammar
              scopes.py      the faults of stages, macros, sizes and names
+    query    queries.py     a formula that is asked of a model, and its faults
     test     cases.py       what a litmus test says
     ground   grounding.py   the axioms over one test as a tree of literals over nodes
     verdict  searching.py   some world makes the tree true, or none does

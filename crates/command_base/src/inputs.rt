@@ -34,7 +34,7 @@ fn at_start(file: Which, kind: FaultKind) -> InputFault
 }
 
 /// The ending of a command that could not read a file whole.
-fn unread(file: Which, end: ReadEnd) -> Ending
+pub fn unread(file: Which, end: ReadEnd) -> Ending
     ensures { IsUnread file end result }
 {
     match end {

@@ -8,7 +8,8 @@
 //! assert!(rt; front.tree.len() == 1 && front.tree.row(0).kind == RowKind::False);
 //! ```
 //!
-//! `read_model` joins the readers of a whole model: tokens, tree, stages, macros, names. `read_parts` adds the
+//! `read_model` joins the readers of a whole model: tokens, tree, stages, macros, names. `parsed` and `judged` are its two
+//! halves, for who needs the model as written too. `read_parts` adds the
 //! test, and `front` what search and checker work on: the ground tree, in flat rows, with its node numbers.
 #![tactic(auto)]
 
@@ -22,5 +23,5 @@ mod two_files;
 pub use laws::{limits_are, model_or_fault, no_model_fault, one_model, one_model_fault};
 pub use limits::MAX_FILE;
 pub use model_front::{FrontEnd, ModelFront};
-pub use reading::read_model;
+pub use reading::{judged, parsed, read_model};
 pub use two_files::{front, read_parts};

@@ -42,8 +42,8 @@ pub fn read_model(alloc: Global, bytes: &[u8]) -> Result<ModelFront, FrontEnd>
     judged(alloc, &model)
 }
 
-/// The stages and the closed axioms of a model as written.
-fn judged(alloc: Global, model: &ModelFile) -> Result<ModelFront, FrontEnd>
+/// The stages and the closed axioms of a model as written, or its first fault, which is that of each text that says it.
+pub fn judged(alloc: Global, model: &ModelFile) -> Result<ModelFront, FrontEnd>
     ensures ok { IfOk result (IsModelFrontOf (written_model model.now)) }
     ensures err { IfErr result (λ end. (bytes : List ℕ) → ModelOf bytes (written_model model.now)
         → IsModelEnd bytes end) }
@@ -69,8 +69,8 @@ fn closed_axioms(alloc: Global, model: &ModelFile) -> Result<Axioms, FrontEnd>
     Ok(axioms)
 }
 
-/// The model as written.
-fn parsed(alloc: Global, bytes: &[u8]) -> Result<ModelFile, FrontEnd>
+/// The model as written, or the first fault of its bytes or tokens.
+pub fn parsed(alloc: Global, bytes: &[u8]) -> Result<ModelFile, FrontEnd>
     requires { length bytes.now < 2 ^ 32 }
     ensures ok { IfOk result (λ m. ModelOf bytes.now (written_model m)) }
     ensures err { IfErr result (IsModelEnd bytes.now) }

@@ -14,8 +14,10 @@ use Rattle.listing_form.specs.Listings.{IsFirstFault as IsListingFault}
 use Rattle.pc_ground.specs.declared.version.Version.TheVariants.{One}
 use Rattle.sweep_command.specs.SweepAnswers.{AnswersSweep}
 use Rattle.lifted_command.specs.LiftedAnswers.{AnswersLifted}
+use Rattle.ask_command.specs.AskFiles.{LacksOne}
+use Rattle.ask_command.specs.AskAnswers.{AnswersAsk}
 use Rattle.gen_command.specs.GenAnswers.{AnswersGen}
-use Rattle.pipecheck_run.specs.Command.{Command, check, verify, find_core, check_listing, verify_listing, sweep_rows, verify_lifted, gen, IsCommand, IsNoCommand}
+use Rattle.pipecheck_run.specs.Command.{Command, check, verify, find_core, check_listing, verify_listing, sweep_rows, verify_lifted, ask_query, gen, IsCommand, IsNoCommand}
 
 abbrev pub usage_text : List ℕ
 usage_text = codes "pipecheck: bad command line\n"
@@ -29,6 +31,7 @@ AnswersCommand holds (check_listing i) = AnswersCheck ListingCase IsListingFault
 AnswersCommand holds (verify_listing i certificate) = AnswersVerify ListingCase IsListingFault holds i certificate
 AnswersCommand holds (sweep_rows i) = AnswersSweep holds i
 AnswersCommand holds (verify_lifted i certificate) = AnswersLifted CaseOf IsTestFault holds i certificate
+AnswersCommand holds (ask_query i query) = AnswersAsk holds i query
 AnswersCommand holds (gen n) = AnswersGen n
 
 -- the answer to the words, where the names hold these contents, with its text
@@ -46,6 +49,7 @@ Lacks holds (check_listing i) = LacksInput holds i
 Lacks holds (verify_listing i certificate) = LacksInput holds i ⊎ LacksThird ListingCase holds i certificate
 Lacks holds (sweep_rows i) = LacksInput holds i
 Lacks holds (verify_lifted i certificate) = LacksInput holds i ⊎ LacksThird CaseOf holds i certificate
+Lacks holds (ask_query i query) = LacksOne holds i query
 Lacks holds (gen n) = ⊥
 
 -- so it is with the command that the words are

@@ -14,8 +14,9 @@ use Rattle.x86_litmus.specs.Answer.{CaseOf as ListingCase}
 use Rattle.listing_form.specs.Listings.{IsFirstFault as IsListingFault}
 use Rattle.sweep_command.specs.SweepAnswers.{IsSweepDue}
 use Rattle.lifted_command.specs.LiftedAnswers.{IsLiftedDue}
+use Rattle.ask_command.specs.AskAnswers.{IsAskDue}
 use Rattle.gen_command.specs.GenAnswers.{IsGenDue}
-use Rattle.pipecheck_run.specs.Command.{Command, check, verify, find_core, check_listing, verify_listing, sweep_rows, verify_lifted, gen, IsCommand}
+use Rattle.pipecheck_run.specs.Command.{Command, check, verify, find_core, check_listing, verify_listing, sweep_rows, verify_lifted, ask_query, gen, IsCommand}
 
 -- what the statuses of a verdict say to a command: observable only where some choice of nodes with some strict order
 -- makes every axiom true of the case, and unobservable only where none does; whatever a third file holds. `core`, `sweep`
@@ -33,6 +34,7 @@ IsTrueTo holds (verify_listing i certificate) status = (m : WrittenModel) (c : C
 IsTrueTo holds (sweep_rows i) status = ⊤
 IsTrueTo holds (verify_lifted i certificate) status = (m : WrittenModel) (c : Case) → Says CaseOf holds i m c
     → IsTrueStatus m c status
+IsTrueTo holds (ask_query i query) status = ⊤
 IsTrueTo holds (gen n) status = ⊤
 
 abbrev pub IsTrueOf : List (List ℕ) → Contents → Status → Type 0
@@ -47,6 +49,7 @@ IsDueTo holds (check_listing i) = IsCheckDue ListingCase IsListingFault holds i
 IsDueTo holds (verify_listing i certificate) = IsVerifyDue ListingCase IsListingFault holds i certificate
 IsDueTo holds (sweep_rows i) = IsSweepDue holds i
 IsDueTo holds (verify_lifted i certificate) = IsLiftedDue CaseOf IsTestFault holds i certificate
+IsDueTo holds (ask_query i query) = IsAskDue holds i query
 IsDueTo holds (gen n) = IsGenDue n
 
 abbrev pub IsDue : List (List ℕ) → Contents → Status → Type 0

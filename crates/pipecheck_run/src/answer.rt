@@ -5,6 +5,7 @@ ghost use Rattle.pipecheck_run.specs.AnswerTexts.{answer_text, answer_status, Ca
 use cert_check::Checked;
 use command_base::{Ending, ending_status, write_ending};
 use core_command::{FoundCore, write_core};
+use ask_command::{FoundAsk, write_ask};
 use gen_command::{Report, write_report};
 use lifted_check::Lifted;
 use lifted_command::{lifted_status, write_lifted};
@@ -30,6 +31,8 @@ pub(crate) enum Answer {
     Swept(Swept),
     /// `verify-lifted` finds the third file to be this.
     Lifted(Lifted),
+    /// `ask` finds this of a formula.
+    Asked(FoundAsk),
     /// `gen` finds this of the texts that it makes.
     Generated(Report),
 }
@@ -47,6 +50,7 @@ pub(crate) fn write_answer<K: Sink>(out: &mut K, answer: &Answer) -> Result<(), 
         Answer::Core(found) => write_core(out, found),
         Answer::Swept(swept) => write_sweep(out, swept),
         Answer::Lifted(lifted) => write_lifted(out, *lifted),
+        Answer::Asked(found) => write_ask(out, found),
         Answer::Generated(report) => write_report(out, report),
     }
 }
@@ -63,6 +67,7 @@ pub(crate) fn status(answer: &Answer) -> Status
         Answer::Core(_) => Status::Done,
         Answer::Swept(_) => Status::Done,
         Answer::Lifted(lifted) => lifted_status(*lifted),
+        Answer::Asked(_) => Status::Done,
         Answer::Generated(_) => Status::Done,
     }
 }

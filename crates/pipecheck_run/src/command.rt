@@ -33,6 +33,11 @@ pub(crate) enum Command<'a> {
         inputs: Inputs<'a>,
         certificate: &'a str,
     },
+    /// `ask MODEL TEST QUERY`
+    Ask {
+        inputs: Inputs<'a>,
+        query: &'a str,
+    },
     /// `gen N`, with N from 2 to 16
     Gen(u8),
 }
@@ -110,6 +115,12 @@ pub(crate) fn parse<'a>(words: &'a [String]) -> Option<Command<'a>>
         return Some(Command::VerifyLifted {
             inputs,
             certificate,
+        });
+    }
+    if let Some((inputs, query)) = three_behind("ask", words) {
+        return Some(Command::Ask {
+            inputs,
+            query,
         });
     }
     let n = cores_behind(words)?;

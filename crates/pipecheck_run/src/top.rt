@@ -6,7 +6,7 @@ ghost use Rattle.pc_common.specs.Pieces.{IsCutShort};
 ghost use Rattle.pc_common.specs.declared.status.Status.TheVariants.{Usage as SUsage, ReadFault as SReadFault, WriteFault as SWriteFault, Memory as SMemory};
 ghost use Rattle.command_base.specs.Inputs.{plain_inputs};
 ghost use Rattle.gen_command.specs.GenAnswers.{IsGenOutcome};
-ghost use Rattle.pipecheck_run.specs.Command.{plain_command, check as check_of, verify as verify_of, verify_lifted as verify_lifted_of, sweep_rows as sweep_rows_of, verify_listing as verify_listing_of, check_listing as check_listing_of, find_core as find_core_of, IsNoCommand, IsIdle, IsKnown, IsWithin, inputs_of};
+ghost use Rattle.pipecheck_run.specs.Command.{plain_command, check as check_of, verify as verify_of, ask_query as ask_query_of, verify_lifted as verify_lifted_of, sweep_rows as sweep_rows_of, verify_listing as verify_listing_of, check_listing as check_listing_of, find_core as find_core_of, IsNoCommand, IsIdle, IsKnown, IsWithin, inputs_of};
 ghost use Rattle.pipecheck_run.specs.Answers.{Answers, usage_text, WordsLack};
 ghost use Rattle.pipecheck_run.specs.Headline.{IsTrueOf, IsDue};
 ghost use Rattle.pipecheck_run.specs.AnswerTexts.{answer_text, answer_status, CanBeWritten};
@@ -17,6 +17,7 @@ use super::command::{Command, parse};
 use check_command::check;
 use command_base::{Ending, Inputs, TestFile};
 use core_command::find_core;
+use ask_command::ask_files;
 use gen_command::generate;
 use lifted_command::verify_lifted;
 use listing_form::ListingFile;
@@ -130,6 +131,23 @@ fn verify_lifted_answer<F: Files>(
     }
 }
 
+/// The answer to `ask MODEL TEST QUERY`.
+fn ask_answer<F: Files>(
+    alloc: Global,
+    inputs: Inputs<'_>,
+    query: &str,
+    files: &mut F,
+) -> Answer
+    ensures outcome { IsCommandOutcome F.view (ask_query_of (plain_inputs inputs.entry) query.now)
+        files.old files.new (answer_status result) (answer_text result) }
+    ensures writable { CanBeWritten result }
+{
+    match ask_files::<F>(alloc, inputs, query, files) {
+        Ok(found) => Answer::Asked(found),
+        Err(ending) => Answer::Ended(ending),
+    }
+}
+
 /// The answer to `gen N`, which touches no file.
 fn gen_answer(alloc: Global, n: u8) -> Answer
     requires { 2 ≤ n × n ≤ 16 }
@@ -168,6 +186,10 @@ fn answer_to<F: Files>(alloc: Global, command: Command<'_>, files: &mut F) -> An
             inputs,
             certificate,
         } => verify_lifted_answer(alloc, inputs, certificate, files),
+        Command::Ask {
+            inputs,
+            query,
+        } => ask_answer(alloc, inputs, query, files),
         Command::Gen(n) => gen_answer(alloc, n),
     }
 }

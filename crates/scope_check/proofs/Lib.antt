@@ -4,3 +4,4 @@ pub mod ScopeLists
 pub mod StageWalk
 pub mod StaticLaws
 pub mod ClosingOf
+pub mod FiledFaults

@@ -1,3 +1,4 @@
 pub mod Bindings
 pub mod FirstFault
 pub mod Laws
+pub mod QueryFaults

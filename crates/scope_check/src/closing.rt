@@ -42,7 +42,7 @@ pub fn close(alloc: Global, model: &ModelFile, axiom: &Expanded) -> Result<Close
 
 /// Closes a formula in a scope. The walk goes outside before inside and left before right.
 #[cycle(walk)]
-fn close_formula<'a>(
+pub(crate) fn close_formula<'a>(
     alloc: Global,
     stages: &StageItems,
     scope: &Scope<'a>,

@@ -15,17 +15,21 @@
 //!
 //! `close` walks the formula once, outside before inside and left before right, with the variables that
 //! are in scope at each place. It answers the closed formula, or the first name fault with what its
-//! fault word carries.
+//! fault word carries. `close_query` does the same with a formula that is asked of a model and stands in a file of its
+//! own, and says of a fault in which of the two files it stands.
 #![tactic(auto)]
 
 mod arguments;
 mod closing;
 mod fault;
+mod filed;
 mod laws;
 mod nodes;
+mod query;
 mod scope;
 mod statics;
 
 pub use closing::close;
 pub use fault::NameFault;
-pub use laws::closing_keeps_truth;
+pub use laws::{closing_keeps_truth, query_faults_are_name_faults};
+pub use query::close_query;

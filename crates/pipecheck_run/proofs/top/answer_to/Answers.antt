@@ -23,6 +23,9 @@ returns-in-Sweep-clause-outcome g c = rw c.in-Sweep.is c.sweep_answer.ensures.ou
 pub returns-in-VerifyLifted-clause-outcome : goal.returns-in-VerifyLifted-clause-outcome
 returns-in-VerifyLifted-clause-outcome g c = rw c.in-VerifyLifted.is c.verify_lifted_answer.ensures.outcome
 
+pub returns-in-Ask-clause-outcome : goal.returns-in-Ask-clause-outcome
+returns-in-Ask-clause-outcome g c = rw c.in-Ask.is c.ask_answer.ensures.outcome
+
 pub returns-in-Check-clause-outcome : goal.returns-in-Check-clause-outcome
 returns-in-Check-clause-outcome g c = rw c.in-Check.is c.check_answer.ensures.outcome
 

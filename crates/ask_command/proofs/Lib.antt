@@ -1,0 +1,4 @@
+pub mod ThreeFiles
+pub mod MoreFronts
+pub mod AskWords
+pub mod AskOutcomes

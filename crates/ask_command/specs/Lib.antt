@@ -1,0 +1,4 @@
+pub mod AskTexts
+pub mod AskFiles
+pub mod AskAnswers
+pub mod FoundAsks

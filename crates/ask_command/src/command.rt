@@ -1,0 +1,66 @@
+ghost use Rattle.std.specs.Prelude.{◌≡◌, IfOk};
+ghost use Rattle.pc_common.specs.declared.status.Status.TheVariants.{Done};
+ghost use Rattle.command_base.specs.Inputs.{plain_inputs};
+ghost use Rattle.command_base.specs.Endings.{returned_status, returned_text};
+ghost use Rattle.ask_command.specs.AskAnswers.{IsAskOutcome};
+ghost use Rattle.ask_command.specs.FoundAsks.{verdict_of as verdict_in, verdicts_of as verdicts_in, found_text, IsAskWritable};
+
+use super::files::read_three;
+use ask_words::{Asked, ask_parts};
+use command_base::{Ending, Inputs};
+use pc_common::{Files, Memory};
+use pc_ground::{Front, Version};
+use solver::Answer;
+use std::alloc::Global;
+use verdicts::Verdict;
+
+/// What `ask` finds: the verdict with the formula as the model's last axiom, and that with the formula's denial.
+#[derive(Drop)]
+pub struct FoundAsk {
+    pub added: Verdict,
+    pub against: Verdict,
+}
+
+/// What is found of a front, as a verdict.
+fn verdict_of(found: (Front, Answer)) -> Verdict
+    ensures { result ≡ verdict_in found }
+{
+    let (front, found) = found;
+    Verdict {
+        front,
+        version: Version::One,
+        found,
+    }
+}
+
+/// The two verdicts.
+fn verdicts_of(asked: Asked) -> FoundAsk
+    ensures { result ≡ verdicts_in asked }
+{
+    let Asked { added, against } = asked;
+    FoundAsk {
+        added: verdict_of(added),
+        against: verdict_of(against),
+    }
+}
+
+/// Reads the three files and searches: in which worlds the query's formula holds, or how the command ends before it.
+pub fn ask_files<F: Files>(
+    alloc: Global,
+    inputs: Inputs<'_>,
+    query: &str,
+    files: &mut F,
+) -> Result<FoundAsk, Ending>
+    ensures outcome { IsAskOutcome F.view (plain_inputs inputs.entry) query.now files.old files.new
+        (returned_status (λ found. Done) result) (returned_text found_text result) }
+    ensures writable { IfOk result IsAskWritable }
+{
+    let inquiry = match read_three(alloc, inputs, query, files) {
+        Ok(inquiry) => inquiry,
+        Err(ending) => return Err(ending),
+    };
+    match ask_parts(alloc, &inquiry.parts, &inquiry.formula) {
+        Ok(asked) => Ok(verdicts_of(asked)),
+        Err(Memory) => Err(Ending::Memory),
+    }
+}

@@ -1,0 +1,3 @@
+pub mod MoreParts
+pub mod FrontTrees
+pub mod TrueWords

@@ -1,0 +1,5 @@
+pub mod Trees
+pub mod Kinds
+pub mod PartLists
+pub mod Ranks
+pub mod WayTable

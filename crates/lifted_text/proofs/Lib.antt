@@ -1,0 +1,4 @@
+pub mod StepRuns
+pub mod SpacedLines
+pub mod WholeTexts
+pub mod PutLines

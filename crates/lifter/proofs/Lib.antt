@@ -1,0 +1,17 @@
+pub mod RunsMore
+pub mod ClosedFacts
+pub mod KnownLaws
+pub mod StateMoves
+pub mod Tellings
+pub mod FoundKeys
+pub mod TakenParts
+pub mod CoveredBranches
+pub mod NumberedEdges
+pub mod LeftBranches
+pub mod StepsAhead
+pub mod RootTrees
+pub mod SplitOrs
+pub mod UnfoldedFacts
+pub mod PartRows
+pub mod LiftedRoots
+pub mod KeyedEdges

@@ -1,0 +1,48 @@
+-- What stands at the positions that a tree asserts is known.
+use Rattle.std.proofs.Common.{◌≡◌, ◌⊎◌, inl, inr, ℕ, ◌+◌, true, false, List, [], ◌∷◌, ◌++◌, Some, refl, sym, ◌∙◌, ap, subst}
+use Rattle.pc_common.specs.World.{Node}
+use Rattle.pc_common.proofs.Elements.{In, in_either}
+use Rattle.pc_ground.specs.declared.literal.Literal.{Literal}
+use Rattle.pc_ground.specs.declared.literal.Literal.TheVariants.{Node as a_node, Edge as an_edge, NoNode as not_node, NoEdge as not_edge}
+use Rattle.pc_ground.specs.declared.row.Row.{Row}
+use Rattle.pc_ground.specs.Tree.{Tree, always, never, leaf, both, either, size_of}
+use Rattle.pc_ground.specs.Refutes.{asserted}
+use Rattle.pc_ground.proofs.FlatRows.{one_part}
+use Rattle.lifter.specs.KnownFacts.{PlainKey, at_position, edge, no_edge, no_node, present, Entry, HasKey, IsPart, TellsLiteral, TellsRoot, TellsAt, TellsAll, HaveMore}
+
+literal_more : (es new : List Entry) (l : Literal Node) → HaveMore es new → TellsLiteral es l → TellsLiteral new l
+literal_more es new (a_node a) m h = m (present a) h
+literal_more es new (an_edge a b) m h = (m (edge a b) h.0, m (present a) h.1, m (present b) h.2)
+literal_more es new (not_node a) m h = m (no_node a) h
+literal_more es new (not_edge a b) m h = m (no_edge a b) h
+
+pub root_more : (es new : List Entry) (p : ℕ) (s : Tree Node) → HaveMore es new → TellsRoot es p s → TellsRoot new p s
+root_more es new p always m h = tt
+root_more es new p never m h = tt
+root_more es new p (leaf l) m h = literal_more es new l m h
+root_more es new p (both a b) m h = tt
+root_more es new p (either a b) m h = m (at_position p) h
+
+module _ (rows : List (Row Node)) where
+  pub tells_more : (es new : List Entry) (ps : List ℕ) → HaveMore es new → TellsAll rows es ps → TellsAll rows new ps
+  tells_more es new ps m h p i s part = root_more es new p s m (h p i s part)
+
+  -- at a position where this tree stands
+  pub tells_there : (es : List Entry) (p : ℕ) (t : Tree Node) → IsPart rows p t → TellsRoot es p t → TellsAt rows es p
+  tells_there es p t here h s part = (let P : Tree Node → Type 0 = λ u. TellsRoot es p u in subst P (one_part rows p t s here part) h)
+
+  at_root : (es : List Entry) (p q : ℕ) (t : Tree Node) → IsPart rows p t → TellsRoot es p t → (p ≡ q) → TellsAt rows es q
+  at_root es p q t here h e = (let P : ℕ → Type 0 = λ n. TellsAt rows es n in subst P e (tells_there es p t here h))
+
+  pub tells_leaf : (es : List Entry) (p : ℕ) (l : Literal Node) → IsPart rows p (leaf l) → TellsLiteral es l → TellsAll rows es (asserted (leaf l) p)
+  tells_leaf es p l here h q (inl e) = at_root es p q (leaf l) here h e
+  tells_leaf es p l here h q (inr i) = elim i [ ]
+
+  pub tells_either : (es : List Entry) (p : ℕ) (a b : Tree Node) → IsPart rows p (either a b) → HasKey es (at_position p) → TellsAll rows es (asserted (either a b) p)
+  tells_either es p a b here h q (inl e) = at_root es p q (either a b) here h e
+  tells_either es p a b here h q (inr i) = elim i [ ]
+
+  pub tells_both : (es : List Entry) (p : ℕ) (a b : Tree Node) → IsPart rows p (both a b) → TellsAll rows es (asserted a (p + 1)) → TellsAll rows es (asserted b (p + 1 + size_of a))
+      → TellsAll rows es (asserted (both a b) p)
+  tells_both es p a b here left right q (inl e) = at_root es p q (both a b) here tt e
+  tells_both es p a b here left right q (inr i) = elim (in_either q (asserted a (p + 1)) (asserted b (p + 1 + size_of a)) i) [ inl j ↦ left q j | inr j ↦ right q j ]

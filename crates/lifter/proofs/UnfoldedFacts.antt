@@ -1,0 +1,114 @@
+-- A fact is unfolded by its sides or by its parts.
+use Rattle.std.proofs.Common.{◌≡◌, ℕ, ◌+◌, Bool, true, false, List, [], ◌∷◌, Some, None, map, refl, sym, ◌∙◌, ap, subst}
+use Rattle.std.specs.Prelude.{Result, Ok, Err, OnOk}
+use Rattle.pc_common.specs.Case.{Case}
+use Rattle.pc_common.specs.World.{Node}
+use Rattle.pc_ground.specs.declared.literal.Literal.{Literal}
+use Rattle.pc_ground.specs.declared.literal.Literal.TheVariants.{Node as a_node, Edge as an_edge, NoNode as not_node, NoEdge as not_edge}
+use Rattle.pc_ground.specs.declared.row.Row.{Row}
+use Rattle.pc_ground.specs.Tree.{Tree, always, never, leaf, both, either}
+use Rattle.pc_ground.specs.PlainGround.{conjoined, disjoined}
+use Rattle.pc_ground.specs.Refutes.{asserted}
+use Rattle.lifted_facts.specs.PlainFacts.{PlainFact, one_node, one_edge, Branch}
+use Rattle.lifted_facts.specs.Parts.{sides, is_false}
+use Rattle.lifted_facts.specs.Lifted.{HasFact}
+use Rattle.lifted_kinds.specs.Trees.{fact_tree}
+use Rattle.lifted_kinds.specs.declared.kind.Kind.{Kind}
+use Rattle.lifted_kinds.specs.declared.kind.Kind.TheVariants.{True, False, Open}
+use Rattle.lifted_kinds.specs.Kinds.{kind_of, joined_kind}
+use Rattle.lifted_kinds.specs.PartLists.{parts, IsSaid}
+use Rattle.lifted_kinds.proofs.KindLaws.{kind_joined}
+use Rattle.lifted_kinds.proofs.SideLaws.{sides_tree, parts_tree, false_tree}
+use Rattle.lifted_kinds.proofs.PartWays.{is_never}
+use Rattle.lifter.specs.declared.state.State.{State}
+use Rattle.lifter.specs.KnownFacts.{at_position, HasKey, IsPart, IsOr, TellsLiteral, TellsAll}
+use Rattle.lifter.specs.States.{Moves}
+use Rattle.lifter.specs.Unfoldings.{fact_of, parts_from, HasUnfolded}
+use Rattle.lifter.proofs.StateMoves.{moves_then}
+use Rattle.lifter.proofs.Tellings.{tells_leaf, tells_either}
+use Rattle.lifter.proofs.TakenParts.{open_either, disjoined_never}
+
+pub literal_tree : (c : Case) (l : Literal Node) → fact_tree c (fact_of l) ≡ leaf l
+literal_tree c (a_node a) = refl
+literal_tree c (an_edge a b) = refl
+literal_tree c (not_node a) = refl
+literal_tree c (not_edge a b) = refl
+
+-- Or that is no constant, where the first side is one, and where only the second one is
+lost_one : (a b : Kind) → joined_kind false a b ≡ Open → (a ≡ Open → ⊥) → (a ≡ False) × (b ≡ Open)
+lost_one True b e other = cc
+lost_one False b e other = (refl, e)
+lost_one Open b e other = absurd (other refl)
+
+lost_two : (a b : Kind) → a ≡ Open → joined_kind false a b ≡ Open → (b ≡ Open → ⊥) → b ≡ False
+lost_two True b a e other = cc
+lost_two False b a e other = cc
+lost_two Open True a e other = cc
+lost_two Open False a e other = refl
+lost_two Open Open a e other = absurd (other refl)
+
+module _ (c : Case) (rows : List (Row Node)) where
+  -- after some moves a tree is unfolded
+  pub unfolded_by : (old mid new : State) (t u : Tree Node) (at : ℕ) → Moves c rows old mid → u ≡ t → HasUnfolded c rows t at mid new → HasUnfolded c rows u at old new
+  unfolded_by old mid new t u at moves same h = record {
+    moves = moves_then c rows old mid new moves h.moves;
+    told = (let P : Tree Node → Type 0 = λ x. TellsAll rows new.known (asserted x at) in subst P (sym same) h.told);
+  }
+
+  module _ (f g h : PlainFact) (are : sides c f ≡ Some (g, h)) (is_open : kind_of (fact_tree c f) ≡ Open) where
+    kinds : joined_kind false (kind_of (fact_tree c g)) (kind_of (fact_tree c h)) ≡ Open
+    kinds = sym (ap kind_of (sides_tree c f g h are) ∙ kind_joined false (fact_tree c g) (fact_tree c h)) ∙ is_open
+
+    -- the first side is False
+    pub first_lost : (kind_of (fact_tree c g) ≡ Open → ⊥) → (kind_of (fact_tree c g) ≡ False) × (kind_of (fact_tree c h) ≡ Open) × (fact_tree c f ≡ fact_tree c h)
+    first_lost other =
+        let k = lost_one (kind_of (fact_tree c g)) (kind_of (fact_tree c h)) kinds other in
+        (k.0, k.1, sides_tree c f g h are ∙ ap (λ t. disjoined t (fact_tree c h)) (is_never (fact_tree c g) k.0))
+
+    -- only the second one is
+    pub second_lost : kind_of (fact_tree c g) ≡ Open → (kind_of (fact_tree c h) ≡ Open → ⊥) → (kind_of (fact_tree c h) ≡ False) × (fact_tree c f ≡ fact_tree c g)
+    second_lost first other =
+        let k = lost_two (kind_of (fact_tree c g)) (kind_of (fact_tree c h)) first kinds other in
+        (k, sides_tree c f g h are ∙ ap (disjoined (fact_tree c g)) (is_never (fact_tree c h) k) ∙ disjoined_never (fact_tree c g))
+
+    -- none is
+    pub both_stay : (at : ℕ) → kind_of (fact_tree c g) ≡ Open → kind_of (fact_tree c h) ≡ Open → IsPart rows at (fact_tree c f) → IsOr c rows f at
+    both_stay at first second here =
+        let P : Tree Node → Type 0 = λ t. IsPart rows at t in
+        record {
+          first = g;
+          second = h;
+          are = are;
+          first_open = first;
+          second_open = second;
+          stands = subst P (sides_tree c f g h are ∙ open_either (fact_tree c g) (fact_tree c h) first second) here;
+        }
+
+    pub both_told : (old new : State) (at : ℕ) → kind_of (fact_tree c g) ≡ Open → kind_of (fact_tree c h) ≡ Open → IsPart rows at (fact_tree c f) → Moves c rows old new
+        → HasKey new.known (at_position at) → HasUnfolded c rows (fact_tree c f) at old new
+    both_told old new at first second here moves has =
+        let same = sides_tree c f g h are ∙ open_either (fact_tree c g) (fact_tree c h) first second in
+        let P : Tree Node → Type 0 = λ t. IsPart rows at t in
+        let Q : Tree Node → Type 0 = λ t. TellsAll rows new.known (asserted t at) in
+        record {
+          moves = moves;
+          told = subst Q (sym same) (tells_either rows new.known at (fact_tree c g) (fact_tree c h) (subst P same here) has);
+        }
+
+not_false : (b : Bool) (t : Tree Node) → (b ≡ true → t ≡ never) → kind_of t ≡ Open → b ≡ false
+not_false true t h e = (let refused : kind_of t ≡ False = ap kind_of (h refl) in let clash : False ≡ Open = sym refused ∙ e in cc)
+not_false false t h e = refl
+
+-- a fact without sides is And over its parts
+pub over_parts : (c : Case) (f : PlainFact) → IsSaid f → sides c f ≡ None → kind_of (fact_tree c f) ≡ Open → fact_tree c f ≡ parts_from c f 0
+over_parts c f is none is_open = parts_tree c f is none (not_false (is_false c f) (fact_tree c f) (false_tree c f) is_open)
+
+-- what follows from two facts of one result
+pub both_ok : {T E P Q R : Type 0} (r : Result T E) → (P → Q → R) → OnOk r P → OnOk r Q → OnOk r R
+both_ok (Ok x) f p q = f p q
+both_ok (Err e) f p q = tt
+
+-- a literal of which all is known
+pub literal_unfolded : (c : Case) (rows : List (Row Node)) (old new : State) (l : Literal Node) (at : ℕ) → IsPart rows at (leaf l) → Moves c rows old new → TellsLiteral new.known l
+    → HasUnfolded c rows (leaf l) at old new
+literal_unfolded c rows old new l at here moves told = record { moves = moves; told = tells_leaf rows new.known at l here told }

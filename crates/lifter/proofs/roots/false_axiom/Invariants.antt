@@ -1,0 +1,11 @@
+-- Some axiom that is left is False.
+use Rattle.std.proofs.Common.{◌≡◌}
+use Rattle.pc_ground.specs.Stages.{plain_axioms}
+use Rattle.lifted_facts.specs.PlainFacts.{root}
+use Rattle.lifted_kinds.specs.declared.kind.Kind.TheVariants.{False}
+use Rattle.lifted_kinds.specs.Kinds.{kind_of}
+use Rattle.lifter.specs.Unfoldings.{facts_from}
+use Rattle.lifter.proofs.roots.false_axiom.Given as goal
+
+abbrev pub invariant-loop-k : goal.invariant-loop-k
+invariant-loop-k l = kind_of (facts_from l.case (root (plain_axioms l.axioms)) l.k) ≡ False

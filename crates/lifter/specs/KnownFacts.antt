@@ -1,0 +1,133 @@
+-- What is known on a lifted branch of the branch of the ground tree: under which number each asserted Or and literal is a fact.
+use Rattle.std.specs.Prelude.{ℕ, ◌≡◌, ◌⊎◌, ◌+◌, true, false, List, [], ◌∷◌, ◌++◌, Option, Some, length, map, drop}
+use Rattle.pc_common.specs.Case.{Case}
+use Rattle.pc_common.specs.World.{Node}
+use Rattle.pc_common.proofs.Elements.{In}
+use Rattle.pc_ground.specs.Keys.{key_node}
+use Rattle.pc_ground.specs.declared.literal.Literal.{Literal}
+use Rattle.pc_ground.specs.declared.literal.Literal.TheVariants.{Node as a_node, Edge as an_edge, NoNode as not_node, NoEdge as not_edge}
+use Rattle.pc_ground.specs.declared.row.Row.{Row}
+use Rattle.pc_ground.specs.Tree.{Tree, always, never, leaf, both, either}
+use Rattle.pc_ground.specs.Rows.{rows_of}
+use Rattle.lifted_facts.specs.PlainFacts.{PlainFact, one_node, one_edge, Branch}
+use Rattle.lifted_facts.specs.Parts.{sides}
+use Rattle.lifted_facts.specs.Lifted.{HasFact, IsEdge, Asserts}
+use Rattle.lifted_kinds.specs.Trees.{fact_tree}
+use Rattle.lifted_kinds.specs.declared.kind.Kind.TheVariants.{Open}
+use Rattle.lifted_kinds.specs.Kinds.{kind_of}
+use Rattle.lifter.specs.declared.key.Key.{Key}
+use Rattle.lifter.specs.declared.key.Key.TheVariants.{At, Edge, NoEdge, NoNode, Present}
+
+-- what can be known
+pub data PlainKey : Type 0 where
+  -- the Or at this position
+  at_position : ℕ → PlainKey
+  -- the first node happens before the second
+  edge : Node → Node → PlainKey
+  -- that is denied
+  no_edge : Node → Node → PlainKey
+  -- the node is denied
+  no_node : Node → PlainKey
+  -- the node is asserted, by itself or as an end of an edge
+  present : Node → PlainKey
+
+-- a key of the code, with its keys as plain nodes
+abbrev pub plain_key : Key → PlainKey
+plain_key (At p) = at_position p
+plain_key (Edge a b) = edge (key_node a) (key_node b)
+plain_key (NoEdge a b) = no_edge (key_node a) (key_node b)
+plain_key (NoNode a) = no_node (key_node a)
+plain_key (Present a) = present (key_node a)
+
+-- with the number of a fact
+abbrev pub Entry : Type 0
+Entry = PlainKey × ℕ
+
+abbrev pub entry : PlainKey → ℕ → Entry
+entry key k = (key, k)
+
+abbrev pub entries_of : List (Key × ℕ) → List Entry
+entries_of es = map (λ e. entry (plain_key e.0) e.1) es
+
+abbrev pub HasKey : List Entry → PlainKey → Type 0
+HasKey es key = (k : ℕ) × In (entry key k) es
+
+-- the rows from p on begin with those of s
+abbrev pub IsPart : List (Row Node) → ℕ → Tree Node → Type 0
+IsPart rows p s = (rest : List (Row Node)) × (drop p rows ≡ rows_of s ++ rest)
+
+-- the fact's two sides are those of the Or at this position, and neither is a constant
+pub record IsOr (c : Case) (rows : List (Row Node)) (f : PlainFact) (p : ℕ) : Type 0 where
+  pub first : PlainFact
+  pub second : PlainFact
+  pub are : sides c f ≡ Some (first, second)
+  pub first_open : kind_of (fact_tree c first) ≡ Open
+  pub second_open : kind_of (fact_tree c second) ≡ Open
+  pub stands : IsPart rows p (either (fact_tree c first) (fact_tree c second))
+
+-- what a key says of the fact of its number
+abbrev pub IsKnown : Case → List (Row Node) → Branch → PlainKey → ℕ → Type 0
+IsKnown c rows b (at_position p) k = (f : PlainFact) × HasFact b k f × IsOr c rows f p
+IsKnown c rows b (edge x y) k = IsEdge b true k x y
+IsKnown c rows b (no_edge x y) k = IsEdge b false k x y
+IsKnown c rows b (no_node a) k = HasFact b k (one_node false (Some a))
+IsKnown c rows b (present a) k = (f : PlainFact) × HasFact b k f × Asserts f a
+
+abbrev pub AreKnown : Case → List (Row Node) → Branch → List Entry → Type 0
+AreKnown c rows b es = (key : PlainKey) (k : ℕ) → In (entry key k) es → IsKnown c rows b key k
+
+-- one key more, if it was not there
+pub record HasMarked (old : List Entry) (key : PlainKey) (k : ℕ) (new : List Entry) : Type 0 where
+  pub more : List Entry
+  pub first : new ≡ old ++ more
+  pub each : (other : PlainKey) (j : ℕ) → In (entry other j) new → In (entry other j) old ⊎ ((key ≡ other) × (k ≡ j))
+  pub has : HasKey new key
+
+-- all that a literal says is known
+abbrev pub TellsLiteral : List Entry → Literal Node → Type 0
+TellsLiteral es (a_node a) = HasKey es (present a)
+TellsLiteral es (an_edge a b) = HasKey es (edge a b) × HasKey es (present a) × HasKey es (present b)
+TellsLiteral es (not_node a) = HasKey es (no_node a)
+TellsLiteral es (not_edge a b) = HasKey es (no_edge a b)
+
+abbrev pub TellsRoot : List Entry → ℕ → Tree Node → Type 0
+TellsRoot es p always = Unit {0}
+TellsRoot es p never = Unit {0}
+TellsRoot es p (leaf l) = TellsLiteral es l
+TellsRoot es p (both a b) = Unit {0}
+TellsRoot es p (either a b) = HasKey es (at_position p)
+
+-- what stands at a position is known, where it is an Or or a literal
+abbrev pub TellsAt : List (Row Node) → List Entry → ℕ → Type 0
+TellsAt rows es p = (s : Tree Node) → IsPart rows p s → TellsRoot es p s
+
+abbrev pub TellsAll : List (Row Node) → List Entry → List ℕ → Type 0
+TellsAll rows es ps = (p : ℕ) → In p ps → TellsAt rows es p
+
+-- each of these keys is one of those
+abbrev pub HaveMore : List Entry → List Entry → Type 0
+HaveMore old new = (key : PlainKey) → HasKey old key → HasKey new key
+
+-- the edges along these nodes are known
+abbrev pub AreEdges : List Entry → Node → List Node → Type 0
+AreEdges es x [] = Unit {0}
+AreEdges es x (y ∷ ys) = HasKey es (edge x y) × AreEdges es y ys
+
+-- under these numbers
+abbrev pub AreNumbers : List Entry → Node → List Node → List ℕ → Type 0
+AreNumbers es x [] [] = Unit {0}
+AreNumbers es x (y ∷ ys) (k ∷ ks) = In (entry (edge x y) k) es × AreNumbers es y ys ks
+AreNumbers es x _ _ = ⊥
+
+-- the edges of a cycle are known, and those of a path with the denial of one from its start to its end
+abbrev pub IsCycleKnown : List Entry → List Node → Type 0
+IsCycleKnown es [] = ⊥
+IsCycleKnown es (x ∷ via) = AreEdges es x (via ++ x ∷ [])
+
+pub record IsPathKnown (es : List Entry) (nodes : List Node) : Type 0 where
+  pub first : Node
+  pub via : List Node
+  pub last : Node
+  pub all : nodes ≡ first ∷ (via ++ last ∷ [])
+  pub edges : AreEdges es first (via ++ last ∷ [])
+  pub denied : HasKey es (no_edge first last)

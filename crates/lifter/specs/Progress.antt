@@ -1,0 +1,74 @@
+-- How far a refutation of the ground tree was followed.
+use Rattle.std.specs.Prelude.{ℕ, ◌≡◌, Bool, true, false, List, [], ◌∷◌, ◌++◌, Some, map, take, reverse}
+use Rattle.pc_common.specs.Case.{Case}
+use Rattle.pc_common.specs.World.{Node}
+use Rattle.pc_common.specs.Steps.{Step}
+use Rattle.pc_ground.specs.declared.row.Row.{Row}
+use Rattle.pc_ground.specs.declared.version.Version.TheVariants.{One}
+use Rattle.pc_ground.specs.Tree.{Tree, never, either}
+use Rattle.pc_ground.specs.Rows.{rows_of}
+use Rattle.pc_ground.specs.Refutes.{Branch as TreeBranch, Runs as TreeRuns, subtree_at, left_branch, right_branch}
+use Rattle.lifted_facts.specs.PlainFacts.{Branch}
+use Rattle.lifted_facts.specs.Lifted.{LiftedLeaf, LiftedStep, close, Closes as LiftedCloses, Runs}
+use Rattle.lifter.specs.declared.state.Later.{Later}
+use Rattle.lifter.specs.declared.state.State.{State}
+use Rattle.lifter.specs.KnownFacts.{Entry, AreKnown}
+use Rattle.lifter.specs.States.{branch_of, waiting, AreLater, IsGoodState, IsCovered, IsSide, AreMatched, IsMatchedState}
+
+-- an open branch of the ground tree is followed on the first branch, and the others on those that wait
+pub record IsOn (c : Case) (rows : List (Row Node)) (start : List Branch) (s : State) (opens : List TreeBranch) : Type 0 where
+  pub first : TreeBranch
+  pub rest : List TreeBranch
+  pub are : opens ≡ first ∷ rest
+  pub good : IsGoodState c rows start s
+  pub covered : IsCovered rows s.known first
+  pub matched : IsMatchedState c rows s rest
+
+-- these branches of the ground tree are followed; none is left where the flag says so
+abbrev pub IsAt : Case → List (Row Node) → List Branch → State → Bool → List TreeBranch → Type 0
+IsAt c rows start s true opens = IsOn c rows start s opens
+IsAt c rows start s false opens = (opens ≡ []) × Runs c s.steps start []
+
+-- these steps of a refutation are left
+pub record IsAhead (c : Case) (rows : List (Row Node)) (start : List Branch) (s : State) (is_open : Bool) (steps : List (Step Node)) : Type 0 where
+  pub tree : Tree Node
+  pub spelled : rows ≡ rows_of tree
+  pub is_some : tree ≡ never → ⊥
+  pub opens : List TreeBranch
+  pub run : TreeRuns One tree steps opens []
+  pub at : IsAt c rows start s is_open opens
+
+-- the first branch is closed: the steps lead to those that wait
+pub record IsLeft (c : Case) (rows : List (Row Node)) (start : List Branch) (b : Branch) (es : List Entry) (ls : List Later) (steps : List LiftedStep) (opens : List TreeBranch) : Type 0 where
+  pub run : Runs c steps start (waiting b ls)
+  pub later : AreLater c rows b es ls
+  pub matched : AreMatched c rows es ls opens
+
+abbrev pub HasLeft : Case → List (Row Node) → List Branch → State → List TreeBranch → Type 0
+HasLeft c rows start s opens = IsLeft c rows start (branch_of s) s.known (reverse s.later.items) s.steps opens
+
+-- the next waiting branch has a side to take, whose root stands at p
+pub record IsNext (c : Case) (rows : List (Row Node)) (start : List Branch) (b : Branch) (es : List Entry) (l : Later) (ls : List Later) (steps : List LiftedStep) (p : ℕ) (ps : TreeBranch) (rest : List TreeBranch) : Type 0 where
+  pub run : Runs c steps start (waiting b (l ∷ ls))
+  pub later : AreLater c rows b es (l ∷ ls)
+  pub takes : IsSide c rows (take l.known es) l p ps
+  pub matched : AreMatched c rows (take l.known es) ls rest
+
+abbrev pub CanEnter : Case → List (Row Node) → List Branch → State → Later → ℕ → TreeBranch → List TreeBranch → Type 0
+CanEnter c rows start s l p ps rest = IsNext c rows start (branch_of s) s.known l (reverse s.later.items) s.steps p ps rest
+
+-- the sides of an Or of the tree were put in its branch's place
+abbrev pub HasSplitOr : Case → List (Row Node) → ℕ → State → State → Type 0
+HasSplitOr c rows p old new =
+    (start : List Branch) (t : Tree Node) (ps : TreeBranch) (rest : List TreeBranch) (a b : Tree Node)
+    → rows ≡ rows_of t → IsGoodState c rows start old → IsCovered rows old.known ps → IsMatchedState c rows old rest
+    → subtree_at t p ≡ Some (either a b)
+    → IsOn c rows start new (left_branch ps false p a ∷ right_branch One ps false p a b ∷ rest)
+
+-- a leaf closed the first branch
+pub record HasClosedBy (old new : State) : Type 0 where
+  pub facts : new.facts.items ≡ old.facts.items
+  pub known : new.known ≡ old.known
+  pub later : new.later.items ≡ old.later.items
+  pub closes : (c : Case) (rows : List (Row Node)) → AreKnown c rows (branch_of old) old.known
+      → (l : LiftedLeaf) × LiftedCloses c (branch_of old) l × (new.steps ≡ old.steps ++ close l ∷ [])

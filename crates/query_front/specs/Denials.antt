@@ -1,0 +1,46 @@
+-- The steps of reading a query: its denial as a model's last axiom, and the ends of its faults.
+use Rattle.std.specs.Prelude.{◌≡◌, ℕ, List}
+use Rattle.pc_common.specs.declared.fault.FaultKind.TheVariants.{Syntax, Depth}
+use Rattle.pc_common.specs.declared.fault.Which.{Which}
+use Rattle.pc_common.specs.declared.fault.Which.TheVariants.{Query}
+use Rattle.pc_common.specs.declared.place.Place.{Place}
+use Rattle.pc_syntax.specs.declared.expanded.Expanded.{Expanded}
+use Rattle.pc_syntax.specs.Written.{Written, written, WrittenModel}
+use Rattle.pc_syntax.specs.Observable.{macros_of}
+use Rattle.pc_syntax.specs.Expansion.{expansion_of}
+use Rattle.uspec_lexer.specs.Token.{Token, token_place}
+use Rattle.uspec_parser.specs.declared.level.TheConstants.{MAX_OPENERS}
+use Rattle.uspec_parser.specs.declared.fault.ParseFault.{ParseFault}
+use Rattle.uspec_parser.specs.declared.fault.ParseFault.TheVariants.{Syntax as a_syntax_fault, Depth as a_depth_fault, Memory as no_memory}
+use Rattle.macro_expand.specs.Faults.{IsExpandable}
+use Rattle.pc_front.specs.Front.{fault_at}
+use Rattle.pc_front.specs.declared.model_front.FrontEnd.{FrontEnd}
+use Rattle.pc_front.specs.declared.model_front.FrontEnd.TheVariants.{Refused, Memory}
+use Rattle.query_front.specs.Queries.{with_axiom, with_denial}
+
+-- an end with its fault told of this file
+abbrev pub moved_end : Which → FrontEnd → FrontEnd
+moved_end file (Refused fault) = Refused (fault_at file fault.kind fault.place)
+moved_end file Memory = Memory
+
+abbrev pub place_of : List ℕ → List Token → ℕ → Place
+place_of bytes ts k = record { offset = token_place bytes ts k }
+
+-- the fault of a parser tells the number of a token
+abbrev pub parse_end : List ℕ → List Token → ParseFault → FrontEnd
+parse_end bytes ts (a_syntax_fault k) = Refused (fault_at Query Syntax (place_of bytes ts k))
+parse_end bytes ts (a_depth_fault k) = Refused (fault_at Query (Depth MAX_OPENERS) (place_of bytes ts k))
+parse_end bytes ts no_memory = Memory
+
+-- the model's last item is an axiom
+abbrev pub EndsWithAxiom : WrittenModel → Type 0
+EndsWithAxiom n = (m : WrittenModel) × (w : Written) × (n ≡ with_axiom m w)
+
+-- and that is a denial
+abbrev pub EndsWithDenial : WrittenModel → Type 0
+EndsWithDenial n = (m : WrittenModel) × (f : Written) × (n ≡ with_denial m f)
+
+-- the model has no macro or size fault, and this is its last axiom with its macros expanded
+pub record IsLastExpansion (n : WrittenModel) (e : Expanded) : Type 0 where
+  pub expandable : IsExpandable n
+  pub last : (m : WrittenModel) (w : Written) → n ≡ with_axiom m w → written e.body ≡ expansion_of (macros_of n) w

@@ -1,0 +1,131 @@
+-- A query's first fault with its file: without the file it is the first name fault, and expansion keeps it.
+use Rattle.std.proofs.Common.{◌≡◌, Bool, true, false, List, [], ◌∷◌, Option, Some, None, cond, refl, sym, ap, ◌∙◌}
+use Rattle.std.specs.Option.{option_or}
+use Rattle.pc_common.specs.Names.{same_name}
+use Rattle.pc_common.specs.declared.fault.Which.{Which}
+use Rattle.pc_common.specs.declared.fault.Which.TheVariants.{Model, Query}
+use Rattle.pc_syntax.specs.declared.model.StageItem.{StageItem}
+use Rattle.pc_syntax.specs.Written.{Written, not_, and_, or_, implies_, forall_, exists_, static_, nodes_, edges_, expand_, bind_, MacroAt}
+use Rattle.pc_syntax.specs.Expansion.{parameter_names, expansion_of}
+use Rattle.pc_syntax.specs.Scope.{Scope, quantified_in, bound_in}
+use Rattle.pc_syntax.specs.Fault.{Fault, first_fault}
+use Rattle.pc_syntax.specs.NameFaults.{scope_fault, static_fault, node_fault, edge_fault, binding_fault, name_fault}
+use Rattle.pc_syntax.proofs.ExpansionLaws.{expansion_faults}
+use Rattle.scope_check.specs.FirstFault.{IsNoneOr}
+use Rattle.scope_check.specs.QueryFaults.{FiledFault, filed, query_fault, body_file, IsFiledOr, unfiled}
+
+-- without its file a fault is what it was
+pub unfiled_filed : (file : Which) (o : Option Fault) → unfiled (filed file o) ≡ o
+unfiled_filed file None = refl
+unfiled_filed file (Some f) = refl
+
+pub unfiled_or : (a b : Option FiledFault) → unfiled (option_or a b) ≡ option_or (unfiled a) (unfiled b)
+unfiled_or None b = refl
+unfiled_or (Some p) b = refl
+
+unfiled_cond : (b : Bool) (x y : Option FiledFault) (v w : Option Fault) → unfiled x ≡ v → unfiled y ≡ w → unfiled (cond b x y) ≡ cond b v w
+unfiled_cond true x y v w e f = e
+unfiled_cond false x y v w e f = f
+
+unfiled_both : (a b : Option FiledFault) (x y : Option Fault) → unfiled a ≡ x → unfiled b ≡ y → unfiled (option_or a b) ≡ option_or x y
+unfiled_both a b x y e f = unfiled_or a b ∙ ap (λ o. option_or o (unfiled b)) e ∙ ap (option_or x) f
+
+pub query_faults : (stages : List StageItem) (ms : List MacroAt) (scope : Scope) (w : Written)
+    → unfiled (query_fault stages ms scope w) ≡ name_fault stages ms scope w
+query_faults stages ms scope (not_ p) = query_faults stages ms scope p
+query_faults stages ms scope (and_ p q) =
+    unfiled_both (query_fault stages ms scope p) (query_fault stages ms scope q) (name_fault stages ms scope p) (name_fault stages ms scope q)
+    (query_faults stages ms scope p) (query_faults stages ms scope q)
+query_faults stages ms scope (or_ p q) =
+    unfiled_both (query_fault stages ms scope p) (query_fault stages ms scope q) (name_fault stages ms scope p) (name_fault stages ms scope q)
+    (query_faults stages ms scope p) (query_faults stages ms scope q)
+query_faults stages ms scope (implies_ p q) =
+    unfiled_both (query_fault stages ms scope p) (query_fault stages ms scope q) (name_fault stages ms scope p) (name_fault stages ms scope q)
+    (query_faults stages ms scope p) (query_faults stages ms scope q)
+query_faults stages ms scope (forall_ at sort name p) =
+    let inside = quantified_in scope name sort in
+    unfiled_both (filed Query (scope_fault at inside)) (query_fault stages ms inside p) (scope_fault at inside) (name_fault stages ms inside p)
+    (unfiled_filed Query (scope_fault at inside)) (query_faults stages ms inside p)
+query_faults stages ms scope (exists_ at sort name p) =
+    let inside = quantified_in scope name sort in
+    unfiled_both (filed Query (scope_fault at inside)) (query_fault stages ms inside p) (scope_fault at inside) (name_fault stages ms inside p)
+    (unfiled_filed Query (scope_fault at inside)) (query_faults stages ms inside p)
+query_faults stages ms scope (static_ pred args) = unfiled_filed Query (static_fault scope pred args)
+query_faults stages ms scope (nodes_ ts) = unfiled_filed Query (first_fault (node_fault stages scope) ts)
+query_faults stages ms scope (edges_ ts) = unfiled_filed Query (first_fault (edge_fault stages scope) ts)
+query_faults stages ms scope (bind_ at names args p) =
+    let inside = bound_in scope names args in
+    let outer = binding_fault scope at names args in
+    unfiled_both (filed Query outer) (filed Model (name_fault stages ms inside p)) outer (name_fault stages ms inside p)
+    (unfiled_filed Query outer) (unfiled_filed Model (name_fault stages ms inside p))
+query_faults stages [] scope (expand_ at name args) = refl
+query_faults stages (m ∷ ms) scope (expand_ at name args) =
+    let inside = bound_in scope (parameter_names m) args in
+    let outer = binding_fault scope at (parameter_names m) args in
+    let body = name_fault stages ms inside m.body in
+    unfiled_cond (same_name m.name.name name.name) (option_or (filed Query outer) (filed Model body)) (query_fault stages ms scope (expand_ at name args))
+    (option_or outer body) (name_fault stages ms scope (expand_ at name args))
+    (unfiled_both (filed Query outer) (filed Model body) outer body (unfiled_filed Query outer) (unfiled_filed Model body))
+    (query_faults stages ms scope (expand_ at name args))
+
+-- no fault without a file is none with one
+pub none_filed : (o : Option FiledFault) → unfiled o ≡ None → o ≡ None
+none_filed None h = refl
+none_filed (Some p) h = cc
+
+-- what is read off the formula that a test chooses
+choose : {A : Type 0} (f : Written → A) (b : Bool) (x y : A) (v w : Written) → x ≡ f v → y ≡ f w → cond b x y ≡ f (cond b v w)
+choose f true x y v w p q = p
+choose f false x y v w p q = q
+
+-- a query's first fault is that of its expansion
+pub query_expansion : (stages : List StageItem) (ms : List MacroAt) (scope : Scope) (w : Written)
+    → query_fault stages ms scope w ≡ query_fault stages [] scope (expansion_of ms w)
+query_expansion stages ms scope (not_ p) = query_expansion stages ms scope p
+query_expansion stages ms scope (and_ p q) =
+    λ i. option_or (query_expansion stages ms scope p i) (query_expansion stages ms scope q i)
+query_expansion stages ms scope (or_ p q) =
+    λ i. option_or (query_expansion stages ms scope p i) (query_expansion stages ms scope q i)
+query_expansion stages ms scope (implies_ p q) =
+    λ i. option_or (query_expansion stages ms scope p i) (query_expansion stages ms scope q i)
+query_expansion stages ms scope (forall_ at sort name p) =
+    let inside = quantified_in scope name sort in
+    λ i. option_or (filed Query (scope_fault at inside)) (query_expansion stages ms inside p i)
+query_expansion stages ms scope (exists_ at sort name p) =
+    let inside = quantified_in scope name sort in
+    λ i. option_or (filed Query (scope_fault at inside)) (query_expansion stages ms inside p i)
+query_expansion stages ms scope (static_ pred args) = refl
+query_expansion stages ms scope (nodes_ ts) = refl
+query_expansion stages ms scope (edges_ ts) = refl
+query_expansion stages ms scope (bind_ at names args p) =
+    λ i. option_or (filed Query (binding_fault scope at names args)) (filed Model (expansion_faults stages ms (bound_in scope names args) p i))
+query_expansion stages [] scope (expand_ at name args) = refl
+query_expansion stages (m ∷ ms) scope (expand_ at name args) =
+    choose (λ w. query_fault stages [] scope w) (same_name m.name.name name.name) _ _
+    (bind_ at (parameter_names m) args (expansion_of ms m.body))
+    (expansion_of ms (expand_ at name args))
+    (λ i. option_or
+    (filed Query (binding_fault scope at (parameter_names m) args))
+    (filed Model (expansion_faults stages ms (bound_in scope (parameter_names m) args) m.body i)))
+    (query_expansion stages ms scope (expand_ at name args))
+
+-- the first fault of what stands in the query, of what stands in the model, and of two parts, from that of the first
+pub query_answers : (first : Option Fault) (file : Which) (given : Option Fault) → file ≡ Query → IsNoneOr first given → IsFiledOr (filed Query first) file given
+query_answers first file None here is = here
+query_answers first file (Some f) here is =
+    let put : Which → Option FiledFault = λ w. Some (w, f) in ap (filed Query) is ∙ ap put (sym here)
+
+pub model_answers : (first : Option Fault) (file : Which) (given : Option Fault) → file ≡ body_file given → IsNoneOr first given
+    → IsFiledOr (filed Model first) file given
+model_answers first file None here is = here
+model_answers first file (Some f) here is =
+    let put : Which → Option FiledFault = λ w. Some (w, f) in ap (filed Model) is ∙ ap put (sym here)
+
+pub or_filed : (a b : Option FiledFault) (file : Which) (given : Option Fault) → IsFiledOr a file given → IsFiledOr (option_or a b) file given
+or_filed a b file None h = h
+or_filed None b file (Some f) h = cc
+or_filed (Some p) b file (Some f) h = h
+
+pub pass_filed : (a b : Option FiledFault) (file : Which) (given : Option Fault) → a ≡ None → IsFiledOr b file given → IsFiledOr (option_or a b) file given
+pass_filed None b file given none h = h
+pass_filed (Some p) b file given none h = cc

@@ -1,0 +1,93 @@
+-- The first name fault of a formula that is asked of a model, with the file in which it stands.
+use Rattle.std.specs.Prelude.{◌≡◌, List, [], ◌∷◌, Option, Some, None, if◌then◌else◌}
+use Rattle.std.specs.Option.{option_or}
+use Rattle.pc_common.specs.Names.{same_name}
+use Rattle.pc_common.specs.declared.fault.Which.{Which}
+use Rattle.pc_common.specs.declared.fault.Which.TheVariants.{Model, Query}
+use Rattle.pc_syntax.specs.declared.model.StageItem.{StageItem}
+use Rattle.pc_syntax.specs.Written.{Written, not_, and_, or_, implies_, forall_, exists_, static_, nodes_, edges_, expand_, bind_, MacroAt}
+use Rattle.pc_syntax.specs.Expansion.{parameter_names}
+use Rattle.pc_syntax.specs.Scope.{Scope, quantified_in, bound_in}
+use Rattle.pc_syntax.specs.Fault.{Fault, first_fault}
+use Rattle.pc_syntax.specs.NameFaults.{scope_fault, static_fault, node_fault, edge_fault, binding_fault, name_fault}
+use Rattle.pc_syntax.specs.Closed.{PlainClosed}
+use Rattle.pc_syntax.specs.Closing.{closing_of}
+use Rattle.scope_check.specs.FirstFault.{name_fault_of}
+use Rattle.scope_check.specs.declared.fault.NameFault.{NameFault}
+
+-- a fault and the file in which it stands
+abbrev pub FiledFault : Type 0
+FiledFault = Which × Fault
+
+-- in this file
+abbrev pub filed : Which → Option Fault → Option FiledFault
+filed file None = None
+filed file (Some f) = Some (file, f)
+
+-- the first name fault of a formula as `name_fault` has it. What the formula itself says stands in the query; the body
+-- of a macro stands in the model, and what is in it too
+abbrev pub query_fault : List StageItem → List MacroAt → Scope → Written → Option FiledFault
+query_fault stages ms scope (not_ p) = query_fault stages ms scope p
+query_fault stages ms scope (and_ p q) = option_or (query_fault stages ms scope p) (query_fault stages ms scope q)
+query_fault stages ms scope (or_ p q) = option_or (query_fault stages ms scope p) (query_fault stages ms scope q)
+query_fault stages ms scope (implies_ p q) = option_or (query_fault stages ms scope p) (query_fault stages ms scope q)
+query_fault stages ms scope (forall_ at sort name p) =
+    let inside = quantified_in scope name sort in
+    option_or (filed Query (scope_fault at inside)) (query_fault stages ms inside p)
+query_fault stages ms scope (exists_ at sort name p) =
+    let inside = quantified_in scope name sort in
+    option_or (filed Query (scope_fault at inside)) (query_fault stages ms inside p)
+query_fault stages ms scope (static_ pred args) = filed Query (static_fault scope pred args)
+query_fault stages ms scope (nodes_ ts) = filed Query (first_fault (node_fault stages scope) ts)
+query_fault stages ms scope (edges_ ts) = filed Query (first_fault (edge_fault stages scope) ts)
+query_fault stages ms scope (bind_ at names args p) =
+    option_or
+    (filed Query (binding_fault scope at names args))
+    (filed Model (name_fault stages ms (bound_in scope names args) p))
+query_fault stages [] scope (expand_ at name args) = None
+query_fault stages (m ∷ ms) scope (expand_ at name args) =
+    if same_name m.name.name name.name
+    then option_or
+    (filed Query (binding_fault scope at (parameter_names m) args))
+    (filed Model (name_fault stages ms (bound_in scope (parameter_names m) args) m.body))
+    else query_fault stages ms scope (expand_ at name args)
+
+-- the file of a fault in a macro's body; want of memory stands in no file, and is told of the query
+abbrev pub body_file : Option Fault → Which
+body_file None = Query
+body_file (Some f) = Model
+
+-- no fault with the query's file, or the first fault with its own
+abbrev pub IsFiledOr : Option FiledFault → Which → Option Fault → Type 0
+IsFiledOr first file None = file ≡ Query
+IsFiledOr first file (Some f) = first ≡ Some (file, f)
+
+-- the answer is the first fault, and this is its file; that memory was refused is tied to nothing
+abbrev pub AnswersIn : Option FiledFault → Which → NameFault → Type 0
+AnswersIn first file f = IsFiledOr first file (name_fault_of f)
+
+-- c is what closing makes of the expanded formula e, which has no name fault in the scope, in no file
+pub record IsQueryClosing (stages : List StageItem) (scope : Scope) (e : Written) (c : PlainClosed) : Type 0 where
+  pub no_fault : query_fault stages [] scope e ≡ None
+  pub closing : c ≡ closing_of stages scope e
+
+-- what a denial denies; of another formula itself
+abbrev pub asked : Written → Written
+asked (not_ p) = p
+asked w = w
+
+-- the formula is a denial
+abbrev pub IsDenial : Written → Type 0
+IsDenial (not_ p) = Unit {0}
+IsDenial _ = ⊥
+
+-- the fault without its file
+abbrev pub unfiled : Option FiledFault → Option Fault
+unfiled None = None
+unfiled (Some (file, f)) = Some f
+
+-- the file is all that `query_fault` adds
+abbrev pub QueryFaultsAreNameFaults : Type 0
+QueryFaultsAreNameFaults =
+    (stages : List StageItem) (ms : List MacroAt) (scope : Scope) (w : Written)
+    → unfiled (query_fault stages ms scope w) ≡ name_fault stages ms scope w
