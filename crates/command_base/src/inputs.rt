@@ -47,8 +47,8 @@ pub fn unread(file: Which, end: ReadEnd) -> Ending
     }
 }
 
-/// The bytes of one of the two files.
-fn bytes_of<'a>(file: Which, model: &'a [u8], second: &'a [u8]) -> &'a [u8]
+/// The bytes of the file that a fault is told of, the model's or the second file's; none of a query.
+pub fn bytes_of<'a>(file: Which, model: &'a [u8], second: &'a [u8]) -> &'a [u8]
     ensures { result.now ≡ bytes_in file model.now second.now }
 {
     match file {

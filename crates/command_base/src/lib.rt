@@ -14,7 +14,8 @@
 //! A command reads the model, then its second file, at most 1,048,576 bytes each: `read_inputs` returns what both
 //! say together as a `Front`, or the `Ending` of the command, which is a failed call, refused memory, or the first
 //! fault. The form of the second file is a `SecondFile`; a test is a `TestFile`. A third file is read by the
-//! command itself, after these two are judged, or before, by `unread` and `placed`, which tell of any file.
+//! command itself, after these two are judged or before. `unread`, `placed` and `bytes_of` make the ending of a command
+//! that reads files in its own way.
 //!
 //! `specs/Outcomes.antt` states what each command keeps of the files and when it returns which status. A command's
 //! crate stands on this one and on no other command's.
@@ -29,7 +30,7 @@ mod second_file;
 mod words;
 
 pub use ending::{Ending, ending_status, write_ending};
-pub use inputs::{Inputs, front_of, read_inputs, unread};
+pub use inputs::{Inputs, bytes_of, front_of, read_inputs, unread};
 pub use laws::{case_or_first_fault, no_first_fault, one_first_fault, one_model_and_case};
 pub use line::{LINE, join};
 pub use refusal::{Refusal, placed};

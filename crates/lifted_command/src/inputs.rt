@@ -4,67 +4,15 @@ ghost use Rattle.litmus_reader.specs.Answer.{CaseOf};
 ghost use Rattle.pc_front.specs.Front.{IsFirstFault as IsTestFault};
 ghost use Rattle.command_base.specs.Inputs.{plain_inputs};
 ghost use Rattle.command_base.specs.SecondFiles.{SaysFront};
-ghost use Rattle.command_base.specs.Endings.{bytes_of as bytes_in, IsPlaced, IsUnread, IsBytesEnding};
+ghost use Rattle.command_base.specs.Endings.{IsBytesEnding};
 ghost use Rattle.command_base.specs.Outcomes.{HasFront, IsInputsEnding};
 ghost use Rattle.lifted_command.specs.Fronts.{front_of_parts};
 
-use command_base::{Ending, Inputs, Refusal};
-use pc_common::{FaultKind, Files, InputFault, Place, ReadEnd, Which, line_col, read_all};
+use command_base::{Ending, Inputs, bytes_of, placed, unread};
+use pc_common::{Files, Which, read_all};
 use pc_front::{FrontEnd, MAX_FILE, read_parts};
 use pc_ground::Parts;
 use std::alloc::Global;
-
-/// A fault with its line and column in the bytes of its file. A place past their end is told as their end.
-#[tactic(auto, using(command_base::proofs::EndOfText::line_min, command_base::proofs::EndOfText::column_min))]
-fn placed(fault: InputFault, bytes: &[u8]) -> Refusal
-    requires { length bytes.now < 4294967295 }
-    ensures fault { result.fault ≡ fault }
-    ensures placed { IsPlaced bytes.now result }
-{
-    let end = bytes.len() as u32;
-    let place = Place {
-        offset: fault.place.offset.min(end),
-    };
-    let (line, column) = line_col(bytes, place);
-    Refusal {
-        fault,
-        line,
-        column,
-    }
-}
-
-/// The ending of the command where a file could not be read whole. One past the limit is refused at its first byte.
-fn unread(file: Which, end: ReadEnd) -> Ending
-    ensures { IsUnread file end result }
-{
-    match end {
-        ReadEnd::ReadFault => Ending::ReadFault,
-        ReadEnd::Memory => Ending::Memory,
-        ReadEnd::TooLarge => {
-            let limit = MAX_FILE as u64;
-            Ending::Refused(Refusal {
-                fault: InputFault {
-                    file,
-                    place: Place { offset: 0 },
-                    kind: FaultKind::TooLarge { limit },
-                },
-                line: 1,
-                column: 1,
-            })
-        }
-    }
-}
-
-/// The bytes of one of the two files.
-fn bytes_of<'a>(file: Which, model: &'a [u8], test: &'a [u8]) -> &'a [u8]
-    ensures { result.now ≡ bytes_in file model.now test.now }
-{
-    match file {
-        Which::Model => model,
-        Which::Test => test,
-        Which::Query => b"",
-    }
-}
 
 /// What the bytes of the two files say, without a ground tree; or the refusal of their first fault, or want of memory.
 fn parts_of(alloc: Global, model: &[u8], test: &[u8]) -> Result<Parts, Ending>
