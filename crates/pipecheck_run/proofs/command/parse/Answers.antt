@@ -15,4 +15,5 @@ returns-in_err-n c =
     c.in_default-three_behind-2.ensures
     c.in_default-inputs_behind-4.ensures
     c.in_default-three_behind-3.ensures
+    c.in_default-three_behind-4.ensures
     c.in_err-n.ensures)
