@@ -10,9 +10,11 @@ use Rattle.pc_syntax.specs.Expansion.{parameter_names, expansion_of}
 use Rattle.pc_syntax.specs.Scope.{Scope, quantified_in, bound_in}
 use Rattle.pc_syntax.specs.Fault.{Fault, first_fault}
 use Rattle.pc_syntax.specs.NameFaults.{scope_fault, static_fault, node_fault, edge_fault, binding_fault, name_fault}
+use Rattle.pc_syntax.specs.Closed.{PlainClosed}
+use Rattle.pc_syntax.specs.Closing.{IsClosingOf}
 use Rattle.pc_syntax.proofs.ExpansionLaws.{expansion_faults}
 use Rattle.scope_check.specs.FirstFault.{IsNoneOr}
-use Rattle.scope_check.specs.QueryFaults.{FiledFault, filed, query_fault, body_file, IsFiledOr, unfiled}
+use Rattle.scope_check.specs.QueryFaults.{FiledFault, filed, query_fault, body_file, IsFiledOr, IsQueryClosing, unfiled}
 
 -- without its file a fault is what it was
 pub unfiled_filed : (file : Which) (o : Option Fault) → unfiled (filed file o) ≡ o
@@ -67,6 +69,12 @@ query_faults stages (m ∷ ms) scope (expand_ at name args) =
     (option_or outer body) (name_fault stages ms scope (expand_ at name args))
     (unfiled_both (filed Query outer) (filed Model body) outer body (unfiled_filed Query outer) (unfiled_filed Model body))
     (query_faults stages ms scope (expand_ at name args))
+
+-- so what closes a query's formula closes it
+pub query_closing : (stages : List StageItem) (scope : Scope) (w : Written) (c : PlainClosed) → IsQueryClosing stages scope w c
+    → IsClosingOf stages scope w c
+query_closing stages scope w c is =
+    record { no_fault = sym (query_faults stages [] scope w) ∙ ap unfiled is.no_fault; closing = is.closing }
 
 -- no fault without a file is none with one
 pub none_filed : (o : Option FiledFault) → unfiled o ≡ None → o ≡ None
