@@ -5,6 +5,7 @@
     second_reading.py check2 MODEL TEST        the same; a refutation is of version 2
     second_reading.py verify MODEL TEST CERT   whether CERT is a certificate of this model and test
     second_reading.py core MODEL TEST          a minimal set of axioms that forbid the outcome, with certificates
+    second_reading.py ask MODEL TEST QUERY     whether a formula holds in all worlds, in some or in none
     second_reading.py check86 MODEL FILE       as check, of a listing of herd's for X86
     second_reading.py verify86 MODEL FILE CERT as verify, of a listing
     second_reading.py verify-lifted MODEL TEST CERT
@@ -15,11 +16,11 @@
 
 The modules are in second/. All text goes to standard output, in the lines and with the exit statuses that the program
 has: 0 observable, 1 unobservable, 2 words that are no command, 3 a file with a fault, 4 a file that cannot be read, 6
-a refused certificate; of `core` 0 where no file has a fault. The verdict of `check`, `check2` and `check86` is found
-in two ways, by a search of this reading's own and by one that makes the program's choices and gives the text; they
-have to agree, and the certificate is judged before it is written. So is each certificate of `core`. `verify` and
-`verify86` judge certificates of version 1 and of version 2; `verify-lifted` judges lifted refutations, on the axioms
-as they are written. `sweep` ends with 0 and takes the search of this reading's own alone; the witness of an
+a refused certificate; of `core` and `ask` 0 where no file has a fault. The verdict of `check`, `check2` and `check86`
+is found in two ways, by a search of this reading's own and by one that makes the program's choices and gives the text;
+they have to agree, and the certificate is judged before it is written. So is each certificate of `core` and of `ask`.
+`verify` and `verify86` judge certificates of version 1 and of version 2; `verify-lifted` judges lifted refutations, on
+the axioms as they are written. `sweep` ends with 0 and takes the search of this reading's own alone; the witness of an
 observable row is judged by the written axioms.
 """
 import signal
@@ -36,9 +37,10 @@ from second.judging import Refused as CertificateRefused
 from second.judging import VERSION_2, judge
 from second.lifted import judge_lifted
 from second.listings import read_listing
-from second.models import Model
+from second.models import Formula, Model, Not
 from second.patterns import Pattern, read_pattern, sweep, sweep_text
 from second.positions import NodeNames, Positions
+from second.queries import InModel, read_query, with_axiom
 from second.scopes import read_model
 from second.searching import search
 from second.smtlib import write_smtlib
@@ -52,6 +54,7 @@ WORDS = {
     "check2": 3,
     "check86": 3,
     "core": 3,
+    "ask": 4,
     "verify": 4,
     "verify86": 4,
     "verify-lifted": 4,
@@ -74,13 +77,18 @@ def file_bytes(kind: str, path: str) -> bytes:
     return data
 
 
+def refusal(kind: str, fault: Fault, data: bytes) -> Refused:
+    """The refusal by a fault, whose place is told by line and column in these bytes."""
+    lines = data[: fault.place].split(b"\n")
+    return Refused(f"refused {kind} {fault.word} at {len(lines)}:{len(lines[-1]) + 1}")
+
+
 def judged(kind: str, read: Callable[[bytes], Read], data: bytes) -> Read:
-    """What a reader makes of the bytes; a fault is told by line and column."""
+    """What a reader makes of the bytes, or the refusal by their fault."""
     try:
         return read(data)
     except Fault as fault:
-        lines = data[: fault.place].split(b"\n")
-        raise Refused(f"refused {kind} {fault.word} at {len(lines)}:{len(lines[-1]) + 1}") from fault
+        raise refusal(kind, fault, data) from fault
 
 
 def read_both(model_path: str, test_path: str, read: Callable[[bytes], Second]) -> tuple[Model, Second]:
@@ -88,6 +96,24 @@ def read_both(model_path: str, test_path: str, read: Callable[[bytes], Second]) 
     model_data = file_bytes("model", model_path)
     test_data = file_bytes("test", test_path)
     return judged("model", read_model, model_data), judged("test", read, test_data)
+
+
+def read_three(model_path: str, test_path: str, query_path: str) -> tuple[Model, Case, Formula]:
+    """The model, the test and the query. All are read whole before one is judged."""
+    model_data = file_bytes("model", model_path)
+    test_data = file_bytes("test", test_path)
+    return judged_three(model_data, test_data, file_bytes("query", query_path))
+
+
+def judged_three(model_data: bytes, test_data: bytes, query_data: bytes) -> tuple[Model, Case, Formula]:
+    """What the bytes of a model, a test and a query say, or the refusal by their first fault."""
+    model, case = judged("model", read_model, model_data), judged("test", read_case, test_data)
+    try:
+        return model, case, read_query(query_data, model)
+    except InModel as fault:
+        raise refusal("model", fault, model_data) from fault
+    except Fault as fault:
+        raise refusal("query", fault, query_data) from fault
 
 
 def second_line(is_observable: bool, case: Case) -> str:
@@ -153,6 +179,15 @@ def core(model: Model, case: Case) -> tuple[str, int]:
     return f"{text}end\n", 0
 
 
+def ask(model: Model, case: Case, formula: Formula) -> tuple[str, int]:
+    """In which worlds that satisfy the model the formula holds, with the certificates that `check` writes where it is
+    an axiom more, and where its denial is."""
+    added, holds_nowhere = check(with_axiom(model, formula), case)
+    against, fails_nowhere = check(with_axiom(model, Not(formula)), case)
+    word = {(0, 0): "sometimes", (0, 1): "always", (1, 0): "never", (1, 1): "vacuous"}[holds_nowhere, fails_nowhere]
+    return f"ask {word}\nwith\n{added}against\n{against}end\n", 0
+
+
 def verify(model: Model, case: Case, data: bytes) -> tuple[str, int]:
     """What is to be said of a certificate, and the exit status."""
     try:
@@ -171,28 +206,33 @@ def verify_lifted(model: Model, case: Case, data: bytes) -> tuple[str, int]:
     return "verified unobservable\n", 1
 
 
+def answer_on_two(words: list[str], out: TextIO) -> tuple[str, int]:
+    """The answer to a command on a model and a test, and the exit status. Questions for solvers are written at once."""
+    model, case = read_both(words[1], words[2], read_listing if words[0].endswith("86") else read_case)
+    if words[0].startswith("check"):
+        return check(model, case, 2 if words[0] == "check2" else 1)
+    if words[0] == "core":
+        return core(model, case)
+    if words[0].startswith("verify"):
+        with open(words[3], "rb") as file:
+            return (verify_lifted if words[0] == "verify-lifted" else verify)(model, case, file.read())
+    write = write_dimacs if words[0] == "dimacs" else write_smtlib
+    write(ground(model, case), out)
+    return "", 0
+
+
 def run(words: list[str], out: TextIO) -> int:
     """Does what the words ask and answers the exit status."""
     if not words or len(words) != WORDS.get(words[0]):
         out.write("pipecheck: bad command line\n")
         return 2
     try:
-        if words[0] == "sweep":
-            model, pattern = read_both(words[1], words[2], read_pattern)
-            out.write(sweep_text(sweep(model, pattern)))
-            return 0
-        model, case = read_both(words[1], words[2], read_listing if words[0].endswith("86") else read_case)
-        if words[0].startswith("check"):
-            text, status = check(model, case, 2 if words[0] == "check2" else 1)
-        elif words[0] == "core":
-            text, status = core(model, case)
-        elif words[0].startswith("verify"):
-            with open(words[3], "rb") as file:
-                text, status = (verify_lifted if words[0] == "verify-lifted" else verify)(model, case, file.read())
+        if words[0] == "ask":
+            text, status = ask(*read_three(words[1], words[2], words[3]))
+        elif words[0] == "sweep":
+            text, status = sweep_text(sweep(*read_both(words[1], words[2], read_pattern))), 0
         else:
-            write = write_dimacs if words[0] == "dimacs" else write_smtlib
-            write(ground(model, case), out)
-            return 0
+            text, status = answer_on_two(words, out)
     except Refused as refused:
         text, status = f"{refused}\n", 3
     except OSError:
