@@ -79,7 +79,16 @@ asked w = w
 -- the formula is a denial
 abbrev pub IsDenial : Written → Type 0
 IsDenial (not_ p) = Unit {0}
-IsDenial _ = ⊥
+IsDenial (and_ p q) = ⊥
+IsDenial (or_ p q) = ⊥
+IsDenial (implies_ p q) = ⊥
+IsDenial (forall_ at sort name p) = ⊥
+IsDenial (exists_ at sort name p) = ⊥
+IsDenial (static_ pred args) = ⊥
+IsDenial (nodes_ ts) = ⊥
+IsDenial (edges_ ts) = ⊥
+IsDenial (expand_ at name args) = ⊥
+IsDenial (bind_ at names args p) = ⊥
 
 -- the fault without its file
 abbrev pub unfiled : Option FiledFault → Option Fault
