@@ -6,4 +6,5 @@ pub mod Endings
 pub mod Outcomes
 pub mod VerdictStatus
 pub mod Questions
+pub mod CheckedTexts
 pub mod Laws

@@ -15,12 +15,13 @@
 //! say together as a `Front`, or the `Ending` of the command, which is a failed call, refused memory, or the first
 //! fault. The form of the second file is a `SecondFile`; a test is a `TestFile`. A third file is read by the
 //! command itself, after these two are judged or before. `unread`, `placed` and `bytes_of` make the ending of a command
-//! that reads files in its own way.
+//! that reads files in its own way. `write_checked` writes the line of a third file that was judged.
 //!
 //! `specs/Outcomes.antt` states what each command keeps of the files and when it returns which status. A command's
 //! crate stands on this one and on no other command's.
 #![tactic(auto)]
 
+mod checked;
 mod ending;
 mod inputs;
 mod laws;
@@ -29,6 +30,7 @@ mod refusal;
 mod second_file;
 mod words;
 
+pub use checked::{checked_status, write_checked};
 pub use ending::{Ending, ending_status, write_ending};
 pub use inputs::{Inputs, bytes_of, front_of, read_inputs, unread};
 pub use laws::{case_or_first_fault, no_first_fault, one_first_fault, one_model_and_case};

@@ -28,7 +28,7 @@ use Rattle.command_base.proofs.ThirdFile.{third_found, third_fault, third_memory
 use Rattle.lifted_command.specs.declared.reading.FeedEnd.{FeedEnd}
 use Rattle.lifted_command.specs.declared.reading.FeedEnd.TheVariants.{ReadFault as a_fault, Memory as no_memory}
 use Rattle.lifted_command.specs.LiftedTexts.{lifted_status, lifted_text}
-use Rattle.lifted_command.specs.LiftedQuestions.{lifted_question}
+use Rattle.command_base.specs.Questions.{lifted_question}
 use Rattle.lifted_command.specs.Reading.{returned}
 use Rattle.lifted_command.specs.LiftedAnswers.{AnswersLifted, IsLiftedDue, IsJudged, judged, IsDueCheck}
 use Rattle.lifted_command.proofs.OneAnswer.{found_true, one_found}

@@ -18,7 +18,7 @@ use Rattle.lifted_check.specs.declared.lifted.Lifted.TheVariants.{Refused}
 use Rattle.lifted_check.proofs.Outcomes.{text_forbids}
 use Rattle.command_base.specs.VerdictStatus.{IsTrueStatus}
 use Rattle.lifted_command.specs.LiftedTexts.{lifted_status}
-use Rattle.lifted_command.specs.LiftedQuestions.{lifted_question}
+use Rattle.command_base.specs.Questions.{lifted_question}
 use Rattle.lifted_command.specs.Reading.{TookFile}
 use Rattle.lifted_command.proofs.PieceByPiece.{append_nil}
 

@@ -10,7 +10,7 @@ use Rattle.lifted_check.specs.Fed.{IsFound}
 use Rattle.command_base.specs.Inputs.{Inputs, Contents}
 use Rattle.command_base.specs.Outcomes.{AnswersFiles, IsDueOfFiles}
 use Rattle.lifted_command.specs.LiftedTexts.{lifted_status, lifted_text}
-use Rattle.lifted_command.specs.LiftedQuestions.{lifted_question}
+use Rattle.command_base.specs.Questions.{lifted_question}
 
 -- what the third file is to the model and the case
 pub data IsJudged (holds : Contents) (certificate : List ℕ) (m : WrittenModel) (c : Case) : Status → List ℕ → Type 0 where

@@ -21,7 +21,7 @@ use Rattle.command_base.proofs.AnsweredFiles.{found_of}
 use Rattle.listing_form.proofs.ListingForm.{listing_form}
 use Rattle.verdicts.specs.Certified.{IsCertified, seen, unseen}
 use Rattle.check_command.specs.CheckAnswers.{AnswersCheck}
-use Rattle.verify_command.specs.CheckedTexts.{checked_status}
+use Rattle.command_base.specs.CheckedTexts.{checked_status}
 use Rattle.verify_command.specs.VerifyAnswers.{AnswersVerify, IsJudged, judged}
 use Rattle.verify_command.proofs.OneVerdict.{one_found}
 use Rattle.pipecheck_run.specs.Command.{Command, check, verify, check_listing, verify_listing}

@@ -3,7 +3,7 @@ ghost use Rattle.pc_common.specs.Writes.{Writes};
 ghost use Rattle.pipecheck_run.specs.AnswerTexts.{answer_text, answer_status, CanBeWritten};
 
 use cert_check::Checked;
-use command_base::{Ending, ending_status, write_ending};
+use command_base::{Ending, checked_status, ending_status, write_checked, write_ending};
 use core_command::{FoundCore, write_core};
 use ask_command::{FoundAsk, write_ask};
 use gen_command::{Report, write_report};
@@ -12,7 +12,6 @@ use lifted_command::{lifted_status, write_lifted};
 use pc_common::{Failed, Sink, Status, write_all};
 use sweep_command::{Swept, write_sweep};
 use verdicts::{Verdict, verdict_status, write_verdict};
-use verify_command::{checked_status, write_checked};
 
 /// What is answered, decided before anything is written.
 #[derive(Drop)]

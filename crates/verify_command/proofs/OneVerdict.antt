@@ -15,7 +15,7 @@ use Rattle.cert_check.specs.declared.checker.Checker.{Checker}
 use Rattle.cert_check.specs.declared.checked.Checked.{Checked}
 use Rattle.cert_check.specs.declared.checked.Checked.TheVariants.{Refused}
 use Rattle.command_base.specs.Questions.{question_by}
-use Rattle.verify_command.specs.CheckedTexts.{checked_status}
+use Rattle.command_base.specs.CheckedTexts.{checked_status}
 use Rattle.verify_command.specs.Reading.{TookFile}
 use Rattle.verify_command.proofs.PieceByPiece.{append_nil}
 use Rattle.command_base.specs.VerdictStatus.{IsTrueStatus}

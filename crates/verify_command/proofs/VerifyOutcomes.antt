@@ -27,7 +27,7 @@ use Rattle.command_base.proofs.AnsweredFiles.{found_of, due_of_files}
 use Rattle.command_base.proofs.ThirdFile.{third_found, third_fault, third_memory}
 use Rattle.verify_command.specs.declared.reading.FeedEnd.{FeedEnd}
 use Rattle.verify_command.specs.declared.reading.FeedEnd.TheVariants.{ReadFault as a_fault, Memory as no_memory}
-use Rattle.verify_command.specs.CheckedTexts.{checked_status, checked_text}
+use Rattle.command_base.specs.CheckedTexts.{checked_status, checked_text}
 use Rattle.verify_command.specs.Reading.{returned}
 use Rattle.verify_command.specs.VerifyAnswers.{AnswersVerify, IsVerifyDue, IsJudged, judged, IsDueCheck}
 use Rattle.verify_command.proofs.OneVerdict.{verified_true, one_found}

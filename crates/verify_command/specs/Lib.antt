@@ -1,3 +1,2 @@
-pub mod CheckedTexts
 pub mod Reading
 pub mod VerifyAnswers

@@ -10,7 +10,7 @@ use Rattle.cert_check.specs.Verified.{Verified}
 use Rattle.command_base.specs.Inputs.{Inputs, Contents}
 use Rattle.command_base.specs.Questions.{question_by}
 use Rattle.command_base.specs.Outcomes.{AnswersFiles, IsDueOfFiles}
-use Rattle.verify_command.specs.CheckedTexts.{checked_status, checked_text}
+use Rattle.command_base.specs.CheckedTexts.{checked_status, checked_text}
 
 -- what the third file is to the model and the case
 pub data IsJudged (holds : Contents) (certificate : List ℕ) (m : WrittenModel) (c : Case)

@@ -2,7 +2,7 @@ ghost use Rattle.std.specs.Prelude.{◌≡◌};
 ghost use Rattle.command_base.specs.Inputs.{plain_inputs};
 ghost use Rattle.command_base.specs.Endings.{returned_status, returned_text};
 ghost use Rattle.command_base.specs.Outcomes.{IsThirdOutcome};
-ghost use Rattle.verify_command.specs.CheckedTexts.{checked_status, checked_text};
+ghost use Rattle.command_base.specs.CheckedTexts.{checked_status, checked_text};
 ghost use Rattle.verify_command.specs.Reading.{returned};
 ghost use Rattle.verify_command.specs.VerifyAnswers.{IsJudged};
 

@@ -5,7 +5,6 @@
 //! let inputs = Inputs { model: "m.uspec", test: "t.test" };
 //! let checked = verify::<TestFile, MemFiles>(alloc, inputs, "c.txt", &mut files)?;
 //! assert!(rt; checked == Checked::Refused(1));
-//! assert!(rt; checked_status(checked) == Status::CertRefused);
 //! ```
 //!
 //! Where the two files have no fault it reads the third, to its end or to one byte past 67,108,864, by pieces that a
@@ -17,7 +16,5 @@
 mod checking;
 mod command;
 mod reading;
-mod report;
 
 pub use command::verify;
-pub use report::{checked_status, write_checked};

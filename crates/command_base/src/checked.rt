@@ -1,11 +1,11 @@
 ghost use Rattle.std.specs.Prelude.{◌≡◌, ◌++◌, codes};
 ghost use Rattle.std.specs.Fmt.{decimal};
 ghost use Rattle.pc_common.specs.Writes.{Writes};
-ghost use Rattle.verify_command.specs.CheckedTexts.{checked_status as checked_status_of, checked_text};
+ghost use Rattle.command_base.specs.CheckedTexts.{checked_status as checked_status_of, checked_text};
 
+use super::line::{LINE, join};
 use arrayvec::ArrayVec;
 use cert_check::Checked;
-use command_base::{LINE, join};
 use itoa::Buffer;
 use pc_common::{Failed, Sink, Status, write_all};
 
@@ -26,7 +26,7 @@ fn refused_line(number: u64) -> ArrayVec<u8, LINE>
     text
 }
 
-/// Writes the line of what a text was found to be, as one piece.
+/// Writes the line of what a text was found to be, as one piece. Takes no memory.
 pub fn write_checked<K: Sink>(out: &mut K, checked: Checked) -> Result<(), Failed>
     ensures { Writes K.view out.old out.new result (checked_text checked) }
 {
