@@ -11,8 +11,9 @@ use Rattle.listing_form.proofs.ListingForm.{listing_form}
 use Rattle.sweep_command.proofs.SweepOutcomes.{sweep_due}
 use Rattle.lifted_command.proofs.LiftedOutcomes.{lifted_true, lifted_due}
 use Rattle.ask_command.proofs.AskOutcomes.{ask_due}
+use Rattle.lift_command.proofs.LiftOutcomes.{lift_true, lift_due}
 use Rattle.gen_command.proofs.GenOutcomes.{gen_due}
-use Rattle.pipecheck_run.specs.Command.{Command, check, verify, find_core, check_listing, verify_listing, sweep_rows, verify_lifted, ask_query, gen, IsCommand}
+use Rattle.pipecheck_run.specs.Command.{Command, check, verify, find_core, check_listing, verify_listing, sweep_rows, verify_lifted, ask_query, lift_tree, gen, IsCommand}
 use Rattle.pipecheck_run.specs.Answers.{Answers, usage, answered, AnswersCommand}
 use Rattle.pipecheck_run.specs.Headline.{IsTrueTo, IsTrueOf, IsDueTo, IsDue}
 use Rattle.pipecheck_run.proofs.OneCommand.{one_command}
@@ -33,6 +34,7 @@ true_to holds status text (verify_listing i certificate) a = verify_true listing
 true_to holds status text (sweep_rows i) a = tt
 true_to holds status text (verify_lifted i certificate) a = lifted_true test_form a
 true_to holds status text (ask_query i query) a = tt
+true_to holds status text (lift_tree i certificate) a = lift_true test_form a
 true_to holds status text (gen n) a = tt
 
 due_to : (holds : Contents) (status : Status) (text : List ℕ) (c : Command) → AnswersCommand holds c status text → IsDueTo holds c status
@@ -44,6 +46,7 @@ due_to holds status text (verify_listing i certificate) a = verify_due listing_f
 due_to holds status text (sweep_rows i) a = sweep_due a
 due_to holds status text (verify_lifted i certificate) a = lifted_due test_form a
 due_to holds status text (ask_query i query) a = ask_due a
+due_to holds status text (lift_tree i certificate) a = lift_due test_form a
 due_to holds status text (gen n) a = gen_due a
 
 pub answer_true : {words : List (List ℕ)} {holds : Contents} {status : Status} {text : List ℕ}
@@ -64,6 +67,7 @@ silent_true holds status no_o no_u (verify_listing i certificate) = λ m k says.
 silent_true holds status no_o no_u (sweep_rows i) = tt
 silent_true holds status no_o no_u (verify_lifted i certificate) = λ m k says. (λ e. absurd (no_o e), λ e. absurd (no_u e))
 silent_true holds status no_o no_u (ask_query i query) = tt
+silent_true holds status no_o no_u (lift_tree i certificate) = λ m k says. (λ e. absurd (no_o e), λ e. absurd (no_u e))
 silent_true holds status no_o no_u (gen n) = tt
 
 -- the status of a run is true, as some answer has it where nothing failed

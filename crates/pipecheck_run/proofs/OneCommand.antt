@@ -7,7 +7,7 @@ use Rattle.std.proofs.lemmas.Bool.{cases_order}
 use Rattle.std.proofs.lemmas.Fmt.{decimal_injective}
 use Rattle.pc_ground.specs.declared.version.Version.TheVariants.{One, Two}
 use Rattle.command_base.specs.Inputs.{Inputs}
-use Rattle.pipecheck_run.specs.Command.{Command, check, verify, find_core, check_listing, verify_listing, sweep_rows, verify_lifted, ask_query, gen, words_of, IsWithin, IsCommand, IsNoCommand}
+use Rattle.pipecheck_run.specs.Command.{Command, check, verify, find_core, check_listing, verify_listing, sweep_rows, verify_lifted, ask_query, lift_tree, gen, words_of, IsWithin, IsCommand, IsNoCommand}
 
 name_at : ℕ → List (List ℕ) → List ℕ
 name_at k [] = []
@@ -61,6 +61,7 @@ command_by words =
     ∷ (codes "sweep", sweep_rows (inputs_at words))
     ∷ (codes "verify-lifted", verify_lifted (inputs_at words) (name_at 3 words))
     ∷ (codes "ask", ask_query (inputs_at words) (name_at 3 words))
+    ∷ (codes "lift", lift_tree (inputs_at words) (name_at 3 words))
     ∷ []) (gen (number_in 16 (name_at 1 words)))
 
 spelt : (c : Command) → IsWithin c → command_by (words_of c) ≡ c
@@ -74,6 +75,7 @@ spelt (verify_listing i certificate) within = refl
 spelt (sweep_rows i) within = refl
 spelt (verify_lifted i certificate) within = refl
 spelt (ask_query i query) within = refl
+spelt (lift_tree i certificate) within = refl
 spelt (gen n) within = ap gen (let some = within.0 in number_found 16 n (omega arith) (omega arith) within.1)
 
 pub one_command : (words : List (List ℕ)) (c d : Command) → IsCommand words c → IsCommand words d → c ≡ d
@@ -91,6 +93,7 @@ module _ (words : List (List ℕ)) (no_check : (i : Inputs) → words ≡ codes 
     (no_sweep : (i : Inputs) → words ≡ codes "sweep" ∷ i.model ∷ i.test ∷ [] → ⊥)
     (no_verify_lifted : (i : Inputs) (third : List ℕ) → words ≡ codes "verify-lifted" ∷ i.model ∷ i.test ∷ third ∷ [] → ⊥)
     (no_ask : (i : Inputs) (third : List ℕ) → words ≡ codes "ask" ∷ i.model ∷ i.test ∷ third ∷ [] → ⊥)
+    (no_lift : (i : Inputs) (third : List ℕ) → words ≡ codes "lift" ∷ i.model ∷ i.test ∷ third ∷ [] → ⊥)
     (no_gen : (n : ℕ) → IsCommand words (gen n) → ⊥) where
   -- words of no form
   pub no_form : IsNoCommand words
@@ -103,4 +106,5 @@ module _ (words : List (List ℕ)) (no_check : (i : Inputs) → words ≡ codes 
   no_form (sweep_rows i) is = no_sweep i is.0
   no_form (verify_lifted i certificate) is = no_verify_lifted i certificate is.0
   no_form (ask_query i query) is = no_ask i query is.0
+  no_form (lift_tree i certificate) is = no_lift i certificate is.0
   no_form (gen n) is = no_gen n is

@@ -11,9 +11,10 @@ use Rattle.sweep_command.specs.Texts.{swept_text}
 use Rattle.pattern_reader.specs.Rows.{rows_of}
 use Rattle.lifted_command.specs.LiftedTexts.{lifted_status, lifted_text}
 use Rattle.ask_command.specs.FoundAsks.{found_text as ask_found_text, IsAskWritable}
+use Rattle.lift_command.specs.LiftTexts.{lift_status, lift_text}
 use Rattle.gen_command.specs.Reports.{report_text}
 use Rattle.pipecheck_run.specs.declared.answer.Answer.{Answer}
-use Rattle.pipecheck_run.specs.declared.answer.Answer.TheVariants.{Usage as a_usage, Ended as an_ending, Checked as a_verdict, Verified as a_check, Core as a_core, Swept as a_sweep, Lifted as a_lifted, Asked as an_ask, Generated as a_report}
+use Rattle.pipecheck_run.specs.declared.answer.Answer.TheVariants.{Usage as a_usage, Ended as an_ending, Checked as a_verdict, Verified as a_check, Core as a_core, Swept as a_sweep, Lifted as a_lifted, Asked as an_ask, Lift as a_lift, Generated as a_report}
 use Rattle.pipecheck_run.specs.Answers.{usage_text}
 
 abbrev pub answer_text : Answer → List ℕ
@@ -25,6 +26,7 @@ answer_text (a_core f) = found_text f
 answer_text (a_sweep s) = swept_text s
 answer_text (a_lifted l) = lifted_text l
 answer_text (an_ask q) = ask_found_text q
+answer_text (a_lift f) = lift_text f
 answer_text (a_report r) = report_text r
 
 abbrev pub answer_status : Answer → Status
@@ -36,6 +38,7 @@ answer_status (a_core f) = Done
 answer_status (a_sweep s) = Done
 answer_status (a_lifted l) = lifted_status l
 answer_status (an_ask q) = Done
+answer_status (a_lift f) = lift_status f
 answer_status (a_report r) = Done
 
 -- each node of a verdict is of its front
@@ -48,4 +51,5 @@ CanBeWritten (a_core f) = IsCoreWritable f
 CanBeWritten (a_sweep s) = length s.answers.items ≡ rows_of s.pattern
 CanBeWritten (a_lifted l) = ⊤
 CanBeWritten (an_ask q) = IsAskWritable q
+CanBeWritten (a_lift f) = ⊤
 CanBeWritten (a_report r) = ⊤

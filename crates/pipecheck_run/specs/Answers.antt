@@ -16,8 +16,9 @@ use Rattle.sweep_command.specs.SweepAnswers.{AnswersSweep}
 use Rattle.lifted_command.specs.LiftedAnswers.{AnswersLifted}
 use Rattle.ask_command.specs.AskFiles.{LacksOne}
 use Rattle.ask_command.specs.AskAnswers.{AnswersAsk}
+use Rattle.lift_command.specs.LiftAnswers.{AnswersLift}
 use Rattle.gen_command.specs.GenAnswers.{AnswersGen}
-use Rattle.pipecheck_run.specs.Command.{Command, check, verify, find_core, check_listing, verify_listing, sweep_rows, verify_lifted, ask_query, gen, IsCommand, IsNoCommand}
+use Rattle.pipecheck_run.specs.Command.{Command, check, verify, find_core, check_listing, verify_listing, sweep_rows, verify_lifted, ask_query, lift_tree, gen, IsCommand, IsNoCommand}
 
 abbrev pub usage_text : List ℕ
 usage_text = codes "pipecheck: bad command line\n"
@@ -32,6 +33,7 @@ AnswersCommand holds (verify_listing i certificate) = AnswersVerify ListingCase 
 AnswersCommand holds (sweep_rows i) = AnswersSweep holds i
 AnswersCommand holds (verify_lifted i certificate) = AnswersLifted CaseOf IsTestFault holds i certificate
 AnswersCommand holds (ask_query i query) = AnswersAsk holds i query
+AnswersCommand holds (lift_tree i certificate) = AnswersLift CaseOf IsTestFault holds i certificate
 AnswersCommand holds (gen n) = AnswersGen n
 
 -- the answer to the words, where the names hold these contents, with its text
@@ -50,6 +52,7 @@ Lacks holds (verify_listing i certificate) = LacksInput holds i ⊎ LacksThird L
 Lacks holds (sweep_rows i) = LacksInput holds i
 Lacks holds (verify_lifted i certificate) = LacksInput holds i ⊎ LacksThird CaseOf holds i certificate
 Lacks holds (ask_query i query) = LacksOne holds i query
+Lacks holds (lift_tree i certificate) = LacksInput holds i ⊎ LacksThird CaseOf holds i certificate
 Lacks holds (gen n) = ⊥
 
 -- so it is with the command that the words are

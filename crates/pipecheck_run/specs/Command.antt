@@ -5,7 +5,7 @@ use Rattle.pc_ground.specs.declared.version.Version.{Version}
 use Rattle.pc_ground.specs.declared.version.Version.TheVariants.{One, Two}
 use Rattle.command_base.specs.Inputs.{Inputs, plain_inputs}
 use Rattle.pipecheck_run.specs.declared.command.Command.{Command as CodeCommand}
-use Rattle.pipecheck_run.specs.declared.command.Command.TheVariants.{Check, Verify, Core, CheckListing, VerifyListing, Sweep, VerifyLifted, Ask, Gen}
+use Rattle.pipecheck_run.specs.declared.command.Command.TheVariants.{Check, Verify, Core, CheckListing, VerifyListing, Sweep, VerifyLifted, Ask, Lift, Gen}
 
 pub data Command : Type 0 where
   -- with refutations of this version
@@ -24,6 +24,8 @@ pub data Command : Type 0 where
   verify_lifted : Inputs → List ℕ → Command
   -- with the name of a query
   ask_query : Inputs → List ℕ → Command
+  -- with the name of a certificate that is lifted
+  lift_tree : Inputs → List ℕ → Command
   -- a number of cores
   gen : ℕ → Command
 
@@ -37,6 +39,7 @@ plain_command (VerifyListing i certificate) = verify_listing (plain_inputs i) ce
 plain_command (Sweep i) = sweep_rows (plain_inputs i)
 plain_command (VerifyLifted i certificate) = verify_lifted (plain_inputs i) certificate.now
 plain_command (Ask i query) = ask_query (plain_inputs i) query.now
+plain_command (Lift i certificate) = lift_tree (plain_inputs i) certificate.now
 plain_command (Gen n) = gen n
 
 -- the words by which a command is spelt; no two commands have one first word
@@ -50,6 +53,7 @@ words_of (verify_listing i certificate) = codes "verify86" ∷ i.model ∷ i.tes
 words_of (sweep_rows i) = codes "sweep" ∷ i.model ∷ i.test ∷ []
 words_of (verify_lifted i certificate) = codes "verify-lifted" ∷ i.model ∷ i.test ∷ certificate ∷ []
 words_of (ask_query i query) = codes "ask" ∷ i.model ∷ i.test ∷ query ∷ []
+words_of (lift_tree i certificate) = codes "lift" ∷ i.model ∷ i.test ∷ certificate ∷ []
 words_of (gen n) = codes "gen" ∷ decimal n ∷ []
 
 -- the command is within its limits
@@ -62,6 +66,7 @@ IsWithin (verify_listing i certificate) = ⊤
 IsWithin (sweep_rows i) = ⊤
 IsWithin (verify_lifted i certificate) = ⊤
 IsWithin (ask_query i query) = ⊤
+IsWithin (lift_tree i certificate) = ⊤
 IsWithin (gen n) = (2 ≤ n) × (n ≤ 16)
 
 abbrev pub IsCommand : List (List ℕ) → Command → Type 0
@@ -80,6 +85,7 @@ inputs_of (verify_listing i certificate) = Some i
 inputs_of (sweep_rows i) = Some i
 inputs_of (verify_lifted i certificate) = Some i
 inputs_of (ask_query i query) = Some i
+inputs_of (lift_tree i certificate) = Some i
 inputs_of (gen n) = None
 
 -- the command reads files only if clauses say what they hold

@@ -15,8 +15,9 @@ use Rattle.listing_form.specs.Listings.{IsFirstFault as IsListingFault}
 use Rattle.sweep_command.specs.SweepAnswers.{IsSweepDue}
 use Rattle.lifted_command.specs.LiftedAnswers.{IsLiftedDue}
 use Rattle.ask_command.specs.AskAnswers.{IsAskDue}
+use Rattle.lift_command.specs.LiftAnswers.{IsLiftDue}
 use Rattle.gen_command.specs.GenAnswers.{IsGenDue}
-use Rattle.pipecheck_run.specs.Command.{Command, check, verify, find_core, check_listing, verify_listing, sweep_rows, verify_lifted, ask_query, gen, IsCommand}
+use Rattle.pipecheck_run.specs.Command.{Command, check, verify, find_core, check_listing, verify_listing, sweep_rows, verify_lifted, ask_query, lift_tree, gen, IsCommand}
 
 -- what the statuses of a verdict say to a command: observable only where some choice of nodes with some strict order
 -- makes every axiom true of the case, and unobservable only where none does; whatever a third file holds. `core`, `sweep`
@@ -35,6 +36,8 @@ IsTrueTo holds (sweep_rows i) status = ⊤
 IsTrueTo holds (verify_lifted i certificate) status = (m : WrittenModel) (c : Case) → Says CaseOf holds i m c
     → IsTrueStatus m c status
 IsTrueTo holds (ask_query i query) status = ⊤
+IsTrueTo holds (lift_tree i certificate) status = (m : WrittenModel) (c : Case) → Says CaseOf holds i m c
+    → IsTrueStatus m c status
 IsTrueTo holds (gen n) status = ⊤
 
 abbrev pub IsTrueOf : List (List ℕ) → Contents → Status → Type 0
@@ -50,6 +53,7 @@ IsDueTo holds (verify_listing i certificate) = IsVerifyDue ListingCase IsListing
 IsDueTo holds (sweep_rows i) = IsSweepDue holds i
 IsDueTo holds (verify_lifted i certificate) = IsLiftedDue CaseOf IsTestFault holds i certificate
 IsDueTo holds (ask_query i query) = IsAskDue holds i query
+IsDueTo holds (lift_tree i certificate) = IsLiftDue CaseOf IsTestFault holds i certificate
 IsDueTo holds (gen n) = IsGenDue n
 
 abbrev pub IsDue : List (List ℕ) → Contents → Status → Type 0

@@ -6,6 +6,7 @@ use cert_check::Checked;
 use command_base::{Ending, checked_status, ending_status, write_checked, write_ending};
 use core_command::{FoundCore, write_core};
 use ask_command::{FoundAsk, write_ask};
+use lift_command::{FoundLift, lift_status, write_lift};
 use gen_command::{Report, write_report};
 use lifted_check::Lifted;
 use lifted_command::{lifted_status, write_lifted};
@@ -32,6 +33,8 @@ pub(crate) enum Answer {
     Lifted(Lifted),
     /// `ask` finds this of a formula.
     Asked(FoundAsk),
+    /// `lift` makes this of a certificate.
+    Lift(FoundLift),
     /// `gen` finds this of the texts that it makes.
     Generated(Report),
 }
@@ -50,6 +53,7 @@ pub(crate) fn write_answer<K: Sink>(out: &mut K, answer: &Answer) -> Result<(), 
         Answer::Swept(swept) => write_sweep(out, swept),
         Answer::Lifted(lifted) => write_lifted(out, *lifted),
         Answer::Asked(found) => write_ask(out, found),
+        Answer::Lift(found) => write_lift(out, found),
         Answer::Generated(report) => write_report(out, report),
     }
 }
@@ -67,6 +71,7 @@ pub(crate) fn status(answer: &Answer) -> Status
         Answer::Swept(_) => Status::Done,
         Answer::Lifted(lifted) => lifted_status(*lifted),
         Answer::Asked(_) => Status::Done,
+        Answer::Lift(found) => lift_status(found),
         Answer::Generated(_) => Status::Done,
     }
 }

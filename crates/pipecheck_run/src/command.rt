@@ -38,6 +38,11 @@ pub(crate) enum Command<'a> {
         inputs: Inputs<'a>,
         query: &'a str,
     },
+    /// `lift MODEL TEST CERT`
+    Lift {
+        inputs: Inputs<'a>,
+        certificate: &'a str,
+    },
     /// `gen N`, with N from 2 to 16
     Gen(u8),
 }
@@ -121,6 +126,12 @@ pub(crate) fn parse<'a>(words: &'a [String]) -> Option<Command<'a>>
         return Some(Command::Ask {
             inputs,
             query,
+        });
+    }
+    if let Some((inputs, certificate)) = three_behind("lift", words) {
+        return Some(Command::Lift {
+            inputs,
+            certificate,
         });
     }
     let n = cores_behind(words)?;

@@ -6,7 +6,7 @@ ghost use Rattle.pc_common.specs.Pieces.{IsCutShort};
 ghost use Rattle.pc_common.specs.declared.status.Status.TheVariants.{Usage as SUsage, ReadFault as SReadFault, WriteFault as SWriteFault, Memory as SMemory};
 ghost use Rattle.command_base.specs.Inputs.{plain_inputs};
 ghost use Rattle.gen_command.specs.GenAnswers.{IsGenOutcome};
-ghost use Rattle.pipecheck_run.specs.Command.{plain_command, check as check_of, verify as verify_of, ask_query as ask_query_of, verify_lifted as verify_lifted_of, sweep_rows as sweep_rows_of, verify_listing as verify_listing_of, check_listing as check_listing_of, find_core as find_core_of, IsNoCommand, IsIdle, IsKnown, IsWithin, inputs_of};
+ghost use Rattle.pipecheck_run.specs.Command.{plain_command, check as check_of, verify as verify_of, lift_tree as lift_tree_of, ask_query as ask_query_of, verify_lifted as verify_lifted_of, sweep_rows as sweep_rows_of, verify_listing as verify_listing_of, check_listing as check_listing_of, find_core as find_core_of, IsNoCommand, IsIdle, IsKnown, IsWithin, inputs_of};
 ghost use Rattle.pipecheck_run.specs.Answers.{Answers, usage_text, WordsLack};
 ghost use Rattle.pipecheck_run.specs.Headline.{IsTrueOf, IsDue};
 ghost use Rattle.pipecheck_run.specs.AnswerTexts.{answer_text, answer_status, CanBeWritten};
@@ -18,6 +18,7 @@ use check_command::check;
 use command_base::{Ending, Inputs, TestFile};
 use core_command::find_core;
 use ask_command::ask_files;
+use lift_command::lift_files;
 use gen_command::generate;
 use lifted_command::verify_lifted;
 use listing_form::ListingFile;
@@ -148,6 +149,23 @@ fn ask_answer<F: Files>(
     }
 }
 
+/// The answer to `lift MODEL TEST CERT`.
+fn lift_answer<F: Files>(
+    alloc: Global,
+    inputs: Inputs<'_>,
+    certificate: &str,
+    files: &mut F,
+) -> Answer
+    ensures outcome { IsCommandOutcome F.view (lift_tree_of (plain_inputs inputs.entry) certificate.now)
+        files.old files.new (answer_status result) (answer_text result) }
+    ensures writable { CanBeWritten result }
+{
+    match lift_files::<TestFile, F>(alloc, inputs, certificate, files) {
+        Ok(found) => Answer::Lift(found),
+        Err(ending) => Answer::Ended(ending),
+    }
+}
+
 /// The answer to `gen N`, which touches no file.
 fn gen_answer(alloc: Global, n: u8) -> Answer
     requires { 2 ≤ n × n ≤ 16 }
@@ -190,6 +208,10 @@ fn answer_to<F: Files>(alloc: Global, command: Command<'_>, files: &mut F) -> An
             inputs,
             query,
         } => ask_answer(alloc, inputs, query, files),
+        Command::Lift {
+            inputs,
+            certificate,
+        } => lift_answer(alloc, inputs, certificate, files),
         Command::Gen(n) => gen_answer(alloc, n),
     }
 }

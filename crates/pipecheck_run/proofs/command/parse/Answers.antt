@@ -16,4 +16,5 @@ returns-in_err-n c =
     c.in_default-inputs_behind-4.ensures
     c.in_default-three_behind-3.ensures
     c.in_default-three_behind-4.ensures
+    c.in_default-three_behind-5.ensures
     c.in_err-n.ensures)

@@ -26,6 +26,9 @@ returns-in-VerifyLifted-clause-outcome g c = rw c.in-VerifyLifted.is c.verify_li
 pub returns-in-Ask-clause-outcome : goal.returns-in-Ask-clause-outcome
 returns-in-Ask-clause-outcome g c = rw c.in-Ask.is c.ask_answer.ensures.outcome
 
+pub returns-in-Lift-clause-outcome : goal.returns-in-Lift-clause-outcome
+returns-in-Lift-clause-outcome g c = rw c.in-Lift.is c.lift_answer.ensures.outcome
+
 pub returns-in-Check-clause-outcome : goal.returns-in-Check-clause-outcome
 returns-in-Check-clause-outcome g c = rw c.in-Check.is c.check_answer.ensures.outcome
 
