@@ -175,7 +175,9 @@ fn spread(
             return Ok(());
         }
         let head = heads[node as usize];
-        visit(levels, nexts, queue, literals, links, head, node, target, done)?;
+        visit(
+            levels, nexts, queue, literals, links, head, node, target, done,
+        )?;
         done += 1;
     }
     Ok(())

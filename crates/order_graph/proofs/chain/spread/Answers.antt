@@ -1,4 +1,4 @@
-use Rattle.std.proofs.Common.{◌≡◌, ◌≢◌, ℕ, List, length, get_or, subst, arith}
+use Rattle.std.proofs.Common.{◌≡◌, ℕ, List, length, subst, arith}
 use Rattle.pc_ground.specs.Literals.{Joins}
 use Rattle.order_graph.specs.Levels.{IsSearched}
 use Rattle.order_graph.proofs.Chains.{reach_follows}

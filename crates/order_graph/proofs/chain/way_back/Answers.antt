@@ -1,5 +1,4 @@
-use Rattle.std.proofs.Common.{ℕ, List, length, set, ap, sym, subst, arith}
-use Rattle.std.specs.Prelude.{All}
+use Rattle.std.proofs.Common.{ℕ, List, length, set, ap}
 use Rattle.std.proofs.lemmas.List.{length-set}
 use Rattle.pc_ground.specs.Literals.{Joins}
 use Rattle.order_graph.specs.Ways.{IsWay}
