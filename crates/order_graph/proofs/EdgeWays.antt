@@ -1,6 +1,7 @@
 -- Ways a node at a time, and what levels say of them.
 use Rattle.std.proofs.Common.{◌≡◌, ◌≢◌, ℕ, ◌+◌, ◌<◌, inl, inr, List, [], ◌∷◌, ◌++◌, length, get_or, refl, sym, ◌∙◌, ap, subst, arith}
-use Rattle.order_graph.specs.Edges.{IsEdge}
+use Rattle.pc_ground.specs.declared.literal.Literal.{Literal}
+use Rattle.pc_ground.specs.Literals.{Joins}
 use Rattle.order_graph.specs.Ways.{Follows, IsWay}
 use Rattle.order_graph.specs.Levels.{HasNext, IsClosed, far}
 
@@ -19,7 +20,7 @@ next_step target levels nexts a next inside near further =
     elim (next a inside near) [ inl home ↦ (let z = home.0 in absurd (omega arith)) | inr step ↦ step ]
 
 -- a node from which edges lead to one with a level has a level
-pub reaches_near : (edges : List (ℕ × ℕ)) (levels : List ℕ) (a : ℕ) (via : List ℕ) (b : ℕ)
-    → IsClosed edges levels → Follows (IsEdge edges) a via b → get_or levels b 0 ≢ far → get_or levels a 0 ≢ far
-reaches_near edges levels a [] b closed e near = λ f. near (ap (λ x. get_or levels x 0) (sym e) ∙ f)
-reaches_near edges levels a (x ∷ xs) b closed f near = closed a x f.0 (reaches_near edges levels x xs b closed f.1 near)
+pub reaches_near : (ls : List (Literal ℕ)) (levels : List ℕ) (a : ℕ) (via : List ℕ) (b : ℕ)
+    → IsClosed ls levels → Follows (Joins ls) a via b → get_or levels b 0 ≢ far → get_or levels a 0 ≢ far
+reaches_near ls levels a [] b closed e near = λ f. near (ap (λ x. get_or levels x 0) (sym e) ∙ f)
+reaches_near ls levels a (x ∷ xs) b closed f near = closed a x f.0 (reaches_near ls levels x xs b closed f.1 near)

@@ -8,25 +8,27 @@ use Rattle.std.proofs.lemmas.List.Folds.{sum_by-replicate}
 use Rattle.std.proofs.lemmas.List.Elements.{Contains-append_left, Contains-push, All-contains}
 use Rattle.order_graph.proofs.Decide.{same_or_not}
 use Rattle.order_graph.proofs.OnList.{same_read, on_cases, on_none}
-use Rattle.order_graph.specs.Edges.{IsInside}
+use Rattle.pc_ground.specs.declared.literal.Literal.{Literal}
+use Rattle.pc_ground.specs.declared.literal.Literal.TheVariants.{Node, Edge, NoNode, NoEdge}
+use Rattle.order_graph.specs.Ways.{IsBelow}
 use Rattle.order_graph.specs.Levels.{far, far_count, one_if_far, OnList, HasRaised, fresh, nearer, known, HasFollowed, IsSearched, IsClosed}
 
 one_if_near : (d : ℕ) → d ≢ far → one_if_far d ≡ 0
 one_if_near d h = rw (ne_eqb d far h) refl
 
 -- what one edge leaves and brings
-pub record IsStep (edges : List (ℕ × ℕ)) (target nodes h from : ℕ) (levels queue now next_now queue_now : List ℕ) : Type 0 where
-  pub searched : IsSearched edges target nodes h now next_now queue_now
+pub record IsStep (ls : List (Literal ℕ)) (target nodes h from : ℕ) (levels queue now next_now queue_now : List ℕ) : Type 0 where
+  pub searched : IsSearched ls target nodes h now next_now queue_now
   pub stays : (a : ℕ) → get_or levels a 0 ≢ far → get_or now a 0 ≡ get_or levels a 0
   pub near : get_or now from 0 ≢ far
   pub longer : length queue ≤ length queue_now
   pub first : (j : ℕ) → j < length queue → get_or queue_now j 0 ≡ get_or queue j 0
 
-fresh_step : (edges : List (ℕ × ℕ)) (target nodes h : ℕ) (levels nexts queue : List ℕ) (from to : ℕ)
-    → IsSearched edges target nodes h levels nexts queue → nodes + 2 < far → from < nodes → to < nodes → get_or levels to 0 ≢ far
-    → Contains edges (from, to) → get_or levels from 0 ≡ far
-    → IsStep edges target nodes h from levels queue (set levels from (get_or levels to 0 + 1)) (set nexts from to) (queue ++ from ∷ [])
-fresh_step edges target nodes h levels nexts queue from to s few from_in to_in near has was =
+fresh_step : (ls : List (Literal ℕ)) (target nodes h : ℕ) (levels nexts queue : List ℕ) (from to : ℕ)
+    → IsSearched ls target nodes h levels nexts queue → nodes + 2 < far → from < nodes → to < nodes → get_or levels to 0 ≢ far
+    → Contains ls (Edge from to) → get_or levels from 0 ≡ far
+    → IsStep ls target nodes h from levels queue (set levels from (get_or levels to 0 + 1)) (set nexts from to) (queue ++ from ∷ [])
+fresh_step ls target nodes h levels nexts queue from to s few from_in to_in near has was =
     let now : List ℕ = set levels from (get_or levels to 0 + 1) in
     let next_now : List ℕ = set nexts from to in
     let queue_now : List ℕ = queue ++ from ∷ [] in
@@ -73,8 +75,8 @@ fresh_step edges target nodes h levels nexts queue from to s few from_in to_in n
         steps = λ a b n. elim (grew a n.1) [
           | inl same ↦
               let end : to ≡ b = sym (ap (λ x. get_or next_now x 0) same ∙ next_here) ∙ n.3 in
-              let P : ℕ → Type 0 = λ x. Contains edges (x, b) in
-              let Q : ℕ → Type 0 = λ y. Contains edges (from, y) in
+              let P : ℕ → Type 0 = λ x. Contains ls (Edge x b) in
+              let Q : ℕ → Type 0 = λ y. Contains ls (Edge from y) in
               subst P (sym same) (subst Q end has)
           | inr old ↦
               let inside = n.0 in
@@ -108,7 +110,7 @@ fresh_step edges target nodes h levels nexts queue from to s few from_in to_in n
         low = omega arith;
         closed = λ j a below is.
             let q : get_or queue_now j 0 ≡ get_or queue j 0 = get_or_append_left queue (from ∷ []) 0 j (omega arith) in
-            let P : ℕ → Type 0 = λ x. Contains edges (a, x) in
+            let P : ℕ → Type 0 = λ x. Contains ls (Edge a x) in
             let old = s.closed j a below (subst P q is) in
             (λ f. old (sym (stays a old) ∙ f));
       };
@@ -118,11 +120,11 @@ fresh_step edges target nodes h levels nexts queue from to s few from_in to_in n
       first = λ j below. get_or_append_left queue (from ∷ []) 0 j below;
     }
 
-nearer_step : (edges : List (ℕ × ℕ)) (target nodes h : ℕ) (levels nexts queue : List ℕ) (from to : ℕ)
-    → IsSearched edges target nodes h levels nexts queue → nodes + 2 < far → from < nodes → to < nodes → get_or levels to 0 ≢ far
-    → Contains edges (from, to) → get_or levels from 0 ≡ get_or levels to 0 + 1
-    → IsStep edges target nodes h from levels queue levels (set nexts from to) queue
-nearer_step edges target nodes h levels nexts queue from to s few from_in to_in near has level =
+nearer_step : (ls : List (Literal ℕ)) (target nodes h : ℕ) (levels nexts queue : List ℕ) (from to : ℕ)
+    → IsSearched ls target nodes h levels nexts queue → nodes + 2 < far → from < nodes → to < nodes → get_or levels to 0 ≢ far
+    → Contains ls (Edge from to) → get_or levels from 0 ≡ get_or levels to 0 + 1
+    → IsStep ls target nodes h from levels queue levels (set nexts from to) queue
+nearer_step ls target nodes h levels nexts queue from to s few from_in to_in near has level =
     let next_now : List ℕ = set nexts from to in
     let size = s.levels_all in
     let next_size = s.nexts_all in
@@ -150,8 +152,8 @@ nearer_step edges target nodes h levels nexts queue from to s few from_in to_in 
         steps = λ a b n. elim (same_or_not a from) [
           | inl same ↦
               let end : to ≡ b = sym (ap (λ x. get_or next_now x 0) same ∙ next_here) ∙ n.3 in
-              let P : ℕ → Type 0 = λ x. Contains edges (x, b) in
-              let Q : ℕ → Type 0 = λ y. Contains edges (from, y) in
+              let P : ℕ → Type 0 = λ x. Contains ls (Edge x b) in
+              let Q : ℕ → Type 0 = λ y. Contains ls (Edge from y) in
               subst P (sym same) (subst Q end has)
           | inr other ↦ s.steps a b (n.0, n.1, n.2, sym (next_there a other) ∙ n.3)
         ];
@@ -168,30 +170,30 @@ nearer_step edges target nodes h levels nexts queue from to s few from_in to_in 
       first = λ j below. refl;
     }
 
-pub raised_step : (edges : List (ℕ × ℕ)) (target nodes h : ℕ) (levels nexts queue : List ℕ) (from to : ℕ) (now next_now queue_now : List ℕ)
-    → IsSearched edges target nodes h levels nexts queue → nodes + 2 < far → from < nodes → to < nodes → get_or levels to 0 ≢ far
-    → Contains edges (from, to) → HasRaised levels nexts queue from to now next_now queue_now
-    → IsStep edges target nodes h from levels queue now next_now queue_now
-raised_step edges target nodes h levels nexts queue from to now next_now queue_now s few from_in to_in near has (fresh was is next_is queue_is) =
-    rw (is, next_is, queue_is) (fresh_step edges target nodes h levels nexts queue from to s few from_in to_in near has was)
-raised_step edges target nodes h levels nexts queue from to now next_now queue_now s few from_in to_in near has (nearer level is next_is queue_is) =
-    rw (is, next_is, queue_is) (nearer_step edges target nodes h levels nexts queue from to s few from_in to_in near has level)
-raised_step edges target nodes h levels nexts queue from to now next_now queue_now s few from_in to_in near has (known there is next_is queue_is) =
+pub raised_step : (ls : List (Literal ℕ)) (target nodes h : ℕ) (levels nexts queue : List ℕ) (from to : ℕ) (now next_now queue_now : List ℕ)
+    → IsSearched ls target nodes h levels nexts queue → nodes + 2 < far → from < nodes → to < nodes → get_or levels to 0 ≢ far
+    → Contains ls (Edge from to) → HasRaised levels nexts queue from to now next_now queue_now
+    → IsStep ls target nodes h from levels queue now next_now queue_now
+raised_step ls target nodes h levels nexts queue from to now next_now queue_now s few from_in to_in near has (fresh was is next_is queue_is) =
+    rw (is, next_is, queue_is) (fresh_step ls target nodes h levels nexts queue from to s few from_in to_in near has was)
+raised_step ls target nodes h levels nexts queue from to now next_now queue_now s few from_in to_in near has (nearer level is next_is queue_is) =
+    rw (is, next_is, queue_is) (nearer_step ls target nodes h levels nexts queue from to s few from_in to_in near has level)
+raised_step ls target nodes h levels nexts queue from to now next_now queue_now s few from_in to_in near has (known there is next_is queue_is) =
     rw (is, next_is, queue_is) record { searched = s; stays = λ a n. refl; near = there; longer = omega arith; first = λ j below. refl }
 
 -- the edges into the node were followed but for those on the list from `at` on
-pub record IsVisiting (edges : List (ℕ × ℕ)) (links : List ℕ) (target nodes done node at : ℕ) (levels nexts queue : List ℕ) : Type 0 where
-  pub searched : IsSearched edges target nodes done levels nexts queue
+pub record IsVisiting (ls : List (Literal ℕ)) (links : List ℕ) (target nodes done node at : ℕ) (levels nexts queue : List ℕ) : Type 0 where
+  pub searched : IsSearched ls target nodes done levels nexts queue
   pub inside : done < length queue
   pub node_is : get_or queue done 0 ≡ node
-  pub at_in : at ≤ length edges
-  pub rest : (k a : ℕ) → k < length edges → get_or edges k (a, node) ≡ (a, node) → OnList links at k ⊎ (get_or levels a 0 ≢ far)
+  pub at_in : at ≤ length ls
+  pub rest : (k a : ℕ) → k < length ls → get_or ls k (Edge a node) ≡ Edge a node → OnList links at k ⊎ (get_or levels a 0 ≢ far)
 
 -- the node has a level below far, and is a node
-pub visited : (edges : List (ℕ × ℕ)) (links : List ℕ) (target nodes done node at : ℕ) (levels nexts queue : List ℕ)
-    → IsVisiting edges links target nodes done node at levels nexts queue → nodes + 2 < far
+pub visited : (ls : List (Literal ℕ)) (links : List ℕ) (target nodes done node at : ℕ) (levels nexts queue : List ℕ)
+    → IsVisiting ls links target nodes done node at levels nexts queue → nodes + 2 < far
     → (node < nodes) × (get_or levels node 0 ≢ far) × (get_or levels node 0 + 1 < far)
-visited edges links target nodes done node at levels nexts queue v few =
+visited ls links target nodes done node at levels nexts queue v few =
     let r = v.searched.reached done v.inside in
     let node_is = v.node_is in
     let r_in = r.0 in
@@ -201,18 +203,43 @@ visited edges links target nodes done node at levels nexts queue v few =
     let counted = v.searched.count in
     (node_in, near, omega arith)
 
-pub visiting_more : (edges : List (ℕ × ℕ)) (links : List ℕ) (target nodes done node at : ℕ) (levels nexts queue now next_now queue_now : List ℕ) (e : ℕ × ℕ)
-    → IsVisiting edges links target nodes done node (at + 1) levels nexts queue → nodes + 2 < far → All (IsInside nodes) edges
-    → ((j : ℕ) → get_or links j 0 ≤ j) → ((d : ℕ × ℕ) → get_or edges at d ≡ e)
-    → HasFollowed e node levels nexts queue now next_now queue_now
-    → IsVisiting edges links target nodes done node (get_or links at 0) now next_now queue_now
-visiting_more edges links target nodes done node at levels nexts queue now next_now queue_now e v few all falling read (inl (to_is, raised)) =
+-- the two edges are one
+ends_are : (a b c d : ℕ) → Edge a b ≡ Edge c d → (a ≡ c) × (b ≡ d)
+ends_are a b c d e = (cc, cc)
+
+-- a literal that asserts no edge to the node is passed over
+passed_over : (ls : List (Literal ℕ)) (links : List ℕ) (target nodes done node at : ℕ) (levels nexts queue : List ℕ)
+    → IsVisiting ls links target nodes done node (at + 1) levels nexts queue → ((j : ℕ) → get_or links j 0 ≤ j)
+    → ((a : ℕ) → get_or ls at (Edge a node) ≡ Edge a node → ⊥)
+    → IsVisiting ls links target nodes done node (get_or links at 0) levels nexts queue
+passed_over ls links target nodes done node at levels nexts queue v falling other =
     let at_in = v.at_in in
-    let known_node = visited edges links target nodes done node (at + 1) levels nexts queue v few in
-    let edge_is : e ≡ (e.0, node) = ap (λ x. (e.0, x)) to_is in
-    let has : Contains edges (e.0, node) = (at, omega arith, read (e.0, node) ∙ edge_is) in
-    let from_in = (All-contains (IsInside nodes) edges (e.0, node) all has).0 in
-    let step = raised_step edges target nodes done levels nexts queue e.0 node now next_now queue_now v.searched few from_in known_node.0 known_node.1 has raised in
+    record {
+      searched = v.searched;
+      inside = v.inside;
+      node_is = v.node_is;
+      at_in = (let f = falling at in omega arith);
+      rest = λ k a inside there. elim (v.rest k a inside there) [
+        | inl on ↦ elim (on_cases links at k on) [
+          | inl here ↦ absurd (other a (ap (λ x. get_or ls x (Edge a node)) (sym here) ∙ there))
+          | inr later_on ↦ inl later_on
+        ]
+        | inr done_before ↦ inr done_before
+      ];
+    }
+
+-- an edge to the node is followed
+followed : (ls : List (Literal ℕ)) (links : List ℕ) (target nodes done node at : ℕ) (levels nexts queue now next_now queue_now : List ℕ) (p : ℕ)
+    → IsVisiting ls links target nodes done node (at + 1) levels nexts queue → nodes + 2 < far → All (IsBelow nodes) ls
+    → ((j : ℕ) → get_or links j 0 ≤ j) → ((d : Literal ℕ) → get_or ls at d ≡ Edge p node)
+    → HasRaised levels nexts queue p node now next_now queue_now
+    → IsVisiting ls links target nodes done node (get_or links at 0) now next_now queue_now
+followed ls links target nodes done node at levels nexts queue now next_now queue_now p v few all falling read raised =
+    let at_in = v.at_in in
+    let known_node = visited ls links target nodes done node (at + 1) levels nexts queue v few in
+    let has : Contains ls (Edge p node) = (at, omega arith, read (Edge p node)) in
+    let from_in = (All-contains (IsBelow nodes) ls (Edge p node) all has).0 in
+    let step = raised_step ls target nodes done levels nexts queue p node now next_now queue_now v.searched few from_in known_node.0 known_node.1 has raised in
     record {
       searched = step.searched;
       inside = (let a = v.inside in let b = step.longer in omega arith);
@@ -221,32 +248,37 @@ visiting_more edges links target nodes done node at levels nexts queue now next_
       rest = λ k a inside is. elim (v.rest k a inside is) [
         | inl on ↦ elim (on_cases links at k on) [
           | inl here ↦
-              let start : a ≡ e.0 = ap (λ x. x.0) (sym is ∙ ap (λ x. get_or edges x (a, node)) here ∙ read (a, node)) in
+              let start : a ≡ p = (ends_are a node p node (sym is ∙ ap (λ x. get_or ls x (Edge a node)) here ∙ read (Edge a node))).0 in
               inr (λ f. step.near (ap (λ x. get_or now x 0) (sym start) ∙ f))
           | inr later_on ↦ inl later_on
         ]
         | inr done_before ↦ inr (λ f. done_before (sym (step.stays a done_before) ∙ f))
       ];
     }
-visiting_more edges links target nodes done node at levels nexts queue now next_now queue_now e v few all falling read (inr (other, is, next_is, queue_is)) =
-    let at_in = v.at_in in
-    rw (is, next_is, queue_is) record {
-      searched = v.searched;
-      inside = v.inside;
-      node_is = v.node_is;
-      at_in = (let f = falling at in omega arith);
-      rest = λ k a inside there. elim (v.rest k a inside there) [
-        | inl on ↦ elim (on_cases links at k on) [
-          | inl here ↦ absurd (other (ap (λ x. x.1) (sym (read (a, node)) ∙ ap (λ x. get_or edges x (a, node)) (sym here) ∙ there)))
-          | inr later_on ↦ inl later_on
-        ]
-        | inr done_before ↦ inr done_before
-      ];
-    }
 
-pub visiting_done : (edges : List (ℕ × ℕ)) (links : List ℕ) (target nodes done node at : ℕ) (levels nexts queue : List ℕ)
-    → IsVisiting edges links target nodes done node at levels nexts queue → at ≡ 0 → IsSearched edges target nodes (done + 1) levels nexts queue
-visiting_done edges links target nodes done node at levels nexts queue v ended =
+pub visiting_more : (ls : List (Literal ℕ)) (links : List ℕ) (target nodes done node at : ℕ) (levels nexts queue now next_now queue_now : List ℕ) (l : Literal ℕ)
+    → IsVisiting ls links target nodes done node (at + 1) levels nexts queue → nodes + 2 < far → All (IsBelow nodes) ls
+    → ((j : ℕ) → get_or links j 0 ≤ j) → ((d : Literal ℕ) → get_or ls at d ≡ l)
+    → HasFollowed l node levels nexts queue now next_now queue_now
+    → IsVisiting ls links target nodes done node (get_or links at 0) now next_now queue_now
+visiting_more ls links target nodes done node at levels nexts queue now next_now queue_now (Edge p q) v few all falling read (inl (to_is, raised)) =
+    followed ls links target nodes done node at levels nexts queue now next_now queue_now p v few all falling (λ d. read d ∙ ap (λ x. Edge p x) to_is) raised
+visiting_more ls links target nodes done node at levels nexts queue now next_now queue_now (Edge p q) v few all falling read (inr (other, is, next_is, queue_is)) =
+    rw (is, next_is, queue_is)
+    (passed_over ls links target nodes done node at levels nexts queue v falling (λ a there. other (ends_are p q a node (sym (read (Edge a node)) ∙ there)).1))
+visiting_more ls links target nodes done node at levels nexts queue now next_now queue_now (Node p) v few all falling read (is, next_is, queue_is) =
+    rw (is, next_is, queue_is)
+    (passed_over ls links target nodes done node at levels nexts queue v falling (λ a there. (let e : Node p ≡ Edge a node = sym (read (Edge a node)) ∙ there in cc)))
+visiting_more ls links target nodes done node at levels nexts queue now next_now queue_now (NoNode p) v few all falling read (is, next_is, queue_is) =
+    rw (is, next_is, queue_is)
+    (passed_over ls links target nodes done node at levels nexts queue v falling (λ a there. (let e : NoNode p ≡ Edge a node = sym (read (Edge a node)) ∙ there in cc)))
+visiting_more ls links target nodes done node at levels nexts queue now next_now queue_now (NoEdge p q) v few all falling read (is, next_is, queue_is) =
+    rw (is, next_is, queue_is)
+    (passed_over ls links target nodes done node at levels nexts queue v falling (λ a there. (let e : NoEdge p q ≡ Edge a node = sym (read (Edge a node)) ∙ there in cc)))
+
+pub visiting_done : (ls : List (Literal ℕ)) (links : List ℕ) (target nodes done node at : ℕ) (levels nexts queue : List ℕ)
+    → IsVisiting ls links target nodes done node at levels nexts queue → at ≡ 0 → IsSearched ls target nodes (done + 1) levels nexts queue
+visiting_done ls links target nodes done node at levels nexts queue v ended =
     let s = v.searched in
     record {
       levels_all = s.levels_all;
@@ -262,7 +294,7 @@ visiting_done edges links target nodes done node at levels nexts queue v ended =
       closed = λ j a below has. elim (same_or_not j done) [
         | inl here ↦
             let end : get_or queue j 0 ≡ node = ap (λ x. get_or queue x 0) here ∙ v.node_is in
-            let P : ℕ → Type 0 = λ x. Contains edges (a, x) in
+            let P : ℕ → Type 0 = λ x. Contains ls (Edge a x) in
             let is = subst P end has in
             elim (v.rest is.0 a is.1 is.2) [
               | inl on ↦ (let Q : ℕ → Type 0 = λ x. OnList links x is.0 in absurd (on_none links is.0 (subst Q ended on)))
@@ -275,9 +307,9 @@ visiting_done edges links target nodes done node at levels nexts queue v ended =
 far_all : (n : ℕ) → far_count (replicate n far) ≡ n
 far_all n = sum_by-replicate one_if_far n far ∙ (let one : one_if_far far ≡ 1 = refl in omega arith)
 
-pub searched_first : (edges : List (ℕ × ℕ)) (target nodes : ℕ) (levels nexts : List ℕ) → target < nodes → length nexts ≡ nodes
-    → levels ≡ set (replicate nodes far) target 0 → IsSearched edges target nodes 0 levels nexts (target ∷ [])
-searched_first edges target nodes levels nexts inside next_size is =
+pub searched_first : (ls : List (Literal ℕ)) (target nodes : ℕ) (levels nexts : List ℕ) → target < nodes → length nexts ≡ nodes
+    → levels ≡ set (replicate nodes far) target 0 → IsSearched ls target nodes 0 levels nexts (target ∷ [])
+searched_first ls target nodes levels nexts inside next_size is =
     let clear : List ℕ = replicate nodes far in
     let size : length clear ≡ nodes = length-replicate nodes far in
     let home : get_or levels target 0 ≡ 0 = ap (λ x. get_or x target 0) is ∙ get_or-set_same clear target 0 0 (omega arith) in
@@ -310,11 +342,11 @@ searched_first edges target nodes levels nexts inside next_size is =
     }
 
 -- all in the queue were visited
-pub searched_all : (edges : List (ℕ × ℕ)) (target nodes : ℕ) (levels nexts queue : List ℕ) → All (IsInside nodes) edges
-    → IsSearched edges target nodes (length queue) levels nexts queue → IsClosed edges levels
-searched_all edges target nodes levels nexts queue all s a b has near =
-    let b_in = (All-contains (IsInside nodes) edges (a, b) all has).1 in
+pub searched_all : (ls : List (Literal ℕ)) (target nodes : ℕ) (levels nexts queue : List ℕ) → All (IsBelow nodes) ls
+    → IsSearched ls target nodes (length queue) levels nexts queue → IsClosed ls levels
+searched_all ls target nodes levels nexts queue all s a b has near =
+    let b_in = (All-contains (IsBelow nodes) ls (Edge a b) all has).1 in
     let at = s.queued b b_in near in
-    let P : ℕ → Type 0 = λ x. Contains edges (a, x) in
+    let P : ℕ → Type 0 = λ x. Contains ls (Edge a x) in
     let q : get_or queue at.0 0 ≡ b = same_read queue at.0 0 b at.1 ∙ at.2 in
     s.closed at.0 a at.1 (subst P (sym q) has)

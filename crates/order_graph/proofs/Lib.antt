@@ -6,7 +6,6 @@ pub mod IsClash
 pub mod Represents
 pub mod CloseOver
 pub mod ClashOf
-pub mod EdgeLists
 pub mod Results
 pub mod MarkLists
 pub mod Orders

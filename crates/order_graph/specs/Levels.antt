@@ -1,5 +1,7 @@
 -- Levels of nodes: how many edges away a target is, found backwards from it.
 use Rattle.std.specs.Prelude.{ℕ, ◌≡◌, ◌≢◌, ◌+◌, ◌<◌, ◌≤◌, ◌⊎◌, List, [], ◌∷◌, ◌++◌, length, slice_index, slice_index_or, slice_set, Contains, sum_by, ◌==◌, if◌then◌else◌}
+use Rattle.pc_ground.specs.declared.literal.Literal.{Literal}
+use Rattle.pc_ground.specs.declared.literal.Literal.TheVariants.{Node, Edge, NoNode, NoEdge}
 
 -- the level of a node from which the target was not reached
 abbrev pub far : ℕ
@@ -13,18 +15,25 @@ one_if_far d = if d == far then 1 else 0
 abbrev pub far_count : List ℕ → ℕ
 far_count levels = sum_by one_if_far levels
 
--- edge k is on the linked list that begins with the edge of this number, edge j being j + 1 there
+-- literal k is on the linked list that begins with the literal of this number, literal j being j + 1 there
 pub data OnList (links : List ℕ) : ℕ → ℕ → Type 0 where
   here : (k : ℕ) → OnList links (k + 1) k
   later : (e k : ℕ) → OnList links (slice_index links e) k → OnList links (e + 1) k
 
--- the first k edges are on the lists of the nodes that they lead to
-pub record AreLists (edges : List (ℕ × ℕ)) (nodes k : ℕ) (heads links : List ℕ) : Type 0 where
+-- the edges among the first k literals are on the lists of the nodes that they lead to
+pub record AreLists (ls : List (Literal ℕ)) (nodes k : ℕ) (heads links : List ℕ) : Type 0 where
   pub heads_all : length heads ≡ nodes
   pub links_all : length links ≡ k
   pub low : (b : ℕ) → slice_index heads b ≤ k
   pub falling : (j : ℕ) → slice_index links j ≤ j
-  pub all : (j a b : ℕ) → j < k → slice_index_or edges j (a, b) ≡ (a, b) → OnList links (slice_index heads b) j
+  pub all : (j a b : ℕ) → j < k → slice_index_or ls j (Edge a b) ≡ Edge a b → OnList links (slice_index heads b) j
+
+-- a literal that asserts an edge is the first on the list of the node that it leads to, and another is on none
+abbrev pub HasListed : Literal ℕ → List ℕ → List ℕ → List ℕ → List ℕ → Type 0
+HasListed (Edge a b) heads links now link_now = (now ≡ slice_set heads b (length links + 1)) × (link_now ≡ links ++ slice_index heads b ∷ [])
+HasListed (Node a) heads links now link_now = (now ≡ heads) × (link_now ≡ links ++ 0 ∷ [])
+HasListed (NoNode a) heads links now link_now = (now ≡ heads) × (link_now ≡ links ++ 0 ∷ [])
+HasListed (NoEdge a b) heads links now link_now = (now ≡ heads) × (link_now ≡ links ++ 0 ∷ [])
 
 -- what an edge changes: its first node gets the level after that of its second, or the second as a lower next node
 pub data HasRaised (levels nexts queue : List ℕ) (from to : ℕ) (now next_now queue_now : List ℕ) : Type 0 where
@@ -37,11 +46,14 @@ pub data HasRaised (levels nexts queue : List ℕ) (from to : ℕ) (now next_now
   known : slice_index levels from ≢ far → now ≡ levels → next_now ≡ nexts → queue_now ≡ queue
       → HasRaised levels nexts queue from to now next_now queue_now
 
--- an edge to the node changes that, and another nothing
-abbrev pub HasFollowed : ℕ × ℕ → ℕ → List ℕ → List ℕ → List ℕ → List ℕ → List ℕ → List ℕ → Type 0
-HasFollowed edge node levels nexts queue now next_now queue_now =
-    ((edge.1 ≡ node) × HasRaised levels nexts queue edge.0 node now next_now queue_now)
-    ⊎ ((edge.1 ≢ node) × (now ≡ levels) × (next_now ≡ nexts) × (queue_now ≡ queue))
+-- a literal that asserts an edge to the node changes that, and another nothing
+abbrev pub HasFollowed : Literal ℕ → ℕ → List ℕ → List ℕ → List ℕ → List ℕ → List ℕ → List ℕ → Type 0
+HasFollowed (Edge a b) node levels nexts queue now next_now queue_now =
+    ((b ≡ node) × HasRaised levels nexts queue a node now next_now queue_now)
+    ⊎ ((b ≢ node) × (now ≡ levels) × (next_now ≡ nexts) × (queue_now ≡ queue))
+HasFollowed (Node a) node levels nexts queue now next_now queue_now = (now ≡ levels) × (next_now ≡ nexts) × (queue_now ≡ queue)
+HasFollowed (NoNode a) node levels nexts queue now next_now queue_now = (now ≡ levels) × (next_now ≡ nexts) × (queue_now ≡ queue)
+HasFollowed (NoEdge a b) node levels nexts queue now next_now queue_now = (now ≡ levels) × (next_now ≡ nexts) × (queue_now ≡ queue)
 
 -- only the target is at level 0, and a node further away has a next node one level nearer
 abbrev pub HasNext : ℕ → List ℕ → List ℕ → Type 0
@@ -55,20 +67,20 @@ IsNext levels nexts a b = (a < length levels) × (slice_index levels a ≢ far) 
     × (slice_index nexts a ≡ b)
 
 -- the nodes in the queue are those with a level, and from the first h of them all edges backwards were followed
-pub record IsSearched (edges : List (ℕ × ℕ)) (target nodes h : ℕ) (levels nexts queue : List ℕ) : Type 0 where
+pub record IsSearched (ls : List (Literal ℕ)) (target nodes h : ℕ) (levels nexts queue : List ℕ) : Type 0 where
   pub levels_all : length levels ≡ nodes
   pub nexts_all : length nexts ≡ nodes
   pub home : slice_index levels target ≡ 0
   pub next : HasNext target levels nexts
-  pub steps : (a b : ℕ) → IsNext levels nexts a b → Contains edges (a, b)
+  pub steps : (a b : ℕ) → IsNext levels nexts a b → Contains ls (Edge a b)
   pub bounded : (a : ℕ) → a < nodes → slice_index levels a ≢ far → slice_index levels a < length queue
   pub queued : (a : ℕ) → a < nodes → slice_index levels a ≢ far → Contains queue a
   pub reached : (j : ℕ) → j < length queue
       → (slice_index queue j < nodes) × (slice_index levels (slice_index queue j) ≢ far)
   pub count : far_count levels + length queue ≡ nodes
   pub low : h ≤ length queue
-  pub closed : (j a : ℕ) → j < h → Contains edges (a, slice_index queue j) → slice_index levels a ≢ far
+  pub closed : (j a : ℕ) → j < h → Contains ls (Edge a (slice_index queue j)) → slice_index levels a ≢ far
 
 -- no edge leads from a node with no level to one with a level
-abbrev pub IsClosed : List (ℕ × ℕ) → List ℕ → Type 0
-IsClosed edges levels = (a b : ℕ) → Contains edges (a, b) → slice_index levels b ≢ far → slice_index levels a ≢ far
+abbrev pub IsClosed : List (Literal ℕ) → List ℕ → Type 0
+IsClosed ls levels = (a b : ℕ) → Contains ls (Edge a b) → slice_index levels b ≢ far → slice_index levels a ≢ far

@@ -1,5 +1,4 @@
 pub mod Ways
-pub mod Edges
 pub mod Clashes
 pub mod State
 pub mod Levels

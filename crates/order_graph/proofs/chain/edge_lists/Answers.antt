@@ -1,21 +1,15 @@
-use Rattle.std.proofs.Common.{◌≡◌, ◌∙◌, ◌+◌, ◌++◌, ◌∷◌, [], ℕ, List, length, get_or, ap, arith}
-use Rattle.std.proofs.lemmas.List.{get_or_read, length_push}
+use Rattle.std.proofs.Common.{◌≡◌, ◌∙◌, List, ℕ, length}
+use Rattle.std.proofs.lemmas.List.{with_items_is}
 use Rattle.order_graph.proofs.OnList.{lists_more, same_read}
 use Rattle.order_graph.proofs.chain.edge_lists.Goals as goal
 
-pub loop-edge-preserved : goal.loop-edge-preserved
-loop-edge-preserved c =
-    let edges = c.args.edges.now in
-    let k = c.loop-edge.edge-index in
-    let heads : List ℕ = c.loop-edge.heads.items in
-    let links : List ℕ = c.loop-edge.links.items in
-    let e = get_or edges k (0, 0) in
-    let inside = c.loop-edge-test.true in
-    let below = (c.requires k (0, 0) inside).1 in
-    let lists = c.loop-edge.invariant in
-    let all = lists.heads_all in
-    let head : c.index.result.now ≡ get_or heads e.1 0 = get_or_read heads e.1 c.index.result.now (omega arith) c.index.ensures 0 in
-    let links_are : c.push.new.self.items ≡ links ++ get_or heads e.1 0 ∷ [] = c.in_ok-push.ensures.items ∙ ap (λ x. links ++ x ∷ []) head in
-    let size : c.len.result ≡ k + 1 =
-    c.len.ensures ∙ c.push.new.self.ok.0 ∙ ap length links_are ∙ length_push links (get_or heads e.1 0) ∙ ap (λ n. n + 1) lists.links_all in
-    rw (links_are, size) (lists_more edges c.args.nodes k heads links e lists (λ d. same_read edges k d (0, 0) inside) below)
+pub loop-literal-preserved : goal.loop-literal-preserved
+loop-literal-preserved c =
+    let ls = c.args.literals.now in
+    let k = c.loop-literal.literal-index in
+    let new : List ℕ = c.put_on_list.new.heads in
+    let size : length new ≡ c.loop-literal.heads.len = c.put_on_list.auto.heads ∙ c.deref_mut.ensures.len in
+    let listed = rw c.deref_mut.ensures.value at c.in_ok-put_on_list.ensures in
+    rw (with_items_is c.loop-literal.heads new size)
+    (lists_more ls c.args.nodes k c.loop-literal.heads.items c.loop-literal.links.items new c.put_on_list.new.links.items _ c.loop-literal.invariant
+    (λ d. same_read ls k d _ c.loop-literal-test.true) (c.requires k _ c.loop-literal-test.true) listed)
