@@ -16,7 +16,7 @@ use Rattle.cert_check.specs.Certificates.{Question, header, certificate_lines, I
 use Rattle.cert_check.specs.Proper.{IsAsked}
 use Rattle.cert_check.specs.RawLines.{RawBegins, RawWhole}
 use Rattle.cert_check.specs.Verified.{IsCertificateText, Verified, seen, unseen, too_long, refused}
-use Rattle.cert_check.specs.Ones.{IsCertificateOne, one_header, RawBeginsOne, RawWholeOne, IsTreeText, IsOne, shown, refuted, one_too_long, one_refused}
+use Rattle.cert_check.specs.Ones.{IsCertificateOne, BeginsOne, one_header, RawBeginsOne, RawWholeOne, IsTreeText, IsOne, shown, refuted, one_too_long, one_refused}
 use Rattle.cert_check.specs.StepTexts.{header_text, SaysTwo}
 use Rattle.cert_check.specs.declared.checked.Checked.TheVariants.{Observable, Unobservable, Refused as refused_at}
 use Rattle.cert_check.specs.declared.one.One.{One}
@@ -65,7 +65,7 @@ same_refused q text n none r = record {
     narrow : (k : ℕ) → FirstLinesBegin (RawBegins q) text k → FirstLinesBegin (RawBeginsOne q) text k
     narrow k f = record { lines = f.lines; rest = f.rest; count = f.count; are_lines = f.are_lines; text_is = f.text_is; begin = begins (one_or_two q f.begin.lines f.begin.begins) }
       where
-        begins : _ → RawBeginsOne q f.lines
+        begins : BeginsOne q f.begin.lines ⊎ HasTwo q f.begin.lines → RawBeginsOne q f.lines
         begins (inl one) = record { lines = f.begin.lines; are = f.begin.are; begins = one }
         begins (inr two) =
             absurd (none (says_two q f.begin.lines f.rest text two (f.text_is ∙ ap (λ (raws : List (List ℕ)). text_of_lines raws ++ f.rest) f.begin.are

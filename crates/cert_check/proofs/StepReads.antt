@@ -205,3 +205,15 @@ all_read {names} {t} {steps} {done} new rest a r = record {
 pub none_ahead : {names : Names} {t : GroundTree Node} {steps done : List (Step Node)} {text : List ℕ} (new : List (Step Node)) → (a : AllSteps names t steps done text)
     → (a.more ≡ []) × (new ≡ done) → new ≡ steps
 none_ahead {done = done} new a none = none.1 ∙ sym (append-nil done) ∙ ap (λ (xs : List (Step Node)). done ++ xs) (sym none.0) ∙ a.all
+
+-- at first none was read
+pub all_start : (own names : Names) → names ≡ own → (done : List (Step Node)) → done ≡ [] → {t : GroundTree Node} {steps : List (Step Node)} {text : List ℕ}
+    → IsAhead own t [] steps text → AllSteps names t steps done text
+all_start own names same done none {t} {steps} {text} ahead =
+    let P : Names → Type 0 = λ ns. IsAhead ns t [] steps text in
+    let Q : List (Step Node) → Type 0 = λ ds. IsAhead names t ds steps text in
+    record {
+      more = steps;
+      ahead = subst Q (sym none) (subst P (sym same) ahead);
+      all = ap (λ (ds : List (Step Node)). ds ++ steps) none;
+    }

@@ -1,4 +1,5 @@
-ghost use Rattle.std.specs.Prelude.{◌≡◌, ◌↔◌, true, IfOk};
+ghost use Rattle.std.specs.Prelude.{◌≡◌, ◌≤◌, ◌↔◌, true, length, IfOk};
+ghost use Rattle.pc_common.specs.declared.limits.TheConstants.{MAX_CERTIFICATE};
 ghost use Rattle.cert_check.specs.Questions.{question_of};
 ghost use Rattle.cert_check.specs.Ones.{IsOne};
 ghost use Rattle.cert_check.specs.StepTexts.{SaysTwo};
@@ -7,9 +8,10 @@ ghost use Rattle.cert_check.specs.declared.one.One.{One as AnyOne};
 use super::checked::Checked;
 use super::checker::check_text;
 use super::header::behind_header;
+use super::next::show_asked;
 use super::steps::read_steps;
 use pc_common::{MAX_CERTIFICATE, Memory};
-use pc_ground::Front;
+use pc_ground::{Front, NodeText};
 use refutation::Refutation;
 use std::alloc::Global;
 
@@ -34,13 +36,22 @@ fn says_two(front: &Front, bytes: &[u8]) -> bool
     }
 }
 
+/// Whether the rules of version 1 refuse the third line, which says version 2. No line of a text past the limit is read.
+fn refuses_two(front: &Front, bytes: &[u8]) -> bool
+    ensures { (result ≡ true) ↔ ((length bytes.now ≤ MAX_CERTIFICATE) × SaysTwo front.now.case.expectation bytes.now) }
+{
+    bytes.len() <= MAX_CERTIFICATE && says_two(front, bytes)
+}
+
 /// What a whole text is to the model and the test of a front, by the rules of version 1 alone: a certificate, with the
 /// steps of a refutation, or a text that is refused at a line.
 pub fn check_one(alloc: Global, front: &Front, bytes: &[u8]) -> Result<One, Memory>
     ensures is { IfOk result (IsOne (question_of front.now) bytes.now) }
     ensures only { IfOk result (λ one. (other : AnyOne) → IsOne (question_of front.now) bytes.now other → other ≡ one) }
 {
-    if bytes.len() <= MAX_CERTIFICATE && says_two(front, bytes) {
+    let names = NodeText::of(front);
+    show_asked(front, &names);
+    if refuses_two(front, bytes) {
         return Ok(One::Refused(3));
     }
     match check_text(alloc, front, bytes)? {

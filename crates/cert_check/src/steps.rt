@@ -11,7 +11,7 @@ ghost use Rattle.cert_check.specs.Ones.{IsTreeText};
 ghost use Rattle.cert_check.specs.StepTexts.{IsAhead, HasRead};
 
 use super::header::behind_header;
-use super::next::show_asked;
+use super::next::{is_end, show_asked};
 use super::open_tree::room_for;
 use memchr::memchr;
 use pc_common::Memory;
@@ -98,7 +98,7 @@ fn take_step<'t>(
     let Some((line, rest)) = first_line(left) else {
         return Ok(None);
     };
-    if line == b"end".as_slice() {
+    if is_end(line) {
         return Ok(None);
     }
     push_line(alloc, names, row, refutation, line)?;

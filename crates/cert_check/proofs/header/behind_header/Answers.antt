@@ -1,8 +1,10 @@
 use Rattle.std.proofs.Common.{◌≡◌, ◌≢◌, ℕ, List, ◌++◌, Bor, Option, Some, None, sym, ◌∙◌, ap, subst, append_assoc}
-use Rattle.std.specs.Prelude.{MatchOption}
+use Rattle.std.specs.Prelude.{MatchOption, codes}
 use Rattle.std.proofs.lemmas.List.{append_cancel_left}
 use Rattle.std.proofs.lemmas.Slice.Eq.{strip_prefix_is}
 use Rattle.std.proofs.lemmas.Bool.Decides.{Decides-eqb}
+use Rattle.pc_common.specs.Lines.{unobservable, second_text}
+use Rattle.pc_case.specs.Plain.{expectation}
 use Rattle.cert_check.proofs.header.behind_header.Goals as goal
 
 -- what stands behind the second part of a text
@@ -23,4 +25,4 @@ returns c =
     let whole = behind text first rest second c.strip_prefix-2.result
     (strip_prefix_is Decides-eqb text first (Some c.in_ok-rest.rest) c.in_ok-rest.ensures.cases)
     (strip_prefix_is Decides-eqb rest second c.strip_prefix-2.result c.strip_prefix-2.ensures.cases) in
-    subst (λ a. IsBehind text c.strip_prefix-2.result a _) c.verdict_line.ensures (subst (λ b. IsBehind text c.strip_prefix-2.result first b) c.second_line.ensures whole)
+    subst (λ a. IsBehind text c.strip_prefix-2.result a (second_text unobservable (expectation c.args.expect) ++ codes "\n")) c.verdict_line.ensures (subst (λ b. IsBehind text c.strip_prefix-2.result first b) c.second_line.ensures whole)
