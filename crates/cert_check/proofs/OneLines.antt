@@ -5,9 +5,8 @@ use Rattle.std.proofs.lemmas.List.{append-nil}
 use Rattle.pc_common.specs.World.{Node}
 use Rattle.pc_common.specs.Steps.{Step}
 use Rattle.pc_common.specs.Lines.{Line, Verdict, observable, unobservable, verdict, second, version_two, step, end, line_words}
-use Rattle.pc_ground.specs.declared.version.Version.{Version}
 use Rattle.pc_ground.specs.declared.version.Version.TheVariants.{One as version_one, Two}
-use Rattle.cert_check.specs.Certificates.{Question, header, tree_lines, IsCertificate, IsGraphCertificate, IsTreeCertificate, BeginsWell, in_header, in_graph, in_tree, whole}
+use Rattle.cert_check.specs.Certificates.{Question, header, IsCertificate, BeginsWell, in_header, in_graph, in_tree, whole}
 use Rattle.cert_check.specs.RawLines.{RawBegins, RawWhole}
 use Rattle.cert_check.specs.Ones.{IsCertificateOne, BeginsOne, one_header, one_graph, one_tree, one_whole, RawBeginsOne, RawWholeOne}
 use Rattle.cert_check.proofs.BodyBegins.{first_line, second_line, unequal}

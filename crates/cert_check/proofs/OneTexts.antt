@@ -3,16 +3,15 @@ use Rattle.std.proofs.Common.{◌≡◌, ◌≤◌, ◌<◌, ◌⊎◌, inl, inr
 use Rattle.std.specs.Prelude.{codes}
 use Rattle.std.proofs.lemmas.List.{append-nil}
 use Rattle.std.proofs.lemmas.Bool.{cases_order}
-use Rattle.pc_common.specs.Case.{Expectation}
 use Rattle.pc_common.specs.World.{Node}
 use Rattle.pc_common.specs.Steps.{Step}
 use Rattle.pc_common.specs.declared.limits.TheConstants.{MAX_CERTIFICATE}
-use Rattle.pc_common.specs.Lines.{Names, Line, Verdict, observable, unobservable, verdict, second, version_two, step, end, line_words, line_text, lines_text, verdict_text, second_text}
+use Rattle.pc_common.specs.Lines.{Line, Verdict, observable, unobservable, verdict, second, version_two, step, end, line_words, line_text, lines_text, verdict_text, second_text}
 use Rattle.pc_ground.specs.declared.version.Version.{Version}
 use Rattle.pc_ground.specs.declared.version.Version.TheVariants.{One as version_one, Two}
 use Rattle.line_judge.specs.Texts.{text_of_lines, IsMadeOf, FirstLinesBegin, IsRefusedAt}
 use Rattle.line_judge.proofs.Refusals.{refused_at_line}
-use Rattle.cert_check.specs.Certificates.{Question, header, certificate_lines, IsGraphCertificate, IsTreeCertificate, IsCertificate}
+use Rattle.cert_check.specs.Certificates.{Question, header, certificate_lines, IsTreeCertificate}
 use Rattle.cert_check.specs.Proper.{IsAsked}
 use Rattle.cert_check.specs.RawLines.{RawBegins, RawWhole}
 use Rattle.cert_check.specs.Verified.{IsCertificateText, Verified, seen, unseen, too_long, refused}

@@ -1,20 +1,20 @@
 -- Steps that are read one after another from a certificate's text.
-use Rattle.std.proofs.Common.{◌≡◌, ◌≢◌, ◌≤◌, ◌<◌, ◌+◌, ℕ, true, false, List, [], ◌∷◌, ◌++◌, map, length, refl, sym, ◌∙◌, ap, subst, arith, append_assoc}
+use Rattle.std.proofs.Common.{◌≡◌, ◌≢◌, ◌<◌, ℕ, false, List, [], ◌∷◌, ◌++◌, map, length, refl, sym, ◌∙◌, ap, subst, arith, append_assoc}
 use Rattle.std.specs.Prelude.{All, codes, fold}
 use Rattle.std.proofs.lemmas.List.{append_cancel_left, append-nil}
 use Rattle.std.proofs.lemmas.List.Elements.{All-nil, All-cons, All-head, All-tail}
 use Rattle.pc_common.specs.World.{Node}
-use Rattle.pc_common.specs.Steps.{Leaf, Step, split, close}
-use Rattle.pc_common.specs.Lines.{Names, Line, unobservable, step, end, line_words, step_words, lines_text}
+use Rattle.pc_common.specs.Steps.{Step, split, close}
+use Rattle.pc_common.specs.Lines.{Names, Line, step, end, line_words, step_words, lines_text}
 use Rattle.pc_ground.specs.Tree.{Tree as GroundTree}
 use Rattle.pc_ground.specs.declared.version.Version.{Version}
 use Rattle.pc_ground.specs.declared.version.Version.TheVariants.{One as version_one}
 use Rattle.pc_ground.specs.Refutes.{all_signed, asserted, left_branch, right_branch, Branch, Runs}
 use Rattle.line_judge.specs.Texts.{IsLine, IsFirstLine}
 use Rattle.line_judge.proofs.Cuts.{same_first}
-use Rattle.refutation.specs.Steps.{HasLine, IsLeaf, IsStepIn, open_after, open_branches}
+use Rattle.refutation.specs.Steps.{HasLine, IsStepIn, open_after, open_branches}
 use Rattle.refutation.specs.Reading.{IsLineOf, head_of, nodes_of}
-use Rattle.cert_check.specs.Certificates.{Question, header, certificate_lines}
+use Rattle.cert_check.specs.Certificates.{Question}
 use Rattle.cert_check.specs.Proper.{IsProper, IsAsked}
 use Rattle.cert_check.specs.Ones.{IsTreeText}
 use Rattle.cert_check.specs.StepTexts.{header_text, IsReadable, IsAhead, HasRead}

@@ -1,5 +1,4 @@
 use Rattle.std.proofs.Common.{◌≡◌, true, false, Bool, refl, sym, ◌∙◌}
-use Rattle.std.specs.Prelude.{codes}
 use Rattle.cert_check.proofs.StepReads.{never_one_line, last_ahead, is_open, is_step, has_read}
 use Rattle.cert_check.proofs.steps.take_step.Goals as goal
 

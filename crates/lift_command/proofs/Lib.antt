@@ -1,2 +1,0 @@
-pub mod OneStatus
-pub mod LiftOutcomes

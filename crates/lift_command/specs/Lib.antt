@@ -1,4 +1,0 @@
-pub mod Lifts
-pub mod LiftTexts
-pub mod Returned
-pub mod LiftAnswers
