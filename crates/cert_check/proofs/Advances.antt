@@ -185,17 +185,17 @@ contradiction_nodes ls l (a_path a via b leads has) = two via
     two (c ∷ via) = tt
 contradiction_nodes ls l (an_absence a has present) = tt
 
-closes_nodes : (t : GroundTree Node) (ls : List (Literal Node)) (l : Leaf Node) → Closes t ls l → HasItsNodes l
+pub closes_nodes : (t : GroundTree Node) (ls : List (Literal Node)) (l : Leaf Node) → Closes t ls l → HasItsNodes l
 closes_nodes t ls l (a_contradiction c) = contradiction_nodes ls l c
 closes_nodes t ls l (a_falsity same) = tt
 
-run_line : (q : Question) → IsAsked q → (v : Version) (s : Step Node) (opens next : List Branch) → Runs v q.tree (s ∷ []) opens next → IsWithin q.tree s → HasLine s
+pub run_line : (q : Question) → IsAsked q → (v : Version) (s : Step Node) (opens next : List Branch) → Runs v q.tree (s ∷ []) opens next → IsWithin q.tree s → HasLine s
 run_line q asked v s [] next r within = absurd r
 run_line q asked v (split n p) (ps ∷ opens) next r within = (let small = asked.small in omega arith)
 run_line q asked v (close l) (ps ∷ opens) next r within = closes_nodes q.tree (literals_of q.tree ps) l r.0
 
 -- a step that leads on has a line that can be read
-line_of_run : (q : Question) → IsAsked q → (v : Version) (s : Step Node) (opens next : List Branch) (text : List ℕ) → Runs v q.tree (s ∷ []) opens next
+pub line_of_run : (q : Question) → IsAsked q → (v : Version) (s : Step Node) (opens next : List Branch) (text : List ℕ) → Runs v q.tree (s ∷ []) opens next
     → text ≡ line_words q.names (step s) → IsLineOf q.names text s
 line_of_run q asked v s opens next text run is =
     let has = All-contains (StepHas (IsNodeIn q.names)) (s ∷ []) s (runs_have (IsNodeIn q.names) v q.tree (λ a i. asked.named a (contains_from_in a (nodes_of_tree q.tree) i)) (s ∷ []) opens next run) (contains_from_in s (s ∷ []) (inl refl)) in

@@ -17,3 +17,6 @@ mod Shown
 mod Verified
 mod Outcomes
 pub mod Alike
+mod OneLines
+pub mod OneTexts
+mod StepReads

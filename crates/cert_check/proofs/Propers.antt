@@ -74,7 +74,7 @@ proper_graph names nodes edges all ends =
     each_edge [] h = All-nil (IsProper names)
     each_edge (e ∷ es) h = All-cons (IsProper names) (edge e.0 e.1) (map (λ (f : Edge). edge f.0 f.1) es) (h e (inl refl)) (each_edge es (λ f i. h f (inr i)))
 
-proper_header : (names : Names) (q : Question) (v : Verdict) → All (IsProper names) (header q v)
+pub proper_header : (names : Names) (q : Question) (v : Verdict) → All (IsProper names) (header q v)
 proper_header names q v =
     All-cons (IsProper names) (verdict v) (second v q.expectation ∷ []) tt (All-cons (IsProper names) (second v q.expectation) [] tt (All-nil (IsProper names)))
 
@@ -82,7 +82,7 @@ proper_end : (names : Names) → All (IsProper names) (end ∷ [])
 proper_end names = All-cons (IsProper names) end [] tt (All-nil (IsProper names))
 
 -- a certificate's lines
-proper_certificate : (q : Question) → IsAsked q → (v : Verdict) (ls : List Line) → IsCertificate q v ls → All (IsProper q.names) ls
+pub proper_certificate : (q : Question) → IsAsked q → (v : Verdict) (ls : List Line) → IsCertificate q v ls → All (IsProper q.names) ls
 proper_certificate q asked observable ls graph =
     let P : List Line → Type 0 = λ xs. All (IsProper q.names) xs in
     let Q : List Node → Type 0 = λ ns. All (IsNodeOf (numbers_of q.names.stages) q.names.ops) ns in

@@ -17,7 +17,7 @@ use Rattle.cert_check.proofs.Firsts.{begins_first}
 use Rattle.cert_check.proofs.Bytes.{words_lack}
 use Rattle.cert_check.proofs.Propers.{begins_proper}
 
-line_from_lacks : (bs : List ℕ) → Lacks 10 bs → IsLine bs
+pub line_from_lacks : (bs : List ℕ) → Lacks 10 bs → IsLine bs
 line_from_lacks [] h = All-nil (λ b. b ≢ 10)
 line_from_lacks (b ∷ bs) h =
     All-cons (λ c. c ≢ 10) b bs (λ same. absurd (first (b == 10) (list_any (λ c. c == 10) bs) h (eq-eqb b 10 same)))
@@ -36,7 +36,7 @@ pub text_of_words : (names : Names) (ls : List Line) → text_of_lines (map (lin
 text_of_words names [] = refl
 text_of_words names (l ∷ ls) = ap (λ (t : List ℕ). (line_words names l ++ codes "\n") ++ t) (text_of_words names ls)
 
-raw_lines : (names : Names) → AreReadable names → (ls : List Line) → All (IsProper names) ls → All IsLine (map (line_words names) ls)
+pub raw_lines : (names : Names) → AreReadable names → (ls : List Line) → All (IsProper names) ls → All IsLine (map (line_words names) ls)
 raw_lines names readable [] all = All-nil IsLine
 raw_lines names readable (l ∷ ls) all =
     All-cons IsLine (line_words names l) (map (line_words names) ls)
@@ -48,7 +48,7 @@ length_map f [] = refl
 length_map f (x ∷ xs) = ap suc (length_map f xs)
 
 -- a first part of lines as bytes
-map_front : {X Y : Type 0} (f : X → Y) (xs : List X) (ys zs : List Y) → ys ++ zs ≡ map f xs
+pub map_front : {X Y : Type 0} (f : X → Y) (xs : List X) (ys zs : List Y) → ys ++ zs ≡ map f xs
     → (us : List X) × (vs : List X) × (xs ≡ us ++ vs) × (ys ≡ map f us)
 map_front f xs [] zs e = ([], xs, refl, refl)
 map_front f [] (y ∷ ys) zs e = cc

@@ -8,3 +8,5 @@ pub mod Stages
 pub mod Ends
 pub mod RawLines
 pub mod Fed
+pub mod Ones
+pub mod StepTexts

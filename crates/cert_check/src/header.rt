@@ -1,7 +1,8 @@
-ghost use Rattle.std.specs.Prelude.{◌≡◌, ◌++◌, MatchOption, codes, true, ◌↔◌};
+ghost use Rattle.std.specs.Prelude.{◌≡◌, ◌++◌, MatchOption, codes, true, ◌↔◌, ℕ, List};
 ghost use Rattle.pc_common.specs.Lines.{Verdict as PlainVerdict, observable, unobservable, verdict_text, second_text};
 ghost use Rattle.pc_case.specs.Plain.{expectation};
 ghost use Rattle.cert_check.specs.Verdicts.{plain_verdict};
+ghost use Rattle.cert_check.specs.StepTexts.{header_text};
 
 use pc_case::Expect;
 
@@ -76,4 +77,13 @@ pub(crate) fn is_second(line: &[u8], verdict: Verdict, expect: Expect) -> bool
 {
     let wanted = second_line(verdict, expect);
     line == &wanted[..wanted.len() - 1]
+}
+
+/// What stands behind the header of a refutation, by what the test states; None where it does not stand in front.
+pub(crate) fn behind_header(expect: Expect, text: &[u8]) -> Option<&[u8]>
+    ensures { MatchOption result ((rest : List ℕ) → text.now ≡ header_text (expectation expect) ++ rest → ⊥)
+        (λ rest. text.now ≡ header_text (expectation expect) ++ rest.now) }
+{
+    let rest = text.strip_prefix(verdict_line(Verdict::Unobservable))?;
+    rest.strip_prefix(second_line(Verdict::Unobservable, expect))
 }

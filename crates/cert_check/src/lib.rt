@@ -14,7 +14,8 @@
 //! or, where its third line says so, of version 2; the lines are those of docs/certificates.md, and
 //! `specs/Certificates.antt` states what each has to be. `Checker` takes a text in pieces and judges each line when
 //! it is whole; `check_text` takes a whole text. The answer is the verdict, or the first line with
-//! which no certificate can continue; and what it says of the outcome holds.
+//! which no certificate can continue; and what it says of the outcome holds. `check_one` judges a whole text by the rules
+//! of version 1 alone, and gives the steps of a refutation.
 //!
 //! The check shares neither the search nor its graph: a graph is judged by `graph_check`, which evaluates the
 //! closed axioms, and a refutation by `tree_check`, step by step.
@@ -25,9 +26,12 @@ mod checker;
 mod header;
 mod judge;
 mod next;
+mod one;
 mod open_tree;
 mod stage;
+mod steps;
 
 pub use checked::Checked;
 pub use checker::{Checker, check_text};
 pub use header::{Verdict, second_line, verdict_line};
+pub use one::{One, check_one};

@@ -44,7 +44,7 @@ fn after_verdict<'a>(
 }
 
 /// Whether a line, without its LF, is the last one of a certificate.
-fn is_end(line: &[u8]) -> bool
+pub(crate) fn is_end(line: &[u8]) -> bool
     ensures { (result ≡ true) ↔ (line.now ≡ codes "end") }
 {
     line == b"end".as_slice()

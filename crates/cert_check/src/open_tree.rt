@@ -58,7 +58,7 @@ fn spaces(line: &[u8]) -> usize
 const SHORT: usize = 256;
 
 /// Room for the nodes of a line. The spaces of a short one need not be counted.
-fn room_for(line: &[u8]) -> usize
+pub(crate) fn room_for(line: &[u8]) -> usize
     ensures { spaces_in line.now ≤ result }
 {
     if line.len() <= SHORT {

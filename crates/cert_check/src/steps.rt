@@ -1,0 +1,125 @@
+ghost use Rattle.std.specs.Prelude.{◌≡◌, ◌<◌, ◌++◌, ◌∷◌, [], List, IfOk, IfSome, OnOk, MatchOption, length, map};
+ghost use Rattle.pc_common.specs.World.{Node};
+ghost use Rattle.pc_common.specs.Steps.{Step as PlainStep};
+ghost use Rattle.pc_ground.specs.Keys.{key_node};
+ghost use Rattle.pc_ground.specs.Tree.{Tree};
+ghost use Rattle.refutation.specs.Steps.{HasLine, open_branches};
+ghost use Rattle.refutation.specs.Reading.{head_of, nodes_of, IsLineOf};
+ghost use Rattle.line_judge.specs.Texts.{IsLine, IsFirstLine};
+ghost use Rattle.cert_check.specs.Questions.{question_of};
+ghost use Rattle.cert_check.specs.Ones.{IsTreeText};
+ghost use Rattle.cert_check.specs.StepTexts.{IsAhead, HasRead};
+
+use super::header::behind_header;
+use super::next::{is_end, show_asked};
+use super::open_tree::room_for;
+use memchr::memchr;
+use pc_common::Memory;
+use pc_ground::{Front, NodeKey, NodeText};
+use refutation::{NodeRow, Nodes, Refutation, Step, StepHead, read_line};
+use std::alloc::Global;
+
+/// The first line without its LF, and what stands behind the LF. None where there is no LF.
+fn first_line(text: &[u8]) -> Option<(&[u8], &[u8])>
+    ensures { MatchOption result (IsLine text.now) (λ parts. IsFirstLine text.now parts.0.now parts.1.now) }
+{
+    let at = memchr(b'\n', text)?;
+    Some((&text[..at], &text[at + 1..]))
+}
+
+/// A list of these nodes.
+fn list_of(alloc: Global, nodes: &[NodeKey]) -> Result<Nodes, Memory>
+    ensures { IfOk result (λ list. list ≡ nodes.now) }
+{
+    let mut list = Nodes::new(alloc);
+    for node in nodes {
+        list.push(*node)?;
+    }
+    Ok(list)
+}
+
+/// Puts the step last whose nodes are these.
+fn push_step(
+    alloc: Global,
+    refutation: &mut Refutation,
+    head: StepHead,
+    nodes: &[NodeKey],
+) -> Result<(), Memory>
+    requires open { 0 < open_branches refutation.old }
+    requires said { (s : PlainStep Node) × HasLine s × (head ≡ head_of s) × (map key_node nodes.now ≡ nodes_of s) }
+    ensures { OnOk result ((s : PlainStep Node) → head ≡ head_of s → map key_node nodes.now ≡ nodes_of s
+        → refutation.new ≡ refutation.old ++ s ∷ []) }
+{
+    match head {
+        StepHead::Split { negated, position } => refutation.push_split(negated, position),
+        StepHead::Cycle => refutation.close_leaf(Step::Cycle(list_of(alloc, nodes)?)),
+        StepHead::Path => refutation.close_leaf(Step::Path(list_of(alloc, nodes)?)),
+        StepHead::Absent => refutation.close_leaf(Step::Absent(nodes[0])),
+        StepHead::False => refutation.close_leaf(Step::False),
+    }
+}
+
+/// Puts the step last whose line this is.
+fn push_line(
+    alloc: Global,
+    names: &NodeText<'_>,
+    row: &mut NodeRow,
+    refutation: &mut Refutation,
+    line: &[u8],
+) -> Result<(), Memory>
+    requires open { 0 < open_branches refutation.old }
+    requires said { (s : PlainStep Node) × IsLineOf names.now line.now s }
+    ensures { OnOk result ((s : PlainStep Node) → IsLineOf names.now line.now s
+        → refutation.new ≡ refutation.old ++ s ∷ []) }
+{
+    row.reserve(room_for(line))?;
+    match read_line(names, line, row) {
+        Ok(head) => push_step(alloc, refutation, head, row.as_slice()),
+        Err(_) => Ok(()),
+    }
+}
+
+/// Reads the first line of what is left of a text. A step is put last, and what stands behind its line is answered;
+/// None where it is the last line.
+fn take_step<'t>(
+    alloc: Global,
+    names: &NodeText<'_>,
+    row: &mut NodeRow,
+    refutation: &mut Refutation,
+    left: &'t [u8],
+) -> Result<Option<&'t [u8]>, Memory>
+    requires { (t : Tree Node) × (more : List (PlainStep Node)) × IsAhead names.now t refutation.old more left.now }
+    ensures read { IfOk result (λ rest. (t : Tree Node) (more : List (PlainStep Node))
+        → IsAhead names.now t refutation.old more left.now
+        → MatchOption rest ((more ≡ []) × (refutation.new ≡ refutation.old))
+        (λ behind. HasRead names.now t refutation.old more refutation.new behind.now)) }
+    ensures shorter { IfOk result (λ rest. IfSome rest (λ behind. length behind.now < length left.now)) }
+{
+    let Some((line, rest)) = first_line(left) else {
+        return Ok(None);
+    };
+    if is_end(line) {
+        return Ok(None);
+    }
+    push_line(alloc, names, row, refutation, line)?;
+    Ok(Some(rest))
+}
+
+/// The steps that a certificate of version 1 writes.
+pub(crate) fn read_steps(alloc: Global, front: &Front, text: &[u8]) -> Result<Refutation, Memory>
+    requires { (steps : List (PlainStep Node)) × IsTreeText (question_of front.now) text.now steps }
+    ensures { IfOk result (λ read. (steps : List (PlainStep Node)) → IsTreeText (question_of front.now) text.now steps
+        → read ≡ steps) }
+{
+    let names = NodeText::of(front);
+    show_asked(front, &names);
+    let mut row = NodeRow::new(alloc);
+    let mut refutation = Refutation::new(alloc);
+    let Some(mut left) = behind_header(front.case.expect(), text) else {
+        return Ok(refutation);
+    };
+    while let Some(rest) = take_step(alloc, &names, &mut row, &mut refutation, left)? {
+        left = rest;
+    }
+    Ok(refutation)
+}
