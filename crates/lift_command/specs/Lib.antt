@@ -1,0 +1,4 @@
+pub mod Lifts
+pub mod LiftTexts
+pub mod Returned
+pub mod LiftAnswers

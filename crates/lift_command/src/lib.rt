@@ -1,0 +1,24 @@
+//! The command `lift MODEL TEST CERT`: a refutation as a lifted one, whose steps speak of the closed axioms.
+//!
+//! ```rust
+//! // m.uspec and t.test have no fault, and c.txt has no line
+//! let inputs = Inputs { model: "m.uspec", test: "t.test" };
+//! let found = lift_files::<TestFile, MemFiles>(alloc, inputs, "c.txt", &mut files)?;
+//! assert!(rt; matches!(found, FoundLift::Refused(1)));
+//! assert!(rt; lift_status(&found) == Status::CertRefused);
+//! ```
+//!
+//! Where the two files have no fault it reads the third, at most 67,108,864 bytes, and judges it by the rules of
+//! version 1 alone. It returns a `FoundLift`: the text of the lifted refutation, whose status is `Done`; that a graph
+//! holds, whose text and status are those of `verify`; or the line that is refused. Or it returns the `Ending` of the
+//! two files, or a failed call or want of memory at the third. The text is one that `verify-lifted` takes, where it is
+//! within the limit.
+#![tactic(auto)]
+
+mod command;
+mod lifting;
+mod report;
+
+pub use command::lift_files;
+pub use lifting::FoundLift;
+pub use report::{lift_status, write_lift};
