@@ -30,6 +30,10 @@ struct Change {
 pub(crate) struct Agenda {
     watch: Watch,
     standings: Vec<Standing>,
+    /// The moment at which each position was last put on the trail.
+    stamps: Vec<u64>,
+    /// How often the search split or went back: what the trail has of a moment, it takes back together.
+    moment: u64,
     pending: Bits,
     open: Bits,
     ready: Bits,
@@ -63,6 +67,8 @@ impl Agenda {
         Ok(Agenda {
             watch,
             standings: vec![in alloc; Standing::none(); count]?,
+            stamps: vec![in alloc; 0; count]?,
+            moment: 0,
             pending: Bits::new(alloc, count)?,
             open: Bits::new(alloc, count)?,
             ready: Bits::new(alloc, count)?,
@@ -93,15 +99,24 @@ impl Agenda {
         }
     }
 
-    /// Sets what is known of the position, and puts what was on the trail.
-    pub(crate) fn change(&mut self, position: usize, standing: Standing) -> Result<(), Memory> {
-        let before = self.standing(position);
-        if !self.marks.is_empty() {
-            self.trail.push(Change {
-                position,
-                standing: before,
-            })?;
+    /// Puts what is known of the position on the trail, where a split waits. What comes later at the same
+    /// moment need not be put there, since all of it is taken back together.
+    fn record(&mut self, position: usize) -> Result<(), Memory> {
+        if self.marks.is_empty() || position >= self.stamps.len() {
+            return Ok(());
         }
+        if self.stamps[position] == self.moment {
+            return Ok(());
+        }
+        self.stamps[position] = self.moment;
+        let standing = self.standing(position);
+        self.trail.push(Change { position, standing })?;
+        Ok(())
+    }
+
+    /// Sets what is known of the position. What was known can be taken back.
+    pub(crate) fn change(&mut self, position: usize, standing: Standing) -> Result<(), Memory> {
+        self.record(position)?;
         self.set(position, standing);
         Ok(())
     }
@@ -110,6 +125,7 @@ impl Agenda {
     pub(crate) fn split(&mut self, position: usize) -> Result<(), Memory> {
         self.change(position, Standing::none())?;
         self.marks.push(self.trail.len())?;
+        self.moment = self.moment.wrapping_add(1);
         Ok(())
     }
 
@@ -123,6 +139,7 @@ impl Agenda {
                 self.set(change.position, change.standing);
             }
         }
+        self.moment = self.moment.wrapping_add(1);
         self.seen = count;
     }
 
