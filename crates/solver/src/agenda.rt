@@ -93,7 +93,7 @@ impl Agenda {
     fn set(&mut self, position: usize, standing: Standing) {
         if position < self.standings.len() {
             self.standings[position] = standing;
-            self.pending.put(position, standing.pending);
+            self.pending.put(position, standing.is_pending());
             self.open.put(position, standing.is_open());
             self.ready.put(position, standing.is_ready());
         }
@@ -116,6 +116,9 @@ impl Agenda {
 
     /// Sets what is known of the position. What was known can be taken back.
     pub(crate) fn change(&mut self, position: usize, standing: Standing) -> Result<(), Memory> {
+        if self.standing(position).is_same(standing) {
+            return Ok(());
+        }
         self.record(position)?;
         self.set(position, standing);
         Ok(())
@@ -220,7 +223,22 @@ impl Agenda {
         Ok(())
     }
 
-    /// Asks whether the Or is true now, where that may have changed. What is known of it then.
+    /// What is known of the Or once it is asked whether it is true now, where that may have changed.
+    pub(crate) fn look(&mut self, rows: &[Row<u32>], graph: &OrderGraph, p: usize) -> Standing
+        requires { All (IsRowBelow graph.now.nodes) rows.now }
+    {
+        let before = self.standing(p);
+        if !before.is_truth_stale() {
+            return before;
+        }
+        match or_truth(rows, graph, &mut self.truths, before.is_negated(), p) {
+            Truth::No => before.told(false),
+            Truth::Now => before.told(true),
+            Truth::ForGood => Standing::none(),
+        }
+    }
+
+    /// The same, and keeps it.
     pub(crate) fn refresh(
         &mut self,
         rows: &[Row<u32>],
@@ -230,14 +248,10 @@ impl Agenda {
         requires { All (IsRowBelow graph.now.nodes) rows.now }
     {
         let before = self.standing(p);
-        if !before.truth_stale {
+        if !before.is_truth_stale() {
             return Ok(before);
         }
-        let standing = match or_truth(rows, graph, &mut self.truths, before.negated, p) {
-            Truth::No => before.told(false),
-            Truth::Now => before.told(true),
-            Truth::ForGood => Standing::none(),
-        };
+        let standing = self.look(rows, graph, p);
         self.change(p, standing)?;
         Ok(standing)
     }
@@ -263,7 +277,7 @@ impl Agenda {
             let standing = self.refresh(rows, graph, position)?;
             if standing.is_open() {
                 return Ok(Some(Place {
-                    negated: standing.negated,
+                    negated: standing.is_negated(),
                     position,
                 }));
             }
@@ -312,7 +326,7 @@ impl Agenda {
             if standing.is_open() && closed > most {
                 most = closed;
                 chosen = Place {
-                    negated: standing.negated,
+                    negated: standing.is_negated(),
                     position,
                 };
             }
