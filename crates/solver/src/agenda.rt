@@ -30,6 +30,10 @@ struct Change {
 pub(crate) struct Agenda {
     watch: Watch,
     standings: Vec<Standing>,
+    /// The moment at which each position was last put on the trail.
+    stamps: Vec<u64>,
+    /// How often the search split or went back: what the trail has of a moment, it takes back together.
+    moment: u64,
     pending: Bits,
     open: Bits,
     ready: Bits,
@@ -63,6 +67,8 @@ impl Agenda {
         Ok(Agenda {
             watch,
             standings: vec![in alloc; Standing::none(); count]?,
+            stamps: vec![in alloc; 0; count]?,
+            moment: 0,
             pending: Bits::new(alloc, count)?,
             open: Bits::new(alloc, count)?,
             ready: Bits::new(alloc, count)?,
@@ -87,21 +93,33 @@ impl Agenda {
     fn set(&mut self, position: usize, standing: Standing) {
         if position < self.standings.len() {
             self.standings[position] = standing;
-            self.pending.put(position, standing.pending);
+            self.pending.put(position, standing.is_pending());
             self.open.put(position, standing.is_open());
             self.ready.put(position, standing.is_ready());
         }
     }
 
-    /// Sets what is known of the position, and puts what was on the trail.
-    pub(crate) fn change(&mut self, position: usize, standing: Standing) -> Result<(), Memory> {
-        let before = self.standing(position);
-        if !self.marks.is_empty() {
-            self.trail.push(Change {
-                position,
-                standing: before,
-            })?;
+    /// Puts what is known of the position on the trail, where a split waits. What comes later at the same
+    /// moment need not be put there, since all of it is taken back together.
+    fn record(&mut self, position: usize) -> Result<(), Memory> {
+        if self.marks.is_empty() || position >= self.stamps.len() {
+            return Ok(());
         }
+        if self.stamps[position] == self.moment {
+            return Ok(());
+        }
+        self.stamps[position] = self.moment;
+        let standing = self.standing(position);
+        self.trail.push(Change { position, standing })?;
+        Ok(())
+    }
+
+    /// Sets what is known of the position. What was known can be taken back.
+    pub(crate) fn change(&mut self, position: usize, standing: Standing) -> Result<(), Memory> {
+        if self.standing(position).is_same(standing) {
+            return Ok(());
+        }
+        self.record(position)?;
         self.set(position, standing);
         Ok(())
     }
@@ -110,6 +128,7 @@ impl Agenda {
     pub(crate) fn split(&mut self, position: usize) -> Result<(), Memory> {
         self.change(position, Standing::none())?;
         self.marks.push(self.trail.len())?;
+        self.moment = self.moment.wrapping_add(1);
         Ok(())
     }
 
@@ -123,6 +142,7 @@ impl Agenda {
                 self.set(change.position, change.standing);
             }
         }
+        self.moment = self.moment.wrapping_add(1);
         self.seen = count;
     }
 
@@ -203,7 +223,22 @@ impl Agenda {
         Ok(())
     }
 
-    /// Asks whether the Or is true now, where that may have changed. What is known of it then.
+    /// What is known of the Or once it is asked whether it is true now, where that may have changed.
+    pub(crate) fn look(&mut self, rows: &[Row<u32>], graph: &OrderGraph, p: usize) -> Standing
+        requires { All (IsRowBelow graph.now.nodes) rows.now }
+    {
+        let before = self.standing(p);
+        if !before.is_truth_stale() {
+            return before;
+        }
+        match or_truth(rows, graph, &mut self.truths, before.is_negated(), p) {
+            Truth::No => before.told(false),
+            Truth::Now => before.told(true),
+            Truth::ForGood => Standing::none(),
+        }
+    }
+
+    /// The same, and keeps it.
     pub(crate) fn refresh(
         &mut self,
         rows: &[Row<u32>],
@@ -213,14 +248,10 @@ impl Agenda {
         requires { All (IsRowBelow graph.now.nodes) rows.now }
     {
         let before = self.standing(p);
-        if !before.truth_stale {
+        if !before.is_truth_stale() {
             return Ok(before);
         }
-        let standing = match or_truth(rows, graph, &mut self.truths, before.negated, p) {
-            Truth::No => before.told(false),
-            Truth::Now => before.told(true),
-            Truth::ForGood => Standing::none(),
-        };
+        let standing = self.look(rows, graph, p);
         self.change(p, standing)?;
         Ok(standing)
     }
@@ -246,7 +277,7 @@ impl Agenda {
             let standing = self.refresh(rows, graph, position)?;
             if standing.is_open() {
                 return Ok(Some(Place {
-                    negated: standing.negated,
+                    negated: standing.is_negated(),
                     position,
                 }));
             }
@@ -295,7 +326,7 @@ impl Agenda {
             if standing.is_open() && closed > most {
                 most = closed;
                 chosen = Place {
-                    negated: standing.negated,
+                    negated: standing.is_negated(),
                     position,
                 };
             }

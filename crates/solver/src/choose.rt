@@ -165,12 +165,13 @@ fn ask<L: Ledger>(
     requires marked { IsMarked graph.old mark }
     ensures graph { IfOk result (λ _. IsSame graph.old graph.new) }
 {
-    let standing = agenda.refresh(rows, graph, position)?;
+    let standing = agenda.look(rows, graph, position);
     if !standing.needs_asking() {
+        agenda.change(position, standing)?;
         return Ok(standing);
     }
     let place = Place {
-        negated: standing.negated,
+        negated: standing.is_negated(),
         position,
     };
     let asked = with_sides(rows, version, place, standing, mark, graph, steps)?;
@@ -201,7 +202,7 @@ fn first_closed<L: Ledger>(
         };
         let standing = ask(rows, version, position, mark, graph, agenda, steps)?;
         let place = Place {
-            negated: standing.negated,
+            negated: standing.is_negated(),
             position,
         };
         if standing.is_settled() {

@@ -1,105 +1,121 @@
+/// It is an asserted Or that no split has taken, and that is not true for good on this branch.
+const PENDING: u8 = 1;
+
+/// The Or is one of the tree's negation.
+const NEGATED: u8 = 2;
+
+/// It is true now.
+const HOLDS: u8 = 4;
+
+/// Whether it is true now may have changed since it was asked.
+const TRUTH_STALE: u8 = 8;
+
+/// One of its sides is closed at once, which it stays on this branch.
+const CLOSED: u8 = 16;
+
+/// The search need not ask again, since enough of its sides are closed: one in version 1, both in version 2.
+const SETTLED: u8 = 32;
+
+/// That may have come about since it was asked.
+const SIDES_STALE: u8 = 64;
+
 /// What is known of a position as a choice that is to be made on the first open branch. It is a hint: what
 /// it proposes is tested before a split.
+///
+/// It is the set of the properties above that hold, a bit each, since a search copies it all the time.
 #[derive(Clone, Copy)]
 pub(crate) struct Standing {
-    /// Whether it is an asserted Or that no split has taken, and that is not true for good on this branch.
-    pub(crate) pending: bool,
-    /// Whether the Or is one of the tree's negation.
-    pub(crate) negated: bool,
-    /// Whether it is true now.
-    pub(crate) holds: bool,
-    /// Whether that may have changed since it was asked.
-    pub(crate) truth_stale: bool,
-    /// Whether one of its sides is closed at once, which it stays on this branch.
-    pub(crate) closed: bool,
-    /// Whether the search need not ask again, since enough of its sides are closed: one in version 1, both
-    /// in version 2.
-    pub(crate) settled: bool,
-    /// Whether that may have come about since it was asked.
-    pub(crate) sides_stale: bool,
+    bits: u8,
 }
 
 impl Standing {
     /// That of a position which is no choice.
     pub(crate) fn none() -> Standing {
-        Standing {
-            pending: false,
-            negated: false,
-            holds: false,
-            truth_stale: false,
-            closed: false,
-            settled: false,
-            sides_stale: false,
-        }
+        Standing { bits: 0 }
     }
 
     /// That of an Or which was asserted just now.
     pub(crate) fn fresh(negated: bool) -> Standing {
         Standing {
-            pending: true,
-            negated,
-            holds: false,
-            truth_stale: true,
-            closed: false,
-            settled: false,
-            sides_stale: true,
+            bits: PENDING | TRUTH_STALE | SIDES_STALE,
         }
+        .with(NEGATED, negated)
+    }
+
+    fn has(self, property: u8) -> bool {
+        self.bits & property != 0
+    }
+
+    /// The same, with the properties or without them.
+    fn with(self, properties: u8, is_in: bool) -> Standing {
+        let bits = if is_in {
+            self.bits | properties
+        } else {
+            self.bits & !properties
+        };
+        Standing { bits }
     }
 
     /// The same, where what its literals say may have changed.
     pub(crate) fn stale(self) -> Standing {
-        Standing {
-            truth_stale: true,
-            sides_stale: true,
-            ..self
-        }
+        self.with(TRUTH_STALE | SIDES_STALE, true)
     }
 
     /// The same, with whether it is true now.
     pub(crate) fn told(self, holds: bool) -> Standing {
-        Standing {
-            holds,
-            truth_stale: false,
-            ..self
-        }
+        self.with(TRUTH_STALE, false).with(HOLDS, holds)
     }
 
     /// The same, with whether one of its sides is closed at once, and whether enough of them are.
     pub(crate) fn asked(self, closed: bool, settled: bool) -> Standing {
-        Standing {
-            closed,
-            settled,
-            sides_stale: false,
-            ..self
-        }
+        self.with(SIDES_STALE, false)
+            .with(CLOSED, closed)
+            .with(SETTLED, settled)
+    }
+
+    pub(crate) fn is_pending(self) -> bool {
+        self.has(PENDING)
+    }
+
+    pub(crate) fn is_negated(self) -> bool {
+        self.has(NEGATED)
+    }
+
+    /// Whether its truth has to be asked, since it may have changed.
+    pub(crate) fn is_truth_stale(self) -> bool {
+        self.has(TRUTH_STALE)
     }
 
     pub(crate) fn is_stale(self) -> bool {
-        self.truth_stale & (self.sides_stale | self.settled)
+        self.has(TRUTH_STALE) & self.has(SIDES_STALE | SETTLED)
+    }
+
+    pub(crate) fn is_same(self, other: Standing) -> bool {
+        self.bits == other.bits
     }
 
     /// Whether it may be a choice, as far as is known.
     pub(crate) fn is_open(self) -> bool {
-        self.pending & (self.truth_stale | !self.holds)
+        self.has(PENDING) & (self.has(TRUTH_STALE) | !self.has(HOLDS))
     }
 
     /// Whether it may be a choice with a side that is closed at once, as far as is known.
     pub(crate) fn is_ready(self) -> bool {
-        self.is_open() & (self.sides_stale | self.closed)
+        self.is_open() & self.has(SIDES_STALE | CLOSED)
     }
 
     /// Whether its sides have to be asked, since it may be a choice and what is known of them may have changed.
     pub(crate) fn needs_asking(self) -> bool {
-        self.is_open() & self.sides_stale & !self.settled
+        self.is_open() & self.has(SIDES_STALE) & !self.has(SETTLED)
     }
 
     /// Whether it may be a choice with a side that is closed at once.
     pub(crate) fn is_closed(self) -> bool {
-        self.is_open() & self.closed
+        self.is_open() & self.has(CLOSED)
     }
 
     /// Whether it may be a choice with so many sides closed at once that no other is looked for.
     pub(crate) fn is_settled(self) -> bool {
-        self.is_open() & self.settled
+        self.is_open() & self.has(SETTLED)
     }
 }
