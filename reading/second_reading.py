@@ -10,6 +10,7 @@
     second_reading.py verify86 MODEL FILE CERT as verify, of a listing
     second_reading.py verify-lifted MODEL TEST CERT
                                                whether CERT is a lifted refutation of this model and test
+    second_reading.py lift MODEL TEST CERT     a lifted refutation in place of CERT, a refutation of version 1
     second_reading.py sweep MODEL PATTERN      whether each combination of what the open reads may get is observable
     second_reading.py dimacs MODEL TEST        the question for a SAT solver
     second_reading.py smt MODEL TEST           the question for an SMT solver
@@ -36,6 +37,7 @@ from second.grounding import ground
 from second.judging import Refused as CertificateRefused
 from second.judging import VERSION_2, judge
 from second.lifted import judge_lifted
+from second.lifting import lifted_text
 from second.listings import read_listing
 from second.models import Formula, Model, Not
 from second.patterns import Pattern, read_pattern, sweep, sweep_text
@@ -58,6 +60,7 @@ WORDS = {
     "verify": 4,
     "verify86": 4,
     "verify-lifted": 4,
+    "lift": 4,
     "sweep": 3,
     "dimacs": 3,
     "smt": 3,
@@ -206,6 +209,20 @@ def verify_lifted(model: Model, case: Case, data: bytes) -> tuple[str, int]:
     return "verified unobservable\n", 1
 
 
+def lift(model: Model, case: Case, data: bytes) -> tuple[str, int]:
+    """The lifted refutation that a refutation of version 1 becomes, and the exit status; of any other text what is to
+    be said of it."""
+    try:
+        is_observable = judge(model, case, second_lines(case), data, takes_version_2=False)
+    except CertificateRefused as refused:
+        return f"{refused}\n", 6
+    if is_observable:
+        return "verified observable\n", 0
+    text = lifted_text(model, case, second_line(False, case), data.decode("ascii").split("\n")[2:-2])
+    judge_lifted(model, case, second_line(False, case), text.encode("ascii"))
+    return text, 0
+
+
 def answer_on_two(words: list[str], out: TextIO) -> tuple[str, int]:
     """The answer to a command on a model and a test, and the exit status. Questions for solvers are written at once."""
     model, case = read_both(words[1], words[2], read_listing if words[0].endswith("86") else read_case)
@@ -213,9 +230,9 @@ def answer_on_two(words: list[str], out: TextIO) -> tuple[str, int]:
         return check(model, case, 2 if words[0] == "check2" else 1)
     if words[0] == "core":
         return core(model, case)
-    if words[0].startswith("verify"):
+    if len(words) == 4:
         with open(words[3], "rb") as file:
-            return (verify_lifted if words[0] == "verify-lifted" else verify)(model, case, file.read())
+            return {"lift": lift, "verify-lifted": verify_lifted}.get(words[0], verify)(model, case, file.read())
     write = write_dimacs if words[0] == "dimacs" else write_smtlib
     write(ground(model, case), out)
     return "", 0

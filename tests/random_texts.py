@@ -1,4 +1,4 @@
-"""Random models, tests and certificates, and changes of them, for tests/hostile.
+"""Random models, tests, queries and certificates, and changes of them, for tests/hostile.
 
 What is made here is well-formed, and may mean anything. A change may spoil a text or not: what the answer has to be is
 said by the second reading, which reads the changed text too. Rewritings of certificates keep them right.
@@ -56,6 +56,10 @@ class ModelMaker:
         for k in range(self.random.choice((1, 1, 2, 3, 5))):
             items.append(f'Axiom "a{k}": {self.axiom()}.')
         return ("\n".join(items) + "\n").encode()
+
+    def query(self) -> bytes:
+        """A formula in the language of the model, with its macros and stages."""
+        return (self.axiom() + "\n").encode()
 
     def macro(self, name: str) -> str:
         """A macro; its body names its parameters alone."""

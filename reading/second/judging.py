@@ -30,7 +30,7 @@ class Refused(Exception):
         super().__init__(f"certificate refused at line {line}")
 
 
-def judge(model: Model, case: Case, second_lines: dict[bool, str], data: bytes) -> bool:
+def judge(model: Model, case: Case, second_lines: dict[bool, str], data: bytes, takes_version_2: bool = True) -> bool:
     """Whether the certificate is of an observable outcome; Refused where it is none."""
     whole, rest = lines_of(data)
     verdict = whole[0] if whole else ""
@@ -39,7 +39,7 @@ def judge(model: Model, case: Case, second_lines: dict[bool, str], data: bytes) 
     is_observable = verdict == "observable"
     if len(whole) < 2 or whole[1] != second_lines[is_observable]:
         raise Refused(2)
-    has_signs = not is_observable and whole[2:3] == [VERSION_2]
+    has_signs = takes_version_2 and not is_observable and whole[2:3] == [VERSION_2]
     header = 3 if has_signs else 2
     judge_line: GraphJudge | TreeJudge
     judge_line = GraphJudge(model, case) if is_observable else TreeJudge(model, case, has_signs)

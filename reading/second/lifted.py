@@ -60,7 +60,8 @@ class LiftedJudge:
             return not self.open and line == "end"
         word, *rest = line.split(" ")
         if word in ADDING:
-            part = self.part(word, rest) if len(rest) == ADDING[word] else None
+            fact = self.fact(rest[0]) if len(rest) == ADDING[word] else None
+            part = self.part_of(fact, word, rest[-1]) if isinstance(fact, Said) else None
             if part is not None:
                 self.open[-1].append(part)
             return part is not None
@@ -75,11 +76,9 @@ class LiftedJudge:
         """The fact of this number on the present branch."""
         return self.open[-1][int(word)] if is_decimal(word) and int(word) < len(self.open[-1]) else None
 
-    def part(self, word: str, rest: list[str]) -> Fact | None:
-        """What such a line adds: what has to hold, or not to hold, where the fact is right."""
-        fact = self.fact(rest[0])
-        if not isinstance(fact, Said):
-            return None
+    def part_of(self, fact: Said, word: str, which: str) -> Fact | None:
+        """What such a line adds: what has to hold, or not to hold, where the fact is right. Of several parts the last
+        word of the line says which."""
         match word, fact.holds, fact.formula:
             case ("left", True, Binary("/\\", side, _)) | ("right", True, Binary("/\\", _, side)):
                 return Said(True, side, fact.env)
@@ -95,11 +94,11 @@ class LiftedJudge:
                 bound = [(parameter.name, value) for parameter, value in zip(macro.parameters, values)]
                 return Said(holds, macro.body, fact.env + bound)
             case "inst", holds, Quantified(universal=universal) if universal is holds:
-                value = self.member_named(fact.formula, rest[1])
+                value = self.member_named(fact.formula, which)
                 return None if value is None else self.instance(fact, value)
             case "member", True, (Nodes(members) | Edges(members)):
-                is_there = is_decimal(rest[1]) and int(rest[1]) < len(members)
-                return self.literal(fact, int(rest[1])) if is_there else None
+                is_there = is_decimal(which) and int(which) < len(members)
+                return self.literal(fact, int(which)) if is_there else None
         return None
 
     def member_named(self, formula: Quantified, word: str) -> int | None:

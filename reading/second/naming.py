@@ -1,0 +1,62 @@
+"""How micro-ops, addresses, nodes and places of a model are written where a certificate is explained."""
+from .cases import Address, Case, Location
+from .grounding import Node
+from .models import Model
+from .origins import Origin
+from .positions import NodeNames
+
+# how many levels of indentation are shown
+MOST_LEVELS = 30
+LETTERS = ("x", "y", "z", "w", "u", "v", "a", "b", "c", "d", "e", "f")
+
+# a node (with None) or an edge, and whether it is asked for
+Fact = tuple[Node, Node | None, bool]
+
+
+class Names:
+    """How micro-ops, addresses, nodes and places of the model are written."""
+
+    def __init__(self, model: Model, case: Case, model_text: bytes) -> None:
+        self.case = case
+        self.nodes = NodeNames(model, case)
+        self.text = model_text
+        pages = dict.fromkeys([op.pa for op in case.ops if op.pa is not None] + [*case.initial, *case.final])
+        # those of a listing have names of their own
+        self.has_letters = 0 < len(pages) <= len(LETTERS) and not any(isinstance(page, Location) for page in pages)
+        self.pages = {page: LETTERS[k] if self.has_letters else str(page) for k, page in enumerate(pages)}
+
+    def microop(self, op: int) -> str:
+        """The name of a micro-op."""
+        return f"{self.case.ops[op].g}.{self.case.ops[op].n}"
+
+    def page(self, page: Address) -> str:
+        """An address."""
+        return f"[{self.pages[page]}]"
+
+    def node(self, node: Node) -> str:
+        """A node as certificates write it."""
+        return self.nodes.write(node)
+
+    def place(self, at: int) -> str:
+        """A place in the model as line and column."""
+        lines = self.text[:at].split(b"\n")
+        return f"{len(lines)}:{len(lines[-1]) + 1}"
+
+    def fact(self, fact: Fact) -> str:
+        """A node or an edge in words."""
+        start, end, wanted = fact
+        if end is None:
+            return f"{self.node(start)} is {'' if wanted else 'not '}there"
+        return f"{'' if wanted else 'not '}{self.node(start)} before {self.node(end)}"
+
+    def origin(self, origin: Origin | None) -> str:
+        """Where a part of the tree comes from."""
+        if origin is None:
+            return "several axioms"
+        words = [f'axiom "{origin.axiom.title}" at {self.place(origin.axiom.at)}']
+        for taken in origin.taken:
+            words.append(f"{taken.name} = {self.microop(taken.value) if taken.is_microop else f'core {taken.value}'}")
+        if origin.macro is not None:
+            words.append(f"in macro {origin.macro} at {self.place(origin.at)}")
+        label = f'"{origin.label}" by ' if origin.label else ""
+        return label + ", ".join(words)
