@@ -3,6 +3,7 @@ use Rattle.std.proofs.Common.{◌≡◌, ◌≢◌, ℕ, Bool, true, false, ◌|
 use Rattle.std.specs.Prelude.{All, codes}
 use Rattle.std.specs.List.{flat_map, list_any, join_with_byte}
 use Rattle.std.specs.Fmt.{decimal}
+use Rattle.std.proofs.lemmas.List.{append-nil}
 use Rattle.std.proofs.lemmas.List.Elements.{All-nil, All-cons, All-head, All-tail}
 use Rattle.pc_common.specs.Case.{MicroOp}
 use Rattle.pc_common.specs.Lines.{op_text}
@@ -19,11 +20,7 @@ use Rattle.lifted_check.specs.StepLines.{keyword_text, keyword_of, numbers_of, v
 use Rattle.lifted_text.specs.WrittenLines.{line_of, lines_of, spaced}
 
 pub joined_spaced : (w : List ℕ) (ws : List (List ℕ)) → join_with_byte 32 (w ∷ ws) ≡ w ++ spaced ws
-joined_spaced w [] = sym (append_none w)
-  where
-    append_none : {X : Type 0} (xs : List X) → xs ++ [] ≡ xs
-    append_none [] = refl
-    append_none (x ∷ xs) = ap (λ zs. x ∷ zs) (append_none xs)
+joined_spaced w [] = sym (append-nil w)
 joined_spaced w (v ∷ vs) = ap (λ (r : List ℕ). w ++ 32 ∷ r) (joined_spaced v vs)
 
 pub spaced_more : (xs ys : List (List ℕ)) → spaced (xs ++ ys) ≡ spaced xs ++ spaced ys

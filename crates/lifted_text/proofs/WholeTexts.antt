@@ -47,10 +47,6 @@ pub text_append : (xs ys : List (List ℕ)) → text_of_lines (xs ++ ys) ≡ tex
 text_append [] ys = refl
 text_append (x ∷ xs) ys = ap (λ (r : List ℕ). (x ++ codes "\n") ++ r) (text_append xs ys) ∙ sym (append_assoc (x ++ codes "\n") (text_of_lines xs) (text_of_lines ys))
 
-append_none : {X : Type 0} (xs : List X) → xs ++ [] ≡ xs
-append_none [] = refl
-append_none (x ∷ xs) = ap (λ zs. x ∷ zs) (append_none xs)
-
 -- the header, the lines of the steps and the last line
 abbrev pub whole_bytes : Question → List LiftedStep → List ℕ
 whole_bytes q steps =
