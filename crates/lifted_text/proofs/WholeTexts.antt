@@ -1,9 +1,9 @@
 -- The lines of a lifted refutation are a text of one.
-use Rattle.std.proofs.Common.{◌≡◌, ◌≢◌, ℕ, List, [], ◌∷◌, ◌++◌, map, refl, sym, ◌∙◌, ap, subst, append_assoc}
+use Rattle.std.proofs.Common.{◌≡◌, ℕ, List, [], ◌∷◌, ◌++◌, refl, sym, ◌∙◌, ap, append_assoc}
 use Rattle.std.specs.Prelude.{All, codes}
 use Rattle.std.specs.List.{flat_map}
 use Rattle.std.proofs.lemmas.List.Elements.{All-nil, All-cons, All-head, All-tail}
-use Rattle.pc_common.specs.Case.{Case, Expectation, permitted, forbidden, unstated}
+use Rattle.pc_common.specs.Case.{Expectation, permitted, forbidden, unstated}
 use Rattle.pc_common.specs.Lines.{unobservable, second_text}
 use Rattle.pc_ground.specs.NodeWords.{AreSmall}
 use Rattle.line_judge.specs.Texts.{IsLine, text_of_lines, IsMadeOf}

@@ -1,5 +1,5 @@
-use Rattle.std.proofs.Common.{◌≡◌, ◌<◌, length, sym, subst, ◌∙◌, ap, arith, ℕ}
-use Rattle.std.proofs.lemmas.List.{append-nil, take_all}
+use Rattle.std.proofs.Common.{sym}
+use Rattle.std.proofs.lemmas.List.{append-nil}
 use Rattle.lifter.specs.WrittenSteps.{plain_line}
 use Rattle.lifted_check.specs.StepLines.{HasValue}
 use Rattle.lifted_text.proofs.PutLines.{lines_next, all_at}
