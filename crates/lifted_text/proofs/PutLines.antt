@@ -1,22 +1,23 @@
 -- Bytes that are put behind a text, one part after another, and the lines that they make.
-use Rattle.std.proofs.Common.{◌≡◌, ◌⊎◌, inl, inr, ◌<◌, ◌≤◌, ℕ, zero, suc, ◌+◌, List, [], ◌∷◌, ◌++◌, Some, length, map, take, refl, sym, ◌∙◌, ap, subst, arith, append_assoc}
+use Rattle.std.proofs.Common.{◌≡◌, ℕ, ◌+◌, List, [], ◌∷◌, ◌++◌, Some, map, take, refl, sym, ◌∙◌, ap, subst, append_assoc}
 use Rattle.std.specs.Prelude.{Result, OnOk, All, codes, slice_get}
 use Rattle.std.specs.List.{flat_map}
 use Rattle.std.specs.Fmt.{decimal}
 use Rattle.std.proofs.lemmas.Result.{on_ok_weaker}
 use Rattle.std.proofs.lemmas.Grind.{flat_map-append}
-use Rattle.std.proofs.lemmas.List.{map-append}
+use Rattle.std.proofs.lemmas.List.{append-nil, map-append}
 use Rattle.std.proofs.lemmas.List.Elements.{All-get_or, All-push}
 use Rattle.std.proofs.lemmas.Option.{slice_get_within, get_or_from_slice_get}
 use Rattle.pc_common.specs.Case.{MicroOp}
+use Rattle.pc_common.specs.Lines.{op_text}
 use Rattle.static_preds.proofs.Walked.{map_take}
-use Rattle.lifted_facts.specs.Lifted.{LiftedStep, close, cycle, path}
+use Rattle.lifted_facts.specs.declared.way.Instance.{Instance}
+use Rattle.lifted_facts.specs.declared.way.Instance.TheVariants.{Op as OpInstance}
+use Rattle.lifted_facts.specs.declared.way.Way.TheVariants.{Inst as InstWay, Member as MemberWay}
+use Rattle.lifted_facts.specs.Lifted.{LiftedStep, derive, close, cycle, path}
+use Rattle.lifted_check.specs.StepLines.{value_text}
 use Rattle.lifted_text.specs.WrittenLines.{line_of, line_text, spaced}
 use Rattle.lifted_text.proofs.SpacedLines.{line_is, spaced_more}
-
-pub append_none : {X : Type 0} (xs : List X) → xs ++ [] ≡ xs
-append_none [] = refl
-append_none (x ∷ xs) = ap (λ zs. x ∷ zs) (append_none xs)
 
 -- first these bytes, and then those
 pub put_then : {T E : Type 0} (r : Result T E) (old mid new xs ys : List ℕ) → mid ≡ old ++ xs → OnOk r (new ≡ mid ++ ys) → OnOk r (new ≡ old ++ (xs ++ ys))
@@ -26,7 +27,7 @@ pub put_as : {T E : Type 0} (r : Result T E) (old new xs ys : List ℕ) → xs �
 put_as r old new xs ys same h = on_ok_weaker r (λ e. e ∙ ap (λ (t : List ℕ). old ++ t) same) h
 
 pub cycle_line : (ops : List MicroOp) (k : ℕ) (ks : List ℕ) → codes "cycle" ++ ((codes " " ++ decimal k) ++ spaced (map decimal ks)) ≡ line_of ops (close (cycle k ks))
-cycle_line ops k ks = sym (line_is ops (close (cycle k ks)) ∙ ap (λ (r : List ℕ). codes "cycle" ++ r) (append_none ((codes " " ++ decimal k) ++ spaced (map decimal ks))))
+cycle_line ops k ks = sym (line_is ops (close (cycle k ks)) ∙ ap (λ (r : List ℕ). codes "cycle" ++ r) (append-nil ((codes " " ++ decimal k) ++ spaced (map decimal ks))))
 
 pub path_line : (ops : List MicroOp) (k : ℕ) (ks : List ℕ) (denial : ℕ)
     → (codes "path" ++ ((codes " " ++ decimal k) ++ spaced (map decimal ks))) ++ (codes " " ++ decimal denial) ≡ line_of ops (close (path k ks denial))
@@ -35,9 +36,9 @@ path_line ops k ks denial =
     let last : List ℕ = codes " " ++ decimal denial in
     let mid = spaced (map decimal ks) in
     let more : spaced (map decimal (ks ++ denial ∷ [])) ≡ mid ++ last =
-    ap spaced (map-append decimal ks (denial ∷ [])) ∙ spaced_more (map decimal ks) (decimal denial ∷ []) ∙ ap (λ (r : List ℕ). mid ++ r) (append_none last) in
+    ap spaced (map-append decimal ks (denial ∷ [])) ∙ spaced_more (map decimal ks) (decimal denial ∷ []) ∙ ap (λ (r : List ℕ). mid ++ r) (append-nil last) in
     sym (line_is ops (close (path k ks denial))
-    ∙ ap (λ (r : List ℕ). codes "path" ++ r) (append_none (first ++ spaced (map decimal (ks ++ denial ∷ []))))
+    ∙ ap (λ (r : List ℕ). codes "path" ++ r) (append-nil (first ++ spaced (map decimal (ks ++ denial ∷ []))))
     ∙ ap (λ (r : List ℕ). codes "path" ++ (first ++ r)) more
     ∙ ap (λ (r : List ℕ). codes "path" ++ r) (sym (append_assoc first mid last))
     ∙ sym (append_assoc (codes "path") (first ++ mid) last))
@@ -49,7 +50,7 @@ spaced_next numbers k x front old new there before is =
     let sofar = map decimal (take k numbers) in
     let last : List ℕ = codes " " ++ decimal x in
     let more : spaced (map decimal (take (k + 1) numbers)) ≡ spaced sofar ++ last =
-    ap spaced (map_take decimal numbers k x there) ∙ spaced_more sofar (decimal x ∷ []) ∙ ap (λ (r : List ℕ). spaced sofar ++ r) (append_none last) in
+    ap spaced (map_take decimal numbers k x there) ∙ spaced_more sofar (decimal x ∷ []) ∙ ap (λ (r : List ℕ). spaced sofar ++ r) (append-nil last) in
     is ∙ ap (λ (t : List ℕ). t ++ last) before ∙ append_assoc front (spaced sofar) last ∙ ap (λ (r : List ℕ). front ++ r) (sym more)
 
 taken_next : {X : Type 0} (xs : List X) (k : ℕ) (x : X) → slice_get xs k ≡ Some x → take (k + 1) xs ≡ take k xs ++ x ∷ []
@@ -64,7 +65,7 @@ pub lines_next : (ops : List MicroOp) (steps : List LiftedStep) (k : ℕ) (s : L
 lines_next ops steps k s front old new there before is =
     let sofar = flat_map (line_text ops) (take k steps) in
     let more : flat_map (line_text ops) (take (k + 1) steps) ≡ sofar ++ line_text ops s =
-    ap (flat_map (line_text ops)) (taken_next steps k s there) ∙ flat_map-append (line_text ops) (take k steps) (s ∷ []) ∙ ap (λ (r : List ℕ). sofar ++ r) (append_none (line_text ops s)) in
+    ap (flat_map (line_text ops)) (taken_next steps k s there) ∙ flat_map-append (line_text ops) (take k steps) (s ∷ []) ∙ ap (λ (r : List ℕ). sofar ++ r) (append-nil (line_text ops s)) in
     is ∙ ap (λ (t : List ℕ). t ++ line_text ops s) before ∙ append_assoc front sofar (line_text ops s) ∙ ap (λ (r : List ℕ). front ++ r) (sym more)
 
 -- what holds of all holds of the one at a place
@@ -83,27 +84,18 @@ put_header_text r old one two new given second same first next h =
 pub all_next : {X : Type 0} (P : X → Type 0) (xs : List X) (k : ℕ) (x : X) → slice_get xs k ≡ Some x → All P (take k xs) → P x → All P (take (k + 1) xs)
 all_next P xs k x there before here = (subst (λ ys. All P ys) (sym (taken_next xs k x there)) (All-push P (take k xs) x before here))
 
--- the numbers of the micro-ops before a place
-abbrev pub AreSmallBefore : List MicroOp → ℕ → Type 0
-AreSmallBefore ops n = (k : ℕ) (o : MicroOp) → k < n → slice_get ops k ≡ Some o → (o.g ≤ 18446744073709551615) × (o.n ≤ 18446744073709551615)
+-- the lines of a part that an instance or a member is
+pub inst_line : (ops : List MicroOp) (v : Instance) (k : ℕ) → ((codes "inst" ++ (codes " " ++ decimal k)) ++ codes " ") ++ value_text ops v ≡ line_of ops (derive (InstWay v) k)
+inst_line ops v k =
+    append_assoc (codes "inst" ++ (codes " " ++ decimal k)) (codes " ") (value_text ops v) ∙ append_assoc (codes "inst") (codes " " ++ decimal k) (codes " " ++ value_text ops v)
 
-pub small_next : (ops : List MicroOp) (n : ℕ) (x : MicroOp) → slice_get ops n ≡ Some x → (x.g ≤ 18446744073709551615) × (x.n ≤ 18446744073709551615)
-    → AreSmallBefore ops n → AreSmallBefore ops (n + 1)
-small_next ops n x here small before k o low there =
-    elim (lower k n low) [
-      | inl less ↦ before k o less there
-      | inr same ↦
-        let at : slice_get ops n ≡ Some o = ap (slice_get ops) (sym same) ∙ there in
-        let is : x ≡ o = one_op x o (sym here ∙ at) in
-        let P : MicroOp → Type 0 = λ y. (y.g ≤ 18446744073709551615) × (y.n ≤ 18446744073709551615) in
-        subst P is small
-    ]
-  where
-    lower : (k n : ℕ) → k < n + 1 → (k < n) ⊎ (k ≡ n)
-    lower zero zero h = inr refl
-    lower zero (suc n) h = inl (omega arith)
-    lower (suc k) zero h = absurd (omega (arith, h))
-    lower (suc k) (suc n) h = elim (lower k n (omega (arith, h))) [ inl l ↦ inl (omega (arith, l)) | inr e ↦ inr (ap suc e) ]
+pub member_line : (ops : List MicroOp) (k j : ℕ) → (codes "member" ++ (codes " " ++ decimal k)) ++ (codes " " ++ decimal j) ≡ line_of ops (derive (MemberWay j) k)
+member_line ops k j = append_assoc (codes "member") (codes " " ++ decimal k) (codes " " ++ decimal j)
 
-    one_op : (x y : MicroOp) → Some x ≡ Some y → x ≡ y
-    one_op x y e = cc
+-- the name of the micro-op at a place
+pub put_op : {T E : Type 0} (r : Result T E) (ops : List MicroOp) (i : ℕ) (o : MicroOp) (old one two new : List ℕ) → slice_get ops i ≡ Some o → one ≡ old ++ decimal o.g → two ≡ one ++ codes "."
+    → OnOk r (new ≡ two ++ decimal o.n) → OnOk r (new ≡ old ++ value_text ops (OpInstance i))
+put_op r ops i o old one two new there first next h =
+    on_ok_weaker r
+    (λ e. e ∙ ap (λ (t : List ℕ). t ++ decimal o.n) (next ∙ ap (λ (t : List ℕ). t ++ codes ".") first ∙ append_assoc old (decimal o.g) (codes "."))
+    ∙ append_assoc old (decimal o.g ++ codes ".") (decimal o.n) ∙ ap (λ m. old ++ op_text m) (sym there)) h

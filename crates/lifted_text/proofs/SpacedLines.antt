@@ -1,8 +1,9 @@
 -- Lines as words with a space between two, and that no LF stands in them.
 use Rattle.std.proofs.Common.{◌≡◌, ◌≢◌, ℕ, Bool, true, false, ◌||◌, ◌==◌, List, [], ◌∷◌, ◌++◌, map, refl, sym, ◌∙◌, ap, subst, append_assoc, eq-eqb}
 use Rattle.std.specs.Prelude.{All, codes}
-use Rattle.std.specs.List.{flat_map, list_any, join_with_byte}
+use Rattle.std.specs.List.{list_any, join_with_byte}
 use Rattle.std.specs.Fmt.{decimal}
+use Rattle.std.proofs.lemmas.List.{append-nil}
 use Rattle.std.proofs.lemmas.List.Elements.{All-nil, All-cons, All-head, All-tail}
 use Rattle.pc_common.specs.Case.{MicroOp}
 use Rattle.pc_common.specs.Lines.{op_text}
@@ -13,17 +14,11 @@ use Rattle.lifted_facts.specs.declared.way.Instance.{Instance}
 use Rattle.lifted_facts.specs.declared.way.Instance.TheVariants.{Op as OpInstance, Core as CoreInstance}
 use Rattle.lifted_facts.specs.declared.way.Way.TheVariants.{Left as LeftWay, Right as RightWay, Not as NotWay, Bind as BindWay, Inst as InstWay, Member as MemberWay}
 use Rattle.lifted_facts.specs.Lifted.{LiftedStep, derive, split, close, falsity, cycle, path, absent}
-use Rattle.lifted_check.specs.declared.keyword.Keyword.{Keyword}
-use Rattle.lifted_check.specs.declared.keyword.Keyword.TheVariants.{Left, Right, Not, Bind, Inst, Member, Split, False, Cycle, Path, Absent}
-use Rattle.lifted_check.specs.StepLines.{keyword_text, keyword_of, numbers_of, value_text, value_words, step_words, IsSmall, IsValue, HasValue}
-use Rattle.lifted_text.specs.WrittenLines.{line_of, lines_of, spaced}
+use Rattle.lifted_check.specs.StepLines.{keyword_text, keyword_of, numbers_of, value_text, value_words, IsSmall, IsValue, HasValue}
+use Rattle.lifted_text.specs.WrittenLines.{line_of, spaced}
 
 pub joined_spaced : (w : List ℕ) (ws : List (List ℕ)) → join_with_byte 32 (w ∷ ws) ≡ w ++ spaced ws
-joined_spaced w [] = sym (append_none w)
-  where
-    append_none : {X : Type 0} (xs : List X) → xs ++ [] ≡ xs
-    append_none [] = refl
-    append_none (x ∷ xs) = ap (λ zs. x ∷ zs) (append_none xs)
+joined_spaced w [] = sym (append-nil w)
 joined_spaced w (v ∷ vs) = ap (λ (r : List ℕ). w ++ 32 ∷ r) (joined_spaced v vs)
 
 pub spaced_more : (xs ys : List (List ℕ)) → spaced (xs ++ ys) ≡ spaced xs ++ spaced ys
@@ -44,18 +39,18 @@ lacks_append : (m : ℕ) (xs ys : List ℕ) → Lacks m xs → Lacks m ys → La
 lacks_append m [] ys h k = k
 lacks_append m (x ∷ xs) ys h k = or_two (x == m) (list_any (λ c. c == m) xs) (list_any (λ c. c == m) (xs ++ ys)) h (λ e. lacks_append m xs ys e k)
 
-keyword_lacks : (k : Keyword) → Lacks 10 (keyword_text k)
-keyword_lacks Left = refl
-keyword_lacks Right = refl
-keyword_lacks Not = refl
-keyword_lacks Bind = refl
-keyword_lacks Inst = refl
-keyword_lacks Member = refl
-keyword_lacks Split = refl
-keyword_lacks False = refl
-keyword_lacks Cycle = refl
-keyword_lacks Path = refl
-keyword_lacks Absent = refl
+keyword_lacks : (s : LiftedStep) → Lacks 10 (keyword_text (keyword_of s))
+keyword_lacks (derive LeftWay k) = refl
+keyword_lacks (derive RightWay k) = refl
+keyword_lacks (derive NotWay k) = refl
+keyword_lacks (derive BindWay k) = refl
+keyword_lacks (derive (InstWay v) k) = refl
+keyword_lacks (derive (MemberWay j) k) = refl
+keyword_lacks (split k) = refl
+keyword_lacks (close (falsity k)) = refl
+keyword_lacks (close (cycle k ks)) = refl
+keyword_lacks (close (path k ks denial)) = refl
+keyword_lacks (close (absent denial k)) = refl
 
 number_lacks : (k : ℕ) → IsSmall k → Lacks 10 (decimal k)
 number_lacks k small = decimal_lacks 10 (decimal k) refl (k, (small, refl))
@@ -98,5 +93,5 @@ line_fits ops s small value =
     let P : List ℕ → Type 0 = λ xs. IsLine xs in
     subst P (sym (line_is ops s))
     (lacks_line (keyword_text (keyword_of s) ++ (spaced (map decimal (numbers_of s)) ++ spaced (value_words ops s)))
-    (lacks_append 10 (keyword_text (keyword_of s)) (spaced (map decimal (numbers_of s)) ++ spaced (value_words ops s)) (keyword_lacks (keyword_of s))
+    (lacks_append 10 (keyword_text (keyword_of s)) (spaced (map decimal (numbers_of s)) ++ spaced (value_words ops s)) (keyword_lacks s)
     (lacks_append 10 (spaced (map decimal (numbers_of s))) (spaced (value_words ops s)) (numbers_lack (numbers_of s) small) (values_lack ops s value))))

@@ -1,9 +1,9 @@
 -- The lines of a lifted refutation are a text of one.
-use Rattle.std.proofs.Common.{◌≡◌, ◌≢◌, ℕ, List, [], ◌∷◌, ◌++◌, map, refl, sym, ◌∙◌, ap, subst, append_assoc}
+use Rattle.std.proofs.Common.{◌≡◌, ℕ, List, [], ◌∷◌, ◌++◌, refl, sym, ◌∙◌, ap, append_assoc}
 use Rattle.std.specs.Prelude.{All, codes}
 use Rattle.std.specs.List.{flat_map}
 use Rattle.std.proofs.lemmas.List.Elements.{All-nil, All-cons, All-head, All-tail}
-use Rattle.pc_common.specs.Case.{Case, Expectation, permitted, forbidden, unstated}
+use Rattle.pc_common.specs.Case.{Expectation, permitted, forbidden, unstated}
 use Rattle.pc_common.specs.Lines.{unobservable, second_text}
 use Rattle.pc_ground.specs.NodeWords.{AreSmall}
 use Rattle.line_judge.specs.Texts.{IsLine, text_of_lines, IsMadeOf}
@@ -46,10 +46,6 @@ texts q (s ∷ ss) = ap (λ (r : List ℕ). line_text q.case.ops s ++ r) (texts 
 pub text_append : (xs ys : List (List ℕ)) → text_of_lines (xs ++ ys) ≡ text_of_lines xs ++ text_of_lines ys
 text_append [] ys = refl
 text_append (x ∷ xs) ys = ap (λ (r : List ℕ). (x ++ codes "\n") ++ r) (text_append xs ys) ∙ sym (append_assoc (x ++ codes "\n") (text_of_lines xs) (text_of_lines ys))
-
-append_none : {X : Type 0} (xs : List X) → xs ++ [] ≡ xs
-append_none [] = refl
-append_none (x ∷ xs) = ap (λ zs. x ∷ zs) (append_none xs)
 
 -- the header, the lines of the steps and the last line
 abbrev pub whole_bytes : Question → List LiftedStep → List ℕ

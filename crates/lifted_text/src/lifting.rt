@@ -46,7 +46,7 @@ fn put_header(text: &mut Vec<u8>, case: &Case) -> Result<(), Memory>
 /// Puts a line for each step.
 fn put_lines(text: &mut Vec<u8>, case: &Case, steps: &Steps) -> Result<(), Memory>
     requires { All (HasValue case.now.ops) steps.now }
-    ensures text { OnOk result (text.new.items ≡ text.old.items ++ flat_map (line_text case.now.ops) steps.now) }
+    ensures { OnOk result (text.new.items ≡ text.old.items ++ flat_map (line_text case.now.ops) steps.now) }
 {
     for k in 0..steps.len() {
         put_line(text, case, steps.line(k))?;

@@ -103,14 +103,47 @@ fn show_numbers(numbers: &[u64])
     let _numbers = numbers;
 }
 
+/// Does nothing. It shows that the numbers of a step that adds a part are of 64 bits.
+fn show_derive(way: Way, number: u64)
+    ensures numbers { All IsSmall (numbers_of (derive way number)) }
+    ensures core { HasSmallCore (derive way number) }
+{
+    match way {
+        Way::Left => {}
+        Way::Right => {}
+        Way::Not => {}
+        Way::Bind => {}
+        Way::Inst(Instance::Op(_)) => {}
+        Way::Inst(Instance::Core(_)) => {}
+        Way::Member(_) => {}
+    }
+}
+
 /// Does nothing. It shows that each number of a step is of 64 bits.
 pub(crate) fn show_line(line: &Line)
     ensures numbers { All IsSmall (numbers_of (plain_line line.now)) }
     ensures core { HasSmallCore (plain_line line.now) }
 {
     match line {
-        Line::Cycle(_, more) => show_numbers(more.as_slice()),
-        Line::Path(_, more, _) => show_numbers(more.as_slice()),
-        _ => {}
+        Line::Derive(way, number) => show_derive(*way, *number),
+        Line::Split(number) => {
+            let _number = *number;
+        }
+        Line::False(number) => {
+            let _number = *number;
+        }
+        Line::Cycle(first, more) => {
+            let _first = *first;
+            show_numbers(more.as_slice());
+        }
+        Line::Path(first, more, denial) => {
+            let _first = *first;
+            let _denial = *denial;
+            show_numbers(more.as_slice());
+        }
+        Line::Absent(denial, number) => {
+            let _denial = *denial;
+            let _number = *number;
+        }
     }
 }

@@ -16,8 +16,8 @@ use Rattle.lifted_text.proofs.StepRuns.{values_fit}
 use Rattle.lifted_text.proofs.WholeTexts.{whole_text}
 use Rattle.lifted_text.proofs.lifting.lift.Goals as goal
 
-pub lift_steps-steps-requires : goal.lift_steps-steps-requires
-lift_steps-steps-requires c =
+pub lift_steps-requires : goal.lift_steps-requires
+lift_steps-requires c =
     let f = c.args.front.now in
     let T : List Closed → Type 0 = λ as_. f.tree ≡ rows_of (closed_ground_tree f.case (plain_axioms as_)) in
     let R : List Closed → Type 0 = λ as_. IsRefutation One (closed_ground_tree f.case (plain_axioms as_)) c.args.refutation.now in

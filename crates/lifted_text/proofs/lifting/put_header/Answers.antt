@@ -1,6 +1,5 @@
-use Rattle.std.proofs.Common.{◌++◌, ◌≡◌, List, ℕ, ◌∙◌, ap, append_assoc}
+use Rattle.std.proofs.Common.{◌++◌, ◌∙◌, ap}
 use Rattle.std.specs.Prelude.{codes}
-use Rattle.std.proofs.lemmas.Result.{on_ok_weaker}
 use Rattle.pc_common.specs.Lines.{unobservable, second_text}
 use Rattle.lifted_text.proofs.PutLines.{put_header_text}
 use Rattle.lifted_text.proofs.lifting.put_header.Goals as goal

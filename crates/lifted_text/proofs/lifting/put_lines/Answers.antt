@@ -1,12 +1,12 @@
-use Rattle.std.proofs.Common.{◌≡◌, ◌<◌, length, sym, subst, ◌∙◌, ap, arith, ℕ}
-use Rattle.std.proofs.lemmas.List.{take_all}
+use Rattle.std.proofs.Common.{sym}
+use Rattle.std.proofs.lemmas.List.{append-nil}
 use Rattle.lifter.specs.WrittenSteps.{plain_line}
 use Rattle.lifted_check.specs.StepLines.{HasValue}
-use Rattle.lifted_text.proofs.PutLines.{append_none, lines_next, all_at}
+use Rattle.lifted_text.proofs.PutLines.{lines_next, all_at}
 use Rattle.lifted_text.proofs.lifting.put_lines.Goals as goal
 
 pub loop-k-init : goal.loop-k-init
-loop-k-init c = sym (append_none c.args.text.now.items)
+loop-k-init c = sym (append-nil c.args.text.now.items)
 
 pub put_line-requires : goal.put_line-requires
 put_line-requires c = all_at (HasValue c.args.case.now.ops) c.args.steps.now c.loop-k.k (plain_line c.line.result.now) c.requires c.line.ensures

@@ -1,6 +1,4 @@
-use Rattle.std.proofs.Common.{◌≡◌, length, sym, take}
 use Rattle.std.specs.Prelude.{All}
-use Rattle.std.proofs.lemmas.List.Elements.{All-nil}
 use Rattle.lifted_facts.specs.Lifted.{LiftedStep}
 use Rattle.lifter.specs.WrittenSteps.{plain_line}
 use Rattle.lifted_check.specs.StepLines.{numbers_of, IsSmall}

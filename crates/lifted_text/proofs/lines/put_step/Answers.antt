@@ -1,4 +1,4 @@
-use Rattle.std.proofs.Common.{◌++◌, ◌≡◌, List, ℕ, map, sym, ap, subst}
+use Rattle.std.proofs.Common.{◌++◌, ◌≡◌, List, ℕ, map, sym, subst}
 use Rattle.std.specs.Prelude.{OnOk, codes}
 use Rattle.std.specs.Fmt.{decimal}
 use Rattle.lifted_facts.specs.Lifted.{close, cycle, path}
