@@ -26,7 +26,7 @@ use Rattle.command_base.proofs.OneCase.{one_held}
 use Rattle.command_base.proofs.AskedAlike.{asks_alike}
 use Rattle.command_base.proofs.AnsweredFiles.{found_of, due_of_files}
 use Rattle.command_base.proofs.ThirdFile.{third_found, third_fault, third_memory}
-use Rattle.lifted_command.specs.LiftedQuestions.{lifted_question}
+use Rattle.lift_command.specs.LiftedQuestions.{lifted_question}
 use Rattle.lift_command.specs.declared.lifting.FoundLift.{FoundLift}
 use Rattle.lift_command.specs.declared.lifting.FoundLift.TheVariants.{Observable, Text, Refused}
 use Rattle.lift_command.specs.declared.lifting.LiftEnd.{LiftEnd}
