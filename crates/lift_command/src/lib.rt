@@ -10,7 +10,7 @@
 //!
 //! Where the two files have no fault it reads the third, at most 67,108,864 bytes, and judges it by the rules of
 //! version 1 alone. It returns a `FoundLift`: the text of the lifted refutation, whose status is `Done`; that a graph
-//! holds, whose text and status are those of `verify`; or the line that is refused. Or it returns the `Ending` of the
+//! holds, told as `verify` tells it; or the line that is refused. Or it returns the `Ending` of the
 //! two files, or a failed call or want of memory at the third. The text is one that `verify-lifted` takes, where it is
 //! within the limit.
 #![tactic(auto)]
