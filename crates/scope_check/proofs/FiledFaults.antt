@@ -10,9 +10,10 @@ use Rattle.pc_syntax.specs.Expansion.{parameter_names, expansion_of}
 use Rattle.pc_syntax.specs.Scope.{Scope, quantified_in, bound_in}
 use Rattle.pc_syntax.specs.Fault.{Fault, first_fault}
 use Rattle.pc_syntax.specs.NameFaults.{scope_fault, static_fault, node_fault, edge_fault, binding_fault, name_fault}
+use Rattle.pc_syntax.specs.Closed.{PlainClosed}
+use Rattle.pc_syntax.specs.Closing.{IsClosingOf}
 use Rattle.pc_syntax.proofs.ExpansionLaws.{expansion_faults}
-use Rattle.scope_check.specs.FirstFault.{IsNoneOr}
-use Rattle.scope_check.specs.QueryFaults.{FiledFault, filed, query_fault, body_file, IsFiledOr, unfiled}
+use Rattle.scope_check.specs.QueryFaults.{FiledFault, filed, query_fault, IsQueryClosing, unfiled}
 
 -- without its file a fault is what it was
 pub unfiled_filed : (file : Which) (o : Option Fault) → unfiled (filed file o) ≡ o
@@ -68,6 +69,12 @@ query_faults stages (m ∷ ms) scope (expand_ at name args) =
     (unfiled_both (filed Query outer) (filed Model body) outer body (unfiled_filed Query outer) (unfiled_filed Model body))
     (query_faults stages ms scope (expand_ at name args))
 
+-- so what closes a query's formula closes it
+pub query_closing : (stages : List StageItem) (scope : Scope) (w : Written) (c : PlainClosed) → IsQueryClosing stages scope w c
+    → IsClosingOf stages scope w c
+query_closing stages scope w c is =
+    record { no_fault = sym (query_faults stages [] scope w) ∙ ap unfiled is.no_fault; closing = is.closing }
+
 -- no fault without a file is none with one
 pub none_filed : (o : Option FiledFault) → unfiled o ≡ None → o ≡ None
 none_filed None h = refl
@@ -108,24 +115,3 @@ query_expansion stages (m ∷ ms) scope (expand_ at name args) =
     (filed Query (binding_fault scope at (parameter_names m) args))
     (filed Model (expansion_faults stages ms (bound_in scope (parameter_names m) args) m.body i)))
     (query_expansion stages ms scope (expand_ at name args))
-
--- the first fault of what stands in the query, of what stands in the model, and of two parts, from that of the first
-pub query_answers : (first : Option Fault) (file : Which) (given : Option Fault) → file ≡ Query → IsNoneOr first given → IsFiledOr (filed Query first) file given
-query_answers first file None here is = here
-query_answers first file (Some f) here is =
-    let put : Which → Option FiledFault = λ w. Some (w, f) in ap (filed Query) is ∙ ap put (sym here)
-
-pub model_answers : (first : Option Fault) (file : Which) (given : Option Fault) → file ≡ body_file given → IsNoneOr first given
-    → IsFiledOr (filed Model first) file given
-model_answers first file None here is = here
-model_answers first file (Some f) here is =
-    let put : Which → Option FiledFault = λ w. Some (w, f) in ap (filed Model) is ∙ ap put (sym here)
-
-pub or_filed : (a b : Option FiledFault) (file : Which) (given : Option Fault) → IsFiledOr a file given → IsFiledOr (option_or a b) file given
-or_filed a b file None h = h
-or_filed None b file (Some f) h = cc
-or_filed (Some p) b file (Some f) h = h
-
-pub pass_filed : (a b : Option FiledFault) (file : Which) (given : Option Fault) → a ≡ None → IsFiledOr b file given → IsFiledOr (option_or a b) file given
-pass_filed None b file given none h = h
-pass_filed (Some p) b file given none h = cc

@@ -57,7 +57,6 @@ pub fn close_query(
 }
 
 /// Closes a formula of a query, in which no variable is bound.
-#[tactic(auto, using(crate::proofs::ClosingOf::closing_stages))]
 fn close_asked(
     alloc: Global,
     stages: &StageItems,

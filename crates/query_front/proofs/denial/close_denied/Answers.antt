@@ -25,8 +25,8 @@ returns-in-Ok-close_query-clause-ok c =
     λ m f is. denied_closed n m f is c.in-Ok.denied c.in-Ok.ensures.ok (plain_closed c.in-Ok-close_query.closed.body) c.in-Ok-close_query.ensures.ok
 
 -- a fault of names
-pub returns-in-Err-close_query-clause-err : goal.returns-in-Err-close_query-clause-err
-returns-in-Err-close_query-clause-err c =
+pub returns-clause-err : goal.returns-clause-err
+returns-clause-err c =
     let n = written_model c.args.model.now in
     rw (c.moved-in-Err-close_query.ensures, c.from-in-Err-close_query.ensures)
     (λ m f is bytes of. denial_name_ends n m f is c.in-Ok.denied c.in-Ok.ensures.ok bytes of c.in-Err-close_query.file

@@ -9,8 +9,8 @@ unreachable-requires c =
     let none : length c.in_ok-axioms.axioms.items ≡ 0 = omega (arith, c.in-None.ensures.cases) in
     popped_none (written_model c.args.model.now) m w c.in_ok-axioms.axioms.items is c.in_ok-axioms.ensures.ok.1 none
 
-pub returns-in-Some-clause-ok : goal.returns-in-Some-clause-ok
-returns-in-Some-clause-ok c =
+pub returns-clause-ok : goal.returns-clause-ok
+returns-clause-ok c =
     let n = written_model c.args.model.now in
     let all = c.in_ok-axioms.ensures.ok in
     record {

@@ -1,10 +1,10 @@
-use Rattle.std.proofs.Common.{◌≡◌, [], None, sym, ap, subst, ◌∙◌}
+use Rattle.std.proofs.Common.{[], sym, subst}
 use Rattle.pc_syntax.specs.Written.{written}
 use Rattle.pc_syntax.specs.IsClosed.{IsClosed}
-use Rattle.pc_syntax.specs.NameFaults.{name_fault}
+use Rattle.pc_syntax.specs.Closed.{plain_closed}
 use Rattle.pc_syntax.proofs.ClosingShape.{closed_axiom_closed}
-use Rattle.scope_check.specs.QueryFaults.{unfiled}
-use Rattle.scope_check.proofs.FiledFaults.{query_faults}
+use Rattle.scope_check.proofs.ClosingOf.{closing_stages}
+use Rattle.scope_check.proofs.FiledFaults.{query_closing}
 use Rattle.scope_check.proofs.query.close_asked.Goals as goal
 
 -- the closed formula keeps that it is closed
@@ -13,11 +13,17 @@ invariant_of-result c =
     let stages = c.args.stages.now in
     let w = written c.args.formula.now in
     let made = rw c.new.ensures at c.in-Ok.ensures.ok in
-    let none : name_fault stages [] [] w ≡ None = sym (query_faults stages [] [] w) ∙ ap unfiled made.no_fault in
-    record { closed = subst (IsClosed []) (sym made.closing) (closed_axiom_closed stages c.requires.stages w none) }
+    let closing = query_closing stages [] w (plain_closed c.in-Ok.body) made in
+    record { closed = subst (IsClosed []) (sym closing.closing) (closed_axiom_closed stages c.requires.stages w closing.no_fault) }
 
 pub returns-in-Ok-clause-ok : goal.returns-in-Ok-clause-ok
 returns-in-Ok-clause-ok c =
-    let stages = c.args.stages.now in
     let made = rw c.new.ensures at c.in-Ok.ensures.ok in
-    record { no_fault = sym (query_faults stages [] [] (written c.args.formula.now)) ∙ ap unfiled made.no_fault; closing = made.closing }
+    query_closing c.args.stages.now [] (written c.args.formula.now) (plain_closed c.in-Ok.body) made
+
+pub returns-in-Ok-clause-stages : goal.returns-in-Ok-clause-stages
+returns-in-Ok-clause-stages c =
+    let stages = c.args.stages.now in
+    let w = written c.args.formula.now in
+    let made = rw c.new.ensures at c.in-Ok.ensures.ok in
+    closing_stages stages [] w (plain_closed c.in-Ok.body) (query_closing stages [] w (plain_closed c.in-Ok.body) made)
