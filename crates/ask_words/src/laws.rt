@@ -2,7 +2,6 @@
 ghost use Rattle.ask_words.specs.Words.{WordsAreTrue};
 
 /// The word that two answers tell is true of the formula over the worlds in which the closed axioms are true.
-#[tactic(auto, using(crate::proofs::TrueWords::words_true))]
 pub fn words_are_true()
     ensures { WordsAreTrue }
 {}
