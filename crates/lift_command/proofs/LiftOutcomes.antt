@@ -76,18 +76,18 @@ module _ {F : Type 0} {view : F → FilesView} {old mid new : F}
       (λ t. let third = is t in (
         third.0,
         third.1,
-        λ held. lifted held (lift_alike f.m f.c front f.front_of third.0 found third.2),
+        λ held. lifted found held (lift_alike f.m f.c front f.front_of third.0 found third.2),
       ))
   file_outcome (Err a_fault) is rose none = third_fault failing_modelled certificate (IsLifted (view old).holds certificate) f keeps (rose refl) (λ c. none c refl)
   file_outcome (Err no_memory) is rose none = third_memory failing_modelled certificate (IsLifted (view old).holds certificate) f keeps
 
 judged_true : {holds : Contents} {certificate : List ℕ} {m : WrittenModel} {c : Case} {status : Status} {text : List ℕ}
     → IsLifted holds certificate m c status text → IsTrueStatus m c status
-judged_true {m = m} {c = c} (lifted {bytes = bytes} {found = found} held is) = lift_true_status m c (lifted_question m c) bytes found is
+judged_true {m = m} {c = c} (lifted {bytes = bytes} found held is) = lift_true_status m c (lifted_question m c) bytes found is
 
 judged_due : {holds : Contents} {certificate : List ℕ} {m : WrittenModel} {c : Case} {status : Status} {text : List ℕ}
     → IsLifted holds certificate m c status text → IsDueLift holds certificate m c status
-judged_due {holds} {certificate} {m} {c} (lifted {bytes = bytes} {found = found} held is) other held2 =
+judged_due {holds} {certificate} {m} {c} (lifted {bytes = bytes} found held is) other held2 =
     let P : List ℕ → Type 0 = λ b. IsLiftOf (question_by m c) (lifted_question m c) b found in
     status_of (question_by m c) (lifted_question m c) other found (subst P (one_held holds certificate bytes other held held2) is)
 

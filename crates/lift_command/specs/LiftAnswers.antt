@@ -19,7 +19,7 @@ use Rattle.lift_command.specs.LiftTexts.{lift_status, lift_text}
 
 -- what the third file is made into, for the model and the case
 pub data IsLifted (holds : Contents) (certificate : List ℕ) (m : WrittenModel) (c : Case) : Status → List ℕ → Type 0 where
-  lifted : {bytes : List ℕ} {found : FoundLift} → holds certificate ≡ Some bytes
+  lifted : {bytes : List ℕ} (found : FoundLift) → holds certificate ≡ Some bytes
       → IsLiftOf (question_by m c) (lifted_question m c) bytes found
       → IsLifted holds certificate m c (lift_status found) (lift_text found)
 
