@@ -1,5 +1,5 @@
 -- The outcome of `ask`: what its answer says, and that it is due.
-use Rattle.std.proofs.Common.{◌≡◌, ◌≢◌, ◌⊎◌, ℕ, List, [], inr, refl, subst}
+use Rattle.std.proofs.Common.{◌≡◌, ℕ, List, [], inr, refl, subst}
 use Rattle.pc_common.specs.Outside.{FilesView}
 use Rattle.pc_common.specs.Case.{Case}
 use Rattle.pc_common.specs.declared.status.Status.{Status}

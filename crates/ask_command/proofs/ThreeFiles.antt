@@ -1,5 +1,5 @@
 -- How `ask` ends at its three files, and what it knows where they have no fault.
-use Rattle.std.proofs.Common.{◌≡◌, ◌≢◌, ◌⊎◌, inl, inr, ℕ, ◌≤◌, List, Some, None, refl, sym, ◌∙◌, subst}
+use Rattle.std.proofs.Common.{◌≡◌, inl, inr, ℕ, List, Some, None, refl, sym, ◌∙◌, subst}
 use Rattle.std.specs.Prelude.{IsTrue}
 use Rattle.pc_common.specs.Outside.{FilesView}
 use Rattle.pc_common.specs.LineColumn.{line_of, column_of}

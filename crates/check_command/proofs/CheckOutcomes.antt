@@ -1,5 +1,5 @@
 -- The outcome of `check`: what its answer says, and that it is due.
-use Rattle.std.proofs.Common.{◌≡◌, ℕ, Bool, List, subst}
+use Rattle.std.proofs.Common.{◌≡◌, ℕ, List, subst}
 use Rattle.pc_common.specs.Outside.{FilesView}
 use Rattle.pc_common.specs.Case.{Case}
 use Rattle.pc_common.specs.declared.fault.InputFault.{InputFault}

@@ -1,5 +1,5 @@
 -- The outcome of `gen`: what its answer says, and that it is due.
-use Rattle.std.proofs.Common.{◌≡◌, ℕ, Bool, List, refl, sym, subst}
+use Rattle.std.proofs.Common.{◌≡◌, ℕ, List, refl, sym, subst}
 use Rattle.pc_common.specs.Outside.{FilesView}
 use Rattle.pc_common.specs.Case.{Case}
 use Rattle.pc_common.specs.declared.fault.InputFault.{InputFault}
@@ -12,7 +12,6 @@ use Rattle.cert_check.specs.Verdicts.{plain_verdict}
 use Rattle.gen_texts.specs.Ring.{ring_model, ring_test}
 use Rattle.command_base.specs.declared.ending.Ending.{Ending}
 use Rattle.command_base.specs.declared.ending.Ending.TheVariants.{ReadFault as a_read_fault, Memory as a_memory, Refused as a_refusal}
-use Rattle.command_base.specs.Inputs.{Contents}
 use Rattle.command_base.specs.Endings.{ending_status, ending_text, bytes_of, IsBytesEnding}
 use Rattle.command_base.specs.Outcomes.{IsOutcome}
 use Rattle.command_base.proofs.InputsRead.{refusal_is, reads_none}

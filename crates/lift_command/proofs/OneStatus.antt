@@ -1,8 +1,6 @@
 -- All that a text is by the rules of version 1 has one status.
 use Rattle.std.proofs.Common.{◌≡◌, ℕ, List, refl, sym, ap}
 use Rattle.pc_common.specs.Case.{Case}
-use Rattle.pc_common.specs.World.{Node}
-use Rattle.pc_common.specs.Steps.{Step}
 use Rattle.pc_common.specs.declared.status.Status.TheVariants.{Observable as is_observable, Unobservable as is_unobservable, Done, CertRefused}
 use Rattle.pc_syntax.specs.Written.{WrittenModel}
 use Rattle.cert_check.specs.Certificates.{Question}

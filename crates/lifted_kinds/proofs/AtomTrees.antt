@@ -1,23 +1,22 @@
 -- A term of a closed formula names a node, so no member of a list is a constant.
-use Rattle.std.proofs.Common.{◌≡◌, ℕ, zero, suc, ◌-◌, ◌<◌, inl, inr, Bool, true, false, not, List, [], ◌∷◌, ◌++◌, Option, Some, None, map, drop, length, refl, sym, ◌∙◌, ap, subst, arith, length-drop}
-use Rattle.std.specs.Prelude.{slice_get, unwrap_or, nat_lt, ◌==◌}
+use Rattle.std.proofs.Common.{◌≡◌, ℕ, zero, suc, ◌-◌, ◌<◌, inl, inr, Bool, true, false, List, [], ◌∷◌, Option, Some, None, map, drop, length, refl, sym, ◌∙◌, ap, subst, arith, length-drop}
+use Rattle.std.specs.Prelude.{slice_get, unwrap_or}
 use Rattle.std.specs.Option.{option_map}
-use Rattle.std.proofs.lemmas.Option.{slice_get-map, slice_get_within}
+use Rattle.std.proofs.lemmas.Option.{slice_get-map}
 use Rattle.pc_common.specs.Case.{Case, MicroOp}
 use Rattle.pc_common.specs.World.{Node}
 use Rattle.pc_common.proofs.Elements.{In}
 use Rattle.pc_syntax.specs.declared.term.Sort.{Sort}
 use Rattle.pc_syntax.specs.declared.term.Sort.TheVariants.{Microop, Core as core_sort}
-use Rattle.pc_syntax.specs.declared.pred.Takes.TheVariants.{Core as takes_core}
 use Rattle.pc_syntax.specs.declared.bound.Bound.{Bound}
 use Rattle.pc_syntax.specs.declared.bound.Bound.TheVariants.{Op, Core}
 use Rattle.pc_syntax.specs.declared.closed_term.ClosedArg.{ClosedArg}
 use Rattle.pc_syntax.specs.declared.closed_term.ClosedArg.TheVariants.{Slot, Core as core_arg, Plain}
 use Rattle.pc_syntax.specs.declared.closed_term.ClosedNode.{ClosedNode}
 use Rattle.pc_syntax.specs.declared.closed_term.ClosedEdge.{ClosedEdge}
-use Rattle.pc_syntax.specs.Truth.{Meaning, an_op, a_core, op_of, core_of, node_at}
-use Rattle.pc_syntax.specs.Closed.{PlainClosed, closed_nodes, closed_edges, meaning_of, value_at, closed_value, closed_core, closed_node}
-use Rattle.pc_syntax.specs.IsClosed.{IsClosed, IsBound, FitsArg, FitsCore, FitsNode, FitNodes, FitEdges}
+use Rattle.pc_syntax.specs.Truth.{Meaning, a_core, op_of, core_of}
+use Rattle.pc_syntax.specs.Closed.{PlainClosed, closed_nodes, closed_edges, meaning_of, value_at, closed_core, closed_node}
+use Rattle.pc_syntax.specs.IsClosed.{IsClosed, IsBound, FitsCore, FitsNode, FitNodes, FitEdges}
 use Rattle.pc_ground.specs.Unfolded.{node_said, edge_said}
 use Rattle.static_preds.specs.Slots.{AreInRange}
 use Rattle.static_preds.specs.Values.{meanings, sort_bound, scope_of}

@@ -1,7 +1,7 @@
 -- The part at a place of a fact's parts is the one that is named so; and which parts of And are constants.
-use Rattle.std.proofs.Common.{◌≡◌, ℕ, zero, suc, ◌+◌, ◌-◌, ◌<◌, ◌≤◌, Bool, true, false, not, List, [], ◌∷◌, ◌++◌, Option, Some, None, length, map, drop, refl, sym, ◌∙◌, ap, subst, arith}
+use Rattle.std.proofs.Common.{◌≡◌, ℕ, zero, suc, ◌+◌, ◌-◌, ◌<◌, ◌≤◌, Bool, true, false, List, [], ◌∷◌, Some, length, map, drop, refl, sym, ◌∙◌, ap, subst, arith}
 use Rattle.std.specs.Prelude.{slice_get}
-use Rattle.std.specs.Option.{option_map, option_and_then}
+use Rattle.std.specs.Option.{option_map}
 use Rattle.std.proofs.lemmas.Option.{slice_get-map, slice_get_within}
 use Rattle.std.proofs.lemmas.List.{drop_all}
 use Rattle.pc_common.specs.Case.{Case}
@@ -11,7 +11,7 @@ use Rattle.pc_syntax.specs.declared.closed_term.ClosedEdge.{ClosedEdge}
 use Rattle.pc_syntax.specs.declared.term.Sort.{Sort}
 use Rattle.pc_syntax.specs.declared.term.Sort.TheVariants.{Microop, Core}
 use Rattle.pc_syntax.specs.Truth.{Meaning, range_of}
-use Rattle.pc_syntax.specs.Closed.{PlainClosed, plain_closed, closed_not, closed_and, closed_or, closed_implies, closed_forall, closed_exists, closed_static, closed_nodes, closed_edges, closed_bind, closed_node, closed_value}
+use Rattle.pc_syntax.specs.Closed.{PlainClosed, plain_closed, closed_not, closed_and, closed_or, closed_implies, closed_forall, closed_exists, closed_nodes, closed_edges, closed_bind, closed_node}
 use Rattle.pc_ground.specs.Tree.{Tree, always, never, leaf, both, either}
 use Rattle.static_preds.proofs.Walked.{drop_at}
 use Rattle.static_preds.specs.Values.{meanings}
@@ -20,13 +20,13 @@ use Rattle.lifted_facts.specs.declared.fact.Fact.{Fact}
 use Rattle.lifted_facts.specs.declared.fact.Fact.TheVariants.{Said}
 use Rattle.lifted_facts.specs.declared.way.Way.{Way}
 use Rattle.lifted_facts.specs.PlainFacts.{PlainFact, said, one_node, one_edge, plain_fact, plain_part}
-use Rattle.lifted_facts.specs.Parts.{said_at, said_inside, part_of}
-use Rattle.lifted_kinds.specs.Trees.{fact_tree, joined_tree, joined_trees}
+use Rattle.lifted_facts.specs.Parts.{said_inside, part_of}
+use Rattle.lifted_kinds.specs.Trees.{joined_tree, joined_trees}
 use Rattle.lifted_kinds.specs.declared.kind.Kind.{Kind}
 use Rattle.lifted_kinds.specs.declared.kind.Kind.TheVariants.{True, False, Open}
 use Rattle.lifted_kinds.specs.Kinds.{kind_of, joined_kind}
 use Rattle.lifted_kinds.specs.PartLists.{parts}
-use Rattle.lifted_kinds.specs.WayTable.{instance_at, way_of}
+use Rattle.lifted_kinds.specs.WayTable.{way_of}
 use Rattle.lifted_kinds.proofs.KindLaws.{kind_of_more}
 
 module _ (c : Case) (slots : List Meaning) where

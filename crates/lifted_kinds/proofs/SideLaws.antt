@@ -1,5 +1,5 @@
 -- The tree of a fact by those of its sides or its parts, and that these have a lower rank.
-use Rattle.std.proofs.Common.{◌≡◌, ◌⊎◌, inl, inr, ℕ, zero, suc, ◌+◌, ◌-◌, ◌<◌, ◌≤◌, Bool, true, false, not, List, [], ◌∷◌, ◌++◌, Option, Some, None, length, map, drop, refl, sym, ◌∙◌, ap, subst, arith}
+use Rattle.std.proofs.Common.{◌≡◌, ℕ, ◌+◌, ◌-◌, ◌<◌, ◌≤◌, Bool, true, false, not, List, [], ◌∷◌, ◌++◌, Option, Some, None, length, map, drop, refl, sym, ◌∙◌, ap, subst, arith}
 use Rattle.std.specs.Prelude.{slice_get, nat_lt}
 use Rattle.std.specs.Option.{option_map, option_and_then}
 use Rattle.std.proofs.lemmas.Bool.{ltb-true, ltb-false}
@@ -9,20 +9,18 @@ use Rattle.pc_common.specs.Case.{Case}
 use Rattle.pc_common.specs.World.{Node}
 use Rattle.pc_syntax.specs.declared.closed_term.ClosedNode.{ClosedNode}
 use Rattle.pc_syntax.specs.declared.closed_term.ClosedEdge.{ClosedEdge}
-use Rattle.pc_syntax.specs.declared.term.Sort.{Sort}
 use Rattle.pc_syntax.specs.Predicates.{predicate_holds}
 use Rattle.pc_syntax.specs.Truth.{Meaning, range_of}
 use Rattle.pc_syntax.specs.Closed.{PlainClosed, closed_not, closed_and, closed_or, closed_implies, closed_forall, closed_exists, closed_static, closed_nodes, closed_edges, closed_bind, closed_node, closed_value, closed_argument}
 use Rattle.pc_ground.specs.Tree.{Tree, always, never, leaf, both, either}
-use Rattle.pc_ground.specs.PlainGround.{PlainGround, conjoined, disjoined}
-use Rattle.pc_ground.specs.Unfolded.{decided, closed_unfolded}
+use Rattle.pc_ground.specs.PlainGround.{conjoined, disjoined}
+use Rattle.pc_ground.specs.Unfolded.{decided}
 use Rattle.static_preds.proofs.Walked.{drop_at}
-use Rattle.lifted_facts.specs.declared.way.Instance.{Instance}
 use Rattle.lifted_facts.specs.declared.way.Way.{Way}
 use Rattle.lifted_facts.specs.declared.way.Way.TheVariants.{Left, Right, Not, Bind, Inst, Member}
 use Rattle.lifted_facts.specs.PlainFacts.{PlainFact, said, one_node, one_edge}
-use Rattle.lifted_facts.specs.Parts.{place_of, said_at, said_inside, part_of, or_later, sides, is_false}
-use Rattle.lifted_kinds.specs.Trees.{signed_tree, said_tree, joined_tree, joined_trees, bodies, node_tree, edge_tree, fact_tree}
+use Rattle.lifted_facts.specs.Parts.{place_of, said_inside, part_of, or_later, sides, is_false}
+use Rattle.lifted_kinds.specs.Trees.{signed_tree, said_tree, joined_trees, node_tree, edge_tree, fact_tree}
 use Rattle.lifted_kinds.specs.PartLists.{parts, IsSaid}
 use Rattle.lifted_kinds.specs.Ranks.{weight, rank}
 use Rattle.lifted_kinds.proofs.TreeLaws.{start_tree, forall_tree, exists_tree, nodes_tree, edges_tree}

@@ -1,19 +1,16 @@
 -- The tree of a formula by those of its parts.
-use Rattle.std.proofs.Common.{◌≡◌, ℕ, zero, Bool, true, false, not, List, [], ◌∷◌, ◌++◌, map, drop, refl, sym, ◌∙◌, ap}
+use Rattle.std.proofs.Common.{◌≡◌, Bool, true, false, not, List, [], ◌∷◌, ◌++◌, map, refl, sym, ◌∙◌, ap}
 use Rattle.pc_common.specs.Case.{Case}
 use Rattle.pc_common.specs.World.{Node}
 use Rattle.pc_syntax.specs.declared.term.Sort.{Sort}
-use Rattle.pc_syntax.specs.declared.pred.Pred.{Pred}
-use Rattle.pc_syntax.specs.declared.closed_term.ClosedArg.{ClosedArg}
 use Rattle.pc_syntax.specs.declared.closed_term.ClosedNode.{ClosedNode}
 use Rattle.pc_syntax.specs.declared.closed_term.ClosedEdge.{ClosedEdge}
-use Rattle.pc_syntax.specs.Predicates.{predicate_holds}
 use Rattle.pc_syntax.specs.Truth.{Meaning, range_of}
-use Rattle.pc_syntax.specs.Closed.{PlainClosed, closed_not, closed_and, closed_or, closed_implies, closed_forall, closed_exists, closed_static, closed_nodes, closed_edges, closed_bind, closed_argument, closed_node}
+use Rattle.pc_syntax.specs.Closed.{PlainClosed, closed_not, closed_and, closed_or, closed_implies, closed_forall, closed_exists, closed_nodes, closed_edges, closed_node}
 use Rattle.pc_ground.specs.Tree.{Tree}
 use Rattle.pc_ground.specs.PlainGround.{PlainGround, conjoined, disjoined}
 use Rattle.pc_ground.specs.Unfolded.{all_of, some_of, node_said, edge_said, closed_unfolded}
-use Rattle.lifted_facts.specs.PlainFacts.{PlainFact, said}
+use Rattle.lifted_facts.specs.PlainFacts.{said}
 use Rattle.lifted_kinds.specs.Trees.{signed_tree, said_tree, joined_tree, joined_trees, bodies, node_tree, edge_tree, fact_tree}
 
 -- And over a list, and Or over one, under a sign

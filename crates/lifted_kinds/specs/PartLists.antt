@@ -1,5 +1,5 @@
 -- The parts of a fact that hold with it, in the order of the ground tree.
-use Rattle.std.specs.Prelude.{ℕ, Bool, true, false, not, List, [], ◌∷◌, map}
+use Rattle.std.specs.Prelude.{true, false, not, List, [], ◌∷◌, map}
 use Rattle.pc_common.specs.Case.{Case}
 use Rattle.pc_syntax.specs.Truth.{range_of}
 use Rattle.pc_syntax.specs.Closed.{closed_not, closed_and, closed_or, closed_implies, closed_forall, closed_exists, closed_nodes, closed_edges, closed_bind, closed_value, closed_node}

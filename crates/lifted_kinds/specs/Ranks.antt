@@ -1,5 +1,5 @@
 -- A number that is lower for each part and each side of a fact.
-use Rattle.std.specs.Prelude.{ℕ, ◌+◌, ◌-◌, Bool, true, false, List, [], ◌∷◌, Option, Some, None, length, slice_get}
+use Rattle.std.specs.Prelude.{ℕ, ◌+◌, ◌-◌, true, false, length}
 use Rattle.pc_common.specs.Case.{Case}
 use Rattle.pc_syntax.specs.Truth.{range_of}
 use Rattle.pc_syntax.specs.Closed.{PlainClosed, closed_not, closed_and, closed_or, closed_implies, closed_forall, closed_exists, closed_static, closed_nodes, closed_edges, closed_bind}

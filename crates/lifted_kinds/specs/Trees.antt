@@ -1,5 +1,5 @@
 -- What a fact is in the ground tree: its formula under its sign, unfolded in a case, with the constants folded.
-use Rattle.std.specs.Prelude.{ℕ, Bool, true, false, List, [], ◌∷◌, ◌++◌, Option, map, drop}
+use Rattle.std.specs.Prelude.{ℕ, Bool, true, false, List, [], ◌∷◌, ◌++◌, map, drop}
 use Rattle.pc_common.specs.Case.{Case}
 use Rattle.pc_common.specs.World.{Node}
 use Rattle.pc_syntax.specs.declared.term.Sort.{Sort}

@@ -1,10 +1,10 @@
 -- A fact that is False closes its branch: by itself, by its two sides, or by a part.
-use Rattle.std.proofs.Common.{◌≡◌, ℕ, ◌+◌, Bool, true, false, List, [], ◌∷◌, ◌++◌, Some, None, map, refl, sym, ◌∙◌, ap}
+use Rattle.std.proofs.Common.{◌≡◌, ℕ, ◌+◌, true, false, List, [], ◌∷◌, ◌++◌, Some, None, map, refl, sym, ◌∙◌, ap}
 use Rattle.pc_common.specs.Case.{Case}
 use Rattle.lifted_facts.specs.declared.way.Way.{Way}
 use Rattle.lifted_facts.specs.declared.fact.Fact.{Fact}
 use Rattle.lifted_facts.specs.declared.fact.Fact.TheVariants.{Said, Node as NodeFact, Edge as EdgeFact}
-use Rattle.lifted_facts.specs.PlainFacts.{PlainFact, Branch, plain_fact, plain_part}
+use Rattle.lifted_facts.specs.PlainFacts.{PlainFact, plain_fact, plain_part}
 use Rattle.lifted_facts.specs.Parts.{part_of, sides, is_false}
 use Rattle.lifted_facts.specs.Lifted.{LiftedStep, derive, split, close, falsity}
 use Rattle.lifted_kinds.specs.Trees.{fact_tree, joined_trees}

@@ -1,5 +1,5 @@
 -- Look-ups by keys, as lists of plain keys with their numbers, and a key more.
-use Rattle.std.proofs.Common.{◌≡◌, ◌⊎◌, inl, inr, ℕ, Bool, true, false, List, [], ◌∷◌, ◌++◌, ◌==◌, Option, Some, None, map, cond, refl, sym, ◌∙◌, ap, subst, eqb-true, eq-eqb}
+use Rattle.std.proofs.Common.{◌≡◌, ◌⊎◌, inl, inr, ℕ, Bool, true, false, List, [], ◌∷◌, ◌++◌, Option, Some, None, cond, refl, sym, ◌∙◌, ap, subst, eqb-true, eq-eqb}
 use Rattle.std.proofs.lemmas.List.{map-append}
 use Rattle.std.specs.Prelude.{MatchOption}
 use Rattle.std.specs.Map.{lookup}
@@ -9,11 +9,11 @@ use Rattle.pc_ground.specs.Keys.{key_node}
 use Rattle.pc_ground.specs.declared.node_key.NodeKey.{NodeKey}
 use Rattle.pc_ground.proofs.Bools.{and_both}
 use Rattle.pc_ground.proofs.Nodes.{key_eq, key_eq-same, same_node-true, same_node-self}
-use Rattle.pc_common.specs.World.{Node, same_node}
+use Rattle.pc_common.specs.World.{same_node}
 use Rattle.lifter.specs.declared.key.Key.{Key}
 use Rattle.lifter.specs.declared.key.Key.TheVariants.{At, Edge, NoEdge, NoNode, Present}
 use Rattle.lifter.specs.contracts.key.KeyPartialEq.TheImpl.{ghosts}
-use Rattle.lifter.specs.KnownFacts.{PlainKey, at_position, edge, no_edge, no_node, present, plain_key, Entry, entry, entries_of, HasKey, HasMarked}
+use Rattle.lifter.specs.KnownFacts.{PlainKey, at_position, edge, no_edge, no_node, present, plain_key, Entry, entry, entries_of, HasMarked}
 
 same_keys : (a b : NodeKey) → key_eq a b ≡ true → key_node a ≡ key_node b
 same_keys a b e = same_node-true (key_node a) (key_node b) (sym (key_eq-same a b) ∙ e)

@@ -1,34 +1,26 @@
 -- The branches that wait, once the first one is closed.
-use Rattle.std.proofs.Common.{◌≡◌, ◌⊎◌, inl, inr, ℕ, ◌+◌, ◌≤◌, true, false, List, [], ◌∷◌, ◌++◌, Option, Some, length, map, take, drop, reverse, refl, sym, ◌∙◌, ap, subst, arith}
+use Rattle.std.proofs.Common.{◌≡◌, ℕ, ◌+◌, ◌≤◌, List, [], ◌∷◌, ◌++◌, Some, length, map, take, drop, reverse, refl, sym, ◌∙◌, ap, subst, arith}
 use Rattle.std.specs.Prelude.{All}
 use Rattle.std.proofs.lemmas.List.{take-append-drop, take-map, length-take-le, reverse-append}
 use Rattle.std.proofs.lemmas.List.Elements.{All-nil, All-pop, All-take, All-push}
-use Rattle.std.proofs.Math.Seq.{take-length}
 use Rattle.pc_common.specs.Case.{Case}
 use Rattle.pc_common.specs.World.{Node}
 use Rattle.pc_ground.specs.declared.row.Row.{Row}
-use Rattle.pc_ground.specs.Tree.{Tree, either, size_of}
-use Rattle.pc_ground.specs.Rows.{rows_of}
-use Rattle.pc_ground.specs.declared.version.Version.TheVariants.{One}
-use Rattle.pc_ground.specs.Refutes.{subtree_at, asserted, all_signed, left_branch, right_branch, Branch as TreeBranch}
-use Rattle.pc_ground.proofs.FlatRows.{one_part, subtree_part, parts_either}
+use Rattle.pc_ground.specs.Refutes.{asserted, Branch as TreeBranch}
 use Rattle.lifted_facts.specs.declared.fact.Fact.{Fact}
-use Rattle.lifted_facts.specs.PlainFacts.{PlainFact, Branch, plain_fact, IsProper}
-use Rattle.lifted_facts.specs.Lifted.{LiftedStep, close, HasFact, Runs}
+use Rattle.lifted_facts.specs.PlainFacts.{Branch, plain_fact, IsProper}
+use Rattle.lifted_facts.specs.Lifted.{LiftedStep, HasFact, Runs}
 use Rattle.lifted_kinds.specs.Trees.{fact_tree}
-use Rattle.lifted_kinds.specs.declared.kind.Kind.TheVariants.{False, Open}
-use Rattle.lifted_kinds.specs.Kinds.{kind_of}
-use Rattle.lifter.specs.declared.state.Task.{Task}
 use Rattle.lifter.specs.declared.state.Task.TheVariants.{Close, Side}
 use Rattle.lifter.specs.declared.state.Later.{Later}
 use Rattle.lifter.specs.declared.state.State.{State}
 use Rattle.lifter.specs.Closings.{HasClosed}
-use Rattle.lifter.specs.KnownFacts.{Entry, IsPart, AreKnown, HaveMore, TellsAll}
-use Rattle.lifter.specs.States.{branch_of, waiting, IsDue, AreKept, AreLater, IsGood, IsGoodState, IsCovered, IsSide, AreMatched, no_more, due, side, IsMatchedState, Moves}
+use Rattle.lifter.specs.KnownFacts.{Entry, HaveMore}
+use Rattle.lifter.specs.States.{branch_of, waiting, IsDue, AreKept, AreLater, IsGoodState, IsCovered, IsSide, AreMatched, no_more, due, side, IsMatchedState}
 use Rattle.lifter.specs.Unfoldings.{HasUnfolded}
 use Rattle.lifter.specs.Progress.{IsOn, IsLeft, HasLeft, IsNext, CanEnter, HasClosedBy}
 use Rattle.lifter.proofs.RunsMore.{last_fact, one_longer, ran_close}
-use Rattle.lifter.proofs.KnownLaws.{waiting_more, later_more, matched_more, good_fact, good_same, matched_same}
+use Rattle.lifter.proofs.KnownLaws.{waiting_more, later_more, matched_more, good_same, matched_same}
 use Rattle.lifter.proofs.StateMoves.{branch_push, good_waits}
 use Rattle.lifter.proofs.CoveredBranches.{covered_more, covered_side}
 

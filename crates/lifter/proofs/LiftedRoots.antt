@@ -1,13 +1,12 @@
 -- The axioms as facts, one by one.
-use Rattle.std.proofs.Common.{◌≡◌, ℕ, suc, ◌+◌, ◌<◌, ◌≤◌, true, List, [], ◌∷◌, ◌++◌, Some, length, get_or, map, take, drop, refl, sym, ◌∙◌, ap, subst, arith}
-use Rattle.std.specs.Prelude.{slice_get, All}
-use Rattle.std.proofs.lemmas.List.{map-append, drop_all}
+use Rattle.std.proofs.Common.{◌≡◌, ℕ, suc, ◌<◌, ◌≤◌, true, List, [], ◌∷◌, Some, length, get_or, map, refl, sym, ◌∙◌, ap, arith}
+use Rattle.std.specs.Prelude.{slice_get}
+use Rattle.std.proofs.lemmas.List.{drop_all}
 use Rattle.std.proofs.lemmas.Option.{slice_get_read}
 use Rattle.pc_common.specs.Case.{Case}
-use Rattle.pc_common.specs.World.{Node}
 use Rattle.pc_syntax.specs.declared.closed.Closed.{Closed}
 use Rattle.pc_syntax.specs.Closed.{plain_closed}
-use Rattle.pc_ground.specs.Tree.{Tree, always}
+use Rattle.pc_ground.specs.Tree.{always}
 use Rattle.pc_ground.specs.Stages.{plain_axioms}
 use Rattle.lifted_facts.specs.PlainFacts.{PlainFact, said, root}
 use Rattle.lifted_kinds.specs.Trees.{fact_tree, joined_trees}

@@ -1,14 +1,14 @@
 -- Numbers of edges that are known lead along their nodes.
-use Rattle.std.proofs.Common.{◌≡◌, ℕ, true, false, List, [], ◌∷◌, ◌++◌, Some, refl, sym, ◌∙◌, ap, subst}
+use Rattle.std.proofs.Common.{◌≡◌, ℕ, List, [], ◌∷◌, ◌++◌, refl}
 use Rattle.std.specs.Prelude.{Result, Ok, Err, OnOk, is_ok, if◌then◌else◌}
 use Rattle.pc_common.specs.Case.{Case}
 use Rattle.pc_common.specs.World.{Node}
 use Rattle.pc_common.proofs.Elements.{In}
 use Rattle.pc_ground.specs.declared.row.Row.{Row}
-use Rattle.lifted_facts.specs.PlainFacts.{PlainFact, Branch}
-use Rattle.lifted_facts.specs.Lifted.{LiftedLeaf, close, cycle, path, absent, Follows, IsEdge, Closes}
+use Rattle.lifted_facts.specs.PlainFacts.{Branch}
+use Rattle.lifted_facts.specs.Lifted.{LiftedLeaf, close, cycle, path, absent, Follows, Closes}
 use Rattle.lifter.specs.declared.state.State.{State}
-use Rattle.lifter.specs.KnownFacts.{PlainKey, edge, no_edge, no_node, present, Entry, entry, IsKnown, AreKnown, AreNumbers}
+use Rattle.lifter.specs.KnownFacts.{edge, no_edge, no_node, present, Entry, entry, AreKnown, AreNumbers}
 use Rattle.lifter.specs.States.{branch_of}
 use Rattle.lifter.specs.Progress.{HasClosedBy}
 

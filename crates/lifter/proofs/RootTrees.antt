@@ -1,12 +1,12 @@
 -- The ground tree of axioms is And over them as facts; and the start of following a refutation of it.
-use Rattle.std.proofs.Common.{◌≡◌, ◌⊎◌, inl, inr, ℕ, zero, suc, ◌+◌, ◌<◌, Bool, true, false, List, [], ◌∷◌, ◌++◌, Option, Some, length, map, drop, reverse, refl, sym, ◌∙◌, ap, subst, arith}
+use Rattle.std.proofs.Common.{◌≡◌, ℕ, true, false, List, [], ◌∷◌, Some, map, reverse, refl, sym, ◌∙◌, ap, subst}
 use Rattle.std.specs.Prelude.{slice_get, Contains}
 use Rattle.std.specs.Option.{option_map}
 use Rattle.std.proofs.lemmas.Option.{slice_get-map}
 use Rattle.pc_common.specs.Case.{Case}
-use Rattle.pc_common.specs.World.{Node, World, IsWorld}
+use Rattle.pc_common.specs.World.{Node, World}
 use Rattle.pc_common.specs.Steps.{Step}
-use Rattle.pc_common.proofs.Elements.{In, in_from_contains}
+use Rattle.pc_common.proofs.Elements.{in_from_contains}
 use Rattle.pc_syntax.specs.declared.closed.Closed.{Closed}
 use Rattle.pc_syntax.specs.Closed.{PlainClosed, plain_closed}
 use Rattle.pc_ground.specs.declared.node_key.NodeKey.{NodeKey}
@@ -17,23 +17,20 @@ use Rattle.pc_ground.specs.declared.row.RowKind.TheVariants.{True, False, Lit, A
 use Rattle.pc_ground.specs.declared.version.Version.TheVariants.{One}
 use Rattle.pc_ground.specs.Tree.{Tree, always, never, leaf, both, either}
 use Rattle.pc_ground.specs.Rows.{rows_of, root_kind}
-use Rattle.pc_ground.specs.PlainGround.{conjoined}
 use Rattle.pc_ground.specs.Unfolded.{closed_unfolded}
 use Rattle.pc_ground.specs.GroundTree.{closed_ground_tree}
 use Rattle.pc_ground.specs.Stages.{plain_axioms}
-use Rattle.pc_ground.specs.Refutes.{asserted, all_signed, IsRefutation, Branch as TreeBranch}
+use Rattle.pc_ground.specs.Refutes.{asserted, all_signed, IsRefutation}
 use Rattle.pc_ground.proofs.FlatRows.{root_of, part_whole, part_row}
 use Rattle.pc_ground.proofs.Refuted.{refutation_sound}
-use Rattle.lifted_facts.specs.PlainFacts.{PlainFact, said, Branch, root}
-use Rattle.lifted_facts.specs.Lifted.{Runs}
+use Rattle.lifted_facts.specs.PlainFacts.{said, Branch, root}
 use Rattle.lifted_kinds.specs.Trees.{fact_tree, said_tree, joined_trees}
-use Rattle.lifted_kinds.specs.declared.kind.Kind.{Kind}
-use Rattle.lifted_kinds.specs.declared.kind.Kind.TheVariants.{True as AlwaysKind, False as NeverKind, Open}
+use Rattle.lifted_kinds.specs.declared.kind.Kind.TheVariants.{False as NeverKind, Open}
 use Rattle.lifted_kinds.specs.Kinds.{kind_of}
 use Rattle.lifted_kinds.proofs.TreeLaws.{over_all, start_tree}
 use Rattle.lifter.specs.declared.state.State.{State}
-use Rattle.lifter.specs.KnownFacts.{Entry, IsPart, TellsAll}
-use Rattle.lifter.specs.States.{branch_of, IsGood, IsGoodState, AreMatched, no_more, IsMatchedState}
+use Rattle.lifter.specs.KnownFacts.{IsPart, TellsAll}
+use Rattle.lifter.specs.States.{branch_of, IsGood, IsGoodState, no_more, IsMatchedState}
 use Rattle.lifter.specs.Unfoldings.{facts_from, HasUnfolded}
 use Rattle.lifter.specs.Progress.{IsAhead}
 use Rattle.lifter.proofs.CoveredBranches.{covered_all}

@@ -1,5 +1,5 @@
 -- One step more: what it makes of the open branches.
-use Rattle.std.proofs.Common.{◌≡◌, ℕ, zero, suc, ◌+◌, List, [], ◌∷◌, ◌++◌, Option, Some, length, refl, sym, ◌∙◌, ap, subst, arith, length-append}
+use Rattle.std.proofs.Common.{◌≡◌, ℕ, zero, suc, ◌+◌, List, [], ◌∷◌, ◌++◌, Some, length, refl, sym, ◌∙◌, ap, subst, arith, length-append}
 use Rattle.std.specs.Prelude.{slice_get, Result, Ok, Err, OnOk, is_ok, if◌then◌else◌}
 use Rattle.pc_common.specs.Case.{Case}
 use Rattle.lifted_facts.specs.declared.way.Way.{Way}

@@ -1,6 +1,6 @@
 -- An Or of the ground tree is split by the fact that it is the tree of.
-use Rattle.std.proofs.Common.{◌≡◌, ℕ, ◌+◌, true, false, ◌<◌, List, [], ◌∷◌, ◌++◌, Option, Some, None, length, get_or, map, take, reverse, refl, sym, ◌∙◌, ap, subst, arith}
-use Rattle.std.specs.Prelude.{slice_get, All}
+use Rattle.std.proofs.Common.{◌≡◌, ℕ, ◌+◌, false, ◌<◌, List, ◌∷◌, ◌++◌, Option, Some, None, length, get_or, map, take, reverse, refl, sym, ◌∙◌, ap, subst, arith}
+use Rattle.std.specs.Prelude.{All}
 use Rattle.std.specs.Option.{option_map}
 use Rattle.std.proofs.Math.Seq.{take-length}
 use Rattle.std.proofs.lemmas.List.Elements.{All-get_or}
@@ -11,23 +11,22 @@ use Rattle.pc_common.proofs.Elements.{In}
 use Rattle.pc_ground.specs.declared.row.Row.{Row}
 use Rattle.pc_ground.specs.declared.version.Version.TheVariants.{One}
 use Rattle.pc_ground.specs.Tree.{Tree, either, size_of}
-use Rattle.pc_ground.specs.Rows.{rows_of}
-use Rattle.pc_ground.specs.Refutes.{subtree_at, asserted, all_signed, left_branch, right_branch, Branch as TreeBranch}
+use Rattle.pc_ground.specs.Refutes.{asserted, all_signed, left_branch, right_branch}
 use Rattle.pc_ground.proofs.FlatRows.{one_part, subtree_part, parts_either}
 use Rattle.lifted_facts.specs.declared.fact.Fact.{Fact}
 use Rattle.lifted_facts.specs.PlainFacts.{PlainFact, Branch, plain_fact, IsProper}
-use Rattle.lifted_facts.specs.Lifted.{HasFact, HasSides}
+use Rattle.lifted_facts.specs.Lifted.{HasFact}
 use Rattle.lifted_facts.specs.Parts.{sides}
 use Rattle.lifted_kinds.specs.Trees.{fact_tree}
 use Rattle.lifted_kinds.specs.declared.kind.Kind.TheVariants.{Open}
 use Rattle.lifted_kinds.specs.Kinds.{kind_of}
-use Rattle.lifter.specs.declared.state.Task.TheVariants.{Close, Side}
+use Rattle.lifter.specs.declared.state.Task.TheVariants.{Side}
 use Rattle.lifter.specs.declared.state.Later.{Later}
 use Rattle.lifter.specs.declared.state.State.{State}
 use Rattle.lifter.specs.KnownFacts.{Entry, entry, at_position, IsPart, IsOr, HaveMore}
-use Rattle.lifter.specs.States.{branch_of, IsGoodState, IsCovered, IsSide, AreMatched, side, IsMatchedState, Moves}
+use Rattle.lifter.specs.States.{branch_of, IsGoodState, IsCovered, IsSide, AreMatched, side, IsMatchedState}
 use Rattle.lifter.specs.Unfoldings.{HasUnfolded}
-use Rattle.lifter.specs.Progress.{IsOn, HasSplitOr}
+use Rattle.lifter.specs.Progress.{HasSplitOr}
 use Rattle.lifter.proofs.KnownLaws.{matched_same}
 use Rattle.lifter.proofs.StateMoves.{mapped_length}
 use Rattle.lifter.proofs.CoveredBranches.{covered_more, covered_side}

@@ -1,5 +1,5 @@
 -- One step of the refutation of the ground tree: that it can be taken, and what is ahead behind it.
-use Rattle.std.proofs.Common.{◌≡◌, ◌⊎◌, inl, inr, ℕ, ◌+◌, Bool, true, false, ◌<◌, List, [], ◌∷◌, ◌++◌, Option, Some, length, map, drop, refl, sym, ◌∙◌, ap, subst}
+use Rattle.std.proofs.Common.{◌≡◌, ℕ, ◌+◌, Bool, true, false, ◌<◌, List, [], ◌∷◌, length, drop, refl, sym, ◌∙◌, subst}
 use Rattle.std.specs.Prelude.{Result, IfOk}
 use Rattle.std.proofs.lemmas.Result.{IfOk-weaker}
 use Rattle.pc_common.specs.Case.{Case}
@@ -8,16 +8,16 @@ use Rattle.pc_common.specs.Steps.{Leaf, cycle, path, absent, false_step, Step, s
 use Rattle.static_preds.proofs.Walked.{drop_at}
 use Rattle.pc_ground.specs.declared.row.Row.{Row}
 use Rattle.pc_ground.specs.declared.version.Version.TheVariants.{One}
-use Rattle.pc_ground.specs.Tree.{Tree, never, either}
+use Rattle.pc_ground.specs.Tree.{Tree}
 use Rattle.pc_ground.specs.Rows.{rows_of}
-use Rattle.pc_ground.specs.Refutes.{Branch as TreeBranch, Runs as TreeRuns, Closes as TreeCloses, literals_of, IsSplit, subtree_at, left_branch, right_branch}
+use Rattle.pc_ground.specs.Refutes.{Branch as TreeBranch, Runs as TreeRuns, Closes as TreeCloses, literals_of, left_branch, right_branch}
 use Rattle.lifted_facts.specs.PlainFacts.{Branch}
-use Rattle.lifted_facts.specs.Lifted.{LiftedStep, Runs}
+use Rattle.lifted_facts.specs.Lifted.{Runs}
 use Rattle.lifted_kinds.proofs.PartWays.{there_at}
 use Rattle.lifter.specs.declared.state.State.{State}
-use Rattle.lifter.specs.KnownFacts.{at_position, no_node, present, Entry, HasKey, IsCycleKnown, IsPathKnown}
-use Rattle.lifter.specs.States.{IsGoodState, IsCovered, IsMatchedState}
-use Rattle.lifter.specs.Progress.{IsOn, IsAt, IsAhead, HasLeft, HasSplitOr, HasClosedBy}
+use Rattle.lifter.specs.KnownFacts.{at_position, no_node, present, HasKey, IsCycleKnown, IsPathKnown}
+use Rattle.lifter.specs.States.{IsGoodState, IsCovered}
+use Rattle.lifter.specs.Progress.{IsAt, IsAhead, HasLeft, HasSplitOr, HasClosedBy}
 use Rattle.lifter.proofs.CoveredBranches.{split_known, cycle_known, path_known, absent_known, only_false}
 use Rattle.lifter.proofs.LeftBranches.{left_by}
 

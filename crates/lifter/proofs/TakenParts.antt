@@ -1,5 +1,5 @@
 -- And over facts, of which the ones before a place are unfolded.
-use Rattle.std.proofs.Common.{◌≡◌, ◌⊎◌, inl, inr, ℕ, zero, suc, ◌+◌, ◌-◌, ◌<◌, ◌≤◌, true, false, List, [], ◌∷◌, ◌++◌, Some, length, map, drop, refl, sym, ◌∙◌, ap, subst, arith}
+use Rattle.std.proofs.Common.{◌≡◌, ℕ, ◌+◌, List, Some, refl, sym, ◌∙◌, ap, subst}
 use Rattle.std.specs.Prelude.{slice_get}
 use Rattle.pc_common.specs.Case.{Case}
 use Rattle.pc_common.specs.World.{Node}
@@ -8,14 +8,13 @@ use Rattle.pc_ground.specs.Tree.{Tree, always, never, leaf, both, either, size_o
 use Rattle.pc_ground.specs.PlainGround.{conjoined, disjoined}
 use Rattle.pc_ground.specs.Refutes.{asserted}
 use Rattle.pc_ground.proofs.FlatRows.{parts_both}
-use Rattle.lifted_facts.specs.PlainFacts.{PlainFact, Branch}
-use Rattle.lifted_kinds.specs.Trees.{fact_tree, joined_tree, joined_trees}
-use Rattle.lifted_kinds.specs.declared.kind.Kind.{Kind}
-use Rattle.lifted_kinds.specs.declared.kind.Kind.TheVariants.{True, False, Open}
+use Rattle.lifted_facts.specs.PlainFacts.{PlainFact}
+use Rattle.lifted_kinds.specs.Trees.{fact_tree}
+use Rattle.lifted_kinds.specs.declared.kind.Kind.TheVariants.{Open}
 use Rattle.lifted_kinds.specs.Kinds.{kind_of}
 use Rattle.lifted_kinds.proofs.PartWays.{rest_next, kind_rest, is_always, only_true, both_open}
 use Rattle.lifter.specs.declared.state.State.{State}
-use Rattle.lifter.specs.KnownFacts.{Entry, IsPart, TellsAll, HaveMore}
+use Rattle.lifter.specs.KnownFacts.{IsPart, TellsAll}
 use Rattle.lifter.specs.States.{Moves}
 use Rattle.lifter.specs.Unfoldings.{facts_from, HasUnfolded, HasTaken, IsTakenTo}
 use Rattle.lifter.proofs.StateMoves.{moves_same, moves_then}

@@ -1,22 +1,21 @@
 -- A fact is unfolded by its sides or by its parts.
-use Rattle.std.proofs.Common.{◌≡◌, ℕ, ◌+◌, Bool, true, false, List, [], ◌∷◌, Some, None, map, refl, sym, ◌∙◌, ap, subst}
+use Rattle.std.proofs.Common.{◌≡◌, ℕ, Bool, true, false, List, Some, None, refl, sym, ◌∙◌, ap, subst}
 use Rattle.std.specs.Prelude.{Result, Ok, Err, OnOk}
 use Rattle.pc_common.specs.Case.{Case}
 use Rattle.pc_common.specs.World.{Node}
 use Rattle.pc_ground.specs.declared.literal.Literal.{Literal}
 use Rattle.pc_ground.specs.declared.literal.Literal.TheVariants.{Node as a_node, Edge as an_edge, NoNode as not_node, NoEdge as not_edge}
 use Rattle.pc_ground.specs.declared.row.Row.{Row}
-use Rattle.pc_ground.specs.Tree.{Tree, always, never, leaf, both, either}
-use Rattle.pc_ground.specs.PlainGround.{conjoined, disjoined}
+use Rattle.pc_ground.specs.Tree.{Tree, never, leaf}
+use Rattle.pc_ground.specs.PlainGround.{disjoined}
 use Rattle.pc_ground.specs.Refutes.{asserted}
-use Rattle.lifted_facts.specs.PlainFacts.{PlainFact, one_node, one_edge, Branch}
+use Rattle.lifted_facts.specs.PlainFacts.{PlainFact}
 use Rattle.lifted_facts.specs.Parts.{sides, is_false}
-use Rattle.lifted_facts.specs.Lifted.{HasFact}
 use Rattle.lifted_kinds.specs.Trees.{fact_tree}
 use Rattle.lifted_kinds.specs.declared.kind.Kind.{Kind}
 use Rattle.lifted_kinds.specs.declared.kind.Kind.TheVariants.{True, False, Open}
 use Rattle.lifted_kinds.specs.Kinds.{kind_of, joined_kind}
-use Rattle.lifted_kinds.specs.PartLists.{parts, IsSaid}
+use Rattle.lifted_kinds.specs.PartLists.{IsSaid}
 use Rattle.lifted_kinds.proofs.KindLaws.{kind_joined}
 use Rattle.lifted_kinds.proofs.SideLaws.{sides_tree, parts_tree, false_tree}
 use Rattle.lifted_kinds.proofs.PartWays.{is_never}

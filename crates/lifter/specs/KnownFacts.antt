@@ -1,5 +1,5 @@
 -- What is known on a lifted branch of the branch of the ground tree: under which number each asserted Or and literal is a fact.
-use Rattle.std.specs.Prelude.{ℕ, ◌≡◌, ◌⊎◌, ◌+◌, true, false, List, [], ◌∷◌, ◌++◌, Option, Some, length, map, drop}
+use Rattle.std.specs.Prelude.{ℕ, ◌≡◌, ◌⊎◌, ◌+◌, true, false, List, [], ◌∷◌, ◌++◌, Some, map, drop}
 use Rattle.pc_common.specs.Case.{Case}
 use Rattle.pc_common.specs.World.{Node}
 use Rattle.pc_common.proofs.Elements.{In}
@@ -9,7 +9,7 @@ use Rattle.pc_ground.specs.declared.literal.Literal.TheVariants.{Node as a_node,
 use Rattle.pc_ground.specs.declared.row.Row.{Row}
 use Rattle.pc_ground.specs.Tree.{Tree, always, never, leaf, both, either}
 use Rattle.pc_ground.specs.Rows.{rows_of}
-use Rattle.lifted_facts.specs.PlainFacts.{PlainFact, one_node, one_edge, Branch}
+use Rattle.lifted_facts.specs.PlainFacts.{PlainFact, one_node, Branch}
 use Rattle.lifted_facts.specs.Parts.{sides}
 use Rattle.lifted_facts.specs.Lifted.{HasFact, IsEdge, Asserts}
 use Rattle.lifted_kinds.specs.Trees.{fact_tree}

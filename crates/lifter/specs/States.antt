@@ -5,7 +5,6 @@ use Rattle.pc_common.specs.World.{Node}
 use Rattle.pc_common.proofs.Elements.{In}
 use Rattle.pc_ground.specs.declared.row.Row.{Row}
 use Rattle.pc_ground.specs.Refutes.{asserted, Signed, all_signed, Branch as TreeBranch}
-use Rattle.lifted_facts.specs.declared.fact.Fact.{Fact}
 use Rattle.lifted_facts.specs.PlainFacts.{PlainFact, Branch, plain_fact, IsProper}
 use Rattle.lifted_facts.specs.Lifted.{LiftedStep, Runs}
 use Rattle.lifted_kinds.specs.Trees.{fact_tree}
@@ -15,7 +14,7 @@ use Rattle.lifter.specs.declared.state.Task.{Task}
 use Rattle.lifter.specs.declared.state.Task.TheVariants.{Close, Side}
 use Rattle.lifter.specs.declared.state.Later.{Later}
 use Rattle.lifter.specs.declared.state.State.{State}
-use Rattle.lifter.specs.KnownFacts.{Entry, IsPart, AreKnown, TellsAll, TellsAt, HaveMore}
+use Rattle.lifter.specs.KnownFacts.{Entry, IsPart, AreKnown, TellsAt, HaveMore}
 
 abbrev pub branch_of : State → Branch
 branch_of s = map plain_fact s.facts.items

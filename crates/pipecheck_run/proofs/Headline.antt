@@ -1,5 +1,5 @@
 -- The answer to a command is true, and the one that is due.
-use Rattle.std.proofs.Common.{◌≡◌, ◌≢◌, ℕ, List, subst}
+use Rattle.std.proofs.Common.{◌≢◌, ℕ, List, subst}
 use Rattle.pc_common.specs.declared.status.Status.{Status}
 use Rattle.pc_common.specs.declared.status.Status.TheVariants.{Observable, Unobservable, Done, Usage, Refused, ReadFault, WriteFault, CertRefused, Memory}
 use Rattle.command_base.specs.Inputs.{Contents}

@@ -1,13 +1,12 @@
 -- The outcome of a command is that of the words that are it.
-use Rattle.std.proofs.Common.{◌≡◌, ℕ, Bool, List, refl, subst}
+use Rattle.std.proofs.Common.{◌≡◌, ℕ, List, refl, subst}
 use Rattle.std.specs.Prelude.{IsTrue}
 use Rattle.pc_common.specs.Outside.{FilesView}
 use Rattle.pc_common.specs.declared.status.Status.{Status}
 use Rattle.pc_common.specs.declared.status.Status.TheVariants.{Usage, ReadFault}
-use Rattle.command_base.specs.Inputs.{Contents}
 use Rattle.command_base.specs.Outcomes.{IsOutcome}
 use Rattle.command_base.proofs.InputsRead.{reads_none}
-use Rattle.pipecheck_run.specs.Command.{Command, IsCommand, IsNoCommand, IsIdle, inputs_of}
+use Rattle.pipecheck_run.specs.Command.{Command, IsCommand, IsNoCommand}
 use Rattle.pipecheck_run.specs.Answers.{usage_text, usage, answered, Lacks}
 use Rattle.pipecheck_run.specs.Decides.{IsCommandOutcome, IsWordsOutcome}
 use Rattle.pipecheck_run.proofs.OneCommand.{one_command}

@@ -1,8 +1,7 @@
 -- The outcome of the words, before anything is written.
-use Rattle.std.specs.Prelude.{◌≡◌, ℕ, Bool, List}
+use Rattle.std.specs.Prelude.{◌≡◌, ℕ, List}
 use Rattle.pc_common.specs.Outside.{FilesView}
 use Rattle.pc_common.specs.declared.status.Status.{Status}
-use Rattle.command_base.specs.Inputs.{Contents}
 use Rattle.command_base.specs.Outcomes.{IsOutcome}
 use Rattle.pipecheck_run.specs.Command.{Command, IsNoCommand, IsKnownTo, IsKnown}
 use Rattle.pipecheck_run.specs.Answers.{usage_text, AnswersCommand, Answers, Lacks, WordsLack}

@@ -1,5 +1,5 @@
 -- The outcome of `verify`: what its answer says, and that it is due.
-use Rattle.std.proofs.Common.{◌≡◌, ℕ, Bool, List, Some, None, Ok, Err, refl, subst}
+use Rattle.std.proofs.Common.{◌≡◌, ℕ, List, Some, None, Ok, Err, refl, subst}
 use Rattle.std.specs.Prelude.{IsTrue, IfOk, Result}
 use Rattle.pc_common.specs.Outside.{FilesView}
 use Rattle.pc_common.specs.Case.{Case}

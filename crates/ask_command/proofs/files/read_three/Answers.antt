@@ -1,4 +1,4 @@
-use Rattle.std.proofs.Common.{ap, Err, arith, ◌≡◌}
+use Rattle.std.proofs.Common.{ap, Err, arith}
 use Rattle.std.specs.Prelude.{IsTrue}
 use Rattle.std.proofs.lemmas.Result.{MatchResult-weaker}
 use Rattle.pc_common.specs.declared.fault.Which.TheVariants.{Model, Test, Query}

@@ -1,4 +1,3 @@
-use Rattle.cert_check.specs.Questions.{question_of}
 use Rattle.lifted_check.specs.LiftedTexts.{asked}
 use Rattle.lift_command.proofs.Taken.{tree_refutes, is_taken}
 use Rattle.lift_command.proofs.lifting.lift_bytes.Goals as goal

@@ -1,4 +1,4 @@
-use Rattle.std.proofs.Common.{◌≡◌, ◌≤◌, length, sym, ◌∙◌, arith}
+use Rattle.std.proofs.Common.{◌≤◌, length, ◌∙◌, arith}
 use Rattle.lifted_facts.specs.PlainFacts.{plain_fact}
 use Rattle.lifted_kinds.specs.Trees.{fact_tree}
 use Rattle.lifted_kinds.specs.PartLists.{parts}

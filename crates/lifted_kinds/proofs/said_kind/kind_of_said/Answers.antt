@@ -1,4 +1,4 @@
-use Rattle.std.proofs.Common.{◌≡◌, ◌-◌, true, false, sym, ◌∙◌, ap}
+use Rattle.std.proofs.Common.{◌-◌, true, false, sym, ◌∙◌, ap}
 use Rattle.pc_syntax.specs.Closed.{plain_closed}
 use Rattle.lifted_kinds.specs.Kinds.{kind_over}
 use Rattle.lifted_kinds.proofs.AtomTrees.{nodes_held, nodes_denied, edges_held, edges_denied}

@@ -1,11 +1,10 @@
-use Rattle.std.proofs.Common.{◌≡◌, true, List, [], ◌∷◌, length, reverse, refl, sym, ◌∙◌, ap, subst, arith}
+use Rattle.std.proofs.Common.{true, List, reverse, refl, sym, ap, subst, arith}
 use Rattle.pc_ground.specs.Refutes.{Branch as TreeBranch}
-use Rattle.lifted_facts.specs.PlainFacts.{Branch}
 use Rattle.lifter.specs.declared.state.Task.{Task}
 use Rattle.lifter.specs.declared.state.Later.{Later}
 use Rattle.lifter.specs.declared.state.State.{State}
-use Rattle.lifter.specs.States.{branch_of, IsDue, AreKept}
-use Rattle.lifter.specs.Progress.{IsLeft, HasLeft, IsAt}
+use Rattle.lifter.specs.States.{branch_of, IsDue}
+use Rattle.lifter.specs.Progress.{IsLeft, IsAt}
 use Rattle.lifter.proofs.LeftBranches.{popped, no_items, kept_none, kept_popped, left_due, left_side, left_none}
 use Rattle.lifter.proofs.following.go_on.Goals as goal
 

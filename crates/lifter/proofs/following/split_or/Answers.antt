@@ -1,16 +1,14 @@
-use Rattle.std.proofs.Common.{◌≡◌, ◌<◌, ◌+◌, Some, List, ◌∷◌, length, refl, sym, ◌∙◌, ap, subst, arith}
+use Rattle.std.proofs.Common.{◌≡◌, length, refl, sym, subst, arith}
 use Rattle.std.proofs.lemmas.Result.{on_ok_weaker}
 use Rattle.std.proofs.lemmas.List.{get_or_read}
-use Rattle.pc_ground.specs.Tree.{either}
 use Rattle.pc_ground.proofs.FlatRows.{parts_either}
-use Rattle.lifted_facts.specs.PlainFacts.{PlainFact, Branch, plain_fact}
+use Rattle.lifted_facts.specs.PlainFacts.{Branch, plain_fact}
 use Rattle.lifted_facts.specs.Parts.{sides}
-use Rattle.lifted_facts.specs.Lifted.{HasFact, HasSides}
+use Rattle.lifted_facts.specs.Lifted.{HasFact}
 use Rattle.lifted_kinds.specs.Trees.{fact_tree}
 use Rattle.lifter.specs.declared.state.Task.TheVariants.{Side}
 use Rattle.lifter.specs.declared.state.Later.{Later}
 use Rattle.lifter.specs.declared.state.State.{State}
-use Rattle.lifter.specs.KnownFacts.{IsPart}
 use Rattle.lifter.specs.States.{branch_of}
 use Rattle.lifter.proofs.RunsMore.{last_fact}
 use Rattle.lifter.proofs.StateMoves.{put_off}

@@ -1,7 +1,7 @@
-use Rattle.std.proofs.Common.{◌≡◌, true, List, ◌∷◌, map, sym, ◌∙◌, ap, subst}
+use Rattle.std.proofs.Common.{true, List, ◌∷◌, map, sym, subst}
 use Rattle.std.specs.Prelude.{IfOk}
 use Rattle.pc_common.specs.World.{Node}
-use Rattle.pc_common.specs.Steps.{Step as PlainStep, cycle, path, absent, close}
+use Rattle.pc_common.specs.Steps.{Step as PlainStep, cycle, path, absent}
 use Rattle.pc_ground.specs.Keys.{key_node}
 use Rattle.pc_ground.specs.declared.node_key.NodeKey.{NodeKey}
 use Rattle.refutation.specs.declared.step.Step.{Step}

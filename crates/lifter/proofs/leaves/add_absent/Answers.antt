@@ -1,4 +1,4 @@
-use Rattle.std.proofs.Common.{◌≡◌, refl}
+use Rattle.std.proofs.Common.{refl}
 use Rattle.pc_ground.specs.Keys.{key_node}
 use Rattle.lifted_facts.specs.Lifted.{absent}
 use Rattle.lifter.specs.declared.state.State.{State}

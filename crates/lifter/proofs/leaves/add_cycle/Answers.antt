@@ -1,4 +1,4 @@
-use Rattle.std.proofs.Common.{◌≡◌, ◌≤◌, ◌-◌, length, map, take, drop, refl, arith}
+use Rattle.std.proofs.Common.{◌≤◌, ◌-◌, length, map, take, drop, refl, arith}
 use Rattle.pc_ground.specs.Keys.{key_node}
 use Rattle.lifted_facts.specs.Lifted.{cycle}
 use Rattle.lifter.specs.declared.state.State.{State}

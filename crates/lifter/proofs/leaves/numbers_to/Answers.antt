@@ -1,4 +1,4 @@
-use Rattle.std.proofs.Common.{◌≡◌, ◌≤◌, ◌-◌, length, take, drop, arith}
+use Rattle.std.proofs.Common.{◌≤◌, ◌-◌, length, take, drop, arith}
 use Rattle.lifter.proofs.KeyedEdges.{first_rest, last_edge, first_edge, first_number, one_number}
 use Rattle.lifter.proofs.leaves.numbers_to.Goals as goal
 

@@ -1,4 +1,4 @@
-use Rattle.std.proofs.Common.{◌≡◌, List, [], sym, ap, subst, true}
+use Rattle.std.proofs.Common.{List, sym, ap, subst, true}
 use Rattle.pc_syntax.specs.declared.bound.Bound.{Bound}
 use Rattle.pc_syntax.specs.Closed.{plain_closed}
 use Rattle.pc_syntax.specs.IsClosed.{IsClosed}

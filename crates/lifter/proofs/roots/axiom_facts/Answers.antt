@@ -1,11 +1,10 @@
-use Rattle.std.proofs.Common.{◌≡◌, ◌+◌, List, ◌++◌, ◌∷◌, [], Some, map, take, sym, ◌∙◌, ap, subst, true, rules}
+use Rattle.std.proofs.Common.{◌+◌, List, ◌++◌, ◌∷◌, [], map, sym, ◌∙◌, ap, subst, true, rules}
 use Rattle.std.specs.Prelude.{All}
 use Rattle.std.proofs.lemmas.List.{map-append}
 use Rattle.std.proofs.lemmas.List.Elements.{All-push}
 use Rattle.std.proofs.lemmas.Option.{slice_get_read}
-use Rattle.pc_syntax.specs.Closed.{plain_closed}
 use Rattle.lifted_facts.specs.declared.fact.Fact.{Fact}
-use Rattle.lifted_facts.specs.PlainFacts.{PlainFact, said, plain_fact, IsProper}
+use Rattle.lifted_facts.specs.PlainFacts.{PlainFact, plain_fact, IsProper}
 use Rattle.lifted_facts.proofs.Members.{root_more}
 use Rattle.lifter.proofs.roots.axiom_facts.Goals as goal
 

@@ -1,13 +1,10 @@
-use Rattle.std.proofs.Common.{◌≡◌, ◌<◌, ◌+◌, ℕ, Some, sym, ◌∙◌, ap, subst, arith}
-use Rattle.std.specs.Prelude.{slice_get}
+use Rattle.std.proofs.Common.{◌≡◌, ◌<◌, ◌+◌, ℕ, sym, ◌∙◌, ap, subst, arith}
 use Rattle.std.proofs.lemmas.Result.{on_ok_weaker}
 use Rattle.pc_ground.specs.Stages.{plain_axioms}
 use Rattle.pc_ground.specs.Tree.{Tree}
 use Rattle.pc_common.specs.World.{Node}
 use Rattle.lifted_facts.specs.PlainFacts.{Branch, plain_fact, root}
 use Rattle.lifted_facts.specs.Lifted.{HasFact}
-use Rattle.lifted_kinds.specs.Trees.{fact_tree}
-use Rattle.lifted_kinds.specs.declared.kind.Kind.TheVariants.{Open}
 use Rattle.lifted_kinds.specs.Kinds.{kind_of}
 use Rattle.lifter.specs.KnownFacts.{IsPart}
 use Rattle.lifter.specs.Unfoldings.{facts_from, HasUnfolded, IsTakenTo}

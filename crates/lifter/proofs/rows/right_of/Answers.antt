@@ -1,5 +1,4 @@
-use Rattle.std.proofs.Common.{◌≡◌, ◌<◌, ◌≤◌, ◌+◌, length, arith}
-use Rattle.pc_ground.specs.Tree.{size_of}
+use Rattle.std.proofs.Common.{◌+◌, arith}
 use Rattle.pc_ground.proofs.FlatRows.{part_within, size_pos}
 use Rattle.lifter.proofs.PartRows.{skip_is}
 use Rattle.lifter.proofs.rows.right_of.Goals as goal

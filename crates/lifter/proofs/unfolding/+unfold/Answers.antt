@@ -1,19 +1,17 @@
-use Rattle.std.proofs.Common.{◌≡◌, ◌<◌, ◌+◌, ◌*◌, ℕ, List, sym, subst, ◌∙◌, ap, arith}
+use Rattle.std.proofs.Common.{◌≡◌, ◌<◌, ◌+◌, ℕ, sym, subst, ◌∙◌, ap, arith}
 use Rattle.std.proofs.lemmas.Result.{on_ok_weaker}
 use Rattle.pc_ground.specs.Tree.{Tree, leaf}
 use Rattle.pc_common.specs.World.{Node}
 use Rattle.pc_ground.specs.Keys.{literal_node}
-use Rattle.lifted_facts.specs.PlainFacts.{PlainFact, plain_fact, Branch}
+use Rattle.lifted_facts.specs.PlainFacts.{PlainFact, plain_fact}
 use Rattle.lifted_facts.specs.Lifted.{HasFact}
 use Rattle.lifted_kinds.specs.Trees.{fact_tree}
-use Rattle.lifted_kinds.specs.declared.kind.Kind.TheVariants.{Open}
 use Rattle.lifted_kinds.specs.Kinds.{kind_of}
 use Rattle.lifted_kinds.specs.PartLists.{parts}
 use Rattle.lifted_kinds.proofs.SideLaws.{sides_rank, part_rank}
-use Rattle.lifter.specs.declared.state.State.{State}
 use Rattle.lifter.specs.KnownFacts.{IsPart}
 use Rattle.lifter.specs.States.{branch_of}
-use Rattle.lifter.specs.Unfoldings.{fact_of, HasUnfolded, IsTakenTo, facts_from, parts_from}
+use Rattle.lifter.specs.Unfoldings.{IsTakenTo, facts_from, parts_from}
 use Rattle.lifter.proofs.StateMoves.{moves_same, moves_then, moved_fact, gained_fact}
 use Rattle.lifter.proofs.TakenParts.{stands_here, taken_open, passed_over, true_here, taken_start, taken_more, taken_all, last_is}
 use Rattle.lifter.proofs.UnfoldedFacts.{both_ok, literal_tree, unfolded_by, first_lost, second_lost, both_stay, both_told, over_parts}

@@ -1,4 +1,4 @@
-use Rattle.std.proofs.Common.{◌≡◌, ℕ, true, false, Some, inl, inr, refl, sym, ap, subst}
+use Rattle.std.proofs.Common.{true, Some, inl, inr, refl, sym, subst}
 use Rattle.pc_ground.specs.Keys.{key_node, literal_node}
 use Rattle.pc_ground.specs.Tree.{leaf}
 use Rattle.pc_ground.specs.declared.literal.Literal.{Literal}

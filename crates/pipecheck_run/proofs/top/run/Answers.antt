@@ -2,7 +2,7 @@ use Rattle.std.proofs.Common.{◌≡◌, ◌≢◌, ◌∙◌, ◌⊎◌, inl, i
 use Rattle.std.specs.Prelude.{map, ◌++◌}
 use Rattle.std.specs.String.{string_bytes}
 use Rattle.pc_common.specs.declared.status.Status.{Status}
-use Rattle.pc_common.specs.declared.status.Status.TheVariants.{Usage, ReadFault, WriteFault, Memory}
+use Rattle.pc_common.specs.declared.status.Status.TheVariants.{Usage, ReadFault, Memory}
 use Rattle.pipecheck_run.specs.AnswerTexts.{answer_text, answer_status}
 use Rattle.pipecheck_run.specs.Answers.{Answers}
 use Rattle.pipecheck_run.proofs.WrittenStatus.{answer_is_status, answer_is, status_is}
