@@ -2,12 +2,12 @@ ghost use Rattle.std.specs.Prelude.{◌≡◌};
 ghost use Rattle.pc_common.specs.Writes.{Writes};
 ghost use Rattle.pipecheck_run.specs.AnswerTexts.{answer_text, answer_status, CanBeWritten};
 
+use ask_command::{FoundAsk, write_ask};
 use cert_check::Checked;
 use command_base::{Ending, checked_status, ending_status, write_checked, write_ending};
 use core_command::{FoundCore, write_core};
-use ask_command::{FoundAsk, write_ask};
-use lift_command::{FoundLift, lift_status, write_lift};
 use gen_command::{Report, write_report};
+use lift_command::{FoundLift, lift_status, write_lift};
 use lifted_check::Lifted;
 use lifted_command::{lifted_status, write_lifted};
 use pc_common::{Failed, Sink, Status, write_all};

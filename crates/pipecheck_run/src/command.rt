@@ -123,10 +123,7 @@ pub(crate) fn parse<'a>(words: &'a [String]) -> Option<Command<'a>>
         });
     }
     if let Some((inputs, query)) = three_behind("ask", words) {
-        return Some(Command::Ask {
-            inputs,
-            query,
-        });
+        return Some(Command::Ask { inputs, query });
     }
     if let Some((inputs, certificate)) = three_behind("lift", words) {
         return Some(Command::Lift {

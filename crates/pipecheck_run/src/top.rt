@@ -14,12 +14,12 @@ ghost use Rattle.pipecheck_run.specs.Decides.{IsCommandOutcome, IsWordsOutcome};
 
 use super::answer::{Answer, status, write_answer};
 use super::command::{Command, parse};
+use ask_command::ask_files;
 use check_command::check;
 use command_base::{Ending, Inputs, TestFile};
 use core_command::find_core;
-use ask_command::ask_files;
-use lift_command::lift_files;
 use gen_command::generate;
+use lift_command::lift_files;
 use lifted_command::verify_lifted;
 use listing_form::ListingFile;
 use pc_common::{Failed, Files, Sink, Status};
@@ -133,12 +133,7 @@ fn verify_lifted_answer<F: Files>(
 }
 
 /// The answer to `ask MODEL TEST QUERY`.
-fn ask_answer<F: Files>(
-    alloc: Global,
-    inputs: Inputs<'_>,
-    query: &str,
-    files: &mut F,
-) -> Answer
+fn ask_answer<F: Files>(alloc: Global, inputs: Inputs<'_>, query: &str, files: &mut F) -> Answer
     ensures outcome { IsCommandOutcome F.view (ask_query_of (plain_inputs inputs.entry) query.now)
         files.old files.new (answer_status result) (answer_text result) }
     ensures writable { CanBeWritten result }
@@ -204,10 +199,7 @@ fn answer_to<F: Files>(alloc: Global, command: Command<'_>, files: &mut F) -> An
             inputs,
             certificate,
         } => verify_lifted_answer(alloc, inputs, certificate, files),
-        Command::Ask {
-            inputs,
-            query,
-        } => ask_answer(alloc, inputs, query, files),
+        Command::Ask { inputs, query } => ask_answer(alloc, inputs, query, files),
         Command::Lift {
             inputs,
             certificate,
