@@ -248,15 +248,23 @@ fn tell<K: Sink>(out: &mut K, answer: &Answer) -> Status
 
 /// Answers a command. `check MODEL TEST` reads the two named files, at most 1,048,576 bytes each,
 /// decides whether the outcome of the test is observable on the model, and writes the verdict with
-/// its certificate, or the first fault of the files. `check2 MODEL TEST` does the same with refutations of
-/// version 2, whose splits keep that their left side failed. `verify MODEL TEST CERT` reads the first two so,
-/// and where they have no fault the third, to its end or to one byte past 67,108,864: it writes the
-/// verdict whose certificate the third is, or the line at which it is refused, without a search. `core MODEL TEST`
-/// reads as `check` does, and names a minimal set of axioms that forbid the outcome, or none, each with certificates.
-/// `gen N`,
-/// with N from 2 to 16 in decimal, makes the two texts of the ring of N cores, searches as `check` does,
-/// and writes N, the verdict, and how many nodes, splits and leaves there are, or the first fault of the
-/// two texts. Other words are no command, and that is written.
+/// its certificate, or the first fault of the files. The other commands read so too:
+///
+/// - `check2 MODEL TEST` does the same with refutations of version 2, whose splits keep that their left side failed.
+/// - `verify MODEL TEST CERT` reads a third file where these two have no fault, to its end or to one byte past
+///   67,108,864. It writes the verdict whose certificate the third is, or the line at which it is refused, without a
+///   search.
+/// - `check86` and `verify86` do what `check` and `verify` do, with a listing in place of the test.
+/// - `core MODEL TEST` names a minimal set of axioms that forbid the outcome, or none, each with certificates.
+/// - `sweep MODEL PATTERN` writes the verdict on each row of a pattern.
+/// - `verify-lifted MODEL TEST CERT` does what `verify` does, of lifted refutations.
+/// - `ask MODEL TEST QUERY` reads a third file before it judges any, at most 1,048,576 bytes too. It writes whether the
+///   formula in it holds always, sometimes or never, with certificates.
+/// - `lift MODEL TEST CERT` reads as `verify` does, and writes the lifted refutation of a refutation of version 1.
+/// - `gen N`, with N from 2 to 16 in decimal, makes the two texts of the ring of N cores, searches as `check` does,
+///   and writes N, the verdict, and how many nodes, splits and leaves there are, or the first fault of the two texts.
+///
+/// Other words are no command, and that is written.
 ///
 /// The words are those after the program's name. Nothing is written before the answer is known, and
 /// nothing at all with `ReadFault` or `Memory`. With `WriteFault` the first bytes of the answer's text
@@ -267,13 +275,13 @@ fn tell<K: Sink>(out: &mut K, answer: &Answer) -> Status
 /// - `idle`: `gen`, and words that are no command, leave the files as they are, and never end with `ReadFault`.
 /// - `usage` to `usage_text`: `Usage` comes exactly on words that are no command, whatever the memory.
 /// - `read_cause` to `read_due`: `ReadFault` comes only where a call of the files failed. Where only missing names
-///   fail it comes exactly where a name that is not held is come to: the model's, then the test's, and
-///   of `verify`, where these two have no fault, the third.
+///   fail it comes exactly where a name that is not held is come to: the model's, then the test's, then the
+///   query's; and of a third file that is a certificate where these two have no fault.
 /// - `write_cause`: `WriteFault` comes only where a call of the sink failed.
 /// - `quiet`, `answers`, `short`: what was written.
 /// - `headline`, `due`: the verdict is true of the bytes of the two files, whatever a third holds, and it
-///   comes: from `check` and `check2` by the outcome, from `verify` by what the third file is. From `core` and `gen`
-///   `Done` comes, or `Refused` where the two texts have a fault.
+///   comes: from `check` and `check2` by the outcome, from `verify`, `verify-lifted` and `lift` by what the third file
+///   is. From `core`, `sweep`, `ask` and `gen` `Done` comes, or `Refused` where the texts have a fault.
 pub fn run<F: Files, K: Sink>(alloc: Global, words: &[String], files: &mut F, out: &mut K) -> Status
     ensures files { Reads F.view files.old files.new }
     ensures idle { IsIdle (map string_bytes words.now) → (files.new ≡ files.old) × (result ≢ SReadFault) }
