@@ -12,7 +12,7 @@ use Rattle.query_front.specs.Queries.{with_axiom, with_denial}
 use Rattle.query_front.specs.declared.inquiry.Inquiry.{Inquiry}
 use Rattle.query_front.proofs.FaultlessQueries.{denial_faultless, axiom_faultless}
 use Rattle.ask_words.specs.declared.outcome.Asked.{Asked}
-use Rattle.ask_words.specs.Asking.{IsFrontMore, IsAsked}
+use Rattle.ask_words.specs.Asking.{IsFrontMore, IsAsked, word_of}
 use Rattle.command_base.specs.declared.ending.Ending.{Ending}
 use Rattle.command_base.specs.Inputs.{Inputs, Contents}
 use Rattle.command_base.specs.Endings.{ending_status, ending_text}
@@ -78,7 +78,7 @@ module _ {F : Type 0} {view : F → FilesView} {old new : F} {i : Inputs} {query
       ask_text_is =
           let first = found_certified (with_axiom h.m h.f) h.c h.kept a.added.0 added_front a.added.1 is.added.1 in
           let second = found_certified (with_denial h.m h.f) h.c h.kept a.against.0 against_front a.against.1 is.against.1 in
-          asked (words_told h.m h.c h.f a.added.1 a.against.1 first second) first second
+          asked (word_of a.added.1 a.against.1) (words_told h.m h.c h.f a.added.1 a.against.1 first second) first second
 
       -- the word with its certificates
       pub found_outcome : IsAskOutcome view i query old new Done (found_text (verdicts_of a))
@@ -98,7 +98,7 @@ module _ {F : Type 0} {view : F → FilesView} {old new : F} {i : Inputs} {query
       )
 
 ask_done : {m : WrittenModel} {c : Case} {f : Written} {status : Status} {text : List ℕ} → IsAskText m c f status text → status ≡ Done
-ask_done (asked word first second) = refl
+ask_done (asked word is first second) = refl
 
 -- the status is the one that is due
 module _ {holds : Contents} {i : Inputs} {query : List ℕ} where

@@ -34,7 +34,7 @@ IsAskWord m c f = IsWord (IsAllowed m c) (holds_in m c f)
 
 -- the formula's word, with a certificate where the formula is the model's last axiom, and one where its denial is
 pub data IsAskText (m : WrittenModel) (c : Case) (f : Written) : Status → List ℕ → Type 0 where
-  asked : {word : AskWord} {s t : Status} {added against : List ℕ} → IsAskWord m c f word
+  asked : (word : AskWord) {s t : Status} {added against : List ℕ} → IsAskWord m c f word
       → IsCertified One (with_axiom m f) c s added → IsCertified One (with_denial m f) c t against
       → IsAskText m c f Done (ask_text word added against)
 

@@ -1,5 +1,5 @@
 use Rattle.ask_command.proofs.MoreFronts.{formula_within}
-use Rattle.ask_command.proofs.AskOutcomes.{ending_outcome, memory_outcome, found_outcome, ask_writable}
+use Rattle.ask_command.proofs.AskOutcomes.{ending_outcome, found_outcome, ask_writable}
 use Rattle.ask_command.proofs.command.ask_files.Goals as goal
 
 pub returns-in-Err-clause-outcome : goal.returns-in-Err-clause-outcome
@@ -16,6 +16,3 @@ returns-in-Ok-ask_parts-clause-outcome g c =
 pub returns-in-Ok-ask_parts-clause-writable : goal.returns-in-Ok-ask_parts-clause-writable
 returns-in-Ok-ask_parts-clause-writable g c =
     rw c.verdicts_of.ensures (ask_writable c.in-Ok.ensures c.in-Ok-ask_parts.asked c.in-Ok-ask_parts.ensures)
-
-pub returns-in-Err-ask_parts-clause-outcome : goal.returns-in-Err-ask_parts-clause-outcome
-returns-in-Err-ask_parts-clause-outcome g c = memory_outcome c.in-Ok.ensures
