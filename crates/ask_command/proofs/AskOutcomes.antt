@@ -1,9 +1,9 @@
 -- The outcome of `ask`: what its answer says, and that it is due.
-use Rattle.std.proofs.Common.{◌≡◌, ℕ, List, [], inr, refl, subst}
+use Rattle.std.proofs.Common.{◌≡◌, ℕ, List, refl, subst}
 use Rattle.pc_common.specs.Outside.{FilesView}
 use Rattle.pc_common.specs.Case.{Case}
 use Rattle.pc_common.specs.declared.status.Status.{Status}
-use Rattle.pc_common.specs.declared.status.Status.TheVariants.{Done, Usage, ReadFault, Memory}
+use Rattle.pc_common.specs.declared.status.Status.TheVariants.{Done, Usage, ReadFault}
 use Rattle.pc_syntax.specs.Written.{Written, not_, WrittenModel}
 use Rattle.pc_syntax.specs.Closed.{PlainClosed, plain_closed, closed_not}
 use Rattle.pc_ground.specs.Stages.{plain_axioms}
@@ -29,12 +29,6 @@ done_no_usage e = cc
 done_no_fault : Done ≡ ReadFault → ⊥
 done_no_fault e = cc
 
-memory_no_usage : Memory ≡ Usage → ⊥
-memory_no_usage e = cc
-
-memory_no_fault : Memory ≡ ReadFault → ⊥
-memory_no_fault e = cc
-
 module _ {F : Type 0} {view : F → FilesView} {old new : F} {i : Inputs} {query : List ℕ} where
   -- the command ends at its files
   pub ending_outcome : (e : Ending) → IsFilesEnding view i query old new e → IsAskOutcome view i query old new (ending_status e) (ending_text e)
@@ -48,17 +42,6 @@ module _ {F : Type 0} {view : F → FilesView} {old new : F} {i : Inputs} {query
   }
 
   module _ {inquiry : Inquiry} (h : HasInquiry view i query old new inquiry) where
-    -- memory was refused after the files were judged
-    pub memory_outcome : IsAskOutcome view i query old new Memory []
-    memory_outcome = record {
-      keeps = h.keeps;
-      usage_only = memory_no_usage;
-      cause = λ e. absurd (memory_no_fault e);
-      missing_only = λ c e. absurd (memory_no_fault e);
-      missing_due = λ c l. inr refl;
-      answers = λ t no_fault memory. absurd (memory refl);
-    }
-
     module _ (a : Asked) (is : IsAsked inquiry.parts.case inquiry.parts.stages (plain_axioms inquiry.parts.axioms) (plain_closed inquiry.formula.body) a) where
       added_front : IsFrontOf (with_axiom h.m h.f) h.c a.added.0
       added_front =
