@@ -35,15 +35,14 @@ const LIFTED: &[(&'static str, &'static str, &'static str)] = &[
     ),
 ];
 
-/// Whether verify-lifted takes what lift makes of the certificate.
-fn is_lifted(alloc: Global, model: &str, test: &str, certificate: &str) -> Result<bool, Memory> {
-    let contents = &[
-        ("model", model),
-        ("test", test),
-        ("certificate", certificate),
-    ];
-    let bytes = written(alloc, WORDS, contents)?;
-    let Ok(text) = str::from_utf8(&bytes) else {
+/// Whether verify-lifted takes the text.
+fn is_verified<'a>(
+    alloc: Global,
+    model: &'a str,
+    test: &'a str,
+    text: &'a [u8],
+) -> Result<bool, Memory> {
+    let Ok(text) = str::from_utf8(text) else {
         return Ok(false);
     };
     let contents = &[("model", model), ("test", test), ("lifted", text)];
@@ -60,8 +59,14 @@ fn is_lifted(alloc: Global, model: &str, test: &str, certificate: &str) -> Resul
 #[test]
 fn a_lifted_refutation_is_verified(rt: HostRuntime) -> Result<(), Fail> {
     for (model, test, certificate) in LIFTED {
+        let contents = &[
+            ("model", *model),
+            ("test", *test),
+            ("certificate", *certificate),
+        ];
+        let text = written(rt.alloc(), WORDS, contents)?;
         assert!(rt;
-            is_lifted(rt.alloc(), *model, *test, *certificate)?,
+            is_verified(rt.alloc(), *model, *test, &text)?,
             "{certificate}"
         );
     }
