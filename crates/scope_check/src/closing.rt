@@ -36,7 +36,8 @@ pub fn close(alloc: Global, model: &ModelFile, axiom: &Expanded) -> Result<Close
     ensures stages { IfOk result (λ closed. StagesWithin (stage_numbers model.now.stages) (plain_closed closed.body)) }
     ensures err { IfErr result (Answers (name_fault model.now.stages [] [] (written «axiom».now.body))) }
 {
-    let body = close_formula(alloc, &model.stages, &Scope::new(), &axiom.body)?;
+    let scope = Scope::new(alloc)?;
+    let body = close_formula(alloc, &model.stages, &scope, &axiom.body)?;
     Ok(Closed { body })
 }
 
@@ -154,7 +155,7 @@ fn close_quantified<'a>(
         IfErr result (Answers
         (option_or (scope_fault at inside) (name_fault stages.now [] inside (written body.now)))) }
 {
-    let inside = scope.quantified(at, sort, name)?;
+    let inside = scope.quantified(alloc, at, sort, name)?;
     close_formula(alloc, stages, &inside, body)
 }
 
@@ -178,7 +179,7 @@ fn close_binding<'a>(
         (Answers (name_fault stages.now [] scope.now (bind_ at names.now args.now (written body.now)))) }
 {
     let values = close_values(alloc, scope, names, args)?;
-    let inside = scope.bound(at, names, args)?;
+    let inside = scope.bound(alloc, at, names, args)?;
     let body = close_formula(alloc, stages, &inside, body)?;
     made(ClosedFormula::bind(alloc, values, body))
 }

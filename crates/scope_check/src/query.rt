@@ -68,10 +68,25 @@ fn close_asked(
     ensures stages { IfOk result (λ closed. StagesWithin (stage_numbers stages.now) (plain_closed closed.body)) }
     ensures err { IfErr result (λ e. AnswersIn (query_fault stages.now [] [] (written formula.now)) e.0 e.1) }
 {
-    match close_part(alloc, stages, &Scope::new(), formula) {
+    match close_outermost(alloc, stages, formula) {
         Ok(body) => Ok(Closed { body }),
         Err(Filed { file, fault }) => Err((file, fault)),
     }
+}
+
+/// Closes a formula of a query, in which no variable is bound, and says in which file its fault stands.
+fn close_outermost(
+    alloc: Global,
+    stages: &StageItems,
+    formula: &Formula,
+) -> Result<ClosedFormula, Filed>
+    requires stages { stages_fault [] stages.now ≡ None }
+    requires expanded { IsExpanded (written formula.now) }
+    ensures ok { IfOk result (λ closed. IsQueryClosing stages.now [] (written formula.now) (plain_closed closed)) }
+    ensures err { IfErr result (λ e. AnswersIn (query_fault stages.now [] [] (written formula.now)) e.file e.fault) }
+{
+    let scope = Scope::new(alloc)?;
+    close_part(alloc, stages, &scope, formula)
 }
 
 /// A formula that was made, unless memory was refused.
@@ -216,7 +231,7 @@ fn close_quantified_part<'a>(
         IfErr result (λ e. AnswersIn (option_or (filed Query (scope_fault at inside))
         (query_fault stages.now [] inside (written body.now))) e.file e.fault) }
 {
-    let inside = scope.quantified(at, sort, name)?;
+    let inside = scope.quantified(alloc, at, sort, name)?;
     close_part(alloc, stages, &inside, body)
 }
 
@@ -241,7 +256,7 @@ fn close_expansion<'a>(
         e.file e.fault) }
 {
     let values = close_values(alloc, scope, names, args)?;
-    let inside = scope.bound(at, names, args)?;
+    let inside = scope.bound(alloc, at, names, args)?;
     let body = in_macro(close_formula(alloc, stages, &inside, body))?;
     made(ClosedFormula::bind(alloc, values, body))
 }

@@ -1,4 +1,4 @@
-ghost use Rattle.std.specs.Prelude.{◌≡◌, ◌+◌, ◌<◌, ◌≤◌, ◌++◌, ◌∷◌, [], IfOk, IfErr, MatchBool, Some, None, length, option_map};
+ghost use Rattle.std.specs.Prelude.{◌≡◌, ◌+◌, ◌<◌, ◌≤◌, ◌++◌, ◌∷◌, [], IfOk, IfErr, MatchBool, Some, None, length, map, option_map};
 ghost use Rattle.std.specs.List.{find};
 ghost use Rattle.pc_common.specs.declared.fault.FaultKind.TheVariants.{TooManyVariables};
 ghost use Rattle.pc_common.specs.Names.{same_name};
@@ -7,11 +7,13 @@ ghost use Rattle.pc_syntax.specs.Scope.{binding_of, sort_of_arg, quantified_in, 
 ghost use Rattle.pc_syntax.specs.NameFaults.{scope_fault};
 ghost use Rattle.scope_check.specs.Bindings.{binding};
 ghost use Rattle.scope_check.specs.FirstFault.{Answers, name_fault_of};
+ghost use Rattle.scope_check.specs.declared.fault.NameFault.TheVariants.{Memory as refused};
 
 use super::fault::NameFault;
 use arrayvec::ArrayVec;
 use pc_common::Place;
 use pc_syntax::{Arg, Args, MAX_VARIABLES, Name, Names, Sort};
+use std::alloc::Global;
 use std::marker::Model;
 
 /// A bound name, lent from the axiom.
@@ -39,10 +41,17 @@ impl<'a> Default for Variable<'a> {
     }
 }
 
-/// The variables at a place of a formula, innermost first.
-#[derive(Drop)]
+/// The variables at a place of a formula, innermost first. They lie in a box, so that a scope takes little of the
+/// stack in the functions that nest.
 pub(crate) struct Scope<'a> {
-    variables: ArrayVec<Variable<'a>, MAX_VARIABLES>,
+    variables: Box<ArrayVec<Variable<'a>, MAX_VARIABLES>>,
+}
+
+// Written out, so that a proof of what drops the value meets one call and no field.
+impl Drop for Scope<'_> {
+    fn drop(self) {
+        let Scope { variables: _ } = self;
+    }
 }
 
 impl<'a> Model for Scope<'a> {
@@ -52,24 +61,33 @@ impl<'a> Model for Scope<'a> {
 
     ghost Value = { List Binding };
 
-    ghost view = { λ s. map binding_seen s.variables.items };
+    ghost view = { λ s. map binding_seen s.variables.value.items };
 }
 
 impl<'a> Scope<'a> {
-    /// No variables.
-    pub(crate) fn new() -> Self
-        ensures { result ≡ [] }
+    /// No variables. An `Err` says that memory was refused.
+    #[inline(never)]
+    pub(crate) fn new(alloc: Global) -> Result<Self, NameFault>
+        ensures ok { IfOk result (λ s. s ≡ []) }
+        ensures err { IfErr result (λ fault. fault ≡ refused) }
     {
-        Scope {
-            variables: ArrayVec::new(),
-        }
+        Ok(Scope {
+            variables: Box::new(alloc, ArrayVec::new())?,
+        })
+    }
+
+    /// The variables, innermost first.
+    fn variables(&self) -> &[Variable<'a>]
+        ensures { map binding result.now ≡ self.now }
+    {
+        self.variables.as_slice()
     }
 
     /// The variable that a name stands for: the innermost of its bindings, if it has one.
     pub(crate) fn find(&self, name: &[u8]) -> Option<Variable<'a>>
         ensures { option_map binding result ≡ binding_of self.now name.now }
     {
-        first_named(self.variables.as_slice(), name)
+        first_named(self.variables(), name)
     }
 
     /// The sort of an argument: a number is a core, and so is a name without binding.
@@ -114,15 +132,21 @@ impl<'a> Scope<'a> {
         requires { length self.old + length outer.now ≤ MAX_VARIABLES }
         ensures { self.new ≡ self.old ++ outer.now }
     {
-        let outer = outer.variables.as_slice();
-        if self.variables.try_extend_from_slice(outer).is_err() {
+        if self
+            .variables
+            .try_extend_from_slice(outer.variables())
+            .is_err()
+        {
             unreachable!()
         }
     }
 
-    /// The scope inside a quantifier at `at`, whose variable takes the next slot.
+    /// The scope inside a quantifier at `at`, whose variable takes the next slot. An `Err` is that there are too many
+    /// variables, unless memory was refused.
+    #[inline(never)]
     pub(crate) fn quantified(
         &self,
+        alloc: Global,
         at: Place,
         sort: Sort,
         name: &'a Name,
@@ -134,7 +158,7 @@ impl<'a> Scope<'a> {
         if !self.has_room(1) {
             return Err(too_many_variables(at));
         }
-        let mut inside = Scope::new();
+        let mut inside = Scope::new(alloc)?;
         inside.push(name.as_slice(), sort, self.len() as u8);
         inside.extend(self);
         Ok(inside)
@@ -142,9 +166,11 @@ impl<'a> Scope<'a> {
 
     /// The scope inside a binding at `at`, of each name to its argument. Both lists are read as far as
     /// the shorter one goes. The names take the next slots in their order, and have the sorts that their
-    /// arguments have out here.
+    /// arguments have out here. An `Err` is that there are too many variables, unless memory was refused.
+    #[inline(never)]
     pub(crate) fn bound(
         &self,
+        alloc: Global,
         at: Place,
         names: &'a Names,
         args: &Args,
@@ -157,7 +183,7 @@ impl<'a> Scope<'a> {
         if !self.has_room(count) {
             return Err(too_many_variables(at));
         }
-        let mut inside = Scope::new();
+        let mut inside = Scope::new(alloc)?;
         for k in 0..count {
             let sort = self.sort_of(args.get(k));
             inside.push(names.get(k).as_slice(), sort, (self.len() + k) as u8);

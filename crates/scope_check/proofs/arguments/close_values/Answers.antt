@@ -1,7 +1,7 @@
 use Rattle.std.proofs.Common.{refl, arith}
 use Rattle.std.proofs.lemmas.Result.{err_from_is_err_and}
 use Rattle.scope_check.proofs.Walks.{drop_at, bound_more, bound_past, bound_stop, bound_all}
-use Rattle.scope_check.proofs.arguments.close_values.Goals.{then-k-len+in_ok-push, else-k-len+in-Plain+in-None-1, else-k-len+in-Plain+in-Some-1, else-k-len+in-Slot-1}
+use Rattle.scope_check.proofs.arguments.close_values.Goals.{then-k-len+in_ok-push, else-k-len+in-Plain-1, else-k-len+in-Slot-1}
 use Rattle.scope_check.proofs.arguments.close_values.Goals as goal
 
 pub loop-k-init : goal.loop-k-init
@@ -27,10 +27,7 @@ loop-k-preserved c =
       | then-k-len+in_ok-push w ↦
           rw (w.closed-is, w.in_ok-push.ensures)
           (bound_more c.args.scope.now names args k c.get.result.now c.in_ok-value.value c.loop-k.closed (omega arith) next made.0 made.1 c.loop-k.invariant)
-      | else-k-len+in-Plain+in-None-1 w ↦
-          rw w.closed-is
-          (bound_past c.args.scope.now names args k c.get.result.now c.loop-k.closed (omega arith) next made.0 c.loop-k.invariant)
-      | else-k-len+in-Plain+in-Some-1 w ↦
+      | else-k-len+in-Plain-1 w ↦
           rw w.closed-is
           (bound_past c.args.scope.now names args k c.get.result.now c.loop-k.closed (omega arith) next made.0 c.loop-k.invariant)
       | else-k-len+in-Slot-1 w ↦

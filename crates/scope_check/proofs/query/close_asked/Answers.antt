@@ -12,18 +12,18 @@ pub invariant_of-result : goal.invariant_of-result
 invariant_of-result c =
     let stages = c.args.stages.now in
     let w = written c.args.formula.now in
-    let made = rw c.new.ensures at c.in-Ok.ensures.ok in
+    let made = c.in-Ok.ensures.ok in
     let closing = query_closing stages [] w (plain_closed c.in-Ok.body) made in
     record { closed = subst (IsClosed []) (sym closing.closing) (closed_axiom_closed stages c.requires.stages w closing.no_fault) }
 
 pub returns-in-Ok-clause-ok : goal.returns-in-Ok-clause-ok
 returns-in-Ok-clause-ok c =
-    let made = rw c.new.ensures at c.in-Ok.ensures.ok in
+    let made = c.in-Ok.ensures.ok in
     query_closing c.args.stages.now [] (written c.args.formula.now) (plain_closed c.in-Ok.body) made
 
 pub returns-in-Ok-clause-stages : goal.returns-in-Ok-clause-stages
 returns-in-Ok-clause-stages c =
     let stages = c.args.stages.now in
     let w = written c.args.formula.now in
-    let made = rw c.new.ensures at c.in-Ok.ensures.ok in
+    let made = c.in-Ok.ensures.ok in
     closing_stages stages [] w (plain_closed c.in-Ok.body) (query_closing stages [] w (plain_closed c.in-Ok.body) made)

@@ -11,7 +11,7 @@ returns-then-not-has_room-clause-err c =
     rw c.too_many_variables.ensures (scope_over c.args.at inside many)
 
 pub loop-k-init : goal.loop-k-init
-loop-k-init c = rw c.new-inside.ensures (bound_none c.args.self.now c.args.names.now c.args.args.now)
+loop-k-init c = rw c.in_ok-inside.ensures.ok (bound_none c.args.self.now c.args.names.now c.args.args.now)
 
 pub push-requires : goal.push-requires
 push-requires c = omega (arith, c.loop-k.invariant.0, c.if-not-has_room.ensures)

@@ -6,5 +6,4 @@ use Rattle.scope_check.proofs.scope.Scope.find.Goals as goal
 
 pub returns : goal.returns
 returns c =
-    let found = rw c.as_slice.ensures.value at c.first_named.ensures in
-    ap (option_map binding) found ∙ find_is c.self.inside.variables.items c.args.name.now ∙ ap (λ s. binding_of s c.args.name.now) c.self.view_is
+    ap (option_map binding) c.first_named.ensures ∙ find_is c.variables.result.now c.args.name.now ∙ ap (λ s. binding_of s c.args.name.now) c.variables.ensures
