@@ -1,12 +1,12 @@
 -- What a fact says of a world.
-use Rattle.std.proofs.Common.{◌≡◌, ◌⊎◌, inl, inr, ℕ, zero, suc, Bool, true, false, not, ◌&&◌, ◌||◌, List, [], ◌∷◌, ◌++◌, Option, Some, None, map, drop, refl, sym, ◌∙◌, ap, subst}
+use Rattle.std.proofs.Common.{◌≡◌, ◌⊎◌, inl, inr, ℕ, zero, suc, Bool, true, false, not, ◌&&◌, ◌||◌, List, [], ◌∷◌, ◌++◌, Some, drop, refl, subst}
 use Rattle.std.specs.Prelude.{slice_get}
 use Rattle.std.specs.List.{list_any, list_all}
 use Rattle.pc_common.specs.Case.{Case}
 use Rattle.pc_common.specs.World.{Node, World}
 use Rattle.pc_common.proofs.Elements.{In}
 use Rattle.pc_syntax.specs.Truth.{Meaning, node_holds, edge_holds, range_of}
-use Rattle.pc_syntax.specs.Closed.{PlainClosed, closed_not, closed_and, closed_or, closed_implies, closed_forall, closed_exists, closed_static, closed_nodes, closed_edges, closed_bind, closed_node, closed_true}
+use Rattle.pc_syntax.specs.Closed.{PlainClosed, closed_forall, closed_exists, closed_nodes, closed_edges, closed_node, closed_true}
 use Rattle.lifted_facts.specs.PlainFacts.{PlainFact, said, one_node, one_edge}
 
 -- a truth value under a sign

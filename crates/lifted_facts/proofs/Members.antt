@@ -1,9 +1,7 @@
 -- Facts in lists: one more axiom as a fact, the fact of a number, nodes and edges that are lists' members.
-use Rattle.std.proofs.Common.{◌≡◌, ℕ, ◌+◌, List, [], ◌∷◌, ◌++◌, Option, Some, None, map, take, refl, sym, ◌∙◌, ap, subst}
-use Rattle.std.specs.Prelude.{slice_get, All}
-use Rattle.std.specs.Option.{option_map}
+use Rattle.std.proofs.Common.{◌≡◌, ℕ, ◌+◌, List, [], ◌∷◌, ◌++◌, Some, take, sym, ◌∙◌, ap, subst}
+use Rattle.std.specs.Prelude.{slice_get}
 use Rattle.std.proofs.lemmas.List.{map-append}
-use Rattle.std.proofs.lemmas.Option.{slice_get-map}
 use Rattle.pc_syntax.specs.declared.closed.Closed.{Closed}
 use Rattle.pc_syntax.specs.Closed.{plain_closed}
 use Rattle.pc_ground.specs.Stages.{plain_axioms}

@@ -1,14 +1,13 @@
 -- What steps make of the open branches as lists of facts.
-use Rattle.std.proofs.Common.{◌≡◌, ℕ, zero, suc, ◌+◌, ◌≤◌, ◌<◌, Bool, true, false, List, [], ◌∷◌, ◌++◌, Option, Some, None, length, map, take, reverse, refl, sym, ◌∙◌, ap, subst, arith, length-append}
-use Rattle.std.specs.Prelude.{All, slice_get}
-use Rattle.std.proofs.Math.Seq.{take-append_seam, take-length}
-use Rattle.std.proofs.lemmas.List.{map-append, take-map, take-append-le, length-take-le, append-nil}
+use Rattle.std.proofs.Common.{◌≡◌, ℕ, suc, ◌≤◌, Bool, true, false, List, [], ◌∷◌, ◌++◌, length, map, take, refl, sym, ◌∙◌, ap, subst, arith}
+use Rattle.std.proofs.Math.Seq.{take-append_seam}
+use Rattle.std.proofs.lemmas.List.{map-append, take-map, take-append-le, length-take-le}
 use Rattle.pc_common.specs.Case.{Case}
 use Rattle.lifted_facts.specs.declared.fact.Fact.{Fact}
 use Rattle.lifted_facts.specs.declared.waiting.Waiting.{Waiting}
 use Rattle.lifted_facts.specs.declared.way.Way.{Way}
-use Rattle.lifted_facts.specs.PlainFacts.{PlainFact, Branch, plain_fact, IsProper}
-use Rattle.lifted_facts.specs.Lifted.{LiftedLeaf, LiftedStep, derive, split, close, HasPart, HasSides, Closes, Advances, HasAdvanced}
+use Rattle.lifted_facts.specs.PlainFacts.{PlainFact, Branch, plain_fact}
+use Rattle.lifted_facts.specs.Lifted.{LiftedLeaf, LiftedStep, derive, split, close, HasPart, HasSides, Closes, HasAdvanced}
 use Rattle.lifted_facts.specs.OpenBranches.{waiting, opens_of, AreWithin}
 
 -- more facts behind those that waiting branches keep change none of them

@@ -1,5 +1,5 @@
 -- Runs of steps: one after another, and that they lead to one list of branches.
-use Rattle.std.proofs.Common.{◌≡◌, ℕ, List, [], ◌∷◌, ◌++◌, Option, Some, None, refl, sym, ◌∙◌, ap, subst}
+use Rattle.std.proofs.Common.{◌≡◌, ℕ, List, [], ◌∷◌, ◌++◌, Option, Some, refl, sym, ◌∙◌, ap, subst}
 use Rattle.std.specs.Prelude.{slice_get}
 use Rattle.pc_common.specs.Case.{Case}
 use Rattle.lifted_facts.specs.PlainFacts.{PlainFact, Branch}

@@ -1,13 +1,13 @@
 -- A lifted refutation leaves no world in which its axioms are true.
-use Rattle.std.proofs.Common.{◌≡◌, ◌⊎◌, inl, inr, ℕ, zero, suc, Bool, true, false, not, List, [], ◌∷◌, ◌++◌, Option, Some, None, map, refl, sym, ◌∙◌, ap, subst}
+use Rattle.std.proofs.Common.{◌≡◌, ◌⊎◌, inl, inr, ℕ, zero, suc, true, false, List, [], ◌∷◌, ◌++◌, Some, sym, ◌∙◌, ap, subst}
 use Rattle.std.specs.Prelude.{IsTrue, slice_get}
 use Rattle.pc_common.specs.Case.{Case}
 use Rattle.pc_common.specs.World.{Node, World, has_node, has_edge, IsWorld}
-use Rattle.pc_common.proofs.Elements.{In, in_either, all_holds, from_map}
+use Rattle.pc_common.proofs.Elements.{all_holds, from_map}
 use Rattle.pc_common.proofs.Nodes.{has_node_is, has_edge_is}
 use Rattle.pc_syntax.specs.Closed.{PlainClosed, closed_true, closed_satisfies}
 use Rattle.lifted_facts.specs.PlainFacts.{PlainFact, said, one_node, one_edge, Branch, root}
-use Rattle.lifted_facts.specs.Lifted.{LiftedLeaf, falsity, cycle, path, absent, LiftedStep, derive, split, close, HasFact, IsEdge, Follows, Asserts, Closes, StepsTo, Advances, Runs, IsLiftedRefutation}
+use Rattle.lifted_facts.specs.Lifted.{LiftedLeaf, falsity, cycle, path, absent, LiftedStep, derive, split, close, HasFact, Follows, Asserts, Closes, StepsTo, Advances, Runs, IsLiftedRefutation}
 use Rattle.lifted_facts.proofs.FactTruth.{fact_true, start_true, not_true, in_at}
 use Rattle.lifted_facts.proofs.PartTruth.{part_true, side_true, false_nowhere}
 

@@ -1,5 +1,5 @@
 -- What stands at the positions that a tree asserts is known.
-use Rattle.std.proofs.Common.{◌≡◌, inl, inr, ℕ, ◌+◌, List, [], subst}
+use Rattle.std.proofs.Common.{◌≡◌, inl, inr, ℕ, ◌+◌, List, subst}
 use Rattle.pc_common.specs.World.{Node}
 use Rattle.pc_common.proofs.Elements.{in_either}
 use Rattle.pc_ground.specs.declared.literal.Literal.{Literal}

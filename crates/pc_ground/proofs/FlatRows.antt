@@ -1,16 +1,14 @@
 -- Rows and the trees that they spell: subtrees, sizes, children, literals, and that no two trees have the same rows.
 use Rattle.std.proofs.Common.{◌≡◌, ℕ, zero, suc, ◌+◌, ◌-◌, ◌<◌, ◌≤◌, inl, inr, false, List, [], ◌∷◌, ◌++◌, Some, None, length, drop, refl, sym, ◌∙◌, ap, subst, arith, append_assoc, length-append, length-drop}
 use Rattle.std.specs.Prelude.{slice_get, nat_lt}
-use Rattle.std.specs.List.{flat_map}
 use Rattle.std.specs.Option.{unwrap_or}
 use Rattle.std.proofs.lemmas.Bool.{ltb-true, ltb-false}
 use Rattle.std.proofs.lemmas.Option.{slice_get_within, slice_get_past}
-use Rattle.pc_ground.specs.declared.row.RowKind.{RowKind}
 use Rattle.pc_ground.specs.declared.row.RowKind.TheVariants.{True, False, Lit, And, Or}
 use Rattle.pc_ground.specs.declared.row.Row.{Row}
 use Rattle.pc_ground.specs.Tree.{Tree, always, never, leaf, both, either, size_of}
-use Rattle.pc_ground.specs.Rows.{root_kind, literals_of_kind, rows_of, turned_kind, turned_row, turned_rows, IsFlat}
-use Rattle.pc_ground.specs.Refutes.{subtree_at, literal_of, literals_of}
+use Rattle.pc_ground.specs.Rows.{root_kind, rows_of}
+use Rattle.pc_ground.specs.Refutes.{subtree_at, literal_of}
 use Rattle.pc_ground.specs.Walks.{literals_of_row}
 use Rattle.pc_ground.proofs.Bools.{true_or_false, false_from_not}
 

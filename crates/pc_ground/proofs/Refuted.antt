@@ -1,10 +1,10 @@
 -- A refutation leaves no world in which its tree is true.
-use Rattle.std.proofs.Common.{◌||◌, ◌≡◌, ℕ, ◌+◌, ◌⊎◌, inl, inr, Bool, true, false, not, List, [], ◌∷◌, ◌++◌, Option, Some, None, map, refl, sym, ◌∙◌, ap, subst}
+use Rattle.std.proofs.Common.{◌||◌, ◌≡◌, ℕ, ◌+◌, ◌⊎◌, inl, inr, Bool, true, false, not, List, [], ◌∷◌, Option, Some, None, refl, sym, ◌∙◌, ap, subst}
 use Rattle.std.specs.Prelude.{Contains, IsTrue}
 use Rattle.pc_common.specs.World.{Node, World, has_node, has_edge, IsWorld}
 use Rattle.pc_common.specs.Chain.{Leads}
 use Rattle.pc_common.specs.Steps.{Leaf, Step, split, close}
-use Rattle.pc_common.proofs.Elements.{In, in_from_contains, contains_from_in, in_either, from_flat, from_map}
+use Rattle.pc_common.proofs.Elements.{In, in_from_contains, in_either, from_flat, from_map}
 use Rattle.pc_common.proofs.Nodes.{has_node_is, has_edge_is}
 use Rattle.pc_ground.specs.declared.literal.Literal.{Literal}
 use Rattle.pc_ground.specs.declared.literal.Literal.TheVariants.{Node as a_node, Edge, NoNode, NoEdge}

@@ -1,5 +1,5 @@
 -- A tree and its negation: sizes, subtrees, rows and truth.
-use Rattle.std.proofs.Common.{◌≡◌, ℕ, zero, suc, ◌+◌, ◌-◌, inl, inr, Bool, true, false, not, List, [], ◌∷◌, ◌++◌, Option, Some, None, map, refl, sym, ◌∙◌, ap}
+use Rattle.std.proofs.Common.{◌≡◌, ℕ, zero, suc, ◌+◌, ◌-◌, Bool, true, false, not, List, [], ◌∷◌, ◌++◌, Option, Some, map, refl, sym, ◌∙◌, ap}
 use Rattle.std.specs.Prelude.{slice_get, nat_lt, option_map, if◌then◌else◌, ◌&&◌, ◌||◌}
 use Rattle.pc_common.specs.World.{Node, World, has_node, has_edge}
 use Rattle.pc_ground.specs.declared.literal.Literal.{Literal}

@@ -16,7 +16,7 @@ use Rattle.order_graph.specs.declared.clash.Clash.{Clash}
 use Rattle.solver.specs.Spelled.{spelled, IsSpelled}
 use Rattle.solver.specs.Below.{IsRowBelow}
 use Rattle.solver.specs.Renamed.{tree_over}
-use Rattle.solver.specs.Places.{place_signed, side_positions, left_side, right_side, IsOr, IsCandidate, AreSides}
+use Rattle.solver.specs.Places.{place_signed, side_positions, left_side, right_side, IsCandidate, AreSides}
 use Rattle.solver.specs.Leaves.{IsClashBelow}
 use Rattle.solver.specs.Opens.{positions, waiting, IsLater, AreLater, opens, IsState, IsSame}
 use Rattle.solver.specs.Weights.{weight}

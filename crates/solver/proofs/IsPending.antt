@@ -1,16 +1,14 @@
 -- An Or that is on the branch with no side, from what is asked of it.
-use Rattle.std.proofs.Common.{◌≡◌, ◌<◌, inl, inr, ℕ, ◌+◌, Bool, true, false, List, [], ◌∷◌, Some, length, refl, sym, ap, ◌∙◌, subst, arith}
+use Rattle.std.proofs.Common.{◌≡◌, inl, inr, ℕ, ◌+◌, Bool, true, false, List, [], ◌∷◌, Some, sym, ap, ◌∙◌, subst}
 use Rattle.std.specs.Prelude.{Contains, IsTrue, ◌↔◌}
 use Rattle.pc_common.proofs.Elements.{In, in_from_contains, contains_from_in, in_map}
 use Rattle.pc_ground.specs.declared.literal.Literal.{Literal}
-use Rattle.pc_ground.specs.declared.row.Row.{Row}
 use Rattle.pc_ground.specs.Tree.{Tree, either, turned, size_of}
 use Rattle.pc_ground.specs.declared.version.Version.TheVariants.{One}
-use Rattle.pc_ground.specs.Refutes.{Signed, signed, subtree_at, part_at, literals_of}
+use Rattle.pc_ground.specs.Refutes.{Signed, signed, subtree_at, literals_of}
 use Rattle.pc_ground.proofs.Turned.{subtree_denied}
-use Rattle.solver.specs.Spelled.{spelled}
 use Rattle.solver.specs.Met.{IsMet, IsMetUnder}
-use Rattle.solver.specs.Places.{place_signed, left_side, right_side, IsOr, IsCandidate, IsUntaken, AreSides}
+use Rattle.solver.specs.Places.{place_signed, IsOr, IsCandidate, IsUntaken, AreSides}
 use Rattle.solver.specs.Opens.{positions}
 use Rattle.solver.specs.declared.place.Place.{Place}
 use Rattle.solver.specs.declared.side.Side.{Side}

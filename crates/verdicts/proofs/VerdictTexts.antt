@@ -1,12 +1,12 @@
 -- The text of a verdict is that of its certificate.
-use Rattle.std.proofs.Common.{◌≡◌, ℕ, List, [], ◌∷◌, ◌++◌, map, refl, sym, ◌∙◌, ap, subst}
+use Rattle.std.proofs.Common.{◌≡◌, ℕ, List, [], ◌∷◌, ◌++◌, refl, sym, ◌∙◌, ap, subst}
 use Rattle.std.specs.Prelude.{codes, Contains}
 use Rattle.pc_common.specs.Case.{Case, Expectation}
 use Rattle.pc_common.specs.World.{Node}
 use Rattle.pc_common.specs.Lines.{Names, Line as Line', Verdict as Kind, observable, unobservable, end, lines_text, verdict_text as verdict_words, second_text}
 use Rattle.pc_case.specs.MicroOps.{AreMicroOps}
 use Rattle.pc_syntax.specs.Written.{stage_numbers, WrittenModel}
-use Rattle.pc_syntax.specs.Observable.{IsNodeOf, IsWorldOf, satisfies}
+use Rattle.pc_syntax.specs.Observable.{IsNodeOf, IsWorldOf}
 use Rattle.std.specs.List.{flat_map}
 use Rattle.pc_common.specs.Steps.{Step}
 use Rattle.pc_ground.specs.declared.front.Front.{Front}
@@ -14,7 +14,6 @@ use Rattle.pc_ground.specs.declared.version.Version.{Version}
 use Rattle.pc_ground.specs.declared.version.Version.TheVariants.{One, Two}
 use Rattle.pc_ground.specs.GroundTree.{ground_tree}
 use Rattle.pc_ground.specs.NodeForm.{names_of}
-use Rattle.pc_ground.specs.Stages.{plain_stage}
 use Rattle.pc_ground.proofs.UnfoldedTruth.{ground_tree_true}
 use Rattle.pc_front.specs.Front.{IsFrontOf}
 use Rattle.refutation.specs.Steps.{step_text}

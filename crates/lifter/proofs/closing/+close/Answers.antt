@@ -1,4 +1,4 @@
-use Rattle.std.proofs.Common.{◌+◌, ◌++◌, ◌∷◌, [], sym, ◌∙◌, arith}
+use Rattle.std.proofs.Common.{◌++◌, ◌∷◌, [], sym, ◌∙◌, arith}
 use Rattle.lifted_facts.specs.Lifted.{close, falsity}
 use Rattle.std.proofs.lemmas.Result.{on_ok_weaker}
 use Rattle.lifted_facts.specs.PlainFacts.{plain_fact}

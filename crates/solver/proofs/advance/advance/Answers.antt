@@ -1,9 +1,9 @@
-use Rattle.std.proofs.Common.{◌≤◌, ◌<◌, ◌+◌, ◌++◌, ℕ, [], length, map, refl, ap, arith}
+use Rattle.std.proofs.Common.{◌≤◌, ◌<◌, ◌+◌, ◌++◌, ℕ, [], map, refl, arith}
 use Rattle.pc_ground.specs.Keys.{key_node}
 use Rattle.pc_common.specs.Steps.{split}
 use Rattle.solver.specs.Spelled.{spelled}
 use Rattle.order_graph.proofs.Results.{if_ok}
-use Rattle.solver.specs.Places.{place_signed, IsCandidate, side_positions}
+use Rattle.solver.specs.Places.{place_signed, side_positions}
 use Rattle.solver.specs.Opens.{positions, opens}
 use Rattle.solver.specs.Weights.{weight}
 use Rattle.solver.specs.Descents.{IsLonger, HasMore}

@@ -1,4 +1,4 @@
-use Rattle.std.proofs.Common.{◌∙◌, ap, subst, sym, List, [], reverse, map}
+use Rattle.std.proofs.Common.{subst, List, [], reverse, map}
 use Rattle.std.specs.Prelude.{is_ok}
 use Rattle.lifted_facts.specs.declared.fact.Fact.{Fact}
 use Rattle.lifted_facts.specs.PlainFacts.{PlainFact, plain_fact}
