@@ -15,10 +15,19 @@ use std::alloc::Global;
 use verdicts::Verdict;
 
 /// What `ask` finds: the verdict with the formula as the model's last axiom, and that with the formula's denial.
-#[derive(Drop)]
 pub struct FoundAsk {
     pub added: Verdict,
     pub against: Verdict,
+}
+
+// Written out, so that a proof of what drops the value meets one call and no field.
+impl Drop for FoundAsk {
+    fn drop(self) {
+        let FoundAsk {
+            added: _,
+            against: _,
+        } = self;
+    }
 }
 
 /// What is found of a front, as a verdict.

@@ -15,13 +15,25 @@ use refutation::NodeRow;
 use std::alloc::Global;
 
 /// A judge of certificates of one front.
-#[derive(Drop)]
 pub(crate) struct CertificateJudge<'a> {
     alloc: Global,
     front: &'a Front,
     names: NodeText<'a>,
     row: NodeRow,
     stage: Stage<'a>,
+}
+
+// Written out, so that a proof of what drops the value meets one call and no field.
+impl Drop for CertificateJudge<'_> {
+    fn drop(self) {
+        let CertificateJudge {
+            alloc: _,
+            front: _,
+            names: _,
+            row: _,
+            stage: _,
+        } = self;
+    }
 }
 
 impl<'a> CertificateJudge<'a> {

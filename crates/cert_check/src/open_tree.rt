@@ -23,12 +23,21 @@ use std::alloc::Global;
 use tree_check::{Branches, Leaf};
 
 /// A refutation so far.
-#[derive(Drop)]
 pub(crate) struct OpenTree<'a> {
     /// The branches that its steps leave open.
     pub(crate) branches: Branches<'a>,
     /// Whether no line has come after the header yet, so that the next one may say the version.
     pub(crate) is_new: bool,
+}
+
+// Written out, so that a proof of what drops the value meets one call and no field.
+impl Drop for OpenTree<'_> {
+    fn drop(self) {
+        let OpenTree {
+            branches: _,
+            is_new: _,
+        } = self;
+    }
 }
 
 /// Takes a step whose nodes are these.

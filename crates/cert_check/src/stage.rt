@@ -8,7 +8,6 @@ use super::open_tree::OpenTree;
 use graph_text::OpenGraph;
 
 /// How far a certificate was read.
-#[derive(Drop)]
 pub(crate) enum Stage<'a> {
     /// No line.
     Start,
@@ -20,6 +19,19 @@ pub(crate) enum Stage<'a> {
     Tree(OpenTree<'a>),
     /// A whole certificate of this verdict.
     Ended(Verdict),
+}
+
+// Written out, so that a proof of what drops the value meets one call and no variant.
+impl Drop for Stage<'_> {
+    fn drop(self) {
+        match self {
+            Stage::Start => {}
+            Stage::Said(_) => {}
+            Stage::Graph(_) => {}
+            Stage::Tree(_) => {}
+            Stage::Ended(_) => {}
+        }
+    }
 }
 
 impl<'a> Stage<'a> {

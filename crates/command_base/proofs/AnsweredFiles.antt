@@ -1,5 +1,5 @@
 -- What the answer to a command on two files says, and the outcome of a command at its front.
-use Rattle.std.proofs.Common.{◌≡◌, ◌≢◌, ◌⊎◌, ℕ, Bool, List, [], inr, refl, subst}
+use Rattle.std.proofs.Common.{◌≡◌, ◌≢◌, ℕ, List, [], inr, refl, subst}
 use Rattle.pc_common.specs.Outside.{FilesView}
 use Rattle.pc_common.specs.Case.{Case}
 use Rattle.pc_common.specs.declared.fault.InputFault.{InputFault}
@@ -10,7 +10,7 @@ use Rattle.pc_ground.specs.declared.front.Front.{Front}
 use Rattle.command_base.specs.declared.ending.Ending.{Ending}
 use Rattle.command_base.specs.Inputs.{Inputs, Contents, Says, IsFirstFault}
 use Rattle.command_base.specs.SecondFiles.{IsForm}
-use Rattle.command_base.specs.Refusals.{IsRefusal, refusal}
+use Rattle.command_base.specs.Refusals.{refusal}
 use Rattle.command_base.specs.Endings.{ending_status, ending_text}
 use Rattle.command_base.specs.Outcomes.{HasFront, IsInputsEnding, IsFilesOutcome, AnswersFiles, refused, found, IsDueOfFiles}
 use Rattle.command_base.proofs.OneCase.{one_said, no_fault_said}

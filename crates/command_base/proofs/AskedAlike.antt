@@ -1,5 +1,5 @@
 -- A front asks what its model and its case ask.
-use Rattle.std.proofs.Common.{◌≡◌, ℕ, List, [], ◌∷◌, map, refl, sym, ◌∙◌, ap}
+use Rattle.std.proofs.Common.{◌≡◌, List, [], ◌∷◌, map, refl, sym, ◌∙◌, ap}
 use Rattle.pc_common.specs.Case.{Case}
 use Rattle.pc_syntax.specs.declared.model.StageItem.{StageItem}
 use Rattle.pc_syntax.specs.Written.{stage_numbers, WrittenModel}

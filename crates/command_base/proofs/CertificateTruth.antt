@@ -1,5 +1,5 @@
 -- What the two certificates say of the outcome.
-use Rattle.std.proofs.Common.{◌≡◌, ℕ, List, sym, ◌∙◌, subst}
+use Rattle.std.proofs.Common.{ℕ, List, sym, ◌∙◌, subst}
 use Rattle.pc_common.specs.Case.{Case}
 use Rattle.pc_common.specs.Lines.{observable, unobservable}
 use Rattle.pc_syntax.specs.Written.{WrittenModel}

@@ -1,5 +1,5 @@
 -- How a command ends at its two files, and what a front of them says.
-use Rattle.std.proofs.Common.{◌≡◌, ◌≢◌, ◌⊎◌, inl, inr, ℕ, ◌<◌, ◌≤◌, arith, Bool, List, ◌++◌, Some, None, length, refl, sym, ◌∙◌, ap, subst}
+use Rattle.std.proofs.Common.{◌≡◌, inl, inr, ℕ, ◌<◌, ◌≤◌, arith, List, ◌++◌, Some, None, length, refl, sym, ◌∙◌, ap, subst}
 use Rattle.std.specs.Prelude.{codes, IsTrue}
 use Rattle.std.specs.Fmt.{decimal}
 use Rattle.pc_common.specs.Outside.{FilesView}
@@ -24,7 +24,7 @@ use Rattle.command_base.specs.Words.{fault_word, file_word}
 use Rattle.command_base.specs.Inputs.{Inputs, Contents, IsRead, IsTooLarge, IsFirstFault, large_model, large_test, in_bytes, too_large, LacksInput, Says}
 use Rattle.command_base.specs.SecondFiles.{IsOfTwo, SaysFront, SaysNone}
 use Rattle.command_base.specs.Refusals.{IsRefusal, refusal, refused_text, name_of}
-use Rattle.command_base.specs.Endings.{refusal_text, ending_text, ending_status, bytes_of, IsBytesEnding, IsUnread}
+use Rattle.command_base.specs.Endings.{refusal_text, bytes_of, IsBytesEnding, IsUnread}
 use Rattle.command_base.specs.Outcomes.{HasFront, IsInputsEnding}
 use Rattle.command_base.proofs.OneCase.{never_both, one_held}
 

@@ -16,11 +16,17 @@ pub(crate) struct Arc {
 }
 
 /// Edges between numbered nodes, each linked to the one before it from the same node.
-#[derive(Drop)]
 pub(crate) struct Adjacency {
     /// Of each node, the last edge from it, counted from 1; 0 where it has none.
     heads: Vec<usize>,
     arcs: Vec<Arc>,
+}
+
+// Written out, so that a proof of what drops the value meets one call and no field.
+impl Drop for Adjacency {
+    fn drop(self) {
+        let Adjacency { heads: _, arcs: _ } = self;
+    }
 }
 
 impl Model for Adjacency {

@@ -4,7 +4,6 @@ ghost use Rattle.lifted_check.specs.Stages.{is_end as is_end_of};
 use lifted_facts::Branches;
 
 /// How far a lifted text was read.
-#[derive(Drop)]
 pub(crate) enum Stage<'a> {
     /// No line.
     Start,
@@ -16,6 +15,19 @@ pub(crate) enum Stage<'a> {
     Steps(Branches<'a>),
     /// A whole text.
     Ended,
+}
+
+// Written out, so that a proof of what drops the value meets one call and no variant.
+impl Drop for Stage<'_> {
+    fn drop(self) {
+        match self {
+            Stage::Start => {}
+            Stage::First => {}
+            Stage::Second => {}
+            Stage::Steps(_) => {}
+            Stage::Ended => {}
+        }
+    }
 }
 
 impl<'a> Stage<'a> {

@@ -9,9 +9,15 @@ use std::alloc::Global;
 use std::marker::Model;
 
 /// Keys with the numbers of their facts, in the order in which they came, cut back like a stack.
-#[derive(Drop)]
 pub(crate) struct Known {
     map: IndexMap<Key, u64>,
+}
+
+// Written out, so that a proof of what drops the value meets one call and no field.
+impl Drop for Known {
+    fn drop(self) {
+        let Known { map: _ } = self;
+    }
 }
 
 impl Model for Known {

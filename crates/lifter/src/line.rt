@@ -11,7 +11,6 @@ use std::marker::Model;
 pub type Numbers = Listed<u64>;
 
 /// One step of a lifted refutation. Facts are named by their numbers, from 0.
-#[derive(Drop)]
 pub enum Line {
     /// Adds the part of a fact that is named so.
     Derive(Way, u64),
@@ -28,10 +27,30 @@ pub enum Line {
     Absent(u64, u64),
 }
 
+// Written out, so that a proof of what drops the value meets one call and no variant.
+impl Drop for Line {
+    fn drop(self) {
+        match self {
+            Line::Derive(_, _) => {}
+            Line::Split(_) => {}
+            Line::False(_) => {}
+            Line::Cycle(_, _) => {}
+            Line::Path(_, _, _) => {}
+            Line::Absent(_, _) => {}
+        }
+    }
+}
+
 /// The steps of a lifted refutation so far.
-#[derive(Drop)]
 pub struct Steps {
     lines: Listed<Line>,
+}
+
+// Written out, so that a proof of what drops the value meets one call and no field.
+impl Drop for Steps {
+    fn drop(self) {
+        let Steps { lines: _ } = self;
+    }
 }
 
 impl Model for Steps {

@@ -9,9 +9,15 @@ use std::alloc::Global;
 use std::marker::Model;
 
 /// The values that lines of one kind state, in text order and looked up by address.
-#[derive(Drop)]
 pub(crate) struct Values {
     by_address: IndexMap<Address, Value>,
+}
+
+// Written out, so that a proof of what drops the value meets one call and no field.
+impl Drop for Values {
+    fn drop(self) {
+        let Values { by_address: _ } = self;
+    }
 }
 
 impl Model for Values {

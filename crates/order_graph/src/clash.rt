@@ -4,7 +4,6 @@ use pc_common::Listed;
 pub type Numbers = Listed<u32>;
 
 /// Why literals can't stand together.
-#[derive(Drop)]
 pub enum Clash {
     /// An edge is asserted from each node to the next, and from the last to the first.
     Cycle(Numbers),
@@ -12,6 +11,17 @@ pub enum Clash {
     Path(Numbers),
     /// The node is denied, and asserted as a node or as an end of an edge.
     Absent(u32),
+}
+
+// Written out, so that a proof of what drops the value meets one call and no variant.
+impl Drop for Clash {
+    fn drop(self) {
+        match self {
+            Clash::Cycle(_) => {}
+            Clash::Path(_) => {}
+            Clash::Absent(_) => {}
+        }
+    }
 }
 
 /// What came of a literal.

@@ -21,7 +21,6 @@ use std::sync::ledger::Ledger;
 use undo_trail::{Mark as Moment, Steps, UndoTable};
 
 /// A consistent list of literals over numbered nodes, with what its chains reach.
-#[derive(Drop)]
 pub struct OrderGraph {
     nodes: u32,
     table: UndoTable,
@@ -31,6 +30,20 @@ pub struct OrderGraph {
     /// How many marks there are at each number of literals. So `mark` has no answer for want of memory.
     counts: Vec<u64>,
     live: u64,
+}
+
+// Written out, so that a proof of what drops the value meets one call and no field.
+impl Drop for OrderGraph {
+    fn drop(self) {
+        let OrderGraph {
+            nodes: _,
+            table: _,
+            literals: _,
+            moments: _,
+            counts: _,
+            live: _,
+        } = self;
+    }
 }
 
 impl Model for OrderGraph {

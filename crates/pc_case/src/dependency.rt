@@ -10,11 +10,21 @@ use std::alloc::Global;
 use std::marker::Model;
 
 /// A dependency of a kind, between two micro-ops by their places in test order.
-#[derive(Drop)]
 pub struct Dependency {
     pub kind: Listed<u8>,
     pub source: u8,
     pub target: u8,
+}
+
+// Written out, so that a proof of what drops the value meets one call and no field.
+impl Drop for Dependency {
+    fn drop(self) {
+        let Dependency {
+            kind: _,
+            source: _,
+            target: _,
+        } = self;
+    }
 }
 
 impl Dependency {
@@ -45,10 +55,16 @@ pub(crate) struct Ends {
 type EndsByKind = IndexMap<Vec<u8>, IndexSet<Ends>>;
 
 /// Dependencies in test order, looked up by kind and then by ends.
-#[derive(Drop)]
 pub(crate) struct DependencyTable {
     listed: Dependencies,
     ends: EndsByKind,
+}
+
+// Written out, so that a proof of what drops the value meets one call and no field.
+impl Drop for DependencyTable {
+    fn drop(self) {
+        let DependencyTable { listed: _, ends: _ } = self;
+    }
 }
 
 impl Model for DependencyTable {

@@ -22,9 +22,15 @@ pub struct Stated {
 pub type StatedValues = Listed<Stated>;
 
 /// Stated values in test order, looked up by address.
-#[derive(Drop)]
 pub(crate) struct ValueTable {
     values: IndexMap<Address, Value>,
+}
+
+// Written out, so that a proof of what drops the value meets one call and no field.
+impl Drop for ValueTable {
+    fn drop(self) {
+        let ValueTable { values: _ } = self;
+    }
 }
 
 impl Model for ValueTable {

@@ -16,12 +16,22 @@ use std::alloc::Global;
 ///
 /// A name that was not given is missing. A `read` moves as many bytes as fit, at most a step.
 /// Where no call is to fail, only a missing name does.
-#[derive(Drop)]
 pub struct MemFiles {
     shelf: Shelf,
     schedule: Schedule,
     step: usize,
     ghost moves: { 0 < step },
+}
+
+// Written out, so that a proof of what drops the value meets one call and no field.
+impl Drop for MemFiles {
+    fn drop(self) {
+        let MemFiles {
+            shelf: _,
+            schedule: _,
+            step: _,
+        } = self;
+    }
 }
 
 impl MemFiles {

@@ -10,11 +10,21 @@ pub type Calls = Listed<u64>;
 
 /// Which calls of an object are to fail, how many calls it had, and how many of them failed.
 /// Both counts stay at the greatest u64.
-#[derive(Drop)]
 pub struct Schedule {
     fails: Calls,
     calls: u64,
     faults: u64,
+}
+
+// Written out, so that a proof of what drops the value meets one call and no field.
+impl Drop for Schedule {
+    fn drop(self) {
+        let Schedule {
+            fails: _,
+            calls: _,
+            faults: _,
+        } = self;
+    }
 }
 
 impl Schedule {

@@ -9,11 +9,17 @@ use std::rc::RcSlice;
 /// A list that contracts see as a plain list, and whose copies are kept once.
 ///
 /// Each copy counts as one more owner of the items, which go with the last of them.
-#[derive(Drop)]
 pub struct Shared<T> {
     alloc: Global,
     // None: the list is empty.
     items: Option<RcSlice<T>>,
+}
+
+// Written out, so that a proof of what drops the value meets one call and no field.
+impl<T: Drop> Drop for Shared<T> {
+    fn drop(self) {
+        let Shared { alloc: _, items: _ } = self;
+    }
 }
 
 impl<T> Model for Shared<T> {

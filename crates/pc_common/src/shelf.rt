@@ -12,10 +12,19 @@ pub struct Started {
 }
 
 /// Held files, one of which may be started. A place past the last one stands for a file of no bytes.
-#[derive(Drop)]
 pub struct Shelf {
     held: Held,
     started: Option<Started>,
+}
+
+// Written out, so that a proof of what drops the value meets one call and no field.
+impl Drop for Shelf {
+    fn drop(self) {
+        let Shelf {
+            held: _,
+            started: _,
+        } = self;
+    }
 }
 
 impl Shelf {

@@ -9,9 +9,15 @@ use super::shelf::Shelf;
 
 /// Files in memory of which no call fails: a name that was not given holds no bytes. So `run` over them and a
 /// `SureSink` can be asked for its verdict alone.
-#[derive(Drop)]
 pub struct SureFiles {
     shelf: Shelf,
+}
+
+// Written out, so that a proof of what drops the value meets one call and no field.
+impl Drop for SureFiles {
+    fn drop(self) {
+        let SureFiles { shelf: _ } = self;
+    }
 }
 
 impl SureFiles {

@@ -10,9 +10,15 @@ use pc_common::Listed;
 use std::marker::Model;
 
 /// A tree as its rows in preorder, which spell exactly one tree.
-#[derive(Drop)]
 pub struct Flat {
     rows: Listed<Row<NodeKey>>,
+}
+
+// Written out, so that a proof of what drops the value meets one call and no field.
+impl Drop for Flat {
+    fn drop(self) {
+        let Flat { rows: _ } = self;
+    }
 }
 
 impl Model for Flat {

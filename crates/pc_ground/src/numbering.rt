@@ -10,9 +10,15 @@ use std::alloc::Global;
 use std::marker::Model;
 
 /// Nodes with their numbers: each once, numbered from 0. There are 262,144 keys, so it has no more.
-#[derive(Drop)]
 pub struct Numbering {
     keys: IndexSet<NodeKey>,
+}
+
+// Written out, so that a proof of what drops the value meets one call and no field.
+impl Drop for Numbering {
+    fn drop(self) {
+        let Numbering { keys: _ } = self;
+    }
 }
 
 impl Model for Numbering {

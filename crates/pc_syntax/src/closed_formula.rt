@@ -12,7 +12,6 @@ use std::alloc::Global;
 ///
 /// Its drop nests a call for each connective, quantifier and binding above an atom, which in a model
 /// without faults are at most 512.
-#[derive(Drop)]
 pub enum ClosedFormula {
     Not(Box<ClosedFormula>),
     And(Box<ClosedFormula>, Box<ClosedFormula>),
@@ -39,6 +38,24 @@ pub enum ClosedFormula {
         args: ClosedArgs,
         body: Box<ClosedFormula>,
     },
+}
+
+// Written out, so that a proof of what drops the value meets one call and no variant.
+impl Drop for ClosedFormula {
+    fn drop(self) {
+        match self {
+            ClosedFormula::Not(_) => {}
+            ClosedFormula::And(_, _) => {}
+            ClosedFormula::Or(_, _) => {}
+            ClosedFormula::Implies(_, _) => {}
+            ClosedFormula::Forall { sort: _, body: _ } => {}
+            ClosedFormula::Exists { sort: _, body: _ } => {}
+            ClosedFormula::Static { pred: _, args: _ } => {}
+            ClosedFormula::Nodes(_) => {}
+            ClosedFormula::Edges(_) => {}
+            ClosedFormula::Bind { args: _, body: _ } => {}
+        }
+    }
 }
 
 /// The variants that hold a formula. Where memory is refused, what was handed over is gone.

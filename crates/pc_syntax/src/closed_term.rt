@@ -43,11 +43,21 @@ pub(crate) fn copy_args(alloc: Global, args: &ClosedArgs) -> Result<ClosedArgs, 
 
 /// A node with its names resolved: a micro-op's slot, on its own core where no core is given, and
 /// the stage's number.
-#[derive(Drop)]
 pub struct ClosedNode {
     pub op: u8,
     pub core: Option<ClosedArg>,
     pub stage: u8,
+}
+
+// Written out, so that a proof of what drops the value meets one call and no field.
+impl Drop for ClosedNode {
+    fn drop(self) {
+        let ClosedNode {
+            op: _,
+            core: _,
+            stage: _,
+        } = self;
+    }
 }
 
 pub type ClosedNodes = Listed<ClosedNode>;
@@ -81,10 +91,16 @@ pub(crate) fn copy_nodes(alloc: Global, nodes: &ClosedNodes) -> Result<ClosedNod
 }
 
 /// An edge with its names resolved: its first node happens before its second.
-#[derive(Drop)]
 pub struct ClosedEdge {
     pub from: ClosedNode,
     pub to: ClosedNode,
+}
+
+// Written out, so that a proof of what drops the value meets one call and no field.
+impl Drop for ClosedEdge {
+    fn drop(self) {
+        let ClosedEdge { from: _, to: _ } = self;
+    }
 }
 
 pub type ClosedEdges = Listed<ClosedEdge>;

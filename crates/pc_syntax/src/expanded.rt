@@ -4,8 +4,14 @@ ghost use Rattle.pc_syntax.specs.Expansion.{IsExpanded, IsExpanded-prop};
 use super::formula::Formula;
 
 /// A formula with each macro in its place: it has no `Expand`.
-#[derive(Drop)]
 pub struct Expanded {
     pub body: Formula,
     pub ghost expanded: { IsExpanded (written body) } by { IsExpanded-prop (written body) },
+}
+
+// Written out, so that a proof of what drops the value meets one call and no field.
+impl Drop for Expanded {
+    fn drop(self) {
+        let Expanded { body: _ } = self;
+    }
 }

@@ -15,7 +15,6 @@ use sweep_command::{Swept, write_sweep};
 use verdicts::{Verdict, verdict_status, write_verdict};
 
 /// What is answered, decided before anything is written.
-#[derive(Drop)]
 pub(crate) enum Answer {
     /// The words are no command.
     Usage,
@@ -37,6 +36,24 @@ pub(crate) enum Answer {
     Lift(FoundLift),
     /// `gen` finds this of the texts that it makes.
     Generated(Report),
+}
+
+// Written out, so that a proof of what drops the value meets one call and no variant.
+impl Drop for Answer {
+    fn drop(self) {
+        match self {
+            Answer::Usage => {}
+            Answer::Ended(_) => {}
+            Answer::Checked(_) => {}
+            Answer::Verified(_) => {}
+            Answer::Core(_) => {}
+            Answer::Swept(_) => {}
+            Answer::Lifted(_) => {}
+            Answer::Asked(_) => {}
+            Answer::Lift(_) => {}
+            Answer::Generated(_) => {}
+        }
+    }
 }
 
 /// Writes the text of an answer. Takes no memory.

@@ -26,7 +26,6 @@ struct Change {
 /// Where the search looks next: the pending Ors of the first open branch, with what is known of each, so that
 /// a turn looks only where something changed. All of it are hints. No clause speaks of them, since what they
 /// propose is tested, and where they propose nothing all rows are looked at.
-#[derive(Drop)]
 pub(crate) struct Agenda {
     watch: Watch,
     standings: Vec<Standing>,
@@ -48,6 +47,27 @@ pub(crate) struct Agenda {
     /// and keeps none.
     closings: Vec<u32>,
     gains: Gains,
+}
+
+// Written out, so that a proof of what drops the value meets one call and no field.
+impl Drop for Agenda {
+    fn drop(self) {
+        let Agenda {
+            watch: _,
+            standings: _,
+            stamps: _,
+            moment: _,
+            pending: _,
+            open: _,
+            ready: _,
+            truths: _,
+            trail: _,
+            marks: _,
+            seen: _,
+            closings: _,
+            gains: _,
+        } = self;
+    }
 }
 
 impl Agenda {

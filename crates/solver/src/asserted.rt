@@ -9,12 +9,22 @@ use std::marker::Model;
 /// The positions that are asserted on the first open branch, in order of assertion. Whether one is among
 /// them is asked in one step, and a cut touches none that goes: the index may point at any entry, and the
 /// entry itself tells whether it is the right one (Briggs and Torczon 1993).
-#[derive(Drop)]
 pub(crate) struct Asserted {
     items: Vec<Place>,
     /// Where each position stands that has no sign, and where each that has one.
     plain: Vec<usize>,
     negated: Vec<usize>,
+}
+
+// Written out, so that a proof of what drops the value meets one call and no field.
+impl Drop for Asserted {
+    fn drop(self) {
+        let Asserted {
+            items: _,
+            plain: _,
+            negated: _,
+        } = self;
+    }
 }
 
 impl Model for Asserted {

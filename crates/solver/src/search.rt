@@ -37,7 +37,6 @@ use std::sync::ledger::Ledger;
 use undo_trail::Steps;
 
 /// A search for a world that satisfies a tree, between two of its turns.
-#[derive(Drop)]
 pub struct Search {
     alloc: Global,
     version: Version,
@@ -49,6 +48,24 @@ pub struct Search {
     later: Vec<Later>,
     refutation: Refutation,
     first: Place,
+}
+
+// Written out, so that a proof of what drops the value meets one call and no field.
+impl Drop for Search {
+    fn drop(self) {
+        let Search {
+            alloc: _,
+            version: _,
+            keys: _,
+            rows: _,
+            graph: _,
+            asserted: _,
+            agenda: _,
+            later: _,
+            refutation: _,
+            first: _,
+        } = self;
+    }
 }
 
 impl Model for Search {

@@ -14,7 +14,6 @@ pub(crate) struct Watched {
 
 /// For each node the literals within Ors that name it: those of edges on one list, and those of the node
 /// itself on another.
-#[derive(Drop)]
 pub(crate) struct Watch {
     /// One more than the place of the last literal on each list, or 0: edges at twice the node's number, and
     /// the node itself one later.
@@ -22,6 +21,17 @@ pub(crate) struct Watch {
     literals: Vec<Watched>,
     /// Where the last Or ends, or 0 where there is none.
     end: usize,
+}
+
+// Written out, so that a proof of what drops the value meets one call and no field.
+impl Drop for Watch {
+    fn drop(self) {
+        let Watch {
+            heads: _,
+            literals: _,
+            end: _,
+        } = self;
+    }
 }
 
 /// The list of the edges that begin or end in a node.

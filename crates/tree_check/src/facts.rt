@@ -9,9 +9,15 @@ use std::marker::Model;
 
 /// A set of facts, in the order in which they came, that is cut back like a stack. No step asks at which position a
 /// literal was asserted, so only what it says is kept.
-#[derive(Drop)]
 pub(crate) struct Facts {
     set: IndexSet<Fact>,
+}
+
+// Written out, so that a proof of what drops the value meets one call and no field.
+impl Drop for Facts {
+    fn drop(self) {
+        let Facts { set: _ } = self;
+    }
 }
 
 impl Model for Facts {

@@ -11,12 +11,23 @@ use std::marker::Model;
 use std::sync::ledger::Ledger;
 
 /// Rows of words that hold bits, and the trail of their changes.
-#[derive(Drop)]
 pub struct UndoTable {
     rows: usize,
     words: usize,
     table: Vec<u64>,
     trail: Vec<Change>,
+}
+
+// Written out, so that a proof of what drops the value meets one call and no field.
+impl Drop for UndoTable {
+    fn drop(self) {
+        let UndoTable {
+            rows: _,
+            words: _,
+            table: _,
+            trail: _,
+        } = self;
+    }
 }
 
 impl Model for UndoTable {

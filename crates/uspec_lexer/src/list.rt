@@ -18,10 +18,16 @@ pub(crate) struct Span {
 }
 
 /// The tokens of a text, whose bytes they borrow.
-#[derive(Drop)]
 pub struct Tokens<'a> {
     bytes: &'a [u8],
     spans: Vec<Span>,
+}
+
+// Written out, so that a proof of what drops the value meets one call and no field.
+impl Drop for Tokens<'_> {
+    fn drop(self) {
+        let Tokens { bytes: _, spans: _ } = self;
+    }
 }
 
 impl<'a> Model for Tokens<'a> {

@@ -19,12 +19,22 @@ use std::sync::ledger::{Blank, Ledger};
 use undo_trail::Steps;
 
 /// What is found of a model and a test: their front, and a graph that shows the outcome or a refutation.
-#[derive(Drop)]
 pub struct Verdict {
     pub front: Front,
     /// That of the refutation, where there is one.
     pub version: Version,
     pub found: Found,
+}
+
+// Written out, so that a proof of what drops the value meets one call and no field.
+impl Drop for Verdict {
+    fn drop(self) {
+        let Verdict {
+            front: _,
+            version: _,
+            found: _,
+        } = self;
+    }
 }
 
 /// What the search finds of a front. The ledger is of this call alone: nobody reads its count of steps.

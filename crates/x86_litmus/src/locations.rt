@@ -11,9 +11,15 @@ use std::alloc::Global;
 use std::marker::Model;
 
 /// The locations of a listing, each once, as first named.
-#[derive(Drop)]
 pub(crate) struct Locations<'a> {
     words: IndexSet<&'a [u8]>,
+}
+
+// Written out, so that a proof of what drops the value meets one call and no field.
+impl Drop for Locations<'_> {
+    fn drop(self) {
+        let Locations { words: _ } = self;
+    }
 }
 
 impl<'a> Model for Locations<'a> {

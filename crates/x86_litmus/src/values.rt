@@ -7,9 +7,15 @@ use std::alloc::Global;
 use std::marker::Model;
 
 /// Locations with the values that a listing states for them, in text order and looked up by name.
-#[derive(Drop)]
 pub(crate) struct Values<'a> {
     by_name: IndexMap<&'a [u8], u64>,
+}
+
+// Written out, so that a proof of what drops the value meets one call and no field.
+impl Drop for Values<'_> {
+    fn drop(self) {
+        let Values { by_name: _ } = self;
+    }
 }
 
 impl<'a> Model for Values<'a> {
