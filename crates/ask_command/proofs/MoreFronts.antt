@@ -35,7 +35,8 @@ use Rattle.query_front.proofs.WithAxiom.{axioms_more, macros_same}
 use Rattle.query_front.proofs.FaultlessQueries.{denial_names}
 use Rattle.solver.specs.Answers.{IsAnswer}
 use Rattle.solver.specs.declared.answer.Answer.{Answer}
-use Rattle.ask_words.specs.Asking.{IsFrontMore, IsFound}
+use Rattle.front_search.specs.Found.{IsFound}
+use Rattle.ask_words.specs.Asking.{IsFrontMore}
 use Rattle.command_base.proofs.AskedAlike.{numbers_same, same_tree}
 use Rattle.verdicts.specs.Verdicts.{IsVerdict, IsWritable, status_of, verdict_text}
 use Rattle.verdicts.specs.Certified.{IsCertified}

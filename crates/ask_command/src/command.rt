@@ -8,6 +8,7 @@ ghost use Rattle.ask_command.specs.FoundAsks.{verdict_of as verdict_in, verdicts
 use super::files::read_three;
 use ask_words::{Asked, ask_parts};
 use command_base::{Ending, Inputs};
+use front_search::Search;
 use pc_common::{Files, Memory};
 use pc_ground::{Front, Version};
 use solver::Answer;
@@ -54,7 +55,7 @@ fn verdicts_of(asked: Asked) -> FoundAsk
 }
 
 /// Reads the three files and searches: in which worlds the query's formula holds, or how the command ends before it.
-pub fn ask_files<F: Files>(
+pub fn ask_files<S: Search, F: Files>(
     alloc: Global,
     inputs: Inputs<'_>,
     query: &str,
@@ -68,7 +69,7 @@ pub fn ask_files<F: Files>(
         Ok(inquiry) => inquiry,
         Err(ending) => return Err(ending),
     };
-    match ask_parts(alloc, &inquiry.parts, &inquiry.formula) {
+    match ask_parts::<S>(alloc, &inquiry.parts, &inquiry.formula) {
         Ok(asked) => Ok(verdicts_of(asked)),
         Err(Memory) => Err(Ending::Memory),
     }

@@ -3,7 +3,7 @@
 //! ```rust
 //! // m.uspec is `Axiom "x": exists microop "i", True.`, t.test is `Litmus "e".`, and q.txt is `True`
 //! let inputs = Inputs { model: "m.uspec", test: "t.test" };
-//! let found = ask_files::<MemFiles>(alloc, inputs, "q.txt", &mut files)?;
+//! let found = ask_files::<Solver, MemFiles>(alloc, inputs, "q.txt", &mut files)?;
 //! assert!(rt; word(&found.added.found, &found.against.found) == AskWord::Vacuous);
 //! ```
 //!

@@ -1,3 +1,2 @@
 pub mod MoreParts
-pub mod FrontTrees
 pub mod TrueWords

@@ -12,9 +12,10 @@ use Rattle.pc_ground.specs.declared.stage.Stage.{Stage}
 use Rattle.pc_ground.specs.Stages.{plain_axioms}
 use Rattle.solver.specs.declared.answer.Answer.{Answer}
 use Rattle.solver.specs.declared.answer.Answer.TheVariants.{Observable, Unobservable}
-use Rattle.ask_words.specs.Asking.{IsFrontMore, IsFound, word_of}
+use Rattle.front_search.specs.Found.{IsFound}
+use Rattle.front_search.proofs.FoundFronts.{found_world, found_none}
+use Rattle.ask_words.specs.Asking.{IsFrontMore, word_of}
 use Rattle.ask_words.specs.Words.{Somewhere, Everywhere, IsWord, IsClosedWorld, WordsAreTrue}
-use Rattle.ask_words.proofs.FrontTrees.{found_world, found_none}
 
 pub not_true : (b : Bool) → (not b) ≡ true → b ≡ false
 not_true true e = cc

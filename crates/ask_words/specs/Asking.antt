@@ -1,27 +1,16 @@
--- A front with one axiom more, what the search finds of it, and what is asked of a front.
+-- A front with one axiom more, with what the search finds of it, and what is asked of a front.
 use Rattle.std.specs.Prelude.{◌≡◌, List, [], ◌∷◌, ◌++◌}
 use Rattle.pc_common.specs.Case.{Case}
-use Rattle.pc_common.specs.World.{Node}
 use Rattle.pc_syntax.specs.Closed.{PlainClosed, closed_not}
 use Rattle.pc_ground.specs.declared.front.Front.{Front}
 use Rattle.pc_ground.specs.declared.stage.Stage.{Stage}
-use Rattle.pc_ground.specs.declared.version.Version.TheVariants.{One}
-use Rattle.pc_ground.specs.Tree.{Tree}
-use Rattle.pc_ground.specs.GroundTree.{closed_ground_tree}
 use Rattle.pc_ground.specs.Stages.{plain_axioms}
-use Rattle.solver.specs.Answers.{IsAnswer}
 use Rattle.solver.specs.declared.answer.Answer.{Answer}
 use Rattle.solver.specs.declared.answer.Answer.TheVariants.{Observable, Unobservable}
+use Rattle.front_search.specs.Found.{IsFound}
 use Rattle.ask_words.specs.declared.outcome.Asked.{Asked}
 use Rattle.ask_words.specs.declared.outcome.AskWord.{AskWord}
 use Rattle.ask_words.specs.declared.outcome.AskWord.TheVariants.{Always, Never, Sometimes, Vacuous}
-
-abbrev pub tree_of : Front → Tree Node
-tree_of f = closed_ground_tree f.case (plain_axioms f.axioms)
-
--- what the search finds of a front, with refutations of version 1
-abbrev pub IsFound : Front → Answer → Type 0
-IsFound f found = IsAnswer One f.numbering (tree_of f) found
 
 -- the front of this case, these stages and these axioms, with this one as its last
 pub record IsFrontMore (c : Case) (stages : List Stage) (ps : List PlainClosed) (p : PlainClosed) (front : Front) : Type 0 where

@@ -7,7 +7,7 @@ ghost use Rattle.ask_words.specs.Asking.{IsFoundMore, IsAsked};
 use super::copies::{copy_parts, denial};
 use super::fronts::front_more;
 use super::outcome::Asked;
-use super::search::found_of;
+use front_search::Search;
 use pc_common::Memory;
 use pc_ground::{Front, Parts};
 use pc_syntax::Closed;
@@ -15,13 +15,17 @@ use solver::Answer;
 use std::alloc::Global;
 
 /// The front of these parts with one axiom more, and what the search finds of it.
-fn found_more(alloc: Global, parts: &Parts, last: Closed) -> Result<(Front, Answer), Memory>
+fn found_more<S: Search>(
+    alloc: Global,
+    parts: &Parts,
+    last: Closed,
+) -> Result<(Front, Answer), Memory>
     requires { StagesWithin (numbers_of (map plain_stage parts.now.stages)) (plain_closed last.body) }
     ensures { IfOk result (IsFoundMore parts.now.case parts.now.stages (plain_axioms parts.now.axioms)
         (plain_closed last.body)) }
 {
-    let front = front_more(alloc, parts, last)?;
-    let found = found_of(alloc, &front)?;
+    let front = front_more::<S>(alloc, parts, last)?;
+    let found = S::found_of(alloc, &front)?;
     Ok((front, found))
 }
 
@@ -30,13 +34,17 @@ fn found_more(alloc: Global, parts: &Parts, last: Closed) -> Result<(Front, Answ
 ///
 /// Makes two ground trees and two searches, and copies the parts for each. The one error is that memory was refused; the
 /// parts and the formula stay as they are.
-pub fn ask_parts(alloc: Global, parts: &Parts, formula: &Closed) -> Result<Asked, Memory>
+pub fn ask_parts<S: Search>(
+    alloc: Global,
+    parts: &Parts,
+    formula: &Closed,
+) -> Result<Asked, Memory>
     requires { StagesWithin (numbers_of (map plain_stage parts.now.stages)) (plain_closed formula.now.body) }
     ensures { IfOk result (IsAsked parts.now.case parts.now.stages (plain_axioms parts.now.axioms)
         (plain_closed formula.now.body)) }
 {
-    let added = found_more(alloc, parts, formula.copy(alloc)?)?;
-    let against = found_more(alloc, parts, denial(alloc, formula)?)?;
+    let added = found_more::<S>(alloc, parts, formula.copy(alloc)?)?;
+    let against = found_more::<S>(alloc, parts, denial(alloc, formula)?)?;
     Ok(Asked { added, against })
 }
 
@@ -45,11 +53,11 @@ pub fn ask_parts(alloc: Global, parts: &Parts, formula: &Closed) -> Result<Asked
 ///
 /// Makes two ground trees and two searches. The one error is that memory was refused; the front and the formula stay as
 /// they are.
-pub fn ask(alloc: Global, front: &Front, formula: &Closed) -> Result<Asked, Memory>
+pub fn ask<S: Search>(alloc: Global, front: &Front, formula: &Closed) -> Result<Asked, Memory>
     requires { StagesWithin (numbers_of (map plain_stage front.now.stages)) (plain_closed formula.now.body) }
     ensures { IfOk result (IsAsked front.now.case front.now.stages (plain_axioms front.now.axioms)
         (plain_closed formula.now.body)) }
 {
     let parts = copy_parts(alloc, front)?;
-    ask_parts(alloc, &parts, formula)
+    ask_parts::<S>(alloc, &parts, formula)
 }

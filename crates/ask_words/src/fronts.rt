@@ -5,7 +5,7 @@ ghost use Rattle.pc_ground.specs.Stages.{plain_stage, plain_axioms, numbers_of};
 ghost use Rattle.ask_words.specs.Asking.{IsFrontMore};
 
 use super::copies::copy_axioms;
-use front_parts::front_of;
+use front_search::Search;
 use pc_common::Memory;
 use pc_ground::{Front, Parts, copy_stages};
 use pc_syntax::Closed;
@@ -31,11 +31,15 @@ fn parts_more(alloc: Global, parts: &Parts, last: Closed) -> Result<Parts, Memor
 }
 
 /// The front of these parts with one axiom more behind the others.
-pub(crate) fn front_more(alloc: Global, parts: &Parts, last: Closed) -> Result<Front, Memory>
+pub(crate) fn front_more<S: Search>(
+    alloc: Global,
+    parts: &Parts,
+    last: Closed,
+) -> Result<Front, Memory>
     requires { StagesWithin (numbers_of (map plain_stage parts.now.stages)) (plain_closed last.body) }
     ensures { IfOk result (IsFrontMore parts.now.case parts.now.stages (plain_axioms parts.now.axioms)
         (plain_closed last.body)) }
 {
     let more = parts_more(alloc, parts, last)?;
-    front_of(alloc, more)
+    S::front_of(alloc, more)
 }

@@ -2,7 +2,7 @@
 //!
 //! ```rust
 //! // the model has no axiom, and the formula is `forall microop "i", False`; the test has a micro-op
-//! let asked = ask(alloc, &front, &formula)?;
+//! let asked = ask::<Solver>(alloc, &front, &formula)?;
 //! assert!(rt; matches!(asked.added.1, Answer::Unobservable(_)));
 //! assert!(rt; word(&asked.added.1, &asked.against.1) == AskWord::Never);
 //! ```
@@ -12,7 +12,8 @@
 //! refutation says that there is no such world. So the two answers tell the word: `always`, `never`, `sometimes`, or
 //! `vacuous`, where there is no world at all.
 //!
-//! `specs/Asking.antt` says what the two fronts and answers are, and `specs/Words.antt` what each word says of the worlds.
+//! What grounds and searches is a `Search`, such as `front_search::Solver`. `specs/Asking.antt` says what the two fronts and
+//! answers are, and `specs/Words.antt` what each word says of the worlds.
 #![tactic(auto)]
 
 mod asking;
@@ -20,7 +21,6 @@ mod copies;
 mod fronts;
 mod laws;
 mod outcome;
-mod search;
 mod telling;
 
 pub use asking::{ask, ask_parts};

@@ -9,40 +9,26 @@ use Rattle.pc_common.specs.World.{Node}
 use Rattle.pc_syntax.specs.declared.closed.Closed.{Closed}
 use Rattle.pc_syntax.specs.Closed.{PlainClosed}
 use Rattle.pc_ground.specs.declared.front.Front.{Front}
-use Rattle.pc_ground.specs.Tree.{Tree}
-use Rattle.pc_ground.specs.Rows.{rows_of}
-use Rattle.pc_ground.specs.Folded.{IsFolded}
-use Rattle.pc_ground.specs.Numbers.{numbered}
-use Rattle.pc_ground.specs.GroundTree.{axioms_unfolded}
 use Rattle.pc_ground.specs.Stages.{plain_axioms}
-use Rattle.pc_ground.proofs.FlatRows.{rows_injective}
-use Rattle.pc_ground.proofs.NormalForms.{normal_folded}
-use Rattle.pc_ground.proofs.UnfoldedTruth.{closed_ground_tree_true}
 use Rattle.graph_text.specs.declared.graph.Graph.{Graph}
 use Rattle.solver.specs.declared.answer.Answer.{Answer}
 use Rattle.solver.specs.declared.answer.Answer.TheVariants.{Observable, Unobservable}
+use Rattle.front_search.specs.Found.{IsFound}
+use Rattle.front_search.proofs.FoundFronts.{found_world, found_none}
 use Rattle.axiom_core.specs.Chosen.{Choice, taken, among, less, flagged, AreRising}
 use Rattle.axiom_core.specs.Choices.{is_refutation, places, IsTried}
-use Rattle.axiom_core.specs.Cores.{Allow, Forbid, IsMinimal, tree_of, IsFound, IsFrontWith, IsRefutedWith, IsShownWith, AreShownWithout, IsCore, IsCoreOf, HasNone}
+use Rattle.axiom_core.specs.Cores.{Allow, Forbid, IsMinimal, IsFrontWith, IsRefutedWith, IsShownWith, AreShownWithout, IsCore, IsCoreOf, HasNone}
 use Rattle.axiom_core.specs.declared.answer.Core.{Core}
 use Rattle.axiom_core.specs.declared.answer.Core.TheVariants.{None as no_core, Minimal}
 use Rattle.axiom_core.proofs.Taking.{same_taken, all_forbid}
 use Rattle.axiom_core.proofs.Numbered.{among_flagged, places_rising}
 
--- a front's numbering is of its tree, in which a constant is the whole tree
-pub front_numbered : (front : Front) (t : Tree Node) → front.tree ≡ rows_of t → front.numbering ≡ numbered t
-front_numbered front t is = front.counted ∙ ap numbered (rows_injective (tree_of front) t (sym front.grounded ∙ is))
-
-pub front_folded : (front : Front) (t : Tree Node) → front.tree ≡ rows_of t → IsFolded t
-front_folded front t is =
-    subst IsFolded (rows_injective (tree_of front) t (sym front.grounded ∙ is)) (normal_folded (axioms_unfolded front.case (plain_axioms front.axioms)))
-
 -- a graph shows that a front's axioms allow, and a refutation that they forbid
 pub found_allow : (front : Front) (graph : Graph) → IsFound front (Observable graph) → Allow front.case (plain_axioms front.axioms)
-found_allow front graph w = (w.world, w.is_world, closed_ground_tree_true front.case (plain_axioms front.axioms) w.world ∙ w.satisfied)
+found_allow front graph is = found_world front graph is
 
 pub found_forbid : (front : Front) (steps : List (Step Node)) → IsFound front (Unobservable steps) → Forbid front.case (plain_axioms front.axioms)
-found_forbid front steps r = λ w is h. r.1 w is (sym (closed_ground_tree_true front.case (plain_axioms front.axioms) w) ∙ h)
+found_forbid front steps is = found_none front steps is
 
 module _ (front : Front) (keep : Choice) (part : Front) (is : IsFrontWith front keep part) where
   -- what a part of a front allows and forbids is what the chosen axioms do

@@ -5,14 +5,10 @@ use Rattle.pc_common.specs.World.{Node, World, IsWorld}
 use Rattle.pc_common.specs.Steps.{Step}
 use Rattle.pc_syntax.specs.Closed.{PlainClosed, closed_satisfies}
 use Rattle.pc_ground.specs.declared.front.Front.{Front}
-use Rattle.pc_ground.specs.declared.version.Version.TheVariants.{One}
-use Rattle.pc_ground.specs.Tree.{Tree}
-use Rattle.pc_ground.specs.GroundTree.{closed_ground_tree}
 use Rattle.pc_ground.specs.Stages.{plain_axioms}
 use Rattle.graph_text.specs.declared.graph.Graph.{Graph}
-use Rattle.solver.specs.Answers.{IsAnswer}
-use Rattle.solver.specs.declared.answer.Answer.{Answer}
 use Rattle.solver.specs.declared.answer.Answer.TheVariants.{Observable, Unobservable}
+use Rattle.front_search.specs.Found.{IsFound}
 use Rattle.axiom_core.specs.declared.answer.Core.{Core}
 use Rattle.axiom_core.specs.declared.answer.Core.TheVariants.{None as no_core, Minimal}
 use Rattle.axiom_core.specs.Chosen.{Choice, taken, among, less, AreRising}
@@ -29,13 +25,6 @@ Forbid c ps = (w : World Node) → IsWorld w → IsTrue (closed_satisfies ps c w
 pub record IsMinimal (c : Case) (ps : List PlainClosed) (keep : Choice) : Type 0 where
   pub forbidden : Forbid c (taken keep ps)
   pub needed : (i : ℕ) → i < length ps → IsTrue (keep i) → Allow c (taken (less i keep) ps)
-
-abbrev pub tree_of : Front → Tree Node
-tree_of f = closed_ground_tree f.case (plain_axioms f.axioms)
-
--- what the search finds of a front, with refutations of version 1
-abbrev pub IsFound : Front → Answer → Type 0
-IsFound f found = IsAnswer One f.numbering (tree_of f) found
 
 -- the front of the chosen axioms of a front, in the same case and over the same stages
 pub record IsFrontWith (front : Front) (keep : Choice) (part : Front) : Type 0 where

@@ -5,7 +5,7 @@ ghost use Rattle.axiom_core.specs.Chosen.{taken};
 ghost use Rattle.axiom_core.specs.Choices.{choice};
 ghost use Rattle.axiom_core.specs.Cores.{IsFrontWith};
 
-use front_parts::front_with;
+use front_search::Search;
 use pc_common::Memory;
 use pc_ground::{Axioms, Front};
 use pc_syntax::Closed;
@@ -57,7 +57,7 @@ fn chosen_axioms(
 }
 
 /// The front of the chosen axioms, in the same case and over the same stages.
-pub(crate) fn part_of(
+pub(crate) fn part_of<S: Search>(
     alloc: Global,
     front: &Front,
     flags: &[bool],
@@ -68,5 +68,5 @@ pub(crate) fn part_of(
 {
     let axioms = chosen_axioms(alloc, &front.axioms, flags, left_out)?;
     let case = front.case.copy(alloc)?;
-    front_with(alloc, front, case, axioms)
+    S::front_with(alloc, front, case, axioms)
 }

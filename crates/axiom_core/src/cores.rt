@@ -3,23 +3,23 @@ ghost use Rattle.pc_ground.specs.Stages.{plain_axioms};
 ghost use Rattle.axiom_core.specs.Cores.{Allow, Forbid, IsCoreOf, HasNone};
 
 use super::answer::Core;
-use super::judged::found_of;
 use super::members::{all_shown, refuted_by};
 use super::shrinking::{numbers_of, shrink};
+use front_search::Search;
 use pc_common::Memory;
 use pc_ground::Front;
 use solver::Answer;
 use std::alloc::Global;
 
 /// A minimal set of the axioms of a front that forbids the outcome.
-fn minimal_core(alloc: Global, front: &Front) -> Result<Core, Memory>
+fn minimal_core<S: Search>(alloc: Global, front: &Front) -> Result<Core, Memory>
     requires { Forbid front.now.case (plain_axioms front.now.axioms) }
     ensures { IfOk result (IsCoreOf front.now) }
 {
-    let flags = shrink(alloc, front)?;
+    let flags = shrink::<S>(alloc, front)?;
     let kept = numbers_of(alloc, &flags)?;
-    let refuted = refuted_by(alloc, front, &flags)?;
-    let without = all_shown(alloc, front, &flags, &kept)?;
+    let refuted = refuted_by::<S>(alloc, front, &flags)?;
+    let without = all_shown::<S>(alloc, front, &flags, &kept)?;
     Ok(Core::Minimal {
         kept,
         refuted,
@@ -32,12 +32,12 @@ fn minimal_core(alloc: Global, front: &Front) -> Result<Core, Memory>
 ///
 /// Makes one search for each axiom and one more, then one for the set and one for each of its members. The one error
 /// is that memory was refused; the front stays as it is.
-pub fn core(alloc: Global, front: &Front) -> Result<Core, Memory>
+pub fn core<S: Search>(alloc: Global, front: &Front) -> Result<Core, Memory>
     ensures core { IfOk result (IsCoreOf front.now) }
     ensures none { IfOk result (λ found. HasNone found ↔ Allow front.now.case (plain_axioms front.now.axioms)) }
 {
-    match found_of(alloc, front)? {
+    match S::found_of(alloc, front)? {
         Answer::Observable(graph) => Ok(Core::None(graph)),
-        Answer::Unobservable(_) => minimal_core(alloc, front),
+        Answer::Unobservable(_) => minimal_core::<S>(alloc, front),
     }
 }

@@ -2,7 +2,7 @@
 //!
 //! ```rust
 //! // the axioms are `True` and `exists microop "i", True`, and the test has no micro-op
-//! if let Core::Minimal { kept, .. } = &core(alloc, &front)? {
+//! if let Core::Minimal { kept, .. } = &core::<Solver>(alloc, &front)? {
 //!     assert!(rt; kept.len() == 1 && *kept.get(0) == 1);
 //! }
 //! ```
@@ -12,8 +12,8 @@
 //! it, and without any one of them the others allow it. Each certificate is what the search finds on the ground
 //! tree of just those axioms, so it is the one that `check` prints for the model of just those axioms.
 //!
-//! `specs/Chosen.antt` says what some of the axioms are, `specs/ModelWith.antt` what the model with some of its
-//! axioms is, and `specs/Cores.antt` what a core is.
+//! What grounds and searches is a `Search`, such as `front_search::Solver`. `specs/Chosen.antt` says what some of the
+//! axioms are, `specs/ModelWith.antt` what the model with some of its axioms is, and `specs/Cores.antt` what a core is.
 #![tactic(auto)]
 
 mod answer;

@@ -6,7 +6,7 @@ ghost use Rattle.axiom_core.specs.Cores.{Allow, Forbid, IsRefutedWith, IsShownWi
 
 use super::answer::{AxiomNumbers, Shown};
 use super::chosen::part_of;
-use super::judged::found_of;
+use front_search::Search;
 use graph_text::Graph;
 use pc_common::Memory;
 use pc_ground::Front;
@@ -15,7 +15,7 @@ use solver::Answer;
 use std::alloc::Global;
 
 /// The front of the axioms whose flags are set, and the refutation that the search finds of it.
-pub(crate) fn refuted_by(
+pub(crate) fn refuted_by<S: Search>(
     alloc: Global,
     front: &Front,
     flags: &[bool],
@@ -24,15 +24,15 @@ pub(crate) fn refuted_by(
     requires forbidden { Forbid front.now.case (taken (flagged flags.now) (plain_axioms front.now.axioms)) }
     ensures { IfOk result (IsRefutedWith front.now (flagged flags.now)) }
 {
-    let part = part_of(alloc, front, flags, None)?;
-    match found_of(alloc, &part)? {
+    let part = part_of::<S>(alloc, front, flags, None)?;
+    match S::found_of(alloc, &part)? {
         Answer::Unobservable(steps) => Ok((part, steps)),
         Answer::Observable(_) => unreachable!(),
     }
 }
 
 /// The front of the axioms whose flags are set but for the one at `at`, and the graph that the search finds of it.
-fn shown_without(
+fn shown_without<S: Search>(
     alloc: Global,
     front: &Front,
     flags: &[bool],
@@ -42,15 +42,15 @@ fn shown_without(
     requires allowed { Allow front.now.case (taken (less at (flagged flags.now)) (plain_axioms front.now.axioms)) }
     ensures { IfOk result (IsShownWith front.now (less at (flagged flags.now))) }
 {
-    let part = part_of(alloc, front, flags, Some(at))?;
-    match found_of(alloc, &part)? {
+    let part = part_of::<S>(alloc, front, flags, Some(at))?;
+    match S::found_of(alloc, &part)? {
         Answer::Observable(graph) => Ok((part, graph)),
         Answer::Unobservable(_) => unreachable!(),
     }
 }
 
 /// For each of these numbers, in order, what shows the outcome on the axioms whose flags are set, but for that one.
-pub(crate) fn all_shown(
+pub(crate) fn all_shown<S: Search>(
     alloc: Global,
     front: &Front,
     flags: &[bool],
@@ -62,7 +62,7 @@ pub(crate) fn all_shown(
 {
     let mut shown = Shown::new(alloc);
     for at in kept.as_slice() {
-        shown.push(shown_without(alloc, front, flags, *at)?)?;
+        shown.push(shown_without::<S>(alloc, front, flags, *at)?)?;
     }
     Ok(shown)
 }

@@ -6,24 +6,30 @@ ghost use Rattle.axiom_core.specs.Cores.{Forbid};
 
 use super::answer::AxiomNumbers;
 use super::judged::are_refuted;
+use front_search::Search;
 use pc_common::{Listed, Memory};
 use pc_ground::Front;
 use std::alloc::Global;
 
 /// Takes the axiom at `at` out where the rest still forbids the outcome.
-fn try_without(alloc: Global, front: &Front, flags: &mut [bool], at: usize) -> Result<(), Memory>
+fn try_without<S: Search>(
+    alloc: Global,
+    front: &Front,
+    flags: &mut [bool],
+    at: usize,
+) -> Result<(), Memory>
     requires tried { IsTried front.now.case (plain_axioms front.now.axioms) flags.old at }
     requires inside { at < length flags.old }
     ensures { OnOk result (IsTried front.now.case (plain_axioms front.now.axioms) flags.new (at + 1)) }
 {
-    if are_refuted(alloc, front, flags, Some(at))? {
+    if are_refuted::<S>(alloc, front, flags, Some(at))? {
         flags[at] = false;
     }
     Ok(())
 }
 
 /// Which axioms stay where each in file order is taken out if the rest still forbids the outcome.
-pub(crate) fn shrink(alloc: Global, front: &Front) -> Result<Vec<bool>, Memory>
+pub(crate) fn shrink<S: Search>(alloc: Global, front: &Front) -> Result<Vec<bool>, Memory>
     requires { Forbid front.now.case (plain_axioms front.now.axioms) }
     ensures { IfOk result (λ flags.
         IsTried front.now.case (plain_axioms front.now.axioms) flags.items (length front.now.axioms)) }
@@ -31,7 +37,7 @@ pub(crate) fn shrink(alloc: Global, front: &Front) -> Result<Vec<bool>, Memory>
     let count = front.axioms.len();
     let mut flags = vec![in alloc; true; count]?;
     for at in 0..count {
-        try_without(alloc, front, &mut flags, at)?;
+        try_without::<S>(alloc, front, &mut flags, at)?;
     }
     Ok(flags)
 }

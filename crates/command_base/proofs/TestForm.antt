@@ -17,12 +17,15 @@ use Rattle.litmus_reader.proofs.Exclusive.{one_case, no_fault}
 use Rattle.litmus_reader.proofs.OneFault.{one_fault}
 use Rattle.litmus_reader.proofs.Totality.{case_or_fault}
 use Rattle.pc_ground.specs.declared.front.Front.{Front}
+use Rattle.pc_ground.specs.declared.parts.Parts.{Parts}
 use Rattle.pc_front.specs.ModelFront.{IsModelFault}
-use Rattle.pc_front.specs.Front.{SaysModel, SayFront, IsEnd, fault_at, case_fault_of, IsTestFault, IsFirstFault, in_model, in_test}
+use Rattle.pc_front.specs.Front.{SaysModel, SayParts, SayFront, IsEnd, fault_at, case_fault_of, IsTestFault, IsFirstFault, in_model, in_test}
 use Rattle.pc_front.specs.declared.model_front.FrontEnd.{FrontEnd}
 use Rattle.pc_front.specs.declared.model_front.FrontEnd.TheVariants.{Refused as a_refusal, Memory as no_memory}
 use Rattle.pc_front.proofs.OneModel.{no_whole_fault, one_model_fault}
 use Rattle.pc_front.proofs.ModelOrFault.{model_or_fault}
+use Rattle.pc_front.proofs.PartsOf.{front_is}
+use Rattle.command_base.specs.Fronts.{front_of_parts}
 use Rattle.command_base.specs.SecondFiles.{SaysFront, SaysNone, IsOfTwo, IsFrontEnd, IsForm}
 
 -- want of memory is no fault of a test
@@ -101,6 +104,16 @@ test_front mb tb front say = record {
   front_of = say.front_of;
   kept = test_kept tb say.c say.says_test;
 }
+
+-- what parts say is what their front says
+pub test_parts : (mb tb : List ℕ) (parts : Parts) → SayParts mb tb parts → SaysFront CaseOf mb tb (front_of_parts parts)
+test_parts mb tb parts say = test_front mb tb (front_of_parts parts) (record {
+  m = say.m;
+  c = say.c;
+  says_model = say.says_model;
+  says_test = say.says_test;
+  front_of = front_is say.m say.c parts (front_of_parts parts) say.parts_of refl refl refl;
+})
 
 pub test_end : (mb tb : List ℕ) (end : FrontEnd) → IsEnd mb tb end → IsFrontEnd CaseOf IsFirstFault mb tb end
 test_end mb tb (a_refusal fault) is = (is, of_two mb tb fault is, no_fault_of mb tb fault is)

@@ -1,5 +1,6 @@
 pub mod Words
 pub mod Inputs
+pub mod Fronts
 pub mod SecondFiles
 pub mod Refusals
 pub mod Endings

@@ -1,5 +1,5 @@
 -- What a command keeps of the files, and when it returns which status and text.
-use Rattle.std.specs.Prelude.{◌≡◌, ◌≢◌, ◌⊎◌, ℕ, List, None, IsTrue}
+use Rattle.std.specs.Prelude.{◌≡◌, ◌≢◌, ◌≤◌, ◌⊎◌, ℕ, List, None, length, IsTrue}
 use Rattle.pc_common.specs.Outside.{FilesView}
 use Rattle.pc_common.specs.Case.{Case}
 use Rattle.pc_common.specs.Faults.{Rose}
@@ -10,11 +10,19 @@ use Rattle.pc_common.specs.declared.status.Status.TheVariants.{Usage, Refused, R
 use Rattle.pc_case.specs.MicroOps.{AreMicroOps}
 use Rattle.pc_syntax.specs.Written.{WrittenModel}
 use Rattle.pc_ground.specs.declared.front.Front.{Front}
+use Rattle.pc_front.specs.declared.limits.TheConstants.{MAX_FILE}
 use Rattle.pc_front.specs.Front.{IsFrontOf}
 use Rattle.command_base.specs.declared.ending.Ending.{Ending}
-use Rattle.command_base.specs.Inputs.{Inputs, Contents, Says, IsFirstFault, LacksInput}
+use Rattle.command_base.specs.Inputs.{Inputs, Contents, IsRead, Says, IsFirstFault, LacksInput}
 use Rattle.command_base.specs.Refusals.{IsRefusal}
 use Rattle.command_base.specs.Endings.{ending_status, ending_text}
+
+-- the bytes of the two files, of at most the limit, which (view files).modelled hold
+pub record HasBytes {F : Type 0} (view : F → FilesView) (i : Inputs) (old new : F) (model second : List ℕ) : Type 0 where
+  pub keeps : Reads view old new
+  pub model_short : length model ≤ MAX_FILE
+  pub second_short : length second ≤ MAX_FILE
+  pub read : IsTrue (view old).modelled → IsRead (view old).holds i.model model × IsRead (view old).holds i.test second
 
 -- the front of a model and a case, which (view files).modelled say; (view files).only_missing_fail hold both names
 pub record HasFront {F : Type 0} (view : F → FilesView)

@@ -2,16 +2,17 @@ ghost use Rattle.std.specs.Prelude.{◌≡◌, ◌≤◌, length, IfOk, IfErr, M
 ghost use Rattle.pc_front.specs.declared.limits.TheConstants.{MAX_FILE};
 ghost use Rattle.pc_front.specs.Front.{fault_at};
 ghost use Rattle.command_base.specs.Inputs.{plain_inputs, start};
+ghost use Rattle.command_base.specs.Fronts.{front_of_parts};
 ghost use Rattle.command_base.specs.SecondFiles.{SaysFront};
 ghost use Rattle.command_base.specs.Endings.{bytes_of as bytes_in, IsUnread, IsBytesEnding};
-ghost use Rattle.command_base.specs.Outcomes.{HasFront, IsInputsEnding};
+ghost use Rattle.command_base.specs.Outcomes.{HasBytes, HasFront, IsInputsEnding};
 
 use super::ending::Ending;
 use super::refusal::placed;
 use super::second_file::SecondFile;
 use pc_common::{FaultKind, Files, InputFault, Place, ReadEnd, Which, read_all};
 use pc_front::{FrontEnd, MAX_FILE};
-use pc_ground::Front;
+use pc_ground::{Front, Parts};
 use std::alloc::Global;
 
 /// The two files of a command, by their names.
@@ -74,6 +75,43 @@ pub fn front_of<S: SecondFile>(alloc: Global, model: &[u8], second: &[u8]) -> Re
     }
 }
 
+/// What the bytes of the two files say, without a ground tree; or the refusal of their first fault, or want of memory.
+fn parts_of<S: SecondFile>(alloc: Global, model: &[u8], second: &[u8]) -> Result<Parts, Ending>
+    requires model_short { length model.now ≤ MAX_FILE }
+    requires second_short { length second.now ≤ MAX_FILE }
+    ensures { MatchResult result (λ parts. SaysFront S.case_of model.now second.now (front_of_parts parts))
+        (IsBytesEnding S.case_of S.first_fault model.now second.now) }
+{
+    match S::parts(alloc, model, second) {
+        Ok(parts) => Ok(parts),
+        Err(FrontEnd::Refused(fault)) => {
+            Err(Ending::Refused(placed(fault, bytes_of(fault.file, model, second))))
+        }
+        Err(FrontEnd::Memory) => Err(Ending::Memory),
+    }
+}
+
+/// The bytes of the model, and then of the second file, at most 1,048,576 each.
+fn two_files<S: SecondFile, F: Files>(
+    alloc: Global,
+    inputs: Inputs<'_>,
+    files: &mut F,
+) -> Result<(Vec<u8>, Vec<u8>), Ending>
+    ensures { MatchResult result
+        (λ both. HasBytes F.view (plain_inputs inputs.entry) files.old files.new both.0.items both.1.items)
+        (IsInputsEnding F.view S.case_of S.first_fault (plain_inputs inputs.entry) files.old files.new) }
+{
+    let model = match read_all(alloc, files, inputs.model, MAX_FILE) {
+        Ok(bytes) => bytes,
+        Err(end) => return Err(unread(Which::Model, end)),
+    };
+    let second = match read_all(alloc, files, inputs.test, MAX_FILE) {
+        Ok(bytes) => bytes,
+        Err(end) => return Err(unread(Which::Test, end)),
+    };
+    Ok((model, second))
+}
+
 /// Reads the model, then the second file, at most 1,048,576 bytes each: what they say together, or how the command
 /// ends, which is a failed call, refused memory, or the first fault.
 pub fn read_inputs<S: SecondFile, F: Files>(
@@ -85,13 +123,24 @@ pub fn read_inputs<S: SecondFile, F: Files>(
         (HasFront F.view S.case_of (plain_inputs inputs.entry) files.old files.new)
         (IsInputsEnding F.view S.case_of S.first_fault (plain_inputs inputs.entry) files.old files.new) }
 {
-    let model = match read_all(alloc, files, inputs.model, MAX_FILE) {
-        Ok(bytes) => bytes,
-        Err(end) => return Err(unread(Which::Model, end)),
-    };
-    let second = match read_all(alloc, files, inputs.test, MAX_FILE) {
-        Ok(bytes) => bytes,
-        Err(end) => return Err(unread(Which::Test, end)),
-    };
-    front_of::<S>(alloc, &model, &second)
+    match two_files::<S, F>(alloc, inputs, files) {
+        Ok((model, second)) => front_of::<S>(alloc, &model, &second),
+        Err(ending) => Err(ending),
+    }
+}
+
+/// The same without a ground tree.
+pub fn read_parts<S: SecondFile, F: Files>(
+    alloc: Global,
+    inputs: Inputs<'_>,
+    files: &mut F,
+) -> Result<Parts, Ending>
+    ensures { MatchResult result
+        (λ parts. HasFront F.view S.case_of (plain_inputs inputs.entry) files.old files.new (front_of_parts parts))
+        (IsInputsEnding F.view S.case_of S.first_fault (plain_inputs inputs.entry) files.old files.new) }
+{
+    match two_files::<S, F>(alloc, inputs, files) {
+        Ok((model, second)) => parts_of::<S>(alloc, &model, &second),
+        Err(ending) => Err(ending),
+    }
 }

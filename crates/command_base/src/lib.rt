@@ -13,7 +13,7 @@
 //!
 //! A command reads the model, then its second file, at most 1,048,576 bytes each: `read_inputs` returns what both
 //! say together as a `Front`, or the `Ending` of the command, which is a failed call, refused memory, or the first
-//! fault. The form of the second file is a `SecondFile`; a test is a `TestFile`. A third file is read by the
+//! fault; `read_parts` does so without a ground tree. The form of the second file is a `SecondFile`; a test is a `TestFile`. A third file is read by the
 //! command itself, after these two are judged or before. `unread`, `placed` and `bytes_of` make the ending of a command
 //! that reads files in its own way. `write_checked` writes the line of a third file that was judged.
 //!
@@ -32,7 +32,7 @@ mod words;
 
 pub use checked::{checked_status, write_checked};
 pub use ending::{Ending, ending_status, write_ending};
-pub use inputs::{Inputs, bytes_of, front_of, read_inputs, unread};
+pub use inputs::{Inputs, bytes_of, front_of, read_inputs, read_parts, unread};
 pub use laws::{case_or_first_fault, no_first_fault, one_first_fault, one_model_and_case};
 pub use line::{LINE, join};
 pub use refusal::{Refusal, placed};

@@ -4,10 +4,11 @@ ghost use Rattle.pc_common.specs.declared.fault.InputFault.{InputFault};
 ghost use Rattle.pc_front.specs.declared.limits.TheConstants.{MAX_FILE};
 ghost use Rattle.litmus_reader.specs.Answer.{CaseOf};
 ghost use Rattle.pc_front.specs.Front.{IsFirstFault as IsTestFault};
+ghost use Rattle.command_base.specs.Fronts.{front_of_parts};
 ghost use Rattle.command_base.specs.SecondFiles.{SaysFront, IsFrontEnd};
 
-use pc_front::{FrontEnd, MAX_FILE};
-use pc_ground::Front;
+use pc_front::{FrontEnd, MAX_FILE, read_parts};
+use pc_ground::{Front, Parts};
 use std::alloc::Global;
 
 /// The form of a command's second file: which case its bytes say, and what the first fault of a model's bytes and
@@ -26,6 +27,13 @@ pub trait SecondFile {
         requires short { length bytes.now ≤ MAX_FILE }
         ensures ok { IfOk result (SaysFront case_of model.now bytes.now) }
         ensures err { IfErr result (IsFrontEnd case_of first_fault model.now bytes.now) };
+
+    /// The same without a ground tree.
+    fn parts(alloc: Global, model: &[u8], bytes: &[u8]) -> Result<Parts, FrontEnd>
+        requires model_short { length model.now ≤ MAX_FILE }
+        requires short { length bytes.now ≤ MAX_FILE }
+        ensures ok { IfOk result (λ parts. SaysFront case_of model.now bytes.now (front_of_parts parts)) }
+        ensures err { IfErr result (IsFrontEnd case_of first_fault model.now bytes.now) };
 }
 
 /// A litmus test, in the form of docs/tests.md.
@@ -38,5 +46,9 @@ impl SecondFile for TestFile {
 
     fn front(alloc: Global, model: &[u8], bytes: &[u8]) -> Result<Front, FrontEnd> {
         pc_front::front(alloc, model, bytes)
+    }
+
+    fn parts(alloc: Global, model: &[u8], bytes: &[u8]) -> Result<Parts, FrontEnd> {
+        read_parts(alloc, model, bytes)
     }
 }

@@ -8,6 +8,7 @@ ghost use Rattle.core_command.specs.Found.{found_text, IsCoreWritable};
 
 use axiom_core::{Core, core};
 use command_base::{Ending, Inputs, SecondFile, read_inputs};
+use front_search::Search;
 use pc_common::{Files, Memory};
 use pc_ground::Front;
 use std::alloc::Global;
@@ -26,7 +27,7 @@ impl Drop for FoundCore {
 }
 
 /// Reads the two files and searches: which axioms forbid the outcome, or how the command ends before it.
-pub fn find_core<S: SecondFile, F: Files>(
+pub fn find_core<S: SecondFile, R: Search, F: Files>(
     alloc: Global,
     inputs: Inputs<'_>,
     files: &mut F,
@@ -39,7 +40,7 @@ pub fn find_core<S: SecondFile, F: Files>(
         Ok(front) => front,
         Err(ending) => return Err(ending),
     };
-    match core(alloc, &front) {
+    match core::<R>(alloc, &front) {
         Ok(core) => Ok(FoundCore { front, core }),
         Err(Memory) => Err(Ending::Memory),
     }

@@ -3,7 +3,7 @@
 //! ```rust
 //! // m.uspec is `Axiom "x": exists microop "i", True.`, and t.test is `Litmus "e".`
 //! let inputs = Inputs { model: "m.uspec", test: "t.test" };
-//! let found = find_core::<TestFile, MemFiles>(alloc, inputs, &mut files)?;
+//! let found = find_core::<TestFile, Solver, MemFiles>(alloc, inputs, &mut files)?;
 //! assert!(rt; matches!(found.core, Core::Minimal { .. }));
 //! ```
 //!

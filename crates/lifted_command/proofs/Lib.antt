@@ -1,4 +1,3 @@
 pub mod PieceByPiece
 pub mod OneAnswer
 pub mod LiftedOutcomes
-pub mod PartsRead

@@ -1,4 +1,3 @@
 pub mod LiftedTexts
-pub mod Fronts
 pub mod Reading
 pub mod LiftedAnswers

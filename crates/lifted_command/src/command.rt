@@ -1,6 +1,4 @@
 ghost use Rattle.std.specs.Prelude.{◌≡◌};
-ghost use Rattle.litmus_reader.specs.Answer.{CaseOf};
-ghost use Rattle.pc_front.specs.Front.{IsFirstFault as IsTestFault};
 ghost use Rattle.command_base.specs.Inputs.{plain_inputs};
 ghost use Rattle.command_base.specs.Endings.{returned_status, returned_text};
 ghost use Rattle.command_base.specs.Outcomes.{IsThirdOutcome};
@@ -9,9 +7,8 @@ ghost use Rattle.lifted_command.specs.Reading.{returned};
 ghost use Rattle.lifted_command.specs.LiftedAnswers.{IsJudged};
 
 use super::checking::check_file;
-use super::inputs::read_two;
 use super::reading::FeedEnd;
-use command_base::{Ending, Inputs};
+use command_base::{Ending, Inputs, SecondFile, read_parts};
 use lifted_check::Lifted;
 use pc_common::Files;
 use std::alloc::Global;
@@ -28,17 +25,17 @@ fn returned_of(checked: Result<Lifted, FeedEnd>) -> Result<Lifted, Ending>
 }
 
 /// Reads the two files, and where they have no fault the third: what it is to them, or how the command ends before.
-pub fn verify_lifted<F: Files>(
+pub fn verify_lifted<S: SecondFile, F: Files>(
     alloc: Global,
     inputs: Inputs<'_>,
     certificate: &str,
     files: &mut F,
 ) -> Result<Lifted, Ending>
-    ensures { IsThirdOutcome F.view CaseOf IsTestFault (plain_inputs inputs.entry) certificate.now
+    ensures { IsThirdOutcome F.view S.case_of S.first_fault (plain_inputs inputs.entry) certificate.now
         (IsJudged ((F.view files.old).holds) certificate.now)
         files.old files.new (returned_status lifted_status result) (returned_text lifted_text result) }
 {
-    let parts = match read_two(alloc, inputs, files) {
+    let parts = match read_parts::<S, F>(alloc, inputs, files) {
         Ok(parts) => parts,
         Err(ending) => return Err(ending),
     };

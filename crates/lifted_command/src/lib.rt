@@ -3,7 +3,7 @@
 //! ```rust
 //! // m.uspec and t.test have no fault, and c.txt has no line
 //! let inputs = Inputs { model: "m.uspec", test: "t.test" };
-//! let lifted = verify_lifted(alloc, inputs, "c.txt", &mut files)?;
+//! let lifted = verify_lifted::<TestFile, MemFiles>(alloc, inputs, "c.txt", &mut files)?;
 //! assert!(rt; lifted == Lifted::Refused(1));
 //! assert!(rt; lifted_status(lifted) == Status::CertRefused);
 //! ```
@@ -16,7 +16,6 @@
 
 mod checking;
 mod command;
-mod inputs;
 mod reading;
 mod report;
 

@@ -17,14 +17,17 @@ use Rattle.x86_litmus.proofs.OneReading.{one_case, no_fault}
 use Rattle.x86_litmus.proofs.OneFault.{one_fault}
 use Rattle.x86_litmus.proofs.Totality.{case_or_fault}
 use Rattle.pc_ground.specs.declared.front.Front.{Front}
+use Rattle.pc_ground.specs.declared.parts.Parts.{Parts}
 use Rattle.pc_front.specs.ModelFront.{IsModelFault}
 use Rattle.pc_front.specs.Front.{SaysModel, fault_at}
 use Rattle.pc_front.specs.declared.model_front.FrontEnd.{FrontEnd}
 use Rattle.pc_front.specs.declared.model_front.FrontEnd.TheVariants.{Refused as a_refusal, Memory as no_memory}
 use Rattle.pc_front.proofs.OneModel.{no_whole_fault, one_model_fault}
 use Rattle.pc_front.proofs.ModelOrFault.{model_or_fault}
+use Rattle.pc_front.proofs.PartsOf.{front_is}
+use Rattle.command_base.specs.Fronts.{front_of_parts}
 use Rattle.command_base.specs.SecondFiles.{SaysFront, SaysNone, IsOfTwo, IsFrontEnd, IsForm}
-use Rattle.listing_form.specs.Listings.{SayFront, IsEnd, listing_fault_of, IsListingFault, IsFirstFault, in_model, in_listing}
+use Rattle.listing_form.specs.Listings.{SayParts, SayFront, IsEnd, listing_fault_of, IsListingFault, IsFirstFault, in_model, in_listing}
 
 -- want of memory is no fault of a listing
 untold : (f : InputFault) → listing_fault_of no_room ≡ Some f → ⊥
@@ -102,6 +105,16 @@ listing_front mb tb front say = record {
   front_of = say.front_of;
   kept = listing_kept tb say.c say.says_listing;
 }
+
+-- what parts say is what their front says
+pub listing_parts : (mb tb : List ℕ) (parts : Parts) → SayParts mb tb parts → SaysFront CaseOf mb tb (front_of_parts parts)
+listing_parts mb tb parts say = listing_front mb tb (front_of_parts parts) (record {
+  m = say.m;
+  c = say.c;
+  says_model = say.says_model;
+  says_listing = say.says_listing;
+  front_of = front_is say.m say.c parts (front_of_parts parts) say.parts_of refl refl refl;
+})
 
 pub listing_ends : (mb tb : List ℕ) (end : FrontEnd) → IsEnd mb tb end → IsFrontEnd CaseOf IsFirstFault mb tb end
 listing_ends mb tb (a_refusal fault) is = (is, of_two mb tb fault is, no_fault_of mb tb fault is)

@@ -1,10 +1,10 @@
 ghost use Rattle.x86_litmus.specs.Answer.{CaseOf};
 ghost use Rattle.listing_form.specs.Listings.{IsFirstFault};
 
-use super::two_files::front;
+use super::two_files::{front, read_parts};
 use command_base::SecondFile;
 use pc_front::FrontEnd;
-use pc_ground::Front;
+use pc_ground::{Front, Parts};
 use std::alloc::Global;
 
 /// A listing, in the form of docs/tests.md.
@@ -17,5 +17,9 @@ impl SecondFile for ListingFile {
 
     fn front(alloc: Global, model: &[u8], bytes: &[u8]) -> Result<Front, FrontEnd> {
         front(alloc, model, bytes)
+    }
+
+    fn parts(alloc: Global, model: &[u8], bytes: &[u8]) -> Result<Parts, FrontEnd> {
+        read_parts(alloc, model, bytes)
     }
 }

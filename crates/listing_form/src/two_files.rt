@@ -50,7 +50,7 @@ fn parts_of(case: Case, model: ModelFront) -> Parts
 }
 
 /// What the bytes of a model and of a listing say, without a ground tree.
-fn read_parts(alloc: Global, model_bytes: &[u8], bytes: &[u8]) -> Result<Parts, FrontEnd>
+pub(crate) fn read_parts(alloc: Global, model_bytes: &[u8], bytes: &[u8]) -> Result<Parts, FrontEnd>
     requires model_short { length model_bytes.now < 2 ^ 32 }
     requires short { length bytes.now < 2 ^ 32 }
     ensures ok { IfOk result (SayParts model_bytes.now bytes.now) }

@@ -18,6 +18,7 @@ use ask_command::ask_files;
 use check_command::check;
 use command_base::{Ending, Inputs, TestFile};
 use core_command::find_core;
+use front_search::Solver;
 use gen_command::generate;
 use lift_command::lift_files;
 use lifted_command::verify_lifted;
@@ -68,7 +69,7 @@ fn core_answer<F: Files>(alloc: Global, inputs: Inputs<'_>, files: &mut F) -> An
         files.old files.new (answer_status result) (answer_text result) }
     ensures writable { CanBeWritten result }
 {
-    match find_core::<TestFile, F>(alloc, inputs, files) {
+    match find_core::<TestFile, Solver, F>(alloc, inputs, files) {
         Ok(found) => Answer::Core(found),
         Err(ending) => Answer::Ended(ending),
     }
@@ -126,7 +127,7 @@ fn verify_lifted_answer<F: Files>(
         files.old files.new (answer_status result) (answer_text result) }
     ensures writable { CanBeWritten result }
 {
-    match verify_lifted::<F>(alloc, inputs, certificate, files) {
+    match verify_lifted::<TestFile, F>(alloc, inputs, certificate, files) {
         Ok(lifted) => Answer::Lifted(lifted),
         Err(ending) => Answer::Ended(ending),
     }
@@ -138,7 +139,7 @@ fn ask_answer<F: Files>(alloc: Global, inputs: Inputs<'_>, query: &str, files: &
         files.old files.new (answer_status result) (answer_text result) }
     ensures writable { CanBeWritten result }
 {
-    match ask_files::<F>(alloc, inputs, query, files) {
+    match ask_files::<Solver, F>(alloc, inputs, query, files) {
         Ok(found) => Answer::Asked(found),
         Err(ending) => Answer::Ended(ending),
     }

@@ -1,15 +1,10 @@
-//! Tests of the library crates through their public calls: tables of texts and answers, a file for each
-//! crate or for a crate and the reader that makes its values.
+//! Tests of models through public calls: what a model says, and its first fault, or that of a model and a test.
 //!
 //! They stand in a crate of their own, since a crate with tests is proved twice.
 #![tactic(auto)]
 
 #[cfg(test)]
-mod brackets;
-#[cfg(test)]
-mod cases;
-#[cfg(test)]
-mod formulas;
+mod files;
 #[cfg(test)]
 mod macros;
 #[cfg(test)]
@@ -17,20 +12,4 @@ mod models;
 #[cfg(test)]
 mod names;
 #[cfg(test)]
-mod nodes;
-#[cfg(test)]
-mod outside;
-#[cfg(test)]
-mod pieces;
-#[cfg(test)]
-mod predicates;
-#[cfg(test)]
-mod showing;
-#[cfg(test)]
-mod shown;
-#[cfg(test)]
-mod shown_closed;
-#[cfg(test)]
 mod texts;
-#[cfg(test)]
-mod trees;

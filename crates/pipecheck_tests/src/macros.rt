@@ -1,9 +1,9 @@
 //! Stages, macros, and axioms with each macro in its place.
-use super::shown::show;
-use super::texts::{is_refused_at, put, written_model};
+use super::texts::{is_refused_at, written_model};
 use macro_expand::{expand, stage_faults};
 use pc_common::{FaultKind, Memory, Place};
 use pc_syntax::{Expanded, ModelFile};
+use shown_texts::{put, show};
 use std::alloc::Global;
 use std::test::Fail;
 

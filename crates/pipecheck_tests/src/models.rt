@@ -1,8 +1,7 @@
 //! Whole models: the first fault by line and column, the limits, and names that are not captured.
-use super::shown_closed::show_closed;
-use super::texts::{Pieces, joined, put, put_number};
 use pc_common::{FaultKind, InputFault, Memory, Place, Which, line_col};
 use pc_front::{FrontEnd, ModelFront, read_model};
+use shown_texts::{Pieces, joined, put, put_number, show_closed};
 use std::alloc::Global;
 use std::test::Fail;
 

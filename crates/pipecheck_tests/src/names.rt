@@ -1,10 +1,10 @@
 //! Names closed to slots and numbers.
-use super::shown_closed::show_closed;
-use super::texts::{is_refused_at, put, written_model};
+use super::texts::{is_refused_at, written_model};
 use macro_expand::{expand, stage_faults};
 use pc_common::{FaultKind, Memory};
 use pc_syntax::{Expanded, ModelFile};
 use scope_check::close;
+use shown_texts::{put, show_closed};
 use std::alloc::Global;
 use std::test::Fail;
 

@@ -1,5 +1,0 @@
--- The ledger is the one that the blank is of.
-use Rattle.ask_words.proofs.search.found_of.Given as goal
-
-abbrev pub ghosts-solved : goal.ghosts-solved
-ghosts-solved a = record { name = a.blank.name; parts = a.blank.parts }

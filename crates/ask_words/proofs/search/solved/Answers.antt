@@ -1,8 +1,0 @@
-use Rattle.ask_words.proofs.FrontTrees.{front_numbered, front_folded}
-use Rattle.ask_words.proofs.search.solved.Goals as goal
-
-pub solve-requires-clause-numbered : goal.solve-requires-clause-numbered
-solve-requires-clause-numbered g c = front_numbered c.args.front.now
-
-pub solve-requires-clause-folded : goal.solve-requires-clause-folded
-solve-requires-clause-folded g c = front_folded c.args.front.now

@@ -1,0 +1,21 @@
+-- The front that parts make, for definitions that speak of one: a command that works with parts builds no ground tree.
+use Rattle.std.proofs.Common.{refl}
+use Rattle.pc_ground.specs.declared.front.Front.{Front}
+use Rattle.pc_ground.specs.declared.parts.Parts.{Parts}
+use Rattle.pc_ground.specs.GroundTree.{closed_ground_tree}
+use Rattle.pc_ground.specs.Numbers.{numbered}
+use Rattle.pc_ground.specs.Rows.{rows_of}
+use Rattle.pc_ground.specs.Stages.{plain_axioms}
+
+abbrev pub front_of_parts : Parts → Front
+front_of_parts p = record {
+  case = p.case;
+  stages = p.stages;
+  axioms = p.axioms;
+  tree = rows_of (closed_ground_tree p.case (plain_axioms p.axioms));
+  numbering = numbered (closed_ground_tree p.case (plain_axioms p.axioms));
+  named = p.named;
+  within = p.within;
+  grounded = refl;
+  counted = refl;
+}

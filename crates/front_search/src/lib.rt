@@ -1,0 +1,21 @@
+//! Grounding and searching as one thing that a command can be generic over.
+//!
+//! ```rust
+//! // what `core` and `ask` find is found by the solver
+//! let found = Solver::found_of(alloc, &front)?;
+//! assert!(rt; matches!(found, Answer::Observable(_)));
+//! ```
+//!
+//! `Search` says what grounds the parts of a model and a test, and what is found of a front; `Solver` does it, by
+//! `front_parts` and `solver`. A crate that asks for many fronts and answers, as `axiom_core` and `ask_words` do, is generic
+//! over `Search`. So it is proved by these contracts alone, and the prover need not load the grounder and the search for it.
+//!
+//! `specs/Found.antt` says what the search finds of a front.
+#![tactic(auto)]
+
+mod search;
+mod searching;
+mod solver_search;
+
+pub use search::Search;
+pub use solver_search::Solver;

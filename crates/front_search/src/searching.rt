@@ -1,0 +1,34 @@
+ghost use Rattle.std.specs.Prelude.{◌≡◌, ◌<◌, IfOk};
+ghost use Rattle.front_search.specs.Found.{IsFound};
+
+use pc_common::Memory;
+use pc_ground::{Front, Version};
+use solver::{Answer, solve};
+use std::alloc::Global;
+use std::marker::Brand;
+use std::sync::ledger::{Blank, Ledger};
+use undo_trail::Steps;
+
+/// What the search finds of a front. The ledger is of this call alone: nobody reads its count of steps.
+fn searched<L: Ledger>(alloc: Global, front: &Front, blank: Blank) -> Result<Answer, Memory>
+    requires name { blank.name ≡ L.name }
+    requires parts { blank.parts ≡ L.parts }
+    requires whole { 0 < L.parts }
+    ensures { IfOk result (IsFound front.now) }
+{
+    let mut steps: Steps<L> = Steps::open(blank);
+    solve(
+        alloc,
+        &front.tree,
+        &front.numbering,
+        Version::One,
+        &mut steps,
+    )
+}
+
+/// What the search finds of a front: a graph, or a refutation of version 1.
+pub(crate) fn found(alloc: Global, front: &Front) -> Result<Answer, Memory>
+    ensures { IfOk result (IsFound front.now) }
+{
+    searched::<Brand>(alloc, front, Blank::new(1))
+}

@@ -1,0 +1,190 @@
+//! The recogniser over a small grammar: lists in brackets, parted by semicolons, with at most two
+//! brackets open at once.
+//!
+//!     items = [ item more ]     more = [ ";" item more ]     item = "x" | "[" items "]"
+ghost use Rattle.std.specs.Prelude.{◌≡◌, ◌+◌, ℕ, Bool, true, false, nat_le, List, [], ◌∷◌, Option, Some, None, refl};
+ghost use Rattle.language_tests.specs.declared.brackets.Bracket.{Bracket};
+ghost use Rattle.language_tests.specs.declared.brackets.Bracket.TheVariants.{Open, Close, Semicolon, Word};
+ghost use Rattle.language_tests.specs.declared.brackets.Phrase.{Phrase};
+ghost use Rattle.language_tests.specs.declared.brackets.Phrase.TheVariants.{Items, More, Item};
+ghost use Rattle.ll_grammar.specs.declared.grammar.Symbol.{Symbol};
+ghost use Rattle.ll_grammar.specs.declared.grammar.Symbol.TheVariants.{Class, Part};
+ghost use Rattle.ll_grammar.specs.Tables.{predictable_by, texts_by, is_predictable_part, is_ranked_part};
+
+use ll_grammar::{
+    Fault, Grammar, Step, Symbol, TokenClass, first_fault, one_answer, push_body, some_answer,
+    viable_prefixes,
+};
+use std::alloc::AllocError;
+use std::test::Fail;
+
+#[derive(Clone, Copy, PartialEq, Eq)]
+enum Bracket {
+    Open,
+    Close,
+    Semicolon,
+    Word,
+}
+
+impl TokenClass for Bracket {
+    fn is_same(self, other: Self) -> bool {
+        self == other
+    }
+}
+
+/// Each with the number of brackets that are open round it.
+#[derive(Clone, Copy)]
+enum Phrase {
+    Items(u8),
+    More(u8),
+    Item(u8),
+}
+
+impl Grammar<Bracket> for Phrase {
+    ghost rules = { record {
+      behind = λ (n : Phrase) (c : Bracket). elim n as (λ _. Option (List (Symbol Bracket Phrase))) [
+        | Items d ↦ elim c as (λ _. Option (List (Symbol Bracket Phrase))) [
+          | Open ↦ Some (Part (Items (d + 1)) ∷ Class Close ∷ Part (More d) ∷ [])
+          | Word ↦ Some (Part (More d) ∷ [])
+          | _ ↦ None
+        ]
+        | More d ↦ elim c as (λ _. Option (List (Symbol Bracket Phrase))) [
+          | Semicolon ↦ Some (Part (Item d) ∷ Part (More d) ∷ [])
+          | _ ↦ None
+        ]
+        | Item d ↦ elim c as (λ _. Option (List (Symbol Bracket Phrase))) [
+          | Open ↦ Some (Part (Items (d + 1)) ∷ Class Close ∷ [])
+          | Word ↦ Some []
+          | _ ↦ None
+        ]
+      ];
+      may_end = λ (n : Phrase). elim n as (λ _. Bool) [ Item d ↦ false | _ ↦ true ];
+      deep = λ (n : Phrase) (c : Bracket). elim n as (λ _. Bool) [
+        | Items d ↦ elim c as (λ _. Bool) [ Open ↦ nat_le 2 d | _ ↦ false ]
+        | More d ↦ false
+        | Item d ↦ elim c as (λ _. Bool) [ Open ↦ nat_le 2 d | _ ↦ false ]
+      ];
+    } };
+
+    ghost follow = { λ (n : Phrase) (c : Bracket). elim c as (λ _. Bool) [
+      | Close ↦ true
+      | Semicolon ↦ elim n as (λ _. Bool) [ Item d ↦ true | _ ↦ false ]
+      | _ ↦ false
+    ] };
+
+    ghost predictable = { predictable_by Self.rules Self.follow (Open ∷ Close ∷ Semicolon ∷ Word ∷ [])
+        (λ (c : Bracket). elim c as (λ _. ℕ) [ Open ↦ 0 | Close ↦ 1 | Semicolon ↦ 2 | Word ↦ 3 ])
+        (elim [ Open ↦ refl | Close ↦ refl | Semicolon ↦ refl | Word ↦ refl ])
+        (elim [ Items d ↦ refl | More d ↦ refl | Item d ↦ refl ]) };
+
+    ghost has_texts = { texts_by Self.rules (λ (n : Phrase). Word) (λ (n : Phrase). 0)
+        (elim [ Items d ↦ refl | More d ↦ refl | Item d ↦ refl ]) };
+
+    fn may_end(self) -> bool {
+        match self {
+            Phrase::Items(_) | Phrase::More(_) => true,
+            Phrase::Item(_) => false,
+        }
+    }
+
+    fn push(
+        self,
+        class: Bracket,
+        stack: &mut Vec<Symbol<Bracket, Phrase>>,
+    ) -> Result<Step, AllocError> {
+        match self {
+            Phrase::Items(open) => match class {
+                Bracket::Open => {
+                    if open >= 2 {
+                        return Ok(Step::Deep);
+                    }
+                    push_body(
+                        stack,
+                        &[
+                            Symbol::Part(Phrase::Items(open + 1)),
+                            Symbol::Class(Bracket::Close),
+                            Symbol::Part(Phrase::More(open)),
+                        ],
+                    )
+                }
+                Bracket::Word => push_body(stack, &[Symbol::Part(Phrase::More(open))]),
+                _ => Ok(Step::Absent),
+            },
+            Phrase::More(open) => match class {
+                Bracket::Semicolon => push_body(
+                    stack,
+                    &[
+                        Symbol::Part(Phrase::Item(open)),
+                        Symbol::Part(Phrase::More(open)),
+                    ],
+                ),
+                _ => Ok(Step::Absent),
+            },
+            Phrase::Item(open) => match class {
+                Bracket::Open => {
+                    if open >= 2 {
+                        return Ok(Step::Deep);
+                    }
+                    push_body(
+                        stack,
+                        &[
+                            Symbol::Part(Phrase::Items(open + 1)),
+                            Symbol::Class(Bracket::Close),
+                        ],
+                    )
+                }
+                Bracket::Word => push_body(stack, &[]),
+                _ => Ok(Step::Absent),
+            },
+        }
+    }
+}
+
+fn fault(rt: &HostRuntime, text: &[u8]) -> Result<Option<Fault>, AllocError> {
+    let mut classes = Vec::new(rt.alloc());
+    for byte in text {
+        classes.push(match *byte {
+            b'[' => Bracket::Open,
+            b']' => Bracket::Close,
+            b';' => Bracket::Semicolon,
+            _ => Bracket::Word,
+        })?;
+    }
+    first_fault(rt.alloc(), Phrase::Items(0), &classes)
+}
+
+/// A text, and its first fault.
+const ROWS: &[(&'static [u8], Option<Fault>)] = &[
+    (b"", None),
+    (b"x", None),
+    (b"x;[];[x;[x]]", None),
+    // the first token that no text goes on with
+    (b";", Some(Fault::Syntax(0))),
+    (b"xx", Some(Fault::Syntax(1))),
+    (b"x;]", Some(Fault::Syntax(2))),
+    (b"[x]]", Some(Fault::Syntax(3))),
+    // the end counts as a token
+    (b"x;", Some(Fault::Syntax(2))),
+    (b"[x;[]", Some(Fault::Syntax(5))),
+    // the third open bracket is too deep
+    (b"[[[", Some(Fault::Depth(2))),
+    (b"[[];[[x]]]", Some(Fault::Depth(5))),
+    // of two faults the earlier one
+    (b"[[x[", Some(Fault::Syntax(3))),
+    (b"[[[;;", Some(Fault::Depth(2))),
+];
+
+#[test]
+fn a_text_has_its_first_fault_or_none(rt: HostRuntime) -> Result<(), Fail> {
+    for (text, want) in ROWS {
+        assert_eq!(rt; fault(&rt, text)?, *want, "{text:?}");
+    }
+    Ok(())
+}
+
+#[test]
+fn the_laws_can_be_called(_rt: HostRuntime) {
+    viable_prefixes(Phrase::Items(0), &[Bracket::Open]);
+    some_answer(Phrase::Items(0), &[Bracket::Open]);
+    one_answer(Phrase::Items(0), &[Bracket::Open]);
+}
