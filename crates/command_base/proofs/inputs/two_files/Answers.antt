@@ -40,12 +40,10 @@ returns g c =
     let first = c.in-Ok.ensures in
     let second = c.in-Ok-read_all.ensures in
     let holds = (g.F.Files.view c.args.files.now).holds in
-    let model_within = (let h = first.within in omega arith) in
-    let second_within = (let h = second.within in omega arith) in
     record {
       keeps = reads_then first.keeps second.keeps;
-      model_short = model_within;
-      second_short = second_within;
+      model_short = (let h = first.within in omega arith);
+      second_short = (let h = second.within in omega arith);
       read = λ told. (
         read_of holds c.args.inputs.model.now c.in-Ok.bytes.items (first.whole told) (let h = first.within in omega arith),
         read_of holds c.args.inputs.test.now c.in-Ok-read_all.bytes.items
