@@ -7,6 +7,6 @@ pub returns-in-Ok : goal.returns-in-Ok
 returns-in-Ok g c =
     let both = c.in-Ok.ensures in
     let failing_modelled = g.met.F.Files.failing_modelled c.args.files.now in
-    MatchResult-weaker c.front_of.result (rw (c.deref.ensures.value, c.deref-2.ensures.value) at c.front_of.ensures)
+    MatchResult-weaker c.front_of.result (rw (c.deref.ensures.value, c.deref-in-Ok.ensures.value) at c.front_of.ensures)
     (front_read failing_modelled both.keeps (plain_inputs c.args.inputs) c.in-Ok.model.items c.in-Ok.second.items both.read)
     (bytes_end failing_modelled both.keeps (plain_inputs c.args.inputs) c.in-Ok.model.items c.in-Ok.second.items both.read)

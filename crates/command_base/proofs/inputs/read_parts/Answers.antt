@@ -1,0 +1,13 @@
+use Rattle.std.proofs.lemmas.Result.{MatchResult-weaker}
+use Rattle.command_base.specs.Fronts.{front_of_parts}
+use Rattle.command_base.specs.Inputs.{plain_inputs}
+use Rattle.command_base.proofs.InputsRead.{front_read, bytes_end}
+use Rattle.command_base.proofs.inputs.read_parts.Goals as goal
+
+pub returns-in-Ok : goal.returns-in-Ok
+returns-in-Ok g c =
+    let both = c.in-Ok.ensures in
+    let failing_modelled = g.met.F.Files.failing_modelled c.args.files.now in
+    MatchResult-weaker c.parts_of.result (rw (c.deref.ensures.value, c.deref-in-Ok.ensures.value) at c.parts_of.ensures)
+    (λ p. front_read failing_modelled both.keeps (plain_inputs c.args.inputs) c.in-Ok.model.items c.in-Ok.second.items both.read (front_of_parts p))
+    (bytes_end failing_modelled both.keeps (plain_inputs c.args.inputs) c.in-Ok.model.items c.in-Ok.second.items both.read)
