@@ -6,11 +6,11 @@ use Rattle.ask_words.proofs.MoreParts.{within_stages, asked_same}
 use Rattle.ask_words.proofs.asking.ask.Goals as goal
 
 pub ask_parts-requires : goal.ask_parts-requires
-ask_parts-requires c =
+ask_parts-requires g c =
     within_stages c.args.front.now.stages c.in_ok-parts.parts.stages (plain_closed c.args.formula.now.body) c.in_ok-parts.ensures.stages c.requires
 
 pub returns : goal.returns
-returns c =
+returns g c =
     let front = c.args.front.now in
     let parts = c.in_ok-parts.parts in
     let same = c.in_ok-parts.ensures in

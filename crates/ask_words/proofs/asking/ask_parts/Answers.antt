@@ -5,17 +5,17 @@ use Rattle.ask_words.proofs.MoreParts.{found_same, within_same}
 use Rattle.ask_words.proofs.asking.ask_parts.Goals as goal
 
 pub found_more-requires : goal.found_more-requires
-found_more-requires c =
+found_more-requires g c =
     let numbers = numbers_of (map plain_stage c.args.parts.now.stages) in
     within_same numbers (plain_closed c.in_ok-copy.field-0.body) (plain_closed c.args.formula.now.body) c.in_ok-copy.ensures c.requires
 
 pub found_more-requires-2 : goal.found_more-requires-2
-found_more-requires-2 c =
+found_more-requires-2 g c =
     let numbers = numbers_of (map plain_stage c.args.parts.now.stages) in
     within_same numbers (plain_closed c.in_ok-denial.field-0.body) (closed_not (plain_closed c.args.formula.now.body)) c.in_ok-denial.ensures c.requires
 
 pub returns : goal.returns
-returns c =
+returns g c =
     let parts = c.args.parts.now in
     let p = plain_closed c.args.formula.now.body in record {
       added =

@@ -7,7 +7,7 @@ use Rattle.axiom_core.proofs.SameCores.{part_is}
 use Rattle.axiom_core.proofs.chosen.part_of.Goals as goal
 
 pub front_with-requires : goal.front_with-requires
-front_with-requires c =
+front_with-requires g c =
     let front = c.args.front.now in
     let numbers = numbers_of (map plain_stage front.stages) in
     let P : List PlainClosed → Type 0 = λ ps. AxiomsWithin numbers ps in
@@ -16,6 +16,6 @@ front_with-requires c =
     }
 
 pub returns : goal.returns
-returns c =
+returns g c =
     part_is c.args.front.now (choice c.args.flags.now c.args.left_out) c.in_ok-case.case c.in_ok-axioms.axioms c.front_with.result c.in_ok-case.ensures
     c.in_ok-axioms.ensures c.front_with.ensures.case c.front_with.ensures.stages c.front_with.ensures.axioms

@@ -5,4 +5,4 @@ use Rattle.axiom_core.specs.Cores.{AreShownWithout}
 use Rattle.axiom_core.proofs.members.all_shown.Given as goal
 
 abbrev pub invariant-loop-at : goal.invariant-loop-at
-invariant-loop-at l = AreShownWithout l.front (flagged l.flags) (take l.at-index l.kept) l.shown
+invariant-loop-at g l = AreShownWithout l.front (flagged l.flags) (take l.at-index l.kept) l.shown

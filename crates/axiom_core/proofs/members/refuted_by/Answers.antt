@@ -4,7 +4,7 @@ use Rattle.axiom_core.proofs.SameCores.{found_allow, part_allow, never_both}
 use Rattle.axiom_core.proofs.members.refuted_by.Goals as goal
 
 pub unreachable-requires : goal.unreachable-requires
-unreachable-requires c =
+unreachable-requires g c =
     let front = c.args.front.now in
     let keep = flagged c.args.flags.now in
     never_both front.case (taken keep (plain_axioms front.axioms))

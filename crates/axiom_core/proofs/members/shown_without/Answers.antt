@@ -4,7 +4,7 @@ use Rattle.axiom_core.proofs.SameCores.{found_forbid, part_forbid, never_both}
 use Rattle.axiom_core.proofs.members.shown_without.Goals as goal
 
 pub unreachable-requires : goal.unreachable-requires
-unreachable-requires c =
+unreachable-requires g c =
     let front = c.args.front.now in
     let keep = less c.args.at (flagged c.args.flags.now) in
     never_both front.case (taken keep (plain_axioms front.axioms)) c.requires.allowed

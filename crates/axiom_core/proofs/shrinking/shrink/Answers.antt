@@ -6,7 +6,7 @@ use Rattle.axiom_core.proofs.Tries.{tried_none}
 use Rattle.axiom_core.proofs.shrinking.shrink.Goals as goal
 
 pub loop-at-init : goal.loop-at-init
-loop-at-init c =
+loop-at-init g c =
     let front = c.args.front.now in
     let ps = plain_axioms front.axioms in
     let set : c.in_ok-flags.flags.items ≡ replicate c.len-count.result true = c.in_ok-flags.ensures.items_if_clones_equal (search rules) in

@@ -4,4 +4,4 @@ use Rattle.axiom_core.specs.Choices.{IsTried}
 use Rattle.axiom_core.proofs.shrinking.shrink.Given as goal
 
 abbrev pub invariant-loop-at : goal.invariant-loop-at
-invariant-loop-at l = IsTried l.front.case (plain_axioms l.front.axioms) l.flags.items l.at
+invariant-loop-at g l = IsTried l.front.case (plain_axioms l.front.axioms) l.flags.items l.at

@@ -3,7 +3,7 @@ use Rattle.axiom_core.proofs.Tries.{tried_dropped}
 use Rattle.axiom_core.proofs.shrinking.try_without.Goals as goal
 
 pub returns-then-branch : goal.returns-then-branch
-returns-then-branch c =
+returns-then-branch g c =
     let front = c.args.front.now in
     tried_dropped front.case (plain_axioms front.axioms) c.args.flags.now c.args.at c.requires.tried c.requires.inside
     (rw c.if-branch.true at c.in_ok-are_refuted.ensures)
