@@ -34,11 +34,7 @@ fn found_more<S: Search>(
 ///
 /// Makes two ground trees and two searches, and copies the parts for each. The one error is that memory was refused; the
 /// parts and the formula stay as they are.
-pub fn ask_parts<S: Search>(
-    alloc: Global,
-    parts: &Parts,
-    formula: &Closed,
-) -> Result<Asked, Memory>
+pub fn ask_parts<S: Search>(alloc: Global, parts: &Parts, formula: &Closed) -> Result<Asked, Memory>
     requires { StagesWithin (numbers_of (map plain_stage parts.now.stages)) (plain_closed formula.now.body) }
     ensures { IfOk result (IsAsked parts.now.case parts.now.stages (plain_axioms parts.now.axioms)
         (plain_closed formula.now.body)) }

@@ -14,7 +14,12 @@ impl Search for Solver {
         front_parts::front_of(alloc, parts)
     }
 
-    fn front_with(alloc: Global, front: &Front, case: Case, axioms: Axioms) -> Result<Front, Memory> {
+    fn front_with(
+        alloc: Global,
+        front: &Front,
+        case: Case,
+        axioms: Axioms,
+    ) -> Result<Front, Memory> {
         front_parts::front_with(alloc, front, case, axioms)
     }
 

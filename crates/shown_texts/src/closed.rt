@@ -1,7 +1,7 @@
 //! A closed formula as a text of its own, outside before inside, a slot with `#` before its number:
 //! `Forall(microop, OnCore 3 #0)`.
-use super::showing::{Shown, show_args, show_core, show_edge, show_list, show_sort};
 use super::pieces::{put, put_number};
+use super::showing::{Shown, show_args, show_core, show_edge, show_list, show_sort};
 use pc_common::Memory;
 use pc_syntax::{ClosedArg, ClosedEdge, ClosedFormula, ClosedNode};
 

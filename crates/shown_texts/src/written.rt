@@ -1,6 +1,6 @@
 //! A written formula as a text of its own, outside before inside: `And(True, Not(IsAnyRead i))`.
-use super::showing::{Shown, show_args, show_core, show_edge, show_list, show_sort};
 use super::pieces::{put, put_number};
+use super::showing::{Shown, show_args, show_core, show_edge, show_list, show_sort};
 use pc_common::Memory;
 use pc_syntax::{Arg, EdgeTerm, Formula, Name, NodeTerm, Sort};
 

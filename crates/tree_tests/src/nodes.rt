@@ -74,8 +74,12 @@ fn first_wrong(alloc: Global, front: &Front) -> Result<Option<&'static str>, Mem
     Ok(None)
 }
 
-/// The first word that is read otherwise over these stages and micro-ops; all of it where they make no front.
-fn first_wrong_over(alloc: Global, model: &str, test: &str) -> Result<Option<&'static str>, Memory> {
+/// The first word that is read otherwise over these stages and micro-ops, or that they make no front.
+fn first_wrong_over(
+    alloc: Global,
+    model: &str,
+    test: &str,
+) -> Result<Option<&'static str>, Memory> {
     match front_of(alloc, model, test) {
         Some(front) => first_wrong(alloc, &front),
         None => Ok(Some("no front")),
