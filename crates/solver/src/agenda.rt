@@ -110,11 +110,20 @@ impl Agenda {
         }
     }
 
+    /// Sets what is known of the position. Of the three sets those are left alone where nothing changes.
     fn set(&mut self, position: usize, standing: Standing) {
-        if position < self.standings.len() {
-            self.standings[position] = standing;
+        if position >= self.standings.len() {
+            return;
+        }
+        let before = self.standings[position];
+        self.standings[position] = standing;
+        if before.is_pending() != standing.is_pending() {
             self.pending.put(position, standing.is_pending());
+        }
+        if before.is_open() != standing.is_open() {
             self.open.put(position, standing.is_open());
+        }
+        if before.is_ready() != standing.is_ready() {
             self.ready.put(position, standing.is_ready());
         }
     }
