@@ -3,7 +3,7 @@ ghost use Rattle.solver.specs.Spelled.{IsSpelled};
 ghost use Rattle.solver.specs.Below.{IsRowBelow};
 
 use super::bits::Bits;
-use super::gains::Gains;
+use super::gains::{Gained, Gains};
 use super::hints::{Truth, or_truth};
 use super::ors::is_or;
 use super::place::Place;
@@ -219,26 +219,27 @@ impl Agenda {
         self.gains.foresee(rows, side, graph, keys)
     }
 
-    /// What is known of the pending Or that the literal is within may have changed.
-    fn touch(&mut self, rows: &[Row<u32>], literal: Watched) -> Result<(), Memory> {
+    /// What is known of the pending Or that the literal is within may have changed: whether a side is closed at once, and
+    /// with `in_truth` whether it is true.
+    fn touch(&mut self, rows: &[Row<u32>], literal: Watched, in_truth: bool) -> Result<(), Memory> {
         let Some(p) = self.pending.last_up_to(literal.position, literal.outer) else {
             return Ok(());
         };
         let standing = self.standing(p);
-        if standing.is_stale() || literal.position >= p.saturating_add(skip_at(rows, p)) {
+        if standing.is_stale(in_truth) || literal.position >= p.saturating_add(skip_at(rows, p)) {
             return Ok(());
         }
-        self.change(p, standing.stale())
+        self.change(p, standing.stale(in_truth))
     }
 
     /// The same of each literal on the list.
-    fn touch_list(&mut self, rows: &[Row<u32>], list: usize) -> Result<(), Memory> {
-        let mut at = self.watch.head(list);
+    fn touch_list(&mut self, rows: &[Row<u32>], gained: Gained) -> Result<(), Memory> {
+        let mut at = self.watch.head(gained.list);
         for _ in 0..self.watch.len() {
             let Some(literal) = self.watch.literal_before(at) else {
                 return Ok(());
             };
-            self.touch(rows, literal)?;
+            self.touch(rows, literal, gained.in_truth)?;
             at = literal.before;
         }
         Ok(())
@@ -246,8 +247,9 @@ impl Agenda {
 
     fn touch_gained(&mut self, rows: &[Row<u32>]) -> Result<(), Memory> {
         for k in 0..self.gains.len() {
-            let list = self.gains.list(k);
-            self.touch_list(rows, list)?;
+            if let Some(gained) = self.gains.gained(k) {
+                self.touch_list(rows, gained)?;
+            }
         }
         Ok(())
     }

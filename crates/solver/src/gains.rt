@@ -5,21 +5,29 @@ ghost use Rattle.solver.specs.Below.{IsRowBelow};
 use super::bits::Bits;
 use super::ors::literal_at;
 use super::side::Side;
-use super::watch::{edges_of, node_of};
+use super::watch::{ends_of, node_of, starts_of};
 use order_graph::OrderGraph;
 use pc_common::Memory;
 use pc_ground::{Literal, NodeKey, Row};
 use std::alloc::Global;
 
-/// Which literals may have become true, false or a clash by those that a side asserts, as lists of `Watch`.
+/// A list of `Watch`, whose literals may have become a clash, and with `in_truth` true or false.
+#[derive(Clone, Copy)]
+pub(crate) struct Gained {
+    pub(crate) list: usize,
+    pub(crate) in_truth: bool,
+}
+
+/// Which literals may have become true, false or a clash by those that a side asserts.
 /// An edge can change what is known of the edges at the nodes that come to more by it, a node what is known
-/// of itself, and a denied edge what is known of the edges at the nodes that its start comes to.
+/// of itself, and a denied edge what is known of the edges at the nodes that its start comes to. Whether an edge is
+/// true changes only where its start comes to more, so a denial changes no truth.
 #[derive(Drop)]
 pub(crate) struct Gains {
     nodes: u32,
     /// The nodes from which a pair was denied.
     deniers: Bits,
-    lists: Vec<usize>,
+    lists: Vec<Gained>,
     /// How many literals there were before the side.
     known: usize,
     /// Whether the side is one edge, whose lists were found before it was entered.
@@ -69,12 +77,23 @@ impl Gains {
         self.lists.len()
     }
 
-    pub(crate) fn list(&self, k: usize) -> usize {
+    pub(crate) fn gained(&self, k: usize) -> Option<Gained> {
         if k < self.lists.len() {
-            self.lists[k]
+            Some(self.lists[k])
         } else {
-            0
+            None
         }
+    }
+
+    fn put(&mut self, list: usize, in_truth: bool) -> Result<(), Memory> {
+        self.lists.push(Gained { list, in_truth })?;
+        Ok(())
+    }
+
+    /// The edges at the node. With `comes_to_more` those that begin there may have changed their truth.
+    fn put_edges(&mut self, node: u32, comes_to_more: bool) -> Result<(), Memory> {
+        self.put(starts_of(node), comes_to_more)?;
+        self.put(ends_of(node), false)
     }
 
     /// The edges at the nodes that `a` comes to.
@@ -84,7 +103,7 @@ impl Gains {
     {
         for x in 0..nodes {
             if comes_to(graph, a, x) {
-                self.lists.push(edges_of(x))?;
+                self.put_edges(x, false)?;
             }
         }
         Ok(())
@@ -94,7 +113,7 @@ impl Gains {
         requires { a < graph.now.nodes }
     {
         if is_asserted || !graph.present(a) {
-            self.lists.push(node_of(a))?;
+            self.put(node_of(a), true)?;
         }
         Ok(())
     }
@@ -116,7 +135,7 @@ impl Gains {
         let mut denies = false;
         for x in 0..nodes {
             if may_gain(graph, x, a, b, is_asserted) {
-                self.lists.push(edges_of(x))?;
+                self.put_edges(x, true)?;
                 denies = denies | self.deniers.has(x as usize);
             }
         }
@@ -148,14 +167,10 @@ impl Gains {
         requires below { IsBelow graph.now.nodes literal }
     {
         match literal {
-            Literal::Node(a) => {
-                self.lists.push(node_of(a))?;
-                Ok(())
-            }
+            Literal::Node(a) => self.put(node_of(a), true),
             Literal::NoNode(a) => {
-                self.lists.push(node_of(a))?;
-                self.lists.push(edges_of(a))?;
-                Ok(())
+                self.put(node_of(a), false)?;
+                self.put_edges(a, false)
             }
             Literal::Edge(a, b) => self.add_edge(graph, nodes, a, b, true),
             Literal::NoEdge(a, _) => self.add_reached(graph, nodes, a),

@@ -56,9 +56,10 @@ impl Standing {
         Standing { bits }
     }
 
-    /// The same, where what its literals say may have changed.
-    pub(crate) fn stale(self) -> Standing {
-        self.with(TRUTH_STALE | SIDES_STALE, true)
+    /// The same, where one of its sides may be closed at once now; and where its truth may have changed too.
+    pub(crate) fn stale(self, in_truth: bool) -> Standing {
+        self.with(SIDES_STALE, true)
+            .with(TRUTH_STALE, in_truth | self.has(TRUTH_STALE))
     }
 
     /// The same, with whether it is true now.
@@ -86,8 +87,9 @@ impl Standing {
         self.has(TRUTH_STALE)
     }
 
-    pub(crate) fn is_stale(self) -> bool {
-        self.has(TRUTH_STALE) & self.has(SIDES_STALE | SETTLED)
+    /// Whether it need not be made stale so.
+    pub(crate) fn is_stale(self, in_truth: bool) -> bool {
+        (self.has(TRUTH_STALE) | !in_truth) & self.has(SIDES_STALE | SETTLED)
     }
 
     pub(crate) fn is_same(self, other: Standing) -> bool {

@@ -12,11 +12,11 @@ pub(crate) struct Watched {
     pub(crate) before: usize,
 }
 
-/// For each node the literals within Ors that name it: those of edges on one list, and those of the node
-/// itself on another.
+/// For each node the literals within Ors that name it, on three lists: those of the edges that begin in it, those of the
+/// edges that end in it, and those of the node itself.
 pub(crate) struct Watch {
-    /// One more than the place of the last literal on each list, or 0: edges at twice the node's number, and
-    /// the node itself one later.
+    /// One more than the place of the last literal on each list, or 0. The lists of a node stand one after another, in
+    /// the order above, the first at three times its number.
     heads: Vec<usize>,
     literals: Vec<Watched>,
     /// Where the last Or ends, or 0 where there is none.
@@ -34,21 +34,26 @@ impl Drop for Watch {
     }
 }
 
-/// The list of the edges that begin or end in a node.
-pub(crate) fn edges_of(node: u32) -> usize {
-    2 * node as usize
+/// The list of the edges that begin in a node.
+pub(crate) fn starts_of(node: u32) -> usize {
+    3 * node as usize
+}
+
+/// The list of the edges that end in a node.
+pub(crate) fn ends_of(node: u32) -> usize {
+    3 * node as usize + 1
 }
 
 /// The list of the literals of a node itself.
 pub(crate) fn node_of(node: u32) -> usize {
-    2 * node as usize + 1
+    3 * node as usize + 2
 }
 
 impl Watch {
     /// The literals of these rows, over so many nodes.
     pub(crate) fn new(alloc: Global, rows: &[Row<u32>], nodes: u32) -> Result<Watch, Memory> {
         let mut watch = Watch {
-            heads: vec![in alloc; 0; 2 * nodes as usize]?,
+            heads: vec![in alloc; 0; 3 * nodes as usize]?,
             literals: Vec::new(alloc),
             end: 0,
         };
@@ -90,8 +95,8 @@ impl Watch {
     }
 
     fn put_both(&mut self, a: u32, b: u32, position: usize, outer: usize) -> Result<(), Memory> {
-        self.put(edges_of(a), position, outer)?;
-        self.put(edges_of(b), position, outer)
+        self.put(starts_of(a), position, outer)?;
+        self.put(ends_of(b), position, outer)
     }
 
     fn put(&mut self, list: usize, position: usize, outer: usize) -> Result<(), Memory> {
