@@ -112,7 +112,7 @@ module _ (front : Front) (keep other : Choice) (same : (k : ℕ) → keep k ≡ 
 
 -- the core of the flags that a loop over all axioms left
 pub core_of_flags : (front : Front) (flags : List Bool) (kept : List ℕ) (refuted : Front × List (Step Node)) (without : List (Front × Graph))
-    → IsTried front.case (plain_axioms front.axioms) flags (length front.axioms)
+    → IsTried front.case (plain_axioms front.axioms) flags (length flags)
     → kept ≡ places (flagged flags) (length flags) → IsRefutedWith front (flagged flags) refuted → AreShownWithout front (flagged flags) kept without
     → IsCore front kept refuted without
 core_of_flags front flags kept refuted without t is r s =
@@ -126,7 +126,7 @@ core_of_flags front flags kept refuted without t is r s =
           subst P (sym is) (subst Q size (places_rising (flagged flags) (length flags)));
       minimal = minimal_same front (flagged flags) (among kept) same front.case (plain_axioms front.axioms) (record {
         forbidden = t.forbidden;
-        needed = λ k inside flag. t.needed k (omega (arith, inside, axioms)) flag;
+        needed = λ k inside flag. t.needed k (omega (arith, inside, t.size)) flag;
       });
       refuted = refuted_same front (flagged flags) (among kept) same refuted r;
       without = all_shown_same front (flagged flags) (among kept) same kept without s;

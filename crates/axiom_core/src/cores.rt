@@ -1,5 +1,6 @@
-ghost use Rattle.std.specs.Prelude.{◌↔◌, IfOk};
+ghost use Rattle.std.specs.Prelude.{◌↔◌, length, IfOk};
 ghost use Rattle.pc_ground.specs.Stages.{plain_axioms};
+ghost use Rattle.axiom_core.specs.Choices.{IsTried};
 ghost use Rattle.axiom_core.specs.Cores.{Allow, Forbid, IsCoreOf, HasNone};
 
 use super::answer::Core;
@@ -11,20 +12,28 @@ use pc_ground::Front;
 use solver::Answer;
 use std::alloc::Global;
 
+/// The axioms that stayed, with their certificates.
+fn core_of<S: Search>(alloc: Global, front: &Front, flags: &[bool]) -> Result<Core, Memory>
+    requires { IsTried front.now.case (plain_axioms front.now.axioms) flags.now (length flags.now) }
+    ensures { IfOk result (IsCoreOf front.now) }
+{
+    let kept = numbers_of(alloc, flags)?;
+    let refuted = refuted_by::<S>(alloc, front, flags)?;
+    let without = all_shown::<S>(alloc, front, flags, &kept)?;
+    Ok(Core::Minimal {
+        kept,
+        refuted,
+        without,
+    })
+}
+
 /// A minimal set of the axioms of a front that forbids the outcome.
 fn minimal_core<S: Search>(alloc: Global, front: &Front) -> Result<Core, Memory>
     requires { Forbid front.now.case (plain_axioms front.now.axioms) }
     ensures { IfOk result (IsCoreOf front.now) }
 {
     let flags = shrink::<S>(alloc, front)?;
-    let kept = numbers_of(alloc, &flags)?;
-    let refuted = refuted_by::<S>(alloc, front, &flags)?;
-    let without = all_shown::<S>(alloc, front, &flags, &kept)?;
-    Ok(Core::Minimal {
-        kept,
-        refuted,
-        without,
-    })
+    core_of::<S>(alloc, front, &flags)
 }
 
 /// Which axioms of a front forbid the outcome: none exactly where it is observable, or else a minimal set, in which

@@ -1,8 +1,10 @@
-ghost use Rattle.std.specs.Prelude.{◌≡◌, ◌<◌, length, IfOk, All, IsTrue};
+ghost use Rattle.std.specs.Prelude.{◌≡◌, ◌<◌, ◌++◌, ◌∷◌, [], length, IfOk, OnOk, All, IsTrue};
 ghost use Rattle.pc_ground.specs.Stages.{plain_axioms};
 ghost use Rattle.axiom_core.specs.Chosen.{taken, less, flagged};
 ghost use Rattle.axiom_core.specs.Choices.{IsTried};
 ghost use Rattle.axiom_core.specs.Cores.{Allow, Forbid, IsRefutedWith, IsShownWith, AreShownWithout};
+ghost use Rattle.pc_ground.specs.declared.front.Front.{Front as AnyFront};
+ghost use Rattle.graph_text.specs.declared.graph.Graph.{Graph as AnyGraph};
 
 use super::answer::{AxiomNumbers, Shown};
 use super::chosen::part_of;
@@ -49,6 +51,23 @@ fn shown_without<S: Search>(
     }
 }
 
+/// Puts what shows the outcome without the axiom at `at` behind the others.
+fn add_shown<S: Search>(
+    alloc: Global,
+    front: &Front,
+    flags: &[bool],
+    at: usize,
+    shown: &mut Shown,
+) -> Result<(), Memory>
+    requires size { length flags.now ≡ length front.now.axioms }
+    requires allowed { Allow front.now.case (taken (less at (flagged flags.now)) (plain_axioms front.now.axioms)) }
+    ensures { OnOk result ((s : AnyFront × AnyGraph) × IsShownWith front.now (less at (flagged flags.now)) s
+        × (shown.new ≡ shown.old ++ s ∷ [])) }
+{
+    shown.push(shown_without::<S>(alloc, front, flags, at)?)?;
+    Ok(())
+}
+
 /// For each of these numbers, in order, what shows the outcome on the axioms whose flags are set, but for that one.
 pub(crate) fn all_shown<S: Search>(
     alloc: Global,
@@ -62,7 +81,7 @@ pub(crate) fn all_shown<S: Search>(
 {
     let mut shown = Shown::new(alloc);
     for at in kept.as_slice() {
-        shown.push(shown_without::<S>(alloc, front, flags, *at)?)?;
+        add_shown::<S>(alloc, front, flags, *at, &mut shown)?;
     }
     Ok(shown)
 }

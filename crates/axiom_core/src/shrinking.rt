@@ -28,17 +28,25 @@ fn try_without<S: Search>(
     Ok(())
 }
 
+/// Takes each axiom in file order out where the rest still forbids the outcome.
+fn try_all<S: Search>(alloc: Global, front: &Front, flags: &mut [bool]) -> Result<(), Memory>
+    requires { IsTried front.now.case (plain_axioms front.now.axioms) flags.old 0 }
+    ensures { OnOk result (IsTried front.now.case (plain_axioms front.now.axioms) flags.new (length flags.new)) }
+{
+    for at in 0..flags.len() {
+        try_without::<S>(alloc, front, flags, at)?;
+    }
+    Ok(())
+}
+
 /// Which axioms stay where each in file order is taken out if the rest still forbids the outcome.
 pub(crate) fn shrink<S: Search>(alloc: Global, front: &Front) -> Result<Vec<bool>, Memory>
     requires { Forbid front.now.case (plain_axioms front.now.axioms) }
     ensures { IfOk result (λ flags.
-        IsTried front.now.case (plain_axioms front.now.axioms) flags.items (length front.now.axioms)) }
+        IsTried front.now.case (plain_axioms front.now.axioms) flags.items (length flags.items)) }
 {
-    let count = front.axioms.len();
-    let mut flags = vec![in alloc; true; count]?;
-    for at in 0..count {
-        try_without::<S>(alloc, front, &mut flags, at)?;
-    }
+    let mut flags = vec![in alloc; true; front.axioms.len()]?;
+    try_all::<S>(alloc, front, &mut flags)?;
     Ok(flags)
 }
 

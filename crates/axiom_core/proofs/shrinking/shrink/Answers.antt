@@ -5,12 +5,13 @@ use Rattle.axiom_core.specs.Choices.{IsTried}
 use Rattle.axiom_core.proofs.Tries.{tried_none}
 use Rattle.axiom_core.proofs.shrinking.shrink.Goals as goal
 
-pub loop-at-init : goal.loop-at-init
-loop-at-init g c =
+pub try_all-requires : goal.try_all-requires
+try_all-requires g c =
     let front = c.args.front.now in
     let ps = plain_axioms front.axioms in
-    let set : c.in_ok-flags.flags.items ≡ replicate c.len-count.result true = c.in_ok-flags.ensures.items_if_clones_equal (search rules) in
+    let set : c.in_ok-flags.flags.items ≡ replicate c.len.result true = c.in_ok-flags.ensures.items_if_clones_equal (search rules) in
     let size : length ps ≡ length front.axioms = length-map front.axioms _ in
     let all : c.in_ok-flags.flags.items ≡ replicate (length ps) true =
-    set ∙ ap (λ n. replicate n true) (c.len-count.ensures.value ∙ sym size) in
-    let P : List Bool → Type 0 = λ flags. IsTried front.case ps flags 0 in subst P (sym all) (tried_none front.case ps c.requires)
+    set ∙ ap (λ n. replicate n true) (c.len.ensures.value ∙ sym size) in
+    let P : List Bool → Type 0 = λ flags. IsTried front.case ps flags 0 in
+    rw c.deref_mut.ensures.value (subst P (sym all) (tried_none front.case ps c.requires))

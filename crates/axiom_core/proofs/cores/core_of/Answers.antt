@@ -1,0 +1,11 @@
+use Rattle.axiom_core.proofs.Numbered.{kept_flagged}
+use Rattle.axiom_core.proofs.SameCores.{core_of_flags}
+use Rattle.axiom_core.proofs.cores.core_of.Goals as goal
+
+pub all_shown-requires-clause-flagged : goal.all_shown-requires-clause-flagged
+all_shown-requires-clause-flagged g c = kept_flagged c.args.flags.now c.in_ok-kept.kept c.in_ok-kept.ensures
+
+pub returns : goal.returns
+returns g c =
+    core_of_flags c.args.front.now c.args.flags.now c.in_ok-kept.kept c.in_ok-refuted.refuted c.in_ok-without.without c.requires c.in_ok-kept.ensures
+    c.in_ok-refuted.ensures c.in_ok-without.ensures
