@@ -7,7 +7,7 @@ use Rattle.pc_common.specs.Generated.{HasEnds}
 use Rattle.pc_common.proofs.Elements.{in_from_contains, contains_from_in}
 use Rattle.pc_common.specs.Lines.{Names, Line, Verdict as PlainVerdict, observable, unobservable, verdict, second, version_two, node, edge, step, end, line_words, verdict_text, second_text}
 use Rattle.pc_ground.specs.declared.literal.Literal.{Literal}
-use Rattle.pc_ground.specs.NodeForm.{IsNodeIn}
+use Rattle.pc_ground.specs.NodeForm.{IsNodeIn, AreReadable}
 use Rattle.pc_ground.specs.Numbers.{nodes_of_tree}
 use Rattle.pc_ground.specs.Tree.{Tree as GroundTree}
 use Rattle.pc_common.specs.Steps.{Leaf, path, Step, split, close}
@@ -145,9 +145,9 @@ graph_stuck q g lines text so_far no_end refuses l same begins = go (graph_next 
     go (edge_next a b at has_a has_b) = refuses (edge a b) (inside a has_a, inside b has_b) (has_a, has_b) (same ∙ ap (line_words q.names) at)
     go (graph_end at shown) = no_end (same ∙ ap (line_words q.names) at)
 
-pub graph_goes : (q : Question) → IsAsked q → (old new : PlainGraph) (lines : List Line) (text : List ℕ) → IsGraphSoFar q old lines → Takes q.names text old new
+pub graph_goes : (q : Question) → AreReadable q.names → (old new : PlainGraph) (lines : List Line) (text : List ℕ) → IsGraphSoFar q old lines → Takes q.names text old new
     → All (IsNodeIn q.names) new.nodes → HasEnds new.nodes new.edges → GoesOn q lines text (Graph new)
-graph_goes q asked old new lines text so_far takes of_names ends = record {
+graph_goes q readable old new lines text so_far takes of_names ends = record {
   line = takes.line;
   text_is = takes.text_is;
   only = λ other same begins. go other same (graph_next q old lines other so_far begins);
@@ -164,9 +164,9 @@ graph_goes q asked old new lines text so_far takes of_names ends = record {
 
     go : (other : Line) → text ≡ line_words q.names other → GraphNext q old.nodes old.edges other → other ≡ takes.line
     go other same (node_next a at no_edges within) =
-        at ∙ is_node_line q.names asked.readable takes.line a takes.of_names within (sym takes.text_is ∙ same ∙ ap (line_words q.names) at)
+        at ∙ is_node_line q.names readable takes.line a takes.of_names within (sym takes.text_is ∙ same ∙ ap (line_words q.names) at)
     go other same (edge_next a b at has_a has_b) =
-        at ∙ is_edge_line q.names asked.readable takes.line a b takes.of_names (inside a has_a) (inside b has_b) (sym takes.text_is ∙ same ∙ ap (line_words q.names) at)
+        at ∙ is_edge_line q.names readable takes.line a b takes.of_names (inside a has_a) (inside b has_b) (sym takes.text_is ∙ same ∙ ap (line_words q.names) at)
     go other same (graph_end at shown) = absurd (no_end_graph q.names takes.line takes.of_names (sym takes.text_is ∙ same ∙ ap (line_words q.names) at))
 
 -- a line of a refutation
@@ -316,16 +316,16 @@ pub ended_stuck : (q : Question) (lines : List Line) (text : List ℕ) (v : Verd
 ended_stuck q lines text v certificate l same begins = no_more q (plain_verdict v) lines l certificate begins
 
 -- a line of a graph, judged where the graph is
-pub graph_advanced : (q : Question) → IsAsked q → (names : Names) → names ≡ q.names → (old new : PlainGraph) (lines : List Line) (text : List ℕ) → IsGraphSoFar q old lines
+pub graph_advanced : (q : Question) → AreReadable q.names → (names : Names) → names ≡ q.names → (old new : PlainGraph) (lines : List Line) (text : List ℕ) → IsGraphSoFar q old lines
     → (text ≡ codes "end" → ⊥) → (All (IsNodeIn names) old.nodes → All (IsNodeIn names) new.nodes) → (taken : Bool)
     → MatchBool taken (Takes names text old new) (Refuses names text old × (new ≡ old)) → HasAdvanced q lines text (Graph new) taken
-graph_advanced q asked names same old new lines text so_far no_end of_names true takes =
+graph_advanced q readable names same old new lines text so_far no_end of_names true takes =
     let P : Names → Type 0 = λ ns. Takes ns text old new in
     let Q : Names → Type 0 = λ ns. All (IsNodeIn ns) new.nodes in
     let R : Names → Type 0 = λ ns. All (IsNodeIn ns) old.nodes in
-    graph_goes q asked old new lines text so_far (subst P same takes) (subst Q same (of_names (subst R (sym same) so_far.of_names)))
+    graph_goes q readable old new lines text so_far (subst P same takes) (subst Q same (of_names (subst R (sym same) so_far.of_names)))
     (keeps_ends old new takes.line takes.put so_far.ends)
-graph_advanced q asked names same old new lines text so_far no_end of_names false refuses =
+graph_advanced q readable names same old new lines text so_far no_end of_names false refuses =
     let P : Names → Type 0 = λ ns. Refuses ns text old in
     graph_stuck q old lines text so_far no_end (subst P same refuses.0)
 

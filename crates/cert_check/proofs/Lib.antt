@@ -17,6 +17,8 @@ mod Shown
 mod Verified
 mod Outcomes
 pub mod Alike
+mod GraphJudged
+mod GraphVerified
 mod OneLines
 pub mod OneTexts
 mod StepReads

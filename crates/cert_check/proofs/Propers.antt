@@ -18,7 +18,7 @@ use Rattle.pc_ground.specs.Refutes.{all_signed, Branch, Runs, IsPartial, asserte
 use Rattle.pc_ground.proofs.FlatRows.{subtree_size, size_pos}
 use Rattle.pc_ground.proofs.Turned.{size_turned}
 use Rattle.graph_text.specs.Graphs.{graph_lines}
-use Rattle.cert_check.specs.Certificates.{Question, header, tree_lines, IsCertificate, BeginsWell, in_header, in_graph, in_tree, whole}
+use Rattle.cert_check.specs.Certificates.{Question, header, tree_lines, IsGraphCertificate, IsCertificate, BeginsWell, in_header, in_graph, in_tree, whole}
 use Rattle.cert_check.specs.Proper.{IsProper, IsAsked}
 use Rattle.cert_check.proofs.Firsts.{all_front}
 use Rattle.cert_check.proofs.StepNodes.{StepHas, runs_have, step_in}
@@ -82,14 +82,17 @@ proper_end : (names : Names) → All (IsProper names) (end ∷ [])
 proper_end names = All-cons (IsProper names) end [] tt (All-nil (IsProper names))
 
 -- a certificate's lines
-pub proper_certificate : (q : Question) → IsAsked q → (v : Verdict) (ls : List Line) → IsCertificate q v ls → All (IsProper q.names) ls
-proper_certificate q asked observable ls graph =
+pub proper_seen : (q : Question) (ls : List Line) → IsGraphCertificate q ls → All (IsProper q.names) ls
+proper_seen q ls graph =
     let P : List Line → Type 0 = λ xs. All (IsProper q.names) xs in
     let Q : List Node → Type 0 = λ ns. All (IsNodeOf (numbers_of q.names.stages) q.names.ops) ns in
     let body = proper_graph q.names graph.nodes graph.edges (subst Q graph.generated.nodes_are graph.of_both.1) graph.ends in
     subst P (sym graph.lines_are)
     (All-append (IsProper q.names) (header q observable) _ (proper_header q.names q observable)
     (All-append (IsProper q.names) (graph_lines graph.nodes graph.edges) (end ∷ []) body (proper_end q.names)))
+
+pub proper_certificate : (q : Question) → IsAsked q → (v : Verdict) (ls : List Line) → IsCertificate q v ls → All (IsProper q.names) ls
+proper_certificate q asked observable ls graph = proper_seen q ls graph
 proper_certificate q asked unobservable ls (v, tree) =
     let P : List Line → Type 0 = λ xs. All (IsProper q.names) xs in
     subst P (sym tree.lines_are)

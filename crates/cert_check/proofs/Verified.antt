@@ -41,7 +41,7 @@ same_verdict q r v w raws ls ms is are c d =
 of_verdict : (q : Question) (text : List ℕ) (v w : PlainVerdict) → v ≡ w → IsCertificateText q w text → IsCertificateText q v text
 of_verdict q text v w same c = (let P : PlainVerdict → Type 0 = λ u. IsCertificateText q u text in subst P (sym same) c)
 
-ended_verified : (q r : Question) (text : List ℕ) → length text ≤ MAX_CERTIFICATE → (made : IsMadeOf (RawWhole q) text) → (stage : Stage)
+pub ended_verified : (q r : Question) (text : List ℕ) → length text ≤ MAX_CERTIFICATE → (made : IsMadeOf (RawWhole q) text) → (stage : Stage)
     → RawStands r stage made.lines → is_end stage ≡ true → Verified q text (checked_of stage)
 ended_verified q r text short made Start st e = absurd (no e)
   where

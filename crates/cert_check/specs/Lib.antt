@@ -10,3 +10,6 @@ pub mod RawLines
 pub mod Fed
 pub mod Ones
 pub mod StepTexts
+pub mod GraphStages
+pub mod GraphLaws
+pub mod GraphFed

@@ -15,7 +15,8 @@
 //! `specs/Certificates.antt` states what each has to be. `Checker` takes a text in pieces and judges each line when
 //! it is whole; `check_text` takes a whole text. The answer is the verdict, or the first line with
 //! which no certificate can continue; and what it says of the outcome holds. `check_one` judges a whole text by the rules
-//! of version 1 alone, and gives the steps of a refutation.
+//! of version 1 alone, and gives the steps of a refutation. `GraphChecker` takes a text whose first line is not
+//! `unobservable`: it needs the parts of a front alone, so that no ground tree is built for it.
 //!
 //! The check shares neither the search nor its graph: a graph is judged by `graph_check`, which evaluates the
 //! closed axioms, and a refutation by `tree_check`, step by step.
@@ -23,6 +24,10 @@
 
 mod checked;
 mod checker;
+mod graph_checker;
+mod graph_judge;
+mod graph_next;
+mod graph_stage;
 mod header;
 mod judge;
 mod next;
@@ -33,5 +38,6 @@ mod steps;
 
 pub use checked::Checked;
 pub use checker::{Checker, check_text};
+pub use graph_checker::GraphChecker;
 pub use header::{Verdict, second_line, verdict_line};
 pub use one::{One, check_one};

@@ -1,3 +1,4 @@
 pub mod PieceByPiece
+pub mod FirstLine
 pub mod OneVerdict
 pub mod VerifyOutcomes

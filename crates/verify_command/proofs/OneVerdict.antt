@@ -1,5 +1,5 @@
 -- A text is one thing to a model and a case, and what it is says whether the outcome is observable.
-use Rattle.std.proofs.Common.{◌≡◌, ◌⊎◌, inl, inr, ℕ, ◌≤◌, ◌<◌, ◌+◌, List, [], ◌++◌, Option, Some, length, refl, sym, ◌∙◌, ap, subst, arith, length-append}
+use Rattle.std.proofs.Common.{◌≡◌, ◌⊎◌, inl, inr, ℕ, ◌≤◌, ◌<◌, ◌+◌, List, [], ◌++◌, length, refl, sym, ◌∙◌, ap, subst, arith, length-append}
 use Rattle.std.proofs.lemmas.Bool.{cases_order}
 use Rattle.pc_common.specs.Case.{Case}
 use Rattle.pc_common.specs.declared.status.Status.TheVariants.{Observable as is_observable, Unobservable as is_unobservable, CertRefused as is_cert_refused}
@@ -10,13 +10,11 @@ use Rattle.pc_common.specs.declared.limits.TheConstants.{MAX_CERTIFICATE}
 use Rattle.line_judge.specs.Texts.{IsRefusedAt}
 use Rattle.cert_check.specs.RawLines.{RawBegins, RawWhole}
 use Rattle.cert_check.specs.Verified.{Verified, seen, unseen, too_long, refused}
-use Rattle.cert_check.specs.Fed.{IsFed}
-use Rattle.cert_check.specs.declared.checker.Checker.{Checker}
 use Rattle.cert_check.specs.declared.checked.Checked.{Checked}
 use Rattle.cert_check.specs.declared.checked.Checked.TheVariants.{Refused}
 use Rattle.command_base.specs.Questions.{question_by}
 use Rattle.command_base.specs.CheckedTexts.{checked_status}
-use Rattle.verify_command.specs.Reading.{TookFile}
+use Rattle.verify_command.specs.Reading.{TookFirst}
 use Rattle.verify_command.proofs.PieceByPiece.{append_nil}
 use Rattle.command_base.specs.VerdictStatus.{IsTrueStatus}
 use Rattle.command_base.proofs.CertificateTruth.{graph_observable, tree_unobservable}
@@ -75,20 +73,21 @@ verified_past q text rest found long (unseen short x) = absurd (both_lengths tex
 verified_past q text rest found long (refused n short none x) = absurd (both_lengths text short long)
 verified_past q text rest found long (too_long long2) = too_long (let a = length-append text rest in omega (arith, a, long))
 
--- a checker of a question that took nothing before, and then a file
-pub file_verified : {old new : Checker} {q : Question} {held : Option (List ℕ)} {after : List ℕ} (found : Checked) → IsFed old q [] → TookFile old new held after
-    → ((text : List ℕ) → IsFed new q text → Verified q text found) → (bytes : List ℕ) × (held ≡ Some bytes) × Verified q bytes found
-file_verified {q = q} {after = after} found fed file finish = (file.whole, file.held_is, go file.first.enough)
+-- a checker of a question that took nothing before, and then a file: what it finds of first bytes, the file is
+pub file_verified : {C : Type 0} (is_fed : C → Question → List ℕ → Type 0) {old new : C} {q : Question} {file after : List ℕ} (found : Checked) → is_fed old q []
+    → TookFirst is_fed old new (MAX_CERTIFICATE + 1) file after
+    → ((text rest : List ℕ) → file ≡ text ++ rest → is_fed new q text → Verified q text found) → Verified q file found
+file_verified is_fed {q = q} {file = file} {after = after} found fed first finish = go first.enough
   where
     bytes : List ℕ
-    bytes = file.first.bytes
+    bytes = first.bytes
 
     here : Verified q bytes found
-    here = finish bytes (file.first.took q [] fed)
+    here = finish bytes after first.are_first (first.took q [] fed)
 
     P : List ℕ → Type 0
     P t = Verified q t found
 
-    go : (after ≡ []) ⊎ (length bytes ≡ MAX_CERTIFICATE + 1) → Verified q file.whole found
-    go (inl none) = subst P (sym (file.first.are_first ∙ ap (λ (xs : List ℕ). bytes ++ xs) none ∙ append_nil bytes)) here
-    go (inr long) = subst P (sym file.first.are_first) (verified_past q bytes after found (omega (arith, long)) here)
+    go : (after ≡ []) ⊎ (length bytes ≡ MAX_CERTIFICATE + 1) → Verified q file found
+    go (inl none) = subst P (sym (first.are_first ∙ ap (λ (xs : List ℕ). bytes ++ xs) none ∙ append_nil bytes)) here
+    go (inr long) = subst P (sym first.are_first) (verified_past q bytes after found (omega (arith, long)) here)

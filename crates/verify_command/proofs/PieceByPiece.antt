@@ -1,66 +1,102 @@
 -- A checker that is fed piece by piece.
-use Rattle.std.proofs.Common.{◌≡◌, inl, inr, ℕ, ◌+◌, ◌-◌, ◌≤◌, List, [], ◌∷◌, ◌++◌, length, take, refl, sym, ◌∙◌, ap, subst, arith, append_assoc, length-append}
+use Rattle.std.proofs.Common.{◌≡◌, ◌⊎◌, inl, inr, ℕ, ◌+◌, ◌-◌, ◌≤◌, ◌<◌, List, [], ◌∷◌, ◌++◌, length, take, refl, sym, ◌∙◌, ap, subst, arith, append_assoc, length-append}
 use Rattle.std.proofs.lemmas.List.{take-append-le, length-take-le}
-use Rattle.cert_check.specs.Fed.{IsFed}
-use Rattle.cert_check.specs.declared.checker.Checker.{Checker}
-use Rattle.verify_command.specs.Reading.{Took, TookFirst}
-
--- the checker took first bytes of what was left, and may take this many more
-pub record TookSome (old new : Checker) (before after : List ℕ) (left : ℕ) : Type 0 where
-  pub bytes : List ℕ
-  pub are_first : before ≡ bytes ++ after
-  pub count : length bytes + left ≡ 67108865
-  pub took : Took old new bytes
+use Rattle.cert_check.specs.Certificates.{Question}
+use Rattle.verify_command.specs.Reading.{IsEnough, Took, TookFirst}
 
 pub append_nil : (xs : List ℕ) → xs ++ [] ≡ xs
 append_nil [] = refl
 append_nil (x ∷ xs) = ap (λ ys. x ∷ ys) (append_nil xs)
-
-pub took_none : (c : Checker) (before : List ℕ) → TookSome c c before before 67108865
-took_none c before = record {
-  bytes = [];
-  are_first = refl;
-  count = refl;
-  took = λ q text fed. subst (λ (t : List ℕ). IsFed c q t) (sym (append_nil text)) fed;
-}
-
-pub took_more : {old mid new : Checker} {before at after : List ℕ} {left : ℕ} → TookSome old mid before at left
-    → (piece : List ℕ) (n : ℕ) → at ≡ piece ++ after → length piece ≡ n → n ≤ left → Took mid new piece → TookSome old new before after (left - n)
-took_more {old} {mid} {new} {before} {at} {after} {left} t piece n is long fits took = record {
-  bytes = t.bytes ++ piece;
-  are_first = t.are_first ∙ ap (λ (xs : List ℕ). t.bytes ++ xs) is ∙ sym (append_assoc t.bytes piece after);
-  count = (let a = length-append t.bytes piece in let b = t.count in omega arith);
-  took = λ q text fed. subst (λ (u : List ℕ). IsFed new q u) (append_assoc text t.bytes piece) (took q (text ++ t.bytes) (t.took q text fed));
-}
-
--- so with the first bytes of a buffer that a read filled
-pub took_read : {old mid new : Checker} {before at after : List ℕ} {left : ℕ} → TookSome old mid before at left
-    → (n : ℕ) (filled rest : List ℕ) → at ≡ take n filled ++ after → n ≤ length filled → n ≤ left → Took mid new (take n (filled ++ rest)) → TookSome old new before after (left - n)
-took_read {mid = mid} {new = new} t n filled rest is short fits took =
-    took_more t (take n filled) n is (length-take-le n filled short) fits (subst (λ (piece : List ℕ). Took mid new piece) (take-append-le n filled rest short) took)
 
 second_nil : (xs ys : List ℕ) → [] ≡ xs ++ ys → ys ≡ []
 second_nil [] ys e = sym e
 second_nil (x ∷ xs) ys e = cc
 
 -- a read says that nothing is left
-pub took_all : {old new : Checker} {before at after : List ℕ} {left : ℕ} → TookSome old new before at left → (piece : List ℕ) → at ≡ piece ++ after → at ≡ []
-    → TookFirst old new before after
-took_all {after = after} t piece is none =
-    let gone : after ≡ [] = second_nil piece after (sym none ∙ is) in record {
-      bytes = t.bytes;
-      are_first = t.are_first ∙ ap (λ (xs : List ℕ). t.bytes ++ xs) (none ∙ sym gone);
-      within = (let b = t.count in omega arith);
-      enough = inl gone;
-      took = t.took;
-    }
+pub none_left : {at : List ℕ} (piece after : List ℕ) → at ≡ piece ++ after → at ≡ [] → after ≡ []
+none_left piece after is none = second_nil piece after (sym none ∙ is)
 
--- no more is taken
-pub took_most : {old new : Checker} {before after : List ℕ} {left : ℕ} → TookSome old new before after left → left ≤ 0 → TookFirst old new before after
-took_most t none = record {
-  bytes = t.bytes;
-  are_first = t.are_first;
-  within = (let b = t.count in omega arith);
-  enough = inr (let b = t.count in omega arith);
-  took = t.took;
-}
+pub same_left : (before bytes : List ℕ) {at : List ℕ} (piece after : List ℕ) → before ≡ bytes ++ at → at ≡ piece ++ after → at ≡ [] → before ≡ bytes ++ after
+same_left before bytes piece after first is none =
+    first ∙ ap (λ (xs : List ℕ). bytes ++ xs) (none ∙ sym (none_left piece after is none))
+
+-- the checker took first bytes of what was left, and may take this many more
+pub record TookSome {C : Type 0} (is_fed : C → Question → List ℕ → Type 0) (old new : C) (limit : ℕ) (before after : List ℕ) (left : ℕ) : Type 0 where
+  pub bytes : List ℕ
+  pub are_first : before ≡ bytes ++ after
+  pub count : length bytes + left ≡ limit
+  pub took : Took is_fed old new bytes
+
+module _ {C : Type 0} (is_fed : C → Question → List ℕ → Type 0) where
+  pub took_none : (c : C) (limit : ℕ) (before : List ℕ) → TookSome is_fed c c limit before before limit
+  took_none c limit before = record {
+    bytes = [];
+    are_first = refl;
+    count = omega arith;
+    took = λ q text fed. subst (λ (t : List ℕ). is_fed c q t) (sym (append_nil text)) fed;
+  }
+
+  pub took_more : {old mid new : C} {limit : ℕ} {before at after : List ℕ} {left : ℕ} → TookSome is_fed old mid limit before at left
+      → (piece : List ℕ) (n : ℕ) → at ≡ piece ++ after → length piece ≡ n → n ≤ left → Took is_fed mid new piece → TookSome is_fed old new limit before after (left - n)
+  took_more {old} {mid} {new} {limit} {before} {at} {after} {left} t piece n is long fits took = record {
+    bytes = t.bytes ++ piece;
+    are_first = t.are_first ∙ ap (λ (xs : List ℕ). t.bytes ++ xs) is ∙ sym (append_assoc t.bytes piece after);
+    count = (let a = length-append t.bytes piece in let b = t.count in omega arith);
+    took = λ q text fed. subst (λ (u : List ℕ). is_fed new q u) (append_assoc text t.bytes piece) (took q (text ++ t.bytes) (t.took q text fed));
+  }
+
+  -- so with the first bytes of a buffer that a read filled
+  pub took_read : {old mid new : C} {limit : ℕ} {before at after : List ℕ} {left : ℕ} → TookSome is_fed old mid limit before at left
+      → (n : ℕ) (filled rest : List ℕ) → at ≡ take n filled ++ after → n ≤ length filled → n ≤ left → Took is_fed mid new (take n (filled ++ rest)) → TookSome is_fed old new limit before after (left - n)
+  took_read {mid = mid} {new = new} t n filled rest is short fits took =
+      took_more t (take n filled) n is (length-take-le n filled short) fits (subst (λ (piece : List ℕ). Took is_fed mid new piece) (take-append-le n filled rest short) took)
+
+  pub took_all : {old new : C} {limit : ℕ} {before at after : List ℕ} {left : ℕ} → TookSome is_fed old new limit before at left → (piece : List ℕ) → at ≡ piece ++ after → at ≡ []
+      → TookFirst is_fed old new limit before after
+  took_all {before = before} {after = after} t piece is none = record {
+    bytes = t.bytes;
+    are_first = same_left before t.bytes piece after t.are_first is none;
+    within = (let b = t.count in omega arith);
+    enough = inl (none_left piece after is none);
+    took = t.took;
+  }
+
+  -- no more is taken
+  pub took_most : {old new : C} {limit : ℕ} {before after : List ℕ} {left : ℕ} → TookSome is_fed old new limit before after left → left ≤ 0 → TookFirst is_fed old new limit before after
+  took_most t none = record {
+    bytes = t.bytes;
+    are_first = t.are_first;
+    within = (let b = t.count in omega arith);
+    enough = inr (let b = t.count in omega arith);
+    took = t.took;
+  }
+
+  -- few first bytes are all
+  pub took_few : {old new : C} (limit : ℕ) {left : List ℕ} (first : List ℕ) → length first ≤ limit → Took is_fed old new first
+      → length first < 13 → IsEnough first left → TookFirst is_fed old new limit (first ++ left) left
+  took_few limit {left} first short took few enough = record {
+    bytes = first;
+    are_first = refl;
+    within = short;
+    enough = all enough;
+    took = took;
+  }
+    where
+      all : IsEnough first left → (left ≡ []) ⊎ (length first ≡ limit)
+      all (inl many) = absurd (omega (arith, few, many))
+      all (inr none) = inl none
+
+  -- what was read before is taken first
+  pub took_then : {old mid new : C} (limit : ℕ) {left after : List ℕ} (first : List ℕ) → length first ≤ limit → Took is_fed old mid first
+      → TookFirst is_fed mid new (limit - length first) left after → TookFirst is_fed old new limit (first ++ left) after
+  took_then {old} {mid} {new} limit {left} {after} first short took t = record {
+    bytes = first ++ t.bytes;
+    are_first = ap (λ (xs : List ℕ). first ++ xs) t.are_first ∙ sym (append_assoc first t.bytes after);
+    within = (let a = length-append first t.bytes in let b = t.within in omega (arith, short));
+    enough = most t.enough;
+    took = λ q text fed. subst (λ (u : List ℕ). is_fed new q u) (append_assoc text first t.bytes) (t.took q (text ++ first) (took q text fed));
+  }
+    where
+      most : (after ≡ []) ⊎ (length t.bytes ≡ limit - length first) → (after ≡ []) ⊎ (length (first ++ t.bytes) ≡ limit)
+      most (inl none) = inl none
+      most (inr long) = inr (let a = length-append first t.bytes in omega (arith, short, long))

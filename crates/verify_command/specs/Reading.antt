@@ -1,32 +1,28 @@
 -- What a checker is fed of a file, and what a command returns by it.
-use Rattle.std.specs.Prelude.{◌≡◌, ◌⊎◌, ◌≤◌, ◌+◌, ◌++◌, ℕ, List, [], Option, Some, Result, Ok, Err, length}
+use Rattle.std.specs.Prelude.{◌≡◌, ◌⊎◌, ◌≤◌, ◌++◌, ℕ, List, [], Result, Ok, Err, length}
 use Rattle.cert_check.specs.Certificates.{Question}
-use Rattle.pc_common.specs.declared.limits.TheConstants.{MAX_CERTIFICATE}
-use Rattle.cert_check.specs.Fed.{IsFed}
-use Rattle.cert_check.specs.declared.checker.Checker.{Checker}
 use Rattle.cert_check.specs.declared.checked.Checked.{Checked}
 use Rattle.command_base.specs.declared.ending.Ending.{Ending}
 use Rattle.command_base.specs.declared.ending.Ending.TheVariants.{ReadFault as a_read_fault, Memory as a_memory}
-use Rattle.verify_command.specs.declared.reading.FeedEnd.{FeedEnd}
-use Rattle.verify_command.specs.declared.reading.FeedEnd.TheVariants.{ReadFault as a_failed_call, Memory as no_memory}
+use Rattle.verify_command.specs.declared.feed_end.FeedEnd.{FeedEnd}
+use Rattle.verify_command.specs.declared.feed_end.FeedEnd.TheVariants.{ReadFault as a_failed_call, Memory as no_memory}
+
+-- these first bytes tell whether the first line is unobservable: they are as many, with its LF, or nothing else is left
+abbrev pub IsEnough : List ℕ → List ℕ → Type 0
+IsEnough first left = (13 ≤ length first) ⊎ (left ≡ [])
 
 -- whatever the old checker was fed, the new one was fed with these bytes behind it
-abbrev pub Took : Checker → Checker → List ℕ → Type 0
-Took old new bytes = (q : Question) (text : List ℕ) → IsFed old q text → IsFed new q (text ++ bytes)
+abbrev pub Took : {C : Type 0} → (C → Question → List ℕ → Type 0) → C → C → List ℕ → Type 0
+Took is_fed old new bytes = (q : Question) (text : List ℕ) → is_fed old q text → is_fed new q (text ++ bytes)
 
--- the checker took the first bytes of what was left: all of them, or one more than a certificate may have
-pub record TookFirst (old new : Checker) (before after : List ℕ) : Type 0 where
+-- the checker took the first bytes of what was left: all of them, or as many as the limit
+pub record TookFirst {C : Type 0} (is_fed : C → Question → List ℕ → Type 0) (old new : C) (limit : ℕ)
+    (before after : List ℕ) : Type 0 where
   pub bytes : List ℕ
   pub are_first : before ≡ bytes ++ after
-  pub within : length bytes ≤ MAX_CERTIFICATE + 1
-  pub enough : (after ≡ []) ⊎ (length bytes ≡ MAX_CERTIFICATE + 1)
-  pub took : Took old new bytes
-
--- so of a file that is held, of which this is left
-pub record TookFile (old new : Checker) (held : Option (List ℕ)) (after : List ℕ) : Type 0 where
-  pub whole : List ℕ
-  pub held_is : held ≡ Some whole
-  pub first : TookFirst old new whole after
+  pub within : length bytes ≤ limit
+  pub enough : (after ≡ []) ⊎ (length bytes ≡ limit)
+  pub took : Took is_fed old new bytes
 
 -- where the file was checked, or could not be
 abbrev pub returned : Result Checked FeedEnd → Result Checked Ending

@@ -7,9 +7,9 @@ ghost use Rattle.verify_command.specs.Reading.{returned};
 ghost use Rattle.verify_command.specs.VerifyAnswers.{IsJudged};
 
 use super::checking::check_file;
-use super::reading::FeedEnd;
+use super::feed_end::FeedEnd;
 use cert_check::Checked;
-use command_base::{Ending, Inputs, SecondFile, read_inputs};
+use command_base::{Ending, Inputs, SecondFile, read_parts};
 use pc_common::Files;
 use std::alloc::Global;
 
@@ -25,6 +25,7 @@ fn returned_of(checked: Result<Checked, FeedEnd>) -> Result<Checked, Ending>
 }
 
 /// Reads the two files, and where they have no fault the third: what it is to them, or how the command ends before.
+/// The ground tree is built where the third file's first line is `unobservable`, and else never.
 pub fn verify<S: SecondFile, F: Files>(
     alloc: Global,
     inputs: Inputs<'_>,
@@ -35,11 +36,10 @@ pub fn verify<S: SecondFile, F: Files>(
         (IsJudged ((F.view files.old).holds) certificate.now)
         files.old files.new (returned_status checked_status result) (returned_text checked_text result) }
 {
-    let front = match read_inputs::<S, F>(alloc, inputs, files) {
-        Ok(front) => front,
+    let parts = match read_parts::<S, F>(alloc, inputs, files) {
+        Ok(parts) => parts,
         Err(ending) => return Err(ending),
     };
-    let checked = check_file(alloc, &front, certificate, files);
-    drop(front);
+    let checked = check_file(alloc, parts, certificate, files);
     returned_of(checked)
 }

@@ -7,14 +7,18 @@
 //! assert!(rt; checked == Checked::Refused(1));
 //! ```
 //!
-//! Where the two files have no fault it reads the third, to its end or to one byte past 67,108,864, by pieces that a
-//! `Checker` takes. It returns what the text is, `Checked`, whose text is one line and whose status is the verdict's or
-//! `CertRefused`; or the `Ending` of the two files, or a failed call or want of memory at the third. The search has no
-//! part in it.
+//! Where the two files have no fault it reads the third, to its end or to one byte past 67,108,864, by pieces. It
+//! returns what the text is, `Checked`, whose text is one line and whose status is the verdict's or `CertRefused`; or
+//! the `Ending` of the two files, or a failed call or want of memory at the third. The search has no part in it.
+//!
+//! The first bytes of the third file tell what is built: where its first line is `unobservable`, the axioms are
+//! grounded, and a `Checker` takes the text. Else a `GraphChecker` takes it, which reads no ground tree.
 #![tactic(auto)]
 
 mod checking;
 mod command;
+mod feed_end;
 mod reading;
+mod text_check;
 
 pub use command::verify;

@@ -29,7 +29,7 @@ returns-then-not-is_end c =
     (λ good taken asked same lines st.
     let P : Stage → Type 0 = λ s. StandsAt q s lines in
     let so_far : IsGraphSoFar q old lines = subst P c.in-Graph.is st in
-    graph_advanced q asked names same old new lines text so_far (λ e. clash (c.is_end.ensures.1 e) c.if-not-is_end.true) c.take.ensures.of_names good taken)
+    graph_advanced q asked.readable names same old new lines text so_far (λ e. clash (c.is_end.ensures.1 e) c.if-not-is_end.true) c.take.ensures.of_names good taken)
     c.take.ensures.taken
 
 pub returns-then-not-is_end-2 : goal.returns-then-not-is_end-2

@@ -1,0 +1,15 @@
+use Rattle.std.proofs.Common.{◌≡◌, true, false, Bool, sym, ◌∙◌}
+use Rattle.cert_check.specs.declared.header.Verdict.TheVariants.{Observable}
+use Rattle.cert_check.proofs.Advances.{start_goes}
+use Rattle.cert_check.proofs.GraphJudged.{first_stuck}
+use Rattle.cert_check.proofs.graph_next.after_start.Goals as goal
+
+clash : {b : Bool} → b ≡ true → b ≡ false → ⊥
+clash t f = (let e : true ≡ false = sym t ∙ f in cc)
+
+pub returns-then-not-is_observable : goal.returns-then-not-is_observable
+returns-then-not-is_observable c = λ q lines none other.
+    first_stuck q lines c.args.line.now none (λ seen. clash (c.is_observable.ensures.1 seen) c.if-not-is_observable.true) other
+
+pub returns : goal.returns
+returns c = λ q lines none. start_goes q lines c.args.line.now Observable none (c.is_observable.ensures.0 c.if-not-is_observable.false)
