@@ -1,5 +1,5 @@
 -- From what a search keeps to what it hands out.
-use Rattle.std.proofs.Common.{◌≡◌, ◌<◌, inl, inr, ℕ, zero, suc, ◌+◌, ◌-◌, ◌^◌, true, List, [], ◌∷◌, Option, Some, None, map, reverse, length, refl, sym, ap, ◌∙◌, subst, arith, get_or}
+use Rattle.std.proofs.Common.{◌≡◌, ◌<◌, inl, inr, ℕ, zero, suc, ◌+◌, ◌-◌, ◌^◌, true, List, [], ◌∷◌, Option, Some, None, reverse, length, refl, sym, ap, ◌∙◌, subst, arith, get_or}
 use Rattle.std.specs.Prelude.{Contains, All, slice_get, Bool, false, ◌==◌, nat_lt}
 use Rattle.std.specs.Option.{option_map}
 use Rattle.std.proofs.lemmas.List.{append-nil}
@@ -10,8 +10,6 @@ use Rattle.pc_common.specs.Steps.{Step, close, false_step}
 use Rattle.pc_common.proofs.Elements.{In, contains_from_in, in_map, in_front, in_back, true_or_false}
 use Rattle.pc_ground.specs.declared.literal.Literal.{Literal}
 use Rattle.pc_ground.specs.declared.row.Row.{Row}
-use Rattle.pc_ground.specs.declared.node_key.NodeKey.{NodeKey}
-use Rattle.pc_ground.specs.Keys.{key_node}
 use Rattle.pc_ground.specs.Rows.{rows_of}
 use Rattle.pc_ground.specs.Numbers.{AreDistinct}
 use Rattle.pc_ground.specs.Tree.{Tree, always, never, leaf, both, either, turned, size_of}
@@ -32,6 +30,7 @@ use Rattle.graph_text.specs.declared.graph.Graph.{Graph as PlainGraph}
 use Rattle.order_graph.specs.State.{Graph, IsGraph}
 use Rattle.order_graph.proofs.GeneratesWorld.{consistent_generate}
 use Rattle.solver.specs.Spelled.{spelled, IsSpelled}
+use Rattle.solver.specs.Numbered.{Numbered}
 use Rattle.solver.specs.Renamed.{tree_over, rows_over, node_at, renamed_tree}
 use Rattle.solver.specs.Below.{IsRowBelow}
 use Rattle.solver.specs.Met.{IsMet, IsMetUnder}
@@ -161,12 +160,12 @@ plain_part t false p s e = e
 plain_part t true p s e = subtree_denied t true p s e
 
 -- what the type of a search keeps, as its clauses say it
-pub searching : (v : Version) (keys : List NodeKey) (rows : List (Row ℕ)) (g : Graph) (here : List Place) (ls : List Later) (ss : List (Step Node)) (first : Place)
-    → IsSearch v keys rows g here ls ss first
-    → IsSearching (record { version = v; nodes = map key_node keys; rows = rows; graph = g; steps = ss; branches = branches_of rows here ls })
-searching v keys rows g here ls ss first s =
-    let nodes = map key_node keys in
-    let t = spelled rows in
+pub searching : (v : Version) (tree : Numbered) (g : Graph) (here : List Place) (ls : List Later) (ss : List (Step Node)) (first : Place)
+    → IsSearch v tree g here ls ss first
+    → IsSearching (record { version = v; nodes = tree.nodes; rows = tree.rows; graph = g; steps = ss; branches = branches_of tree.rows here ls })
+searching v tree g here ls ss first s =
+    let nodes = tree.nodes in
+    let t = spelled tree.rows in
     let q = place_signed first in
     let candidate = s.candidate in
     let part = turned q.negated (either candidate.left candidate.right) in

@@ -1,6 +1,7 @@
 pub mod Spelled
 pub mod Renamed
 pub mod Below
+pub mod Numbered
 pub mod Met
 pub mod Places
 pub mod Opens

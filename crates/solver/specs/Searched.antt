@@ -1,19 +1,15 @@
 -- What a search is seen as, and what it keeps.
-use Rattle.std.specs.Prelude.{ℕ, ◌≡◌, ◌<◌, ◌≤◌, ◌^◌, List, [], ◌∷◌, Some, Contains, All, length, map}
+use Rattle.std.specs.Prelude.{ℕ, ◌≡◌, ◌<◌, ◌^◌, List, [], ◌∷◌, Some, Contains, length}
 use Rattle.pc_common.specs.World.{Node}
 use Rattle.pc_common.specs.Steps.{Step}
-use Rattle.pc_common.specs.declared.limits.TheConstants.{MAX_NODES}
-use Rattle.pc_ground.specs.declared.node_key.NodeKey.{NodeKey}
 use Rattle.pc_ground.specs.declared.row.Row.{Row}
-use Rattle.pc_ground.specs.Keys.{key_node}
-use Rattle.pc_ground.specs.Numbers.{AreDistinct}
-use Rattle.pc_ground.specs.Tree.{Tree, never}
+use Rattle.pc_ground.specs.Tree.{Tree}
 use Rattle.pc_ground.specs.declared.version.Version.{Version}
 use Rattle.pc_ground.specs.Refutes.{Signed, Branch, subtree_at, literals_of, IsPartial}
 use Rattle.order_graph.specs.State.{Graph}
-use Rattle.solver.specs.Spelled.{spelled, IsSpelled}
+use Rattle.solver.specs.Spelled.{spelled}
+use Rattle.solver.specs.Numbered.{Numbered, HasNoFalse}
 use Rattle.solver.specs.Renamed.{tree_over}
-use Rattle.solver.specs.Below.{IsRowBelow}
 use Rattle.solver.specs.Met.{IsMetUnder}
 use Rattle.solver.specs.Places.{place_signed, IsCandidate}
 use Rattle.solver.specs.Opens.{positions, opens, IsState}
@@ -57,14 +53,10 @@ pub record IsSearching (s : Searched) : Type 0 where
   pub not_met : IsMetUnder place.negated s.graph.literals part → ⊥
 
 -- what the fields of a search keep
-pub record IsSearch (v : Version) (keys : List NodeKey) (rows : List (Row ℕ)) (graph : Graph) (asserted : List Place) (later : List Later) (steps : List (Step Node)) (place : Place) : Type 0 where
-  pub tree : IsSpelled rows
-  pub few : length keys ≤ MAX_NODES
-  pub distinct : AreDistinct (map key_node keys)
-  pub below : All (IsRowBelow (length keys)) rows
-  pub no_false : (p : ℕ) → subtree_at (spelled rows) p ≡ Some never → ⊥
-  pub state : IsState v (map key_node keys) (spelled rows) graph asserted later steps []
-  pub candidate : IsCandidate (spelled rows) (positions asserted) (place_signed place)
+pub record IsSearch (v : Version) (tree : Numbered) (graph : Graph) (asserted : List Place) (later : List Later) (steps : List (Step Node)) (place : Place) : Type 0 where
+  pub no_false : HasNoFalse tree
+  pub state : IsState v tree.nodes (spelled tree.rows) graph asserted later steps []
+  pub candidate : IsCandidate (spelled tree.rows) (positions asserted) (place_signed place)
   pub small : place.position < 2 ^ 63
 
 abbrev pub branches_of : List (Row ℕ) → List Place → List Later → List Branch

@@ -1,20 +1,20 @@
-ghost use Rattle.std.specs.Prelude.{◌≡◌, ◌<◌, ◌≤◌, ◌^◌, ℕ, not, All, length, take, slice_index, IfOk};
+ghost use Rattle.std.specs.Prelude.{◌≡◌, ◌<◌, ◌^◌, ℕ, not, length, take, slice_index, IfOk};
 ghost use Rattle.pc_ground.specs.Tree.{size_of};
 ghost use Rattle.pc_ground.specs.Refutes.{literals_of};
 ghost use Rattle.order_graph.specs.State.{IsCut};
-ghost use Rattle.solver.specs.Spelled.{spelled, IsSpelled};
+ghost use Rattle.solver.specs.Spelled.{spelled};
 ghost use Rattle.solver.specs.Below.{IsRowBelow};
 ghost use Rattle.solver.specs.Places.{asserted_at, denied_positions, side_positions, IsDeniedIn, IsSideIn};
 ghost use Rattle.solver.specs.Opens.{positions, IsFurther, HasAsserted, HasAddedRow, HasAssertedRow};
 
 use super::agenda::Agenda;
 use super::asserted::Asserted;
+use super::numbered_tree::NumberedTree;
 use super::place::Place;
-use super::rows::row_at;
 use super::side::Side;
 use order_graph::{Added, Clash, Mark, OrderGraph};
 use pc_common::Memory;
-use pc_ground::{NodeKey, Row, RowKind};
+use pc_ground::{Row, RowKind};
 use std::sync::ledger::Ledger;
 use undo_trail::Steps;
 
@@ -57,27 +57,26 @@ fn enter_row<L: Ledger>(
 /// Asserts what the part at `root` asserts under this sign, in preorder, up to the first clash. The walk is
 /// a loop, which goes past the whole of an Or.
 fn enter_part<L: Ledger>(
-    rows: &[Row<u32>],
+    tree: &NumberedTree,
     negated: bool,
     root: usize,
     graph: &mut OrderGraph,
     asserted: &mut Asserted,
     steps: &mut Steps<L>,
 ) -> Result<Option<Clash>, Memory>
-    requires tree { IsSpelled rows.now }
-    requires root { root < size_of (spelled rows.now) }
-    requires below { All (IsRowBelow graph.old.nodes) rows.now }
-    requires literals { graph.old.literals ≡ literals_of (spelled rows.now) (positions asserted.old) }
+    requires root { root < size_of (spelled tree.now.rows) }
+    requires nodes { graph.old.nodes ≡ length tree.now.nodes }
+    requires literals { graph.old.literals ≡ literals_of (spelled tree.now.rows) (positions asserted.old) }
     ensures further { IfOk result (λ _. IsFurther graph.old graph.new) }
     ensures kept { IfOk result (λ _. take (length asserted.old) asserted.new ≡ asserted.old) }
-    ensures entered { IfOk result (λ found. HasAsserted (spelled rows.now)
-        (asserted_at (spelled rows.now) negated root)
+    ensures entered { IfOk result (λ found. HasAsserted (spelled tree.now.rows)
+        (asserted_at (spelled tree.now.rows) negated root)
         asserted.old graph.new asserted.new found) }
 {
-    let end = root + row_at(rows, root).skip;
+    let end = root + tree.row(root).skip;
     let mut at = root;
     while at < end {
-        let row = row_at(rows, at).turned(negated);
+        let row = tree.row(at).turned(negated);
         let place = Place {
             negated,
             position: at,
@@ -92,24 +91,23 @@ fn enter_part<L: Ledger>(
 
 /// Asserts that the left side is false, where this side says so.
 fn enter_denied<L: Ledger>(
-    rows: &[Row<u32>],
+    tree: &NumberedTree,
     side: Side,
     graph: &mut OrderGraph,
     asserted: &mut Asserted,
     steps: &mut Steps<L>,
 ) -> Result<Option<Clash>, Memory>
-    requires tree { IsSpelled rows.now }
-    requires denied { IsDeniedIn (spelled rows.now) side.denied }
-    requires below { All (IsRowBelow graph.old.nodes) rows.now }
-    requires literals { graph.old.literals ≡ literals_of (spelled rows.now) (positions asserted.old) }
+    requires denied { IsDeniedIn (spelled tree.now.rows) side.denied }
+    requires nodes { graph.old.nodes ≡ length tree.now.nodes }
+    requires literals { graph.old.literals ≡ literals_of (spelled tree.now.rows) (positions asserted.old) }
     ensures further { IfOk result (λ _. IsFurther graph.old graph.new) }
     ensures kept { IfOk result (λ _. take (length asserted.old) asserted.new ≡ asserted.old) }
-    ensures entered { IfOk result (λ found. HasAsserted (spelled rows.now)
-        (denied_positions (spelled rows.now) side.negated side.denied)
+    ensures entered { IfOk result (λ found. HasAsserted (spelled tree.now.rows)
+        (denied_positions (spelled tree.now.rows) side.negated side.denied)
         asserted.old graph.new asserted.new found) }
 {
     match side.denied {
-        Some(left) => enter_part(rows, !side.negated, left, graph, asserted, steps),
+        Some(left) => enter_part(tree, !side.negated, left, graph, asserted, steps),
         None => Ok(None),
     }
 }
@@ -117,49 +115,47 @@ fn enter_denied<L: Ledger>(
 /// Asserts what the side asserts, up to the first clash: first that the left side is false, where it says
 /// so, then its own part.
 fn enter_side<L: Ledger>(
-    rows: &[Row<u32>],
+    tree: &NumberedTree,
     side: Side,
     graph: &mut OrderGraph,
     asserted: &mut Asserted,
     steps: &mut Steps<L>,
 ) -> Result<Option<Clash>, Memory>
-    requires tree { IsSpelled rows.now }
-    requires side { IsSideIn (spelled rows.now) side }
-    requires below { All (IsRowBelow graph.old.nodes) rows.now }
-    requires literals { graph.old.literals ≡ literals_of (spelled rows.now) (positions asserted.old) }
+    requires side { IsSideIn (spelled tree.now.rows) side }
+    requires nodes { graph.old.nodes ≡ length tree.now.nodes }
+    requires literals { graph.old.literals ≡ literals_of (spelled tree.now.rows) (positions asserted.old) }
     ensures further { IfOk result (λ _. IsFurther graph.old graph.new) }
     ensures kept { IfOk result (λ _. take (length asserted.old) asserted.new ≡ asserted.old) }
-    ensures entered { IfOk result (λ found. HasAsserted (spelled rows.now) (side_positions (spelled rows.now) side)
+    ensures entered { IfOk result (λ found. HasAsserted (spelled tree.now.rows)
+        (side_positions (spelled tree.now.rows) side)
         asserted.old graph.new asserted.new found) }
 {
-    if let Some(clash) = enter_denied(rows, side, graph, asserted, steps)? {
+    if let Some(clash) = enter_denied(tree, side, graph, asserted, steps)? {
         return Ok(Some(clash));
     }
-    enter_part(rows, side.negated, side.root, graph, asserted, steps)
+    enter_part(tree, side.negated, side.root, graph, asserted, steps)
 }
 
 /// Asserts what the side asserts, as `enter_side` does, once the agenda has looked at it.
 pub(crate) fn enter_next<L: Ledger>(
-    keys: &[NodeKey],
-    rows: &[Row<u32>],
+    tree: &NumberedTree,
     side: Side,
     graph: &mut OrderGraph,
     asserted: &mut Asserted,
     agenda: &mut Agenda,
     steps: &mut Steps<L>,
 ) -> Result<Option<Clash>, Memory>
-    requires tree { IsSpelled rows.now }
-    requires side { IsSideIn (spelled rows.now) side }
-    requires nodes { graph.old.nodes ≡ length keys.now }
-    requires below { All (IsRowBelow graph.old.nodes) rows.now }
-    requires literals { graph.old.literals ≡ literals_of (spelled rows.now) (positions asserted.old) }
+    requires side { IsSideIn (spelled tree.now.rows) side }
+    requires nodes { graph.old.nodes ≡ length tree.now.nodes }
+    requires literals { graph.old.literals ≡ literals_of (spelled tree.now.rows) (positions asserted.old) }
     ensures further { IfOk result (λ _. IsFurther graph.old graph.new) }
     ensures kept { IfOk result (λ _. take (length asserted.old) asserted.new ≡ asserted.old) }
-    ensures entered { IfOk result (λ found. HasAsserted (spelled rows.now) (side_positions (spelled rows.now) side)
+    ensures entered { IfOk result (λ found. HasAsserted (spelled tree.now.rows)
+        (side_positions (spelled tree.now.rows) side)
         asserted.old graph.new asserted.new found) }
 {
-    agenda.foresee(rows, side, graph, keys)?;
-    enter_side(rows, side, graph, asserted, steps)
+    agenda.foresee(tree, side, graph)?;
+    enter_side(tree, side, graph, asserted, steps)
 }
 
 /// Goes back to the first `count` asserted positions and to the literals at `mark`.

@@ -37,6 +37,7 @@ mod hints;
 mod later;
 mod laws;
 mod leaf;
+mod numbered_tree;
 mod numbers;
 mod ors;
 mod place;

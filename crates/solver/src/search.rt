@@ -1,19 +1,13 @@
-ghost use Rattle.std.specs.Prelude.{◌≡◌, ◌<◌, ◌≤◌, ◌+◌, ◌^◌, ℕ, [], ◌∷◌, All, IfOk, Some, length, map};
+ghost use Rattle.std.specs.Prelude.{◌≡◌, ◌<◌, ◌+◌, [], IfOk, length};
 ghost use Rattle.pc_common.specs.World.{Node as PlainNode};
-ghost use Rattle.pc_common.specs.declared.limits.TheConstants.{MAX_NODES};
-ghost use Rattle.pc_ground.specs.Keys.{key_node};
-ghost use Rattle.pc_ground.specs.Tree.{Tree, never};
+ghost use Rattle.pc_ground.specs.Tree.{Tree};
 ghost use Rattle.pc_ground.specs.Rows.{rows_of};
 ghost use Rattle.pc_ground.specs.Folded.{IsFolded};
-ghost use Rattle.pc_ground.specs.Numbers.{numbered, AreDistinct};
-ghost use Rattle.pc_ground.specs.Refutes.{subtree_at, IsPartial};
-ghost use Rattle.solver.specs.Spelled.{spelled, IsSpelled};
-ghost use Rattle.solver.specs.Renamed.{tree_over};
-ghost use Rattle.solver.specs.Below.{IsRowBelow};
-ghost use Rattle.solver.specs.Opens.{positions, IsState};
+ghost use Rattle.pc_ground.specs.Numbers.{numbered};
+ghost use Rattle.solver.specs.Spelled.{spelled};
 ghost use Rattle.solver.specs.Weights.{weight};
 ghost use Rattle.solver.specs.Descents.{HasMore};
-ghost use Rattle.solver.specs.Searched.{IsSearching, branches_of};
+ghost use Rattle.solver.specs.Searched.{IsSearching};
 ghost use Rattle.solver.specs.Statuses.{IsStatus, status_weight};
 ghost use Rattle.solver.specs.Turns.{IsTurn, IsTurnOf, GoesOn, turn_weight};
 
@@ -23,13 +17,12 @@ use super::answer::Answer;
 use super::asserted::Asserted;
 use super::find::{SearchStatus, find};
 use super::later::Later;
-use super::numbers::{keys_by_number, number_rows};
+use super::numbered_tree::NumberedTree;
 use super::place::Place;
-use super::rows::row_at;
 use super::side::Side;
 use order_graph::OrderGraph;
 use pc_common::Memory;
-use pc_ground::{Flat, NodeKey, Numbering, Row, RowKind, Version};
+use pc_ground::{Flat, Numbering, RowKind, Version};
 use refutation::{Refutation, Step};
 use std::alloc::Global;
 use std::marker::Model;
@@ -40,8 +33,7 @@ use undo_trail::Steps;
 pub struct Search {
     alloc: Global,
     version: Version,
-    keys: Vec<NodeKey>,
-    rows: Vec<Row<u32>>,
+    tree: NumberedTree,
     graph: OrderGraph,
     asserted: Asserted,
     agenda: Agenda,
@@ -56,8 +48,7 @@ impl Drop for Search {
         let Search {
             alloc: _,
             version: _,
-            keys: _,
-            rows: _,
+            tree: _,
             graph: _,
             asserted: _,
             agenda: _,
@@ -69,22 +60,20 @@ impl Drop for Search {
 }
 
 impl Model for Search {
-    ghost use Rattle.std.specs.Prelude.{map};
-    ghost use Rattle.pc_ground.specs.Keys.{key_node};
     ghost use Rattle.solver.specs.Searched.{Searched, IsSearch, branches_of};
 
     ghost Value = { Searched };
 
     ghost view = { λ s. record {
       version = s.version;
-      nodes = map key_node s.keys.items;
-      rows = s.rows.items;
+      nodes = s.tree.nodes;
+      rows = s.tree.rows;
       graph = s.graph;
       steps = s.refutation;
-      branches = branches_of s.rows.items s.asserted s.later.items;
+      branches = branches_of s.tree.rows s.asserted s.later.items;
     } };
 
-    ghost invariant = { λ s. IsSearch s.version s.keys.items s.rows.items s.graph s.asserted s.later.items
+    ghost invariant = { λ s. IsSearch s.version s.tree s.graph s.asserted s.later.items
         s.refutation s.first };
 }
 
@@ -100,8 +89,7 @@ pub enum Turn {
 fn settle(
     alloc: Global,
     version: Version,
-    keys: Vec<NodeKey>,
-    rows: Vec<Row<u32>>,
+    tree: NumberedTree,
     graph: OrderGraph,
     asserted: Asserted,
     agenda: Agenda,
@@ -109,14 +97,10 @@ fn settle(
     refutation: Refutation,
     status: SearchStatus,
 ) -> Turn
-    requires tree { IsSpelled rows.items }
-    requires few { length keys.items ≤ MAX_NODES }
-    requires distinct { AreDistinct (map key_node keys.items) }
-    requires below { All (IsRowBelow (length keys.items)) rows.items }
-    requires status { IsStatus version (map key_node keys.items) rows.items graph asserted later.items refutation
+    requires status { IsStatus version tree.nodes tree.rows graph asserted later.items refutation
         status }
-    ensures turn { IsTurn version (map key_node keys.items) rows.items result }
-    ensures weight { turn_weight result ≡ status_weight rows.items asserted later.items status }
+    ensures turn { IsTurn version tree.nodes tree.rows result }
+    ensures weight { turn_weight result ≡ status_weight tree.rows asserted later.items status }
     ensures steps { GoesOn (λ old new. new ≡ old) refutation result }
 {
     match status {
@@ -125,8 +109,7 @@ fn settle(
         SearchStatus::Undecided(first) => Turn::More(Search {
             alloc,
             version,
-            keys,
-            rows,
+            tree,
             graph,
             asserted,
             agenda,
@@ -140,8 +123,7 @@ fn settle(
 /// Enters the root. Where it is False, one leaf closes its branch.
 fn find_first<L: Ledger>(
     alloc: Global,
-    keys: &[NodeKey],
-    rows: &[Row<u32>],
+    tree: &NumberedTree,
     version: Version,
     graph: &mut OrderGraph,
     asserted: &mut Asserted,
@@ -150,21 +132,16 @@ fn find_first<L: Ledger>(
     refutation: &mut Refutation,
     steps: &mut Steps<L>,
 ) -> Result<SearchStatus, Memory>
-    requires tree { IsSpelled rows.now }
-    requires few { length keys.now ≤ MAX_NODES }
-    requires distinct { AreDistinct (map key_node keys.now) }
-    requires below { All (IsRowBelow (length keys.now)) rows.now }
-    requires folded { IsFolded (spelled rows.now) }
-    requires nodes { graph.old.nodes ≡ length keys.now }
+    requires nodes { graph.old.nodes ≡ length tree.now.nodes }
     requires literals { graph.old.literals ≡ [] }
     requires marks { graph.old.marks ≡ [] }
     requires asserted { asserted.old ≡ [] }
     requires later { later.old.items ≡ [] }
     requires steps { refutation.old ≡ [] }
-    ensures { IfOk result (IsStatus version (map key_node keys.now) rows.now graph.new asserted.new
+    ensures { IfOk result (IsStatus version tree.now.nodes tree.now.rows graph.new asserted.new
         later.new.items refutation.new) }
 {
-    let root = row_at(rows, 0);
+    let root = tree.row(0);
     if let RowKind::False = root.kind {
         refutation.close_leaf(Step::False)?;
         return Ok(SearchStatus::Refuted);
@@ -175,38 +152,31 @@ fn find_first<L: Ledger>(
         denied: None,
     };
     find(
-        alloc, keys, rows, version, whole, graph, asserted, agenda, later, refutation, steps,
+        alloc, tree, version, whole, graph, asserted, agenda, later, refutation, steps,
     )
 }
 
 /// Enters the root, and hands out what was found first.
 fn start<L: Ledger>(
     alloc: Global,
-    keys: Vec<NodeKey>,
-    rows: Vec<Row<u32>>,
+    tree: NumberedTree,
     version: Version,
     mut graph: OrderGraph,
     mut agenda: Agenda,
     mut refutation: Refutation,
     steps: &mut Steps<L>,
 ) -> Result<Turn, Memory>
-    requires tree { IsSpelled rows.items }
-    requires few { length keys.items ≤ MAX_NODES }
-    requires distinct { AreDistinct (map key_node keys.items) }
-    requires below { All (IsRowBelow (length keys.items)) rows.items }
-    requires folded { IsFolded (spelled rows.items) }
-    requires nodes { graph.nodes ≡ length keys.items }
+    requires nodes { graph.nodes ≡ length tree.nodes }
     requires literals { graph.literals ≡ [] }
     requires marks { graph.marks ≡ [] }
     requires steps { refutation ≡ [] }
-    ensures { IfOk result (IsTurn version (map key_node keys.items) rows.items) }
+    ensures { IfOk result (IsTurn version tree.nodes tree.rows) }
 {
     let mut asserted = Asserted::new(alloc);
     let mut later = Vec::new(alloc);
     let status = find_first(
         alloc,
-        &keys,
-        &rows,
+        &tree,
         version,
         &mut graph,
         &mut asserted,
@@ -216,7 +186,7 @@ fn start<L: Ledger>(
         steps,
     )?;
     Ok(settle(
-        alloc, version, keys, rows, graph, asserted, agenda, later, refutation, status,
+        alloc, version, tree, graph, asserted, agenda, later, refutation, status,
     ))
 }
 
@@ -235,16 +205,13 @@ impl Search {
         ensures { IfOk result (λ turn.
             (t : Tree PlainNode) → tree.now ≡ rows_of t → IsTurnOf version numbering.now t turn) }
     {
-        let _positions = tree.len();
-        let count = numbering.len();
-        let keys = keys_by_number(alloc, numbering)?;
-        let rows = number_rows(alloc, tree, numbering)?;
+        let search_tree = NumberedTree::new(alloc, tree, numbering)?;
+        let count = search_tree.count();
         let graph = OrderGraph::new(alloc, count)?;
-        let agenda = Agenda::new(alloc, &rows, count, version)?;
+        let agenda = Agenda::new(alloc, search_tree.rows(), count, version)?;
         let turn = start(
             alloc,
-            keys,
-            rows,
+            search_tree,
             version,
             graph,
             agenda,
@@ -280,8 +247,7 @@ impl Search {
         let Search {
             alloc,
             version,
-            keys,
-            rows,
+            tree,
             mut graph,
             mut asserted,
             mut agenda,
@@ -291,8 +257,7 @@ impl Search {
         } = self;
         let status = advance(
             alloc,
-            &keys,
-            &rows,
+            &tree,
             version,
             first,
             &mut graph,
@@ -303,7 +268,7 @@ impl Search {
             steps,
         )?;
         Ok(settle(
-            alloc, version, keys, rows, graph, asserted, agenda, later, refutation, status,
+            alloc, version, tree, graph, asserted, agenda, later, refutation, status,
         ))
     }
 }

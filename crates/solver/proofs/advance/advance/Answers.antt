@@ -1,5 +1,4 @@
-use Rattle.std.proofs.Common.{◌≤◌, ◌<◌, ◌+◌, ◌++◌, ℕ, [], map, refl, arith}
-use Rattle.pc_ground.specs.Keys.{key_node}
+use Rattle.std.proofs.Common.{◌≤◌, ◌<◌, ◌+◌, ◌++◌, ℕ, [], refl, arith}
 use Rattle.pc_common.specs.Steps.{split}
 use Rattle.solver.specs.Spelled.{spelled}
 use Rattle.order_graph.proofs.Results.{if_ok}
@@ -14,7 +13,7 @@ use Rattle.solver.proofs.advance.advance.Goals as goal
 
 pub push_split-requires : goal.push_split-requires
 push_split-requires g c =
-    one_open c.args.version (map key_node c.args.keys.now) (spelled c.args.rows.now) c.args.graph.now c.args.asserted.now c.args.later.now.items c.args.refutation.now [] c.requires.state
+    one_open c.args.version c.args.tree.now.nodes (spelled c.args.tree.now.rows) c.args.graph.now c.args.asserted.now c.args.later.now.items c.args.refutation.now [] c.requires.state
 
 pub sides-requires-clause-is_or : goal.sides-requires-clause-is_or
 sides-requires-clause-is_or g c =
@@ -23,30 +22,26 @@ sides-requires-clause-is_or g c =
 
 pub find-requires : goal.find-requires
 find-requires g c =
-    let t = spelled c.args.rows.now in
+    let t = spelled c.args.tree.now.rows in
     let here = c.args.asserted.now in
     let next =
-    advanced c.args.version (map key_node c.args.keys.now) t c.args.graph.now c.mark-mark.new.self c.choose.new.graph here here c.args.later.now.items
+    advanced c.args.version c.args.tree.now.nodes t c.args.graph.now c.mark-mark.new.self c.choose.new.graph here here c.args.later.now.items
     c.push.new.self.items c.args.refutation.now c.push_split.new.self _ (place_signed c.in_ok-place.place) c.sides.result c.requires.state
     c.in_ok-place.ensures.found
     c.mark-mark.ensures.graph c.in_ok-place.ensures.graph refl c.sides.ensures.sides
     c.len-count.ensures c.mark-mark.ensures.place refl c.in_ok-push.ensures.items c.in_ok-push_split.ensures in record {
-      tree = c.requires.tree;
       side = c.sides.ensures.left_in;
-      few = c.requires.few;
-      distinct = c.requires.distinct;
-      below = c.requires.below;
       no_false = c.requires.no_false;
       state = next.0;
     }
 
 pub returns-clause-lighter : goal.returns-clause-lighter
 returns-clause-lighter g c =
-    let rows = c.args.rows.now in
+    let rows = c.args.tree.now.rows in
     let t = spelled rows in
     let here = c.args.asserted.now in
     let next =
-    advanced c.args.version (map key_node c.args.keys.now) t c.args.graph.now c.mark-mark.new.self c.choose.new.graph here here c.args.later.now.items
+    advanced c.args.version c.args.tree.now.nodes t c.args.graph.now c.mark-mark.new.self c.choose.new.graph here here c.args.later.now.items
     c.push.new.self.items c.args.refutation.now c.push_split.new.self _ (place_signed c.in_ok-place.place) c.sides.result c.requires.state
     c.in_ok-place.ensures.found
     c.mark-mark.ensures.graph c.in_ok-place.ensures.graph refl c.sides.ensures.sides

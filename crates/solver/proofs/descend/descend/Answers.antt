@@ -1,7 +1,6 @@
-use Rattle.std.proofs.Common.{◌++◌, length, map, ap, subst, arith}
+use Rattle.std.proofs.Common.{◌++◌, length, ap, subst, arith}
 use Rattle.std.specs.Prelude.{Option}
 use Rattle.std.proofs.lemmas.List.{nil_from_length}
-use Rattle.pc_ground.specs.Keys.{key_node}
 use Rattle.pc_ground.specs.Refutes.{literals_of}
 use Rattle.order_graph.specs.Clashes.{leaf_of}
 use Rattle.order_graph.specs.declared.clash.Clash.{Clash}
@@ -18,30 +17,30 @@ use Rattle.solver.proofs.descend.descend.Goals as goal
 
 pub close-requires-clause-below : goal.close-requires-clause-below
 close-requires-clause-below g c =
-    let t = spelled c.args.rows.now in
+    let t = spelled c.args.tree.now.rows in
     let here = c.loop-clash.asserted in
     let E : Option Clash → Type 0 = HasAsserted t (side_positions t c.loop-clash.side) here c.enter_next.new.graph c.enter_next.new.asserted in
     let clash = subst E c.in-Some.is c.in_ok-clash.ensures.entered in
-    clash_in (length c.args.keys.now) c.args.rows.now (positions here ++ side_positions t c.loop-clash.side) c.in-Some.clash c.requires.tree c.requires.below clash
+    clash_in (length c.args.tree.now.nodes) c.args.tree.now.rows (positions here ++ side_positions t c.loop-clash.side) c.in-Some.clash c.len-positions.ensures.numbered.tree c.len-positions.ensures.numbered.below clash
 
 pub close-requires-clause-leaf : goal.close-requires-clause-leaf
 close-requires-clause-leaf g c =
-    let t = spelled c.args.rows.now in
+    let t = spelled c.args.tree.now.rows in
     let here = c.loop-clash.asserted in
     let E : Option Clash → Type 0 = HasAsserted t (side_positions t c.loop-clash.side) here c.enter_next.new.graph c.enter_next.new.asserted in
     let clash = subst E c.in-Some.is c.in_ok-clash.ensures.entered in
-    clash_leaf (map key_node c.args.keys.now) (literals_of t (positions here ++ side_positions t c.loop-clash.side)) c.in-Some.clash clash
+    clash_leaf c.args.tree.now.nodes (literals_of t (positions here ++ side_positions t c.loop-clash.side)) c.in-Some.clash clash
 
 pub close-requires-clause-open : goal.close-requires-clause-open
 close-requires-clause-open g c =
-    let t = spelled c.args.rows.now in
-    one_open c.args.version (map key_node c.args.keys.now) t c.loop-clash.graph c.loop-clash.asserted c.loop-clash.later.items c.loop-clash.refutation
+    let t = spelled c.args.tree.now.rows in
+    one_open c.args.version c.args.tree.now.nodes t c.loop-clash.graph c.loop-clash.asserted c.loop-clash.later.items c.loop-clash.refutation
     (side_positions t c.loop-clash.side) c.loop-clash.invariant.state
 
 pub returns-in_default-pop-clause-descended : goal.returns-in_default-pop-clause-descended
 returns-in_default-pop-clause-descended g c =
-    let nodes = map key_node c.args.keys.now in
-    let t = spelled c.args.rows.now in
+    let nodes = c.args.tree.now.nodes in
+    let t = spelled c.args.tree.now.rows in
     let here = c.loop-clash.asserted in
     let E : Option Clash → Type 0 = HasAsserted t (side_positions t c.loop-clash.side) here c.enter_next.new.graph c.enter_next.new.asserted in
     let clash = subst E c.in-Some.is c.in_ok-clash.ensures.entered in
@@ -51,20 +50,20 @@ returns-in_default-pop-clause-descended g c =
 
 pub returns-in_default-pop-clause-longer : goal.returns-in_default-pop-clause-longer
 returns-in_default-pop-clause-longer g c =
-    longer_push c.args.refutation.now c.loop-clash.refutation c.close.new.refutation (clash_step (map key_node c.args.keys.now) c.in-Some.clash)
+    longer_push c.args.refutation.now c.loop-clash.refutation c.close.new.refutation (clash_step c.args.tree.now.nodes c.in-Some.clash)
     c.loop-clash.invariant.longer c.in_ok-close.ensures
 
 pub go_back-requires : goal.go_back-requires
 go_back-requires g c =
-    let t = spelled c.args.rows.now in
-    let is_later = next_inside c.args.version (map key_node c.args.keys.now) t c.loop-clash.graph c.loop-clash.asserted c.loop-clash.later.items c.pop.new.self.items
+    let t = spelled c.args.tree.now.rows in
+    let is_later = next_inside c.args.version c.args.tree.now.nodes t c.loop-clash.graph c.loop-clash.asserted c.loop-clash.later.items c.pop.new.self.items
     c.loop-clash.refutation c.in-Some-pop.next (side_positions t c.loop-clash.side) c.loop-clash.invariant.state c.in-Some-pop.ensures.items in
     omega (arith, is_later.live, ap length c.in_ok-clash.ensures.further.same_marks)
 
 pub loop-clash-preserved : goal.loop-clash-preserved
 loop-clash-preserved g c =
-    let nodes = map key_node c.args.keys.now in
-    let t = spelled c.args.rows.now in
+    let nodes = c.args.tree.now.nodes in
+    let t = spelled c.args.tree.now.rows in
     let here = c.loop-clash.asserted in
     let next = c.in-Some-pop.next in
     let E : Option Clash → Type 0 = HasAsserted t (side_positions t c.loop-clash.side) here c.enter_next.new.graph c.enter_next.new.asserted in
@@ -85,8 +84,8 @@ loop-clash-preserved g c =
 
 pub returns-clause-descended : goal.returns-clause-descended
 returns-clause-descended g c =
-    let nodes = map key_node c.args.keys.now in
-    let t = spelled c.args.rows.now in
+    let nodes = c.args.tree.now.nodes in
+    let t = spelled c.args.tree.now.rows in
     let here = c.loop-clash.asserted in
     let E : Option Clash → Type 0 = HasAsserted t (side_positions t c.loop-clash.side) here c.enter_next.new.graph c.enter_next.new.asserted in
     let entered = subst E c.in_default.is c.in_ok-clash.ensures.entered in
