@@ -221,11 +221,6 @@ or_left_inside t q (a, b, e) =
     let size = subtree_size (turned n t) (q.position + 1) a children.0 in
     omega (arith, size, size_pos a, size_turned n t)
 
-pub or_inside : (rows : List (Row ℕ)) (q : Signed) → IsSpelled rows → IsOr (spelled rows) q → (q.position + 1 < length rows) × (q.position + 1 < size_of (spelled rows))
-or_inside rows q flat (a, b, e) =
-    let inside = children_inside rows q.position (q.position + 1 + size_of a) flat (signed_children (spelled rows) q.negated q.position a b e) in
-    (inside.0, omega (arith, inside.0, length_spelled rows flat))
-
 pub or_right_inside : (rows : List (Row ℕ)) (q : Signed) (r : Row ℕ) → IsSpelled rows → IsOr (spelled rows) q → slice_get rows (q.position + 1) ≡ Some r
     → q.position + 1 + r.skip < size_of (spelled rows)
 or_right_inside rows q r flat (a, b, e) at =

@@ -41,7 +41,9 @@ use Rattle.solver.specs.Answers.{IsWitness, IsAnswer}
 use Rattle.solver.specs.Turns.{IsTurn, IsTurnOf}
 use Rattle.solver.specs.declared.search.Turn.{Turn}
 use Rattle.solver.specs.declared.search.Turn.TheVariants.{More, Done}
-use Rattle.solver.specs.Searched.{IsSearching, IsSearch, branches_of}
+use Rattle.solver.specs.Branches.{branches_of}
+use Rattle.solver.specs.Searched.{IsSearching, IsSearch}
+use Rattle.solver.specs.declared.branch.Branch.{Branch as OpenBranch}
 use Rattle.solver.specs.declared.place.Place.{Place}
 use Rattle.solver.specs.declared.later.Later.{Later}
 use Rattle.solver.proofs.RenamedTree.{part_renamed, size_renamed, asserted_renamed, tree_of_names}
@@ -160,20 +162,19 @@ plain_part t false p s e = e
 plain_part t true p s e = subtree_denied t true p s e
 
 -- what the type of a search keeps, as its clauses say it
-pub searching : (v : Version) (tree : Numbered) (g : Graph) (here : List Place) (ls : List Later) (ss : List (Step Node)) (first : Place)
-    → IsSearch v tree g here ls ss first
-    → IsSearching (record { version = v; nodes = tree.nodes; rows = tree.rows; graph = g; steps = ss; branches = branches_of tree.rows here ls })
-searching v tree g here ls ss first s =
-    let nodes = tree.nodes in
+pub searching : (v : Version) (tree : Numbered) (b : OpenBranch) (first : Place) → IsSearch v tree b first
+    → IsSearching (record { version = v; nodes = tree.nodes; rows = tree.rows; graph = b.graph; steps = b.refutation; branches = branches_of tree b })
+searching v tree b first s =
+    let here = b.asserted in
     let t = spelled tree.rows in
     let q = place_signed first in
     let candidate = s.candidate in
     let part = turned q.negated (either candidate.left candidate.right) in
     let P : List (Literal ℕ) → Type 0 = λ xs. IsMetUnder q.negated xs part in record {
       first = positions here;
-      others = waiting t (positions here) (reverse ls);
+      others = waiting t (positions here) (reverse b.later.items);
       branches = refl;
-      partial = kept_run v nodes t g here ls ss s.state;
+      partial = kept_run v tree.nodes t b.graph here b.later.items b.refutation s.state;
       nodes = s.state.all_nodes;
       literals = s.state.literals;
       place = q;

@@ -5,6 +5,7 @@ pub mod Numbered
 pub mod Met
 pub mod Places
 pub mod Opens
+pub mod Branches
 pub mod Weights
 pub mod Flags
 pub mod Leaves

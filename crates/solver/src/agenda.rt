@@ -311,9 +311,12 @@ impl Agenda {
         Ok(None)
     }
 
-    /// A leaf closed the side of a split of version 2. The Or stands right before its left side, which a right
-    /// side names as what it denies.
-    pub(crate) fn count_closed(&mut self, side: Side) {
+    /// A leaf closed the side of a split, which counts in version 2. The Or stands right before its left side,
+    /// which a right side names as what it denies.
+    pub(crate) fn count_closed(&mut self, version: Version, side: Side) {
+        let Version::Two = version else {
+            return;
+        };
         let left = side.denied.unwrap_or(side.root);
         let position = left.saturating_sub(1);
         if position < self.closings.len() {

@@ -4,9 +4,10 @@ ghost use Rattle.solver.specs.Spelled.{spelled};
 ghost use Rattle.solver.specs.Below.{IsRowBelow};
 ghost use Rattle.solver.specs.Places.{place_signed, IsCandidate, IsSideIn};
 ghost use Rattle.solver.specs.Opens.{positions, IsFurther, IsSame, IsMarked};
+ghost use Rattle.solver.specs.Branches.{HasSameRest};
 
 use super::agenda::Agenda;
-use super::asserted::Asserted;
+use super::branch::Branch;
 use super::candidate::is_candidate_now;
 use super::enter::add_row;
 use super::numbered_tree::NumberedTree;
@@ -229,6 +230,27 @@ fn open_choice(
     }
 }
 
+/// The choice that the agenda proposes to split: the first with enough sides closed at once or with one, and
+/// where none has one, as `open_choice` says.
+fn propose<L: Ledger>(
+    tree: &NumberedTree,
+    version: Version,
+    first: Place,
+    mark: Mark,
+    graph: &mut OrderGraph,
+    agenda: &mut Agenda,
+    steps: &mut Steps<L>,
+) -> Result<Place, Memory>
+    requires nodes { graph.old.nodes ≡ length tree.now.nodes }
+    requires marked { IsMarked graph.old mark }
+    ensures graph { IfOk result (λ _. IsSame graph.old graph.new) }
+{
+    if let Some(place) = first_closed(tree, version, mark, graph, agenda, steps)? {
+        return Ok(place);
+    }
+    open_choice(tree, version, first, graph, agenda)
+}
+
 /// The candidate to split. In version 1 it is the first with a side that is closed at once, and where none
 /// has one the first, which is given. In version 2 it is the first with both sides closed at once; otherwise
 /// the first with one; otherwise the one whose sides were closed most often so far. What the agenda proposes
@@ -239,30 +261,35 @@ pub(crate) fn choose<L: Ledger>(
     version: Version,
     first: Place,
     mark: Mark,
-    graph: &mut OrderGraph,
-    asserted: &Asserted,
-    agenda: &mut Agenda,
+    branch: &mut Branch,
     steps: &mut Steps<L>,
 ) -> Result<Place, Memory>
-    requires first { IsCandidate (spelled tree.now.rows) (positions asserted.now) (place_signed first) }
+    requires first { IsCandidate (spelled tree.now.rows) (positions branch.old.asserted) (place_signed first) }
     requires small { first.position < 2 ^ 63 }
-    requires nodes { graph.old.nodes ≡ length tree.now.nodes }
-    requires literals { graph.old.literals ≡ literals_of (spelled tree.now.rows) (positions asserted.now) }
-    requires marked { IsMarked graph.old mark }
+    requires nodes { branch.old.graph.nodes ≡ length tree.now.nodes }
+    requires literals { branch.old.graph.literals
+        ≡ literals_of (spelled tree.now.rows) (positions branch.old.asserted) }
+    requires marked { IsMarked branch.old.graph mark }
     ensures found { IfOk result (λ q.
-        IsCandidate (spelled tree.now.rows) (positions asserted.now) (place_signed q)) }
+        IsCandidate (spelled tree.now.rows) (positions branch.old.asserted) (place_signed q)) }
     ensures small { IfOk result (λ q. q.position < 2 ^ 63) }
-    ensures graph { IfOk result (λ _. IsSame graph.old graph.new) }
+    ensures graph { IfOk result (λ _. IsSame branch.old.graph branch.new.graph) }
+    ensures asserted { branch.new.asserted ≡ branch.old.asserted }
+    ensures rest { HasSameRest branch.old branch.new }
 {
-    let found = first_closed(tree, version, mark, graph, agenda, steps)?;
-    let place = match found {
-        Some(place) => place,
-        None => open_choice(tree, version, first, graph, agenda)?,
-    };
+    let place = propose(
+        tree,
+        version,
+        first,
+        mark,
+        &mut branch.graph,
+        &mut branch.agenda,
+        steps,
+    )?;
     if place.position == first.position {
         return Ok(first);
     }
-    if is_candidate_now(alloc, tree, graph, asserted, place)? {
+    if is_candidate_now(alloc, tree, &branch.graph, &branch.asserted, place)? {
         return Ok(place);
     }
     Ok(first)

@@ -1,21 +1,17 @@
-ghost use Rattle.std.specs.Prelude.{◌+◌, ◌++◌, IfOk};
+ghost use Rattle.std.specs.Prelude.{◌+◌, IfOk};
 ghost use Rattle.solver.specs.Spelled.{spelled};
 ghost use Rattle.solver.specs.Places.{side_positions, IsSideIn};
-ghost use Rattle.solver.specs.Opens.{positions, opens, IsState};
+ghost use Rattle.solver.specs.Branches.{branches_with, IsOpen};
 ghost use Rattle.solver.specs.Weights.{weight};
 ghost use Rattle.solver.specs.Descents.{HasDescended, IsLonger};
 
-use super::agenda::Agenda;
-use super::asserted::Asserted;
+use super::branch::Branch;
 use super::enter::{enter_next, go_back};
-use super::later::Later;
 use super::leaf::close;
 use super::numbered_tree::NumberedTree;
 use super::side::Side;
-use order_graph::OrderGraph;
 use pc_common::Memory;
 use pc_ground::Version;
-use refutation::Refutation;
 use std::alloc::Global;
 use std::sync::ledger::Ledger;
 use undo_trail::Steps;
@@ -27,35 +23,26 @@ pub(crate) fn descend<L: Ledger>(
     tree: &NumberedTree,
     version: Version,
     side: Side,
-    graph: &mut OrderGraph,
-    asserted: &mut Asserted,
-    agenda: &mut Agenda,
-    later: &mut Vec<Later>,
-    refutation: &mut Refutation,
+    branch: &mut Branch,
     steps: &mut Steps<L>,
 ) -> Result<bool, Memory>
     requires side { IsSideIn (spelled tree.now.rows) side }
-    requires state { IsState version tree.now.nodes (spelled tree.now.rows) graph.old asserted.old
-        later.old.items refutation.old (side_positions (spelled tree.now.rows) side) }
-    ensures descended { IfOk result (λ is_open. HasDescended version tree.now.nodes (spelled tree.now.rows)
-        (weight (spelled tree.now.rows) (opens (spelled tree.now.rows)
-        (positions asserted.old ++ side_positions (spelled tree.now.rows) side)
-        asserted.old later.old.items) + 1)
-        graph.new asserted.new later.new.items refutation.new is_open) }
-    ensures longer { IfOk result (λ _. IsLonger refutation.old refutation.new) }
+    requires state { IsOpen version tree.now branch.old (side_positions (spelled tree.now.rows) side) }
+    ensures descended { IfOk result (HasDescended version tree.now
+        (weight (spelled tree.now.rows)
+        (branches_with tree.now branch.old (side_positions (spelled tree.now.rows) side)) + 1)
+        branch.new) }
+    ensures longer { IfOk result (λ _. IsLonger branch.old.refutation branch.new.refutation) }
 {
     let _positions = tree.len();
     let mut side = side;
-    while let Some(clash) = enter_next(tree, side, graph, asserted, agenda, steps)? {
-        if let Version::Two = version {
-            agenda.count_closed(side);
-        }
-        close(alloc, tree, clash, refutation)?;
-        let Some(next) = later.pop() else {
+    while let Some(clash) = enter_next(tree, side, branch, steps)? {
+        branch.agenda.count_closed(version, side);
+        close(alloc, tree, clash, &mut branch.refutation)?;
+        let Some(next) = go_back(branch, steps) else {
             return Ok(false);
         };
-        go_back(next.count, next.mark, graph, asserted, agenda, steps);
-        side = next.side;
+        side = next;
     }
     Ok(true)
 }

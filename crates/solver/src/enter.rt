@@ -1,18 +1,19 @@
-ghost use Rattle.std.specs.Prelude.{◌≡◌, ◌<◌, ◌^◌, ℕ, not, length, take, slice_index, IfOk};
+ghost use Rattle.std.specs.Prelude.{◌≡◌, ◌<◌, ◌^◌, ◌++◌, ◌∷◌, [], List, not, length, take, IfOk};
 ghost use Rattle.pc_ground.specs.Tree.{size_of};
 ghost use Rattle.pc_ground.specs.Refutes.{literals_of};
-ghost use Rattle.order_graph.specs.State.{IsCut};
 ghost use Rattle.solver.specs.Spelled.{spelled};
 ghost use Rattle.solver.specs.Below.{IsRowBelow};
 ghost use Rattle.solver.specs.Places.{asserted_at, denied_positions, side_positions, IsDeniedIn, IsSideIn};
 ghost use Rattle.solver.specs.Opens.{positions, IsFurther, HasAsserted, HasAddedRow, HasAssertedRow};
+ghost use Rattle.solver.specs.Branches.{HasSameRest, HasGoneBack};
+ghost use Rattle.solver.specs.declared.later.Later.{Later as PlainLater};
 
-use super::agenda::Agenda;
 use super::asserted::Asserted;
+use super::branch::Branch;
 use super::numbered_tree::NumberedTree;
 use super::place::Place;
 use super::side::Side;
-use order_graph::{Added, Clash, Mark, OrderGraph};
+use order_graph::{Added, Clash, OrderGraph};
 use pc_common::Memory;
 use pc_ground::{Row, RowKind};
 use std::sync::ledger::Ledger;
@@ -140,38 +141,35 @@ fn enter_side<L: Ledger>(
 pub(crate) fn enter_next<L: Ledger>(
     tree: &NumberedTree,
     side: Side,
-    graph: &mut OrderGraph,
-    asserted: &mut Asserted,
-    agenda: &mut Agenda,
+    branch: &mut Branch,
     steps: &mut Steps<L>,
 ) -> Result<Option<Clash>, Memory>
     requires side { IsSideIn (spelled tree.now.rows) side }
-    requires nodes { graph.old.nodes ≡ length tree.now.nodes }
-    requires literals { graph.old.literals ≡ literals_of (spelled tree.now.rows) (positions asserted.old) }
-    ensures further { IfOk result (λ _. IsFurther graph.old graph.new) }
-    ensures kept { IfOk result (λ _. take (length asserted.old) asserted.new ≡ asserted.old) }
+    requires nodes { branch.old.graph.nodes ≡ length tree.now.nodes }
+    requires literals { branch.old.graph.literals
+        ≡ literals_of (spelled tree.now.rows) (positions branch.old.asserted) }
+    ensures further { IfOk result (λ _. IsFurther branch.old.graph branch.new.graph) }
+    ensures kept { IfOk result (λ _.
+        take (length branch.old.asserted) branch.new.asserted ≡ branch.old.asserted) }
     ensures entered { IfOk result (λ found. HasAsserted (spelled tree.now.rows)
         (side_positions (spelled tree.now.rows) side)
-        asserted.old graph.new asserted.new found) }
+        branch.old.asserted branch.new.graph branch.new.asserted found) }
+    ensures rest { HasSameRest branch.old branch.new }
 {
-    agenda.foresee(tree, side, graph)?;
-    enter_side(tree, side, graph, asserted, steps)
+    branch.agenda.foresee(tree, side, &branch.graph)?;
+    enter_side(tree, side, &mut branch.graph, &mut branch.asserted, steps)
 }
 
-/// Goes back to the first `count` asserted positions and to the literals at `mark`.
-pub(crate) fn go_back<L: Ledger>(
-    count: usize,
-    mark: Mark,
-    graph: &mut OrderGraph,
-    asserted: &mut Asserted,
-    agenda: &mut Agenda,
-    steps: &mut Steps<L>,
-)
-    requires live { mark < length graph.old.marks }
-    ensures cut { IsCut graph.old (slice_index graph.old.marks mark) mark graph.new }
-    ensures positions { asserted.new ≡ take count asserted.old }
+/// Goes back to the next branch that waits, where one does: to the asserted positions and the literals that it
+/// begins with. Answers the side that it is to assert.
+pub(crate) fn go_back<L: Ledger>(branch: &mut Branch, steps: &mut Steps<L>) -> Option<Side>
+    requires { (ls : List PlainLater) (l : PlainLater)
+        → branch.old.later.items ≡ ls ++ l ∷ [] → l.mark < length branch.old.graph.marks }
+    ensures { HasGoneBack branch.old branch.new result }
 {
-    asserted.cut(count);
-    agenda.go_back(count);
-    graph.undo(mark, steps);
+    let next = branch.later.pop()?;
+    branch.asserted.cut(next.count);
+    branch.agenda.go_back(next.count);
+    branch.graph.undo(next.mark, steps);
+    Some(next.side)
 }

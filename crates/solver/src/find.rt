@@ -1,9 +1,10 @@
-ghost use Rattle.std.specs.Prelude.{◌≡◌, ◌<◌, ◌≤◌, ◌+◌, ◌++◌, ◌^◌, IfOk, IfSome, length};
+ghost use Rattle.std.specs.Prelude.{◌≡◌, ◌<◌, ◌≤◌, ◌+◌, ◌^◌, IfOk, IfSome, length};
 ghost use Rattle.pc_ground.specs.Refutes.{literals_of};
 ghost use Rattle.solver.specs.Spelled.{spelled};
 ghost use Rattle.solver.specs.Numbered.{HasNoFalse};
 ghost use Rattle.solver.specs.Places.{place_signed, side_positions, IsCandidate, IsSideIn};
-ghost use Rattle.solver.specs.Opens.{positions, opens, IsState};
+ghost use Rattle.solver.specs.Opens.{positions};
+ghost use Rattle.solver.specs.Branches.{branches_with, IsOpen};
 ghost use Rattle.solver.specs.Weights.{weight};
 ghost use Rattle.solver.specs.Descents.{IsLonger};
 ghost use Rattle.solver.specs.Statuses.{IsStatus, status_weight};
@@ -11,10 +12,10 @@ ghost use Rattle.solver.specs.Statuses.{IsStatus, status_weight};
 use super::agenda::Agenda;
 use super::answer::graph_of;
 use super::asserted::Asserted;
+use super::branch::Branch;
 use super::candidate::is_candidate_now;
 use super::candidates::candidates;
 use super::descend::descend;
-use super::later::Later;
 use super::numbered_tree::NumberedTree;
 use super::place::Place;
 use super::side::Side;
@@ -22,7 +23,6 @@ use graph_text::Graph;
 use order_graph::OrderGraph;
 use pc_common::Memory;
 use pc_ground::Version;
-use refutation::Refutation;
 use std::alloc::Global;
 use std::sync::ledger::Ledger;
 use undo_trail::Steps;
@@ -69,39 +69,42 @@ pub(crate) fn find<L: Ledger>(
     tree: &NumberedTree,
     version: Version,
     side: Side,
-    graph: &mut OrderGraph,
-    asserted: &mut Asserted,
-    agenda: &mut Agenda,
-    later: &mut Vec<Later>,
-    refutation: &mut Refutation,
+    branch: &mut Branch,
     steps: &mut Steps<L>,
 ) -> Result<SearchStatus, Memory>
     requires side { IsSideIn (spelled tree.now.rows) side }
     requires no_false { HasNoFalse tree.now }
-    requires state { IsState version tree.now.nodes (spelled tree.now.rows) graph.old asserted.old
-        later.old.items refutation.old (side_positions (spelled tree.now.rows) side) }
-    ensures found { IfOk result (IsStatus version tree.now.nodes tree.now.rows graph.new asserted.new
-        later.new.items refutation.new) }
-    ensures lighter { IfOk result (λ found. status_weight tree.now.rows asserted.new later.new.items found
-        ≤ 1 + weight (spelled tree.now.rows) (opens (spelled tree.now.rows)
-        (positions asserted.old ++ side_positions (spelled tree.now.rows) side)
-        asserted.old later.old.items)) }
-    ensures longer { IfOk result (λ _. IsLonger refutation.old refutation.new) }
+    requires state { IsOpen version tree.now branch.old (side_positions (spelled tree.now.rows) side) }
+    ensures found { IfOk result (IsStatus version tree.now branch.new) }
+    ensures lighter { IfOk result (λ found. status_weight tree.now branch.new found
+        ≤ 1 + weight (spelled tree.now.rows)
+        (branches_with tree.now branch.old (side_positions (spelled tree.now.rows) side))) }
+    ensures longer { IfOk result (λ _. IsLonger branch.old.refutation branch.new.refutation) }
 {
-    let is_open = descend(
-        alloc, tree, version, side, graph, asserted, agenda, later, refutation, steps,
-    )?;
+    let is_open = descend(alloc, tree, version, side, branch, steps)?;
     if !is_open {
         return Ok(SearchStatus::Refuted);
     }
-    let _asserted_so_far = graph.len();
+    let _asserted_so_far = branch.graph.len();
     let _root = tree.row(0);
-    if let Some(place) = next_place(alloc, tree, graph, asserted, agenda)? {
+    if let Some(place) = next_place(
+        alloc,
+        tree,
+        &branch.graph,
+        &branch.asserted,
+        &mut branch.agenda,
+    )? {
         return Ok(SearchStatus::Undecided(place));
     }
-    let found = candidates(alloc, tree, version, graph, asserted.as_slice())?;
+    let found = candidates(
+        alloc,
+        tree,
+        version,
+        &branch.graph,
+        branch.asserted.as_slice(),
+    )?;
     if found.is_empty() {
-        let shown = graph_of(alloc, tree, graph)?;
+        let shown = graph_of(alloc, tree, &branch.graph)?;
         return Ok(SearchStatus::Satisfied(shown));
     }
     Ok(SearchStatus::Undecided(found[0]))

@@ -25,6 +25,7 @@ mod agenda;
 mod answer;
 mod asserted;
 mod bits;
+mod branch;
 mod candidate;
 mod candidates;
 mod choose;

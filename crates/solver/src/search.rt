@@ -1,4 +1,4 @@
-ghost use Rattle.std.specs.Prelude.{◌≡◌, ◌<◌, ◌+◌, [], IfOk, length};
+ghost use Rattle.std.specs.Prelude.{◌≡◌, ◌<◌, ◌+◌, IfOk};
 ghost use Rattle.pc_common.specs.World.{Node as PlainNode};
 ghost use Rattle.pc_ground.specs.Tree.{Tree};
 ghost use Rattle.pc_ground.specs.Rows.{rows_of};
@@ -7,16 +7,15 @@ ghost use Rattle.pc_ground.specs.Numbers.{numbered};
 ghost use Rattle.solver.specs.Spelled.{spelled};
 ghost use Rattle.solver.specs.Weights.{weight};
 ghost use Rattle.solver.specs.Descents.{HasMore};
+ghost use Rattle.solver.specs.Branches.{IsBlank};
 ghost use Rattle.solver.specs.Searched.{IsSearching};
 ghost use Rattle.solver.specs.Statuses.{IsStatus, status_weight};
 ghost use Rattle.solver.specs.Turns.{IsTurn, IsTurnOf, GoesOn, turn_weight};
 
 use super::advance::advance;
-use super::agenda::Agenda;
 use super::answer::Answer;
-use super::asserted::Asserted;
+use super::branch::Branch;
 use super::find::{SearchStatus, find};
-use super::later::Later;
 use super::numbered_tree::NumberedTree;
 use super::place::Place;
 use super::side::Side;
@@ -34,11 +33,7 @@ pub struct Search {
     alloc: Global,
     version: Version,
     tree: NumberedTree,
-    graph: OrderGraph,
-    asserted: Asserted,
-    agenda: Agenda,
-    later: Vec<Later>,
-    refutation: Refutation,
+    branch: Branch,
     first: Place,
 }
 
@@ -49,18 +44,15 @@ impl Drop for Search {
             alloc: _,
             version: _,
             tree: _,
-            graph: _,
-            asserted: _,
-            agenda: _,
-            later: _,
-            refutation: _,
+            branch: _,
             first: _,
         } = self;
     }
 }
 
 impl Model for Search {
-    ghost use Rattle.solver.specs.Searched.{Searched, IsSearch, branches_of};
+    ghost use Rattle.solver.specs.Branches.{branches_of};
+    ghost use Rattle.solver.specs.Searched.{Searched, IsSearch};
 
     ghost Value = { Searched };
 
@@ -68,13 +60,12 @@ impl Model for Search {
       version = s.version;
       nodes = s.tree.nodes;
       rows = s.tree.rows;
-      graph = s.graph;
-      steps = s.refutation;
-      branches = branches_of s.tree.rows s.asserted s.later.items;
+      graph = s.branch.graph;
+      steps = s.branch.refutation;
+      branches = branches_of s.tree s.branch;
     } };
 
-    ghost invariant = { λ s. IsSearch s.version s.tree s.graph s.asserted s.later.items
-        s.refutation s.first };
+    ghost invariant = { λ s. IsSearch s.version s.tree s.branch s.first };
 }
 
 /// What a turn hands out.
@@ -90,31 +81,22 @@ fn settle(
     alloc: Global,
     version: Version,
     tree: NumberedTree,
-    graph: OrderGraph,
-    asserted: Asserted,
-    agenda: Agenda,
-    later: Vec<Later>,
-    refutation: Refutation,
+    branch: Branch,
     status: SearchStatus,
 ) -> Turn
-    requires status { IsStatus version tree.nodes tree.rows graph asserted later.items refutation
-        status }
+    requires { IsStatus version tree branch status }
     ensures turn { IsTurn version tree.nodes tree.rows result }
-    ensures weight { turn_weight result ≡ status_weight tree.rows asserted later.items status }
-    ensures steps { GoesOn (λ old new. new ≡ old) refutation result }
+    ensures weight { turn_weight result ≡ status_weight tree branch status }
+    ensures steps { GoesOn (λ old new. new ≡ old) branch.refutation result }
 {
     match status {
-        SearchStatus::Refuted => Turn::Done(Answer::Unobservable(refutation)),
+        SearchStatus::Refuted => Turn::Done(Answer::Unobservable(branch.into_refutation())),
         SearchStatus::Satisfied(shown) => Turn::Done(Answer::Observable(shown)),
         SearchStatus::Undecided(first) => Turn::More(Search {
             alloc,
             version,
             tree,
-            graph,
-            asserted,
-            agenda,
-            later,
-            refutation,
+            branch,
             first,
         }),
     }
@@ -125,25 +107,15 @@ fn find_first<L: Ledger>(
     alloc: Global,
     tree: &NumberedTree,
     version: Version,
-    graph: &mut OrderGraph,
-    asserted: &mut Asserted,
-    agenda: &mut Agenda,
-    later: &mut Vec<Later>,
-    refutation: &mut Refutation,
+    branch: &mut Branch,
     steps: &mut Steps<L>,
 ) -> Result<SearchStatus, Memory>
-    requires nodes { graph.old.nodes ≡ length tree.now.nodes }
-    requires literals { graph.old.literals ≡ [] }
-    requires marks { graph.old.marks ≡ [] }
-    requires asserted { asserted.old ≡ [] }
-    requires later { later.old.items ≡ [] }
-    requires steps { refutation.old ≡ [] }
-    ensures { IfOk result (IsStatus version tree.now.nodes tree.now.rows graph.new asserted.new
-        later.new.items refutation.new) }
+    requires { IsBlank tree.now branch.old }
+    ensures { IfOk result (IsStatus version tree.now branch.new) }
 {
     let root = tree.row(0);
     if let RowKind::False = root.kind {
-        refutation.close_leaf(Step::False)?;
+        branch.refutation.close_leaf(Step::False)?;
         return Ok(SearchStatus::Refuted);
     }
     let whole = Side {
@@ -151,9 +123,7 @@ fn find_first<L: Ledger>(
         root: 0,
         denied: None,
     };
-    find(
-        alloc, tree, version, whole, graph, asserted, agenda, later, refutation, steps,
-    )
+    find(alloc, tree, version, whole, branch, steps)
 }
 
 /// Enters the root, and hands out what was found first.
@@ -161,33 +131,14 @@ fn start<L: Ledger>(
     alloc: Global,
     tree: NumberedTree,
     version: Version,
-    mut graph: OrderGraph,
-    mut agenda: Agenda,
-    mut refutation: Refutation,
+    mut branch: Branch,
     steps: &mut Steps<L>,
 ) -> Result<Turn, Memory>
-    requires nodes { graph.nodes ≡ length tree.nodes }
-    requires literals { graph.literals ≡ [] }
-    requires marks { graph.marks ≡ [] }
-    requires steps { refutation ≡ [] }
+    requires { IsBlank tree branch }
     ensures { IfOk result (IsTurn version tree.nodes tree.rows) }
 {
-    let mut asserted = Asserted::new(alloc);
-    let mut later = Vec::new(alloc);
-    let status = find_first(
-        alloc,
-        &tree,
-        version,
-        &mut graph,
-        &mut asserted,
-        &mut agenda,
-        &mut later,
-        &mut refutation,
-        steps,
-    )?;
-    Ok(settle(
-        alloc, version, tree, graph, asserted, agenda, later, refutation, status,
-    ))
+    let status = find_first(alloc, &tree, version, &mut branch, steps)?;
+    Ok(settle(alloc, version, tree, branch, status))
 }
 
 impl Search {
@@ -206,18 +157,8 @@ impl Search {
             (t : Tree PlainNode) → tree.now ≡ rows_of t → IsTurnOf version numbering.now t turn) }
     {
         let search_tree = NumberedTree::new(alloc, tree, numbering)?;
-        let count = search_tree.count();
-        let graph = OrderGraph::new(alloc, count)?;
-        let agenda = Agenda::new(alloc, search_tree.rows(), count, version)?;
-        let turn = start(
-            alloc,
-            search_tree,
-            version,
-            graph,
-            agenda,
-            Refutation::new(alloc),
-            steps,
-        )?;
+        let branch = Branch::new(alloc, &search_tree, version)?;
+        let turn = start(alloc, search_tree, version, branch, steps)?;
         Ok(turn)
     }
 
@@ -226,7 +167,7 @@ impl Search {
         ensures graph { result.now ≡ self.now.graph }
         ensures searching { IsSearching self.now }
     {
-        &self.graph
+        &self.branch.graph
     }
 
     /// The steps so far. Takes no memory.
@@ -234,7 +175,7 @@ impl Search {
         ensures steps { result.now ≡ self.now.steps }
         ensures searching { IsSearching self.now }
     {
-        &self.refutation
+        &self.branch.refutation
     }
 
     /// Splits one Or, and closes branches until one is open or none is left. Where memory is refused,
@@ -248,27 +189,10 @@ impl Search {
             alloc,
             version,
             tree,
-            mut graph,
-            mut asserted,
-            mut agenda,
-            mut later,
-            mut refutation,
+            mut branch,
             first,
         } = self;
-        let status = advance(
-            alloc,
-            &tree,
-            version,
-            first,
-            &mut graph,
-            &mut asserted,
-            &mut agenda,
-            &mut later,
-            &mut refutation,
-            steps,
-        )?;
-        Ok(settle(
-            alloc, version, tree, graph, asserted, agenda, later, refutation, status,
-        ))
+        let status = advance(alloc, &tree, version, first, &mut branch, steps)?;
+        Ok(settle(alloc, version, tree, branch, status))
     }
 }

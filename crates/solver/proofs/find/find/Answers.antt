@@ -17,25 +17,22 @@ row-root-requires g c = size_pos (spelled c.args.tree.now.rows)
 
 pub next_place-requires-clause-nodes : goal.next_place-requires-clause-nodes
 next_place-requires-clause-nodes g c =
-    let H : Bool → Type 0 = HasDescended c.args.version c.args.tree.now.nodes (spelled c.args.tree.now.rows) _ c.descend.new.graph c.descend.new.asserted
-    c.descend.new.later.items c.descend.new.refutation in
+    let H : Bool → Type 0 = HasDescended c.args.version c.args.tree.now _ c.descend.new.branch in
     let descended = subst H c.if-not-is_open.false c.in_ok-is_open.ensures.descended in
     descended.0.all_nodes
 
 pub next_place-requires-clause-literals : goal.next_place-requires-clause-literals
 next_place-requires-clause-literals g c =
-    let H : Bool → Type 0 = HasDescended c.args.version c.args.tree.now.nodes (spelled c.args.tree.now.rows) _ c.descend.new.graph c.descend.new.asserted
-    c.descend.new.later.items c.descend.new.refutation in
+    let H : Bool → Type 0 = HasDescended c.args.version c.args.tree.now _ c.descend.new.branch in
     let descended = subst H c.if-not-is_open.false c.in_ok-is_open.ensures.descended in
     descended.0.literals
 
 pub returns-in-Some-clause-found : goal.returns-in-Some-clause-found
 returns-in-Some-clause-found g c =
-    let H : Bool → Type 0 = HasDescended c.args.version c.args.tree.now.nodes (spelled c.args.tree.now.rows) _ c.descend.new.graph c.descend.new.asserted
-    c.descend.new.later.items c.descend.new.refutation in
+    let H : Bool → Type 0 = HasDescended c.args.version c.args.tree.now _ c.descend.new.branch in
     let descended = subst H c.if-not-is_open.false c.in_ok-is_open.ensures.descended in
     let rows = c.args.tree.now.rows in
-    let here = c.descend.new.asserted in
+    let here = c.descend.new.branch.asserted in
     let C : Option Place → Type 0 = λ found. IfSome found (λ q. IsCandidate (spelled rows) (positions here) (place_signed q)) in
     let candidate = subst C c.in-Some.is c.in_ok-place.ensures.candidate in record {
       no_false = c.requires.no_false;
@@ -46,71 +43,64 @@ returns-in-Some-clause-found g c =
 
 pub returns-in-Some-clause-lighter : goal.returns-in-Some-clause-lighter
 returns-in-Some-clause-lighter g c =
-    let H : Bool → Type 0 = HasDescended c.args.version c.args.tree.now.nodes (spelled c.args.tree.now.rows) _ c.descend.new.graph c.descend.new.asserted
-    c.descend.new.later.items c.descend.new.refutation in
+    let H : Bool → Type 0 = HasDescended c.args.version c.args.tree.now _ c.descend.new.branch in
     let descended = subst H c.if-not-is_open.false c.in_ok-is_open.ensures.descended in
     let t = spelled c.args.tree.now.rows in
-    let here = c.descend.new.asserted in
-    let same = ap (λ ps. weight t (opens t ps here c.descend.new.later.items)) (append-nil (positions here)) in
+    let here = c.descend.new.branch.asserted in
+    let same = ap (λ ps. weight t (opens t ps here c.descend.new.branch.later.items)) (append-nil (positions here)) in
     omega (arith, descended.1, same)
 
 pub candidates-requires-clause-nodes : goal.candidates-requires-clause-nodes
 candidates-requires-clause-nodes g c =
-    let H : Bool → Type 0 = HasDescended c.args.version c.args.tree.now.nodes (spelled c.args.tree.now.rows) _ c.descend.new.graph c.descend.new.asserted
-    c.descend.new.later.items c.descend.new.refutation in
+    let H : Bool → Type 0 = HasDescended c.args.version c.args.tree.now _ c.descend.new.branch in
     let descended = subst H c.if-not-is_open.false c.in_ok-is_open.ensures.descended in
     descended.0.all_nodes
 
 pub candidates-requires-clause-inside : goal.candidates-requires-clause-inside
 candidates-requires-clause-inside g c =
-    let H : Bool → Type 0 = HasDescended c.args.version c.args.tree.now.nodes (spelled c.args.tree.now.rows) _ c.descend.new.graph c.descend.new.asserted
-    c.descend.new.later.items c.descend.new.refutation in
+    let H : Bool → Type 0 = HasDescended c.args.version c.args.tree.now _ c.descend.new.branch in
     let descended = subst H c.if-not-is_open.false c.in_ok-is_open.ensures.descended in
     rw c.as_slice.ensures
-    (positions_inside c.args.version c.args.tree.now.nodes c.args.tree.now.rows c.descend.new.graph c.descend.new.asserted c.descend.new.later.items c.descend.new.refutation
+    (positions_inside c.args.version c.args.tree.now.nodes c.args.tree.now.rows c.descend.new.branch.graph c.descend.new.branch.asserted c.descend.new.branch.later.items c.descend.new.branch.refutation
     c.row-root.ensures.numbered.tree descended.0)
 
 pub candidates-requires-clause-signs : goal.candidates-requires-clause-signs
 candidates-requires-clause-signs g c =
-    let H : Bool → Type 0 = HasDescended c.args.version c.args.tree.now.nodes (spelled c.args.tree.now.rows) _ c.descend.new.graph c.descend.new.asserted
-    c.descend.new.later.items c.descend.new.refutation in
+    let H : Bool → Type 0 = HasDescended c.args.version c.args.tree.now _ c.descend.new.branch in
     let descended = subst H c.if-not-is_open.false c.in_ok-is_open.ensures.descended in
     rw c.as_slice.ensures
-    (kept_signs c.args.version c.args.tree.now.nodes (spelled c.args.tree.now.rows) c.descend.new.graph c.descend.new.asserted c.descend.new.later.items c.descend.new.refutation
+    (kept_signs c.args.version c.args.tree.now.nodes (spelled c.args.tree.now.rows) c.descend.new.branch.graph c.descend.new.branch.asserted c.descend.new.branch.later.items c.descend.new.branch.refutation
     descended.0)
 
 pub graph_of-requires : goal.graph_of-requires
 graph_of-requires g c =
-    let H : Bool → Type 0 = HasDescended c.args.version c.args.tree.now.nodes (spelled c.args.tree.now.rows) _ c.descend.new.graph c.descend.new.asserted
-    c.descend.new.later.items c.descend.new.refutation in
+    let H : Bool → Type 0 = HasDescended c.args.version c.args.tree.now _ c.descend.new.branch in
     let descended = subst H c.if-not-is_open.false c.in_ok-is_open.ensures.descended in
     let all = descended.0.all_nodes in
-    let P : ℕ → Type 0 = λ n. All (IsBelow n) c.descend.new.graph.literals in
+    let P : ℕ → Type 0 = λ n. All (IsBelow n) c.descend.new.branch.graph.literals in
     record { all = all; below = subst P all c.len-asserted_so_far.ensures.graph.below }
 
 pub returns-then-is_empty-clause-found : goal.returns-then-is_empty-clause-found
 returns-then-is_empty-clause-found g c =
-    let H : Bool → Type 0 = HasDescended c.args.version c.args.tree.now.nodes (spelled c.args.tree.now.rows) _ c.descend.new.graph c.descend.new.asserted
-    c.descend.new.later.items c.descend.new.refutation in
+    let H : Bool → Type 0 = HasDescended c.args.version c.args.tree.now _ c.descend.new.branch in
     let descended = subst H c.if-not-is_open.false c.in_ok-is_open.ensures.descended in
     let nodes = c.args.tree.now.nodes in
     let rows = c.args.tree.now.rows in
-    let here = c.descend.new.asserted in
+    let here = c.descend.new.branch.asserted in
     let empty : c.in_ok-found.found.items ≡ [] = nil_from_length c.in_ok-found.found.items
     (let e = eqb-true _ 0 (sym c.is_empty.ensures ∙ c.if-is_empty.true) in omega (arith, e)) in
     let A : List Place → Type 0 = λ xs. AreChosen (spelled rows) (positions xs) in
     let numbered = c.row-root.ensures.numbered in
-    witness c.args.version nodes (length nodes) rows c.descend.new.graph here c.descend.new.later.items c.descend.new.refutation c.in_ok-shown.shown
+    witness c.args.version nodes (length nodes) rows c.descend.new.branch.graph here c.descend.new.branch.later.items c.descend.new.branch.refutation c.in_ok-shown.shown
     refl numbered.tree numbered.distinct numbered.below c.requires.no_false descended.0
     c.len-asserted_so_far.ensures.graph (subst A c.as_slice.ensures (c.in_ok-found.ensures.none empty)) c.in_ok-shown.ensures.nodes c.in_ok-shown.ensures.edges
 
 pub returns-clause-found : goal.returns-clause-found
 returns-clause-found g c =
-    let H : Bool → Type 0 = HasDescended c.args.version c.args.tree.now.nodes (spelled c.args.tree.now.rows) _ c.descend.new.graph c.descend.new.asserted
-    c.descend.new.later.items c.descend.new.refutation in
+    let H : Bool → Type 0 = HasDescended c.args.version c.args.tree.now _ c.descend.new.branch in
     let descended = subst H c.if-not-is_open.false c.in_ok-is_open.ensures.descended in
     let rows = c.args.tree.now.rows in
-    let here = c.descend.new.asserted in
+    let here = c.descend.new.branch.asserted in
     let found = c.in_ok-found.found.items in
     let A : List Place → Type 0 = λ xs. All (λ q. IsCandidate (spelled rows) (positions xs) (place_signed q)) found in
     let all = subst A c.as_slice.ensures c.in_ok-found.ensures.all in
@@ -125,10 +115,9 @@ returns-clause-found g c =
 
 pub returns-clause-lighter : goal.returns-clause-lighter
 returns-clause-lighter g c =
-    let H : Bool → Type 0 = HasDescended c.args.version c.args.tree.now.nodes (spelled c.args.tree.now.rows) _ c.descend.new.graph c.descend.new.asserted
-    c.descend.new.later.items c.descend.new.refutation in
+    let H : Bool → Type 0 = HasDescended c.args.version c.args.tree.now _ c.descend.new.branch in
     let descended = subst H c.if-not-is_open.false c.in_ok-is_open.ensures.descended in
     let t = spelled c.args.tree.now.rows in
-    let here = c.descend.new.asserted in
-    let same = ap (λ ps. weight t (opens t ps here c.descend.new.later.items)) (append-nil (positions here)) in
+    let here = c.descend.new.branch.asserted in
+    let same = ap (λ ps. weight t (opens t ps here c.descend.new.branch.later.items)) (append-nil (positions here)) in
     omega (arith, descended.1, same)

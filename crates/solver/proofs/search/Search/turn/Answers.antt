@@ -1,7 +1,8 @@
 use Rattle.std.proofs.Common.{◌≡◌, ◌<◌, ◌+◌, sym, subst, arith, List}
 use Rattle.solver.specs.Spelled.{spelled}
 use Rattle.solver.specs.Weights.{weight}
-use Rattle.solver.specs.Searched.{Searched, branches_of}
+use Rattle.solver.specs.Branches.{branches_of}
+use Rattle.solver.specs.Searched.{Searched}
 use Rattle.solver.specs.Turns.{turn_weight, GoesOn}
 use Rattle.solver.specs.Descents.{HasMore}
 use Rattle.solver.specs.declared.search.Turn.{Turn}
@@ -10,17 +11,13 @@ use Rattle.pc_common.specs.World.{Node}
 use Rattle.pc_common.specs.Steps.{Step}
 use Rattle.solver.proofs.search.Search.turn.Goals as goal
 
-pub advance-requires : goal.advance-requires
-advance-requires g c =
-    let kept = c.self.invariant in record { no_false = kept.no_false; first = kept.candidate; small = kept.small; state = kept.state }
-
 pub settle-requires : goal.settle-requires
-settle-requires g c = record { status = c.in_ok-status.ensures.found }
+settle-requires g c = c.in_ok-status.ensures.found
 
 pub returns-clause-weight : goal.returns-clause-weight
 returns-clause-weight g c =
     let s = c.self.inside in
-    let less : turn_weight c.settle.result < 1 + weight (spelled s.tree.rows) (branches_of s.tree.rows s.asserted s.later.items) =
+    let less : turn_weight c.settle.result < 1 + weight (spelled s.tree.rows) (branches_of s.tree s.branch) =
     omega (arith, c.settle.ensures.weight, c.in_ok-status.ensures.lighter) in
     let S : Searched → Type 0 = λ x. turn_weight c.settle.result < 1 + weight (spelled x.rows) x.branches in
     subst S c.self.view_is less
@@ -33,4 +30,4 @@ pub returns-clause-steps : goal.returns-clause-steps
 returns-clause-steps g c =
     let s = c.self.inside in
     let S : Searched → Type 0 = λ x. GoesOn HasMore x.steps c.settle.result in
-    subst S c.self.view_is (goes_more s.refutation c.advance.new.refutation c.settle.result c.settle.ensures.steps c.in_ok-status.ensures.longer)
+    subst S c.self.view_is (goes_more s.branch.refutation c.advance.new.branch.refutation c.settle.result c.settle.ensures.steps c.in_ok-status.ensures.longer)
