@@ -15,7 +15,7 @@ use Rattle.solver.proofs.advance.advance.Goals as goal
 pub push_split-requires : goal.push_split-requires
 push_split-requires g c =
     let b = c.args.branch.now in
-    let some = one_open c.args.version c.args.tree.now.nodes (spelled c.args.tree.now.rows) b.graph b.asserted b.later.items b.refutation [] c.requires.state in
+    let some = one_open c.args.version c.args.tree.now b [] c.requires.state in
     rw c.choose.ensures.rest.steps some
 
 pub sides-requires-clause-is_or : goal.sides-requires-clause-is_or

@@ -40,7 +40,7 @@ pub close-requires-clause-open : goal.close-requires-clause-open
 close-requires-clause-open g c =
     let t = spelled c.args.tree.now.rows in
     let b = c.loop-branch.branch in
-    let some = one_open c.args.version c.args.tree.now.nodes t b.graph b.asserted b.later.items b.refutation (side_positions t c.loop-branch.side) c.loop-branch.invariant.state in
+    let some = one_open c.args.version c.args.tree.now b (side_positions t c.loop-branch.side) c.loop-branch.invariant.state in
     rw c.enter_next.ensures.rest.steps some
 
 pub returns-in_default-go_back-clause-descended : goal.returns-in_default-go_back-clause-descended
@@ -75,7 +75,7 @@ loop-branch-preserved g c =
     let popped : b.later.items ≡ back.later.items ++ next ∷ [] = sym c.enter_next.ensures.rest.later ∙ resumed.popped in
     let stepped : back.refutation ≡ b.refutation ++ step ∷ [] =
     resumed.steps ∙ c.in_ok-close.ensures ∙ ap (λ ss. ss ++ step ∷ []) c.enter_next.ensures.rest.steps in
-    let is_later = next_inside c.args.version nodes t b.graph here b.later.items back.later.items b.refutation next more c.loop-branch.invariant.state popped in
+    let is_later = next_inside c.args.version c.args.tree.now b more back.later.items next c.loop-branch.invariant.state popped in
     let gone =
     closed_kept c.args.version nodes t b.graph entered.graph back.graph here entered.asserted back.asserted
     b.later.items back.later.items b.refutation back.refutation (renamed_leaf (node_at nodes) (leaf_of c.in-Some.clash)) next more

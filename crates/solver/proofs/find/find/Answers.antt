@@ -1,4 +1,4 @@
-use Rattle.std.proofs.Common.{◌≡◌, refl, sym, ◌∙◌, subst, length, ap, arith, List, [], ℕ, Bool, eqb-true}
+use Rattle.std.proofs.Common.{◌≡◌, sym, ◌∙◌, subst, ap, arith, List, [], ℕ, Bool, eqb-true}
 use Rattle.std.specs.Prelude.{All, Option, IfSome}
 use Rattle.std.proofs.lemmas.List.{nil_from_length, append-nil}
 use Rattle.pc_ground.proofs.FlatRows.{size_pos}
@@ -61,16 +61,14 @@ candidates-requires-clause-inside g c =
     let H : Bool → Type 0 = HasDescended c.args.version c.args.tree.now _ c.descend.new.branch in
     let descended = subst H c.if-not-is_open.false c.in_ok-is_open.ensures.descended in
     rw c.as_slice.ensures
-    (positions_inside c.args.version c.args.tree.now.nodes c.args.tree.now.rows c.descend.new.branch.graph c.descend.new.branch.asserted c.descend.new.branch.later.items c.descend.new.branch.refutation
-    c.row-root.ensures.numbered.tree descended.0)
+    (positions_inside c.args.version c.args.tree.now c.descend.new.branch c.row-root.ensures.numbered descended.0)
 
 pub candidates-requires-clause-signs : goal.candidates-requires-clause-signs
 candidates-requires-clause-signs g c =
     let H : Bool → Type 0 = HasDescended c.args.version c.args.tree.now _ c.descend.new.branch in
     let descended = subst H c.if-not-is_open.false c.in_ok-is_open.ensures.descended in
     rw c.as_slice.ensures
-    (kept_signs c.args.version c.args.tree.now.nodes (spelled c.args.tree.now.rows) c.descend.new.branch.graph c.descend.new.branch.asserted c.descend.new.branch.later.items c.descend.new.branch.refutation
-    descended.0)
+    (kept_signs c.args.version c.args.tree.now c.descend.new.branch descended.0)
 
 pub graph_of-requires : goal.graph_of-requires
 graph_of-requires g c =
@@ -84,15 +82,10 @@ pub returns-then-is_empty-clause-found : goal.returns-then-is_empty-clause-found
 returns-then-is_empty-clause-found g c =
     let H : Bool → Type 0 = HasDescended c.args.version c.args.tree.now _ c.descend.new.branch in
     let descended = subst H c.if-not-is_open.false c.in_ok-is_open.ensures.descended in
-    let nodes = c.args.tree.now.nodes in
-    let rows = c.args.tree.now.rows in
-    let here = c.descend.new.branch.asserted in
     let empty : c.in_ok-found.found.items ≡ [] = nil_from_length c.in_ok-found.found.items
     (let e = eqb-true _ 0 (sym c.is_empty.ensures ∙ c.if-is_empty.true) in omega (arith, e)) in
-    let A : List Place → Type 0 = λ xs. AreChosen (spelled rows) (positions xs) in
-    let numbered = c.row-root.ensures.numbered in
-    witness c.args.version nodes (length nodes) rows c.descend.new.branch.graph here c.descend.new.branch.later.items c.descend.new.branch.refutation c.in_ok-shown.shown
-    refl numbered.tree numbered.distinct numbered.below c.requires.no_false descended.0
+    let A : List Place → Type 0 = λ xs. AreChosen (spelled c.args.tree.now.rows) (positions xs) in
+    witness c.args.version c.args.tree.now c.descend.new.branch c.in_ok-shown.shown c.row-root.ensures.numbered c.requires.no_false descended.0
     c.len-asserted_so_far.ensures.graph (subst A c.as_slice.ensures (c.in_ok-found.ensures.none empty)) c.in_ok-shown.ensures.nodes c.in_ok-shown.ensures.edges
 
 pub returns-clause-found : goal.returns-clause-found

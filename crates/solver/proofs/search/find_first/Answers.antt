@@ -19,6 +19,5 @@ find-requires g c =
     let rows = c.args.tree.now.rows in record {
       side = (size_pos (spelled rows), tt);
       no_false = no_false (spelled rows) c.row-root.ensures.numbered.folded (not_false rows c.row-root.result c.row-root.ensures.numbered.tree c.row-root.ensures.row c.in_default.not-False);
-      state = first_kept c.args.version c.args.tree.now.nodes (spelled rows) c.args.branch.now.graph c.args.branch.now.asserted c.args.branch.now.later.items
-          c.args.branch.now.refutation c.requires.nodes c.requires.literals c.requires.marks c.requires.asserted c.requires.later c.requires.steps;
+      state = first_kept c.args.version c.args.tree.now c.args.branch.now c.requires;
     }
