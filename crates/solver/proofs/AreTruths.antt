@@ -15,7 +15,7 @@ use Rattle.pc_ground.specs.Rows.{root_kind, rows_of}
 use Rattle.pc_ground.specs.declared.version.Version.{Version}
 use Rattle.pc_ground.specs.declared.version.Version.TheVariants.{One, Two}
 use Rattle.pc_ground.specs.Refutes.{Signed, subtree_at}
-use Rattle.pc_ground.proofs.Turned.{subtree_denied, size_negation}
+use Rattle.pc_ground.proofs.Turned.{subtree_denied, size_negation, size_turned}
 use Rattle.pc_ground.proofs.FlatRows.{length_rows, size_pos, subtree_size, subtree_past, children_both, children_either}
 use Rattle.pc_ground.proofs.StageWalks.{some_same}
 use Rattle.solver.specs.Spelled.{spelled, IsSpelled}
@@ -214,10 +214,12 @@ or_sides rows v q r left right flat at e f = λ a b is.
     let size : r.skip ≡ size_of a = omega (arith, place) in
     (e, f ∙ ap (right_side v q) size)
 
-pub or_inside : (rows : List (Row ℕ)) (q : Signed) → IsSpelled rows → IsOr (spelled rows) q → (q.position + 1 < length rows) × (q.position + 1 < size_of (spelled rows))
-or_inside rows q flat (a, b, e) =
-    let inside = children_inside rows q.position (q.position + 1 + size_of a) flat (signed_children (spelled rows) q.negated q.position a b e) in
-    (inside.0, omega (arith, inside.0, length_spelled rows flat))
+pub or_left_inside : (t : Tree ℕ) (q : Signed) → IsOr t q → q.position + 1 < size_of t
+or_left_inside t q (a, b, e) =
+    let n = q.negated in
+    let children = children_either (turned n t) q.position a b e in
+    let size = subtree_size (turned n t) (q.position + 1) a children.0 in
+    omega (arith, size, size_pos a, size_turned n t)
 
 pub or_right_inside : (rows : List (Row ℕ)) (q : Signed) (r : Row ℕ) → IsSpelled rows → IsOr (spelled rows) q → slice_get rows (q.position + 1) ≡ Some r
     → q.position + 1 + r.skip < size_of (spelled rows)

@@ -19,6 +19,9 @@ use Rattle.solver.specs.Renamed.{tree_over}
 use Rattle.solver.specs.Places.{place_signed, side_positions, left_side, right_side, IsCandidate, AreSides}
 use Rattle.solver.specs.Leaves.{IsClashBelow}
 use Rattle.solver.specs.Opens.{positions, waiting, IsLater, AreLater, opens, IsState, IsSame}
+use Rattle.solver.specs.Numbered.{Numbered}
+use Rattle.solver.specs.Branches.{branches_with, IsOpen}
+use Rattle.solver.specs.declared.branch.Branch.{Branch as OpenBranch}
 use Rattle.solver.specs.Weights.{weight}
 use Rattle.solver.specs.Descents.{IsLonger, HasMore}
 use Rattle.solver.specs.declared.place.Place.{Place}
@@ -33,10 +36,8 @@ use Rattle.pc_ground.proofs.FlatRows.{children_either}
 pub clash_in : (n : ℕ) (rows : List (Row ℕ)) (ps : Branch) (k : Clash) → IsSpelled rows → All (IsRowBelow n) rows → IsClash (literals_of (spelled rows) ps) k → IsClashBelow n k
 clash_in n rows ps k flat all c = clash_below n (literals_of (spelled rows) ps) k (literals_below n rows ps flat all) c
 
-pub one_open : (v : Version) (nodes : List Node) (t : Tree ℕ) (g : Graph) (here : List Place) (ls : List Later) (ss : List (Step Node)) (more : Branch)
-    → IsState v nodes t g here ls ss more → 0 < open_branches ss
-one_open v nodes t g here ls ss more kept =
-    omega (arith, open_partial v (tree_over nodes t) ss (opens t (positions here ++ more) here ls) kept.partial)
+pub one_open : (v : Version) (t : Numbered) (b : OpenBranch) (more : Branch) → IsOpen v t b more → 0 < open_branches b.refutation
+one_open v t b more kept = omega (arith, open_partial v (tree_over t.nodes (spelled t.rows)) b.refutation (branches_with t b more) kept.partial)
 
 pub longer_push : (old mid new : List (Step Node)) (s : Step Node) → IsLonger old mid → new ≡ mid ++ s ∷ [] → IsLonger old new
 longer_push old mid new s (more, e) f = (more ++ s ∷ [], f ∙ ap (λ xs. xs ++ s ∷ []) e ∙ append_assoc old more (s ∷ []))
@@ -49,10 +50,10 @@ pub lighter_closed : (t : Tree ℕ) (all rest : List Branch) (ps : Branch) (most
 lighter_closed t all rest ps most e h = (let less = weight_more t ps rest in omega (arith, less, ap (weight t) e, h))
 
 -- the waiting side's root is inside, and its mark is live
-pub next_inside : (v : Version) (nodes : List Node) (t : Tree ℕ) (g : Graph) (here : List Place) (ls ms : List Later) (ss : List (Step Node)) (l : Later) (more : Branch)
-    → IsState v nodes t g here ls ss more → ls ≡ ms ++ l ∷ [] → IsLater t (positions here) g.marks l
-next_inside v nodes t g here ls ms ss l more kept popped =
-    let W : List Later → Type 0 = AreLater t (positions here) g.marks in
+pub next_inside : (v : Version) (t : Numbered) (b : OpenBranch) (more : Branch) (ms : List Later) (l : Later) → IsOpen v t b more → b.later.items ≡ ms ++ l ∷ []
+    → IsLater (spelled t.rows) (positions b.asserted) b.graph.marks l
+next_inside v t b more ms l kept popped =
+    let W : List Later → Type 0 = AreLater (spelled t.rows) (positions b.asserted) b.graph.marks in
     (subst W (ap reverse popped ∙ reverse_push ms l) kept.waits).0
   where
     reverse_push : {X : Type 0} (xs : List X) (x : X) → reverse (xs ++ x ∷ []) ≡ x ∷ reverse xs

@@ -1,5 +1,5 @@
 -- From what a search keeps to what it hands out.
-use Rattle.std.proofs.Common.{◌≡◌, ◌<◌, inl, inr, ℕ, zero, suc, ◌+◌, ◌-◌, ◌^◌, true, List, [], ◌∷◌, Option, Some, None, map, reverse, length, refl, sym, ap, ◌∙◌, subst, arith, get_or}
+use Rattle.std.proofs.Common.{◌≡◌, ◌<◌, inl, inr, ℕ, zero, suc, ◌+◌, ◌-◌, ◌^◌, true, List, [], ◌∷◌, Option, Some, None, reverse, length, refl, sym, ap, ◌∙◌, subst, arith, get_or}
 use Rattle.std.specs.Prelude.{Contains, All, slice_get, Bool, false, ◌==◌, nat_lt}
 use Rattle.std.specs.Option.{option_map}
 use Rattle.std.proofs.lemmas.List.{append-nil}
@@ -10,10 +10,7 @@ use Rattle.pc_common.specs.Steps.{Step, close, false_step}
 use Rattle.pc_common.proofs.Elements.{In, contains_from_in, in_map, in_front, in_back, true_or_false}
 use Rattle.pc_ground.specs.declared.literal.Literal.{Literal}
 use Rattle.pc_ground.specs.declared.row.Row.{Row}
-use Rattle.pc_ground.specs.declared.node_key.NodeKey.{NodeKey}
-use Rattle.pc_ground.specs.Keys.{key_node}
 use Rattle.pc_ground.specs.Rows.{rows_of}
-use Rattle.pc_ground.specs.Numbers.{AreDistinct}
 use Rattle.pc_ground.specs.Tree.{Tree, always, never, leaf, both, either, turned, size_of}
 use Rattle.pc_ground.specs.declared.version.Version.{Version}
 use Rattle.pc_ground.specs.declared.version.Version.TheVariants.{One, Two}
@@ -29,9 +26,10 @@ use Rattle.pc_ground.specs.Folded.{HasNoConstant, IsFolded}
 use Rattle.pc_ground.specs.declared.row.RowKind.TheVariants.{False}
 use Rattle.graph_text.specs.Graphs.{graph_nodes, graph_edges}
 use Rattle.graph_text.specs.declared.graph.Graph.{Graph as PlainGraph}
-use Rattle.order_graph.specs.State.{Graph, IsGraph}
+use Rattle.order_graph.specs.State.{IsGraph}
 use Rattle.order_graph.proofs.GeneratesWorld.{consistent_generate}
 use Rattle.solver.specs.Spelled.{spelled, IsSpelled}
+use Rattle.solver.specs.Numbered.{Numbered, IsNumbered, HasNoFalse}
 use Rattle.solver.specs.Renamed.{tree_over, rows_over, node_at, renamed_tree}
 use Rattle.solver.specs.Below.{IsRowBelow}
 use Rattle.solver.specs.Met.{IsMet, IsMetUnder}
@@ -42,13 +40,15 @@ use Rattle.solver.specs.Answers.{IsWitness, IsAnswer}
 use Rattle.solver.specs.Turns.{IsTurn, IsTurnOf}
 use Rattle.solver.specs.declared.search.Turn.{Turn}
 use Rattle.solver.specs.declared.search.Turn.TheVariants.{More, Done}
-use Rattle.solver.specs.Searched.{IsSearching, IsSearch, branches_of}
+use Rattle.solver.specs.Branches.{branches_of, IsOpen, IsBlank}
+use Rattle.solver.specs.Searched.{IsSearching, IsSearch}
+use Rattle.solver.specs.declared.branch.Branch.{Branch as OpenBranch}
 use Rattle.solver.specs.declared.place.Place.{Place}
 use Rattle.solver.specs.declared.later.Later.{Later}
 use Rattle.solver.proofs.RenamedTree.{part_renamed, size_renamed, asserted_renamed, tree_of_names}
 use Rattle.solver.proofs.IsSpelled.{spelled_is, is_spelled}
 use Rattle.solver.proofs.IsGrown.{IsGrown, grown_first}
-use Rattle.solver.proofs.IsMet.{NoFalse, met_whole}
+use Rattle.solver.proofs.IsMet.{met_whole}
 use Rattle.solver.proofs.ShownWorld.{Shows, AreBelow, shown_world}
 use Rattle.solver.proofs.Shown.{all_by_in}
 use Rattle.solver.proofs.IsKnown.{number_named}
@@ -72,35 +72,36 @@ grown_back f t ps g = record {
       (k.0, subst P (size_renamed f a) k.1);
 }
 
-pub kept_run : (v : Version) (nodes : List Node) (t : Tree ℕ) (g : Graph) (here : List Place) (ls : List Later) (ss : List (Step Node)) → IsState v nodes t g here ls ss []
-    → IsPartial v (tree_over nodes t) ss (opens t (positions here) here ls)
-kept_run v nodes t g here ls ss kept =
-    let P : Branch → Type 0 = λ ps. IsPartial v (tree_over nodes t) ss (opens t ps here ls) in
-    subst P (append-nil (positions here)) kept.partial
+kept_run : (v : Version) (t : Numbered) (b : OpenBranch) → IsOpen v t b [] → IsPartial v (tree_over t.nodes (spelled t.rows)) b.refutation (branches_of t b)
+kept_run v t b kept =
+    let P : Branch → Type 0 = λ ps. IsPartial v (tree_over t.nodes (spelled t.rows)) b.refutation (opens (spelled t.rows) ps b.asserted b.later.items) in
+    subst P (append-nil (positions b.asserted)) kept.partial
 
-kept_grown : (v : Version) (nodes : List Node) (t : Tree ℕ) (g : Graph) (here : List Place) (ls : List Later) (ss : List (Step Node)) → IsState v nodes t g here ls ss [] → IsGrown t (positions here)
-kept_grown v nodes t g here ls ss kept =
-    grown_back (node_at nodes) t (positions here) (grown_first v (tree_over nodes t) ss (positions here) _ (kept_run v nodes t g here ls ss kept))
+kept_grown : (v : Version) (t : Numbered) (b : OpenBranch) → IsOpen v t b [] → IsGrown (spelled t.rows) (positions b.asserted)
+kept_grown v t b kept =
+    grown_back (node_at t.nodes) (spelled t.rows) (positions b.asserted)
+    (grown_first v (tree_over t.nodes (spelled t.rows)) b.refutation (positions b.asserted) _ (kept_run v t b kept))
 
 -- asserted positions are inside
-pub positions_inside : (v : Version) (nodes : List Node) (rows : List (Row ℕ)) (g : Graph) (here : List Place) (ls : List Later) (ss : List (Step Node)) → IsSpelled rows
-    → IsState v nodes (spelled rows) g here ls ss [] → All (λ (a : Place). a.position < length rows) here
-positions_inside v nodes rows g here ls ss flat kept =
-    let t = spelled rows in
-    let grown = kept_grown v nodes t g here ls ss kept in
-    all_by_in (λ (a : Place). a.position < length rows) here (λ a i.
-    let there = grown.inside (place_signed a) (in_map place_signed a here i) in
-    let size = subtree_size (turned a.negated t) a.position there.0 there.1 in
-    omega (arith, size, size_pos there.0, size_turned a.negated t, length_spelled rows flat))
+pub positions_inside : (v : Version) (t : Numbered) (b : OpenBranch) → IsNumbered t → IsOpen v t b [] → All (λ (a : Place). a.position < length t.rows) b.asserted
+positions_inside v t b numbered kept =
+    let s = spelled t.rows in
+    let grown = kept_grown v t b kept in
+    all_by_in (λ (a : Place). a.position < length t.rows) b.asserted (λ a i.
+    let there = grown.inside (place_signed a) (in_map place_signed a b.asserted i) in
+    let size = subtree_size (turned a.negated s) a.position there.0 there.1 in
+    omega (arith, size, size_pos there.0, size_turned a.negated s, length_spelled t.rows numbered.tree))
 
 -- on a branch with no candidate the whole tree is true
-pub kept_met : (v : Version) (nodes : List Node) (t : Tree ℕ) (g : Graph) (here : List Place) (ls : List Later) (ss : List (Step Node)) → IsState v nodes t g here ls ss []
-    → IsConsistent g.literals → AreChosen t (positions here) → NoFalse t → IsMet g.literals t
-kept_met v nodes t g here ls ss kept consistent chosen none =
+kept_met : (v : Version) (t : Numbered) (b : OpenBranch) → IsOpen v t b [] → IsConsistent b.graph.literals → AreChosen (spelled t.rows) (positions b.asserted) → HasNoFalse t
+    → IsMet b.graph.literals (spelled t.rows)
+kept_met v t b kept consistent chosen none =
+    let s = spelled t.rows in
+    let ps = positions b.asserted in
     let P : List (Literal ℕ) → Type 0 = IsConsistent in
-    let Q : List (Literal ℕ) → Type 0 = λ xs. IsMet xs t in
-    subst Q (sym kept.literals) (met_whole t (positions here) (kept_grown v nodes t g here ls ss kept)
-    (consistent_generate (literals_of t (positions here)) (subst P kept.literals consistent)).met chosen none)
+    let Q : List (Literal ℕ) → Type 0 = λ xs. IsMet xs s in
+    subst Q (sym kept.literals) (met_whole s ps (kept_grown v t b kept)
+    (consistent_generate (literals_of s ps) (subst P kept.literals consistent)).met chosen none)
 
 rows_below : (n : ℕ) (t : Tree ℕ) → ((r : Row ℕ) → In r (rows_of t) → IsRowBelow n r) → AreBelow n t
 rows_below n always f = tt
@@ -125,21 +126,19 @@ named_in nodes k a inside e =
     (k, inside, get_or_from_slice_get nodes k a a (at ∙ ap Some same))
 
 -- the graph of such a branch shows that the tree is true in its world
-pub witness : (v : Version) (nodes : List Node) (n : ℕ) (rows : List (Row ℕ)) (g : Graph) (here : List Place) (ls : List Later) (ss : List (Step Node)) (shown : PlainGraph)
-    → n ≡ length nodes → IsSpelled rows → AreDistinct nodes → All (IsRowBelow n) rows → ((p : ℕ) → subtree_at (spelled rows) p ≡ Some never → ⊥)
-    → IsState v nodes (spelled rows) g here ls ss [] → IsGraph g → AreChosen (spelled rows) (positions here)
-    → ArePresent nodes g.literals n (graph_nodes shown) → AreEdges nodes g.literals (graph_edges shown) → IsWitness nodes (tree_over nodes (spelled rows)) shown
-witness v nodes n rows g here ls ss shown size flat distinct below none kept graph chosen present edges =
-    let t = spelled rows in
-    let P : ℕ → Type 0 = λ m. ArePresent nodes g.literals m (graph_nodes shown) in
-    let Q : ℕ → Type 0 = λ m. All (IsRowBelow m) rows in
-    let B : ℕ → Type 0 = λ m. All (IsBelow m) g.literals in
-    let there = subst P size present in
-    let shows : Shows nodes g.literals (graph_nodes shown) (graph_edges shown) =
-    record { distinct = distinct; below = subst B kept.all_nodes graph.below; consistent = graph.consistent; present = there; edges = edges } in
-    let met = kept_met v nodes t g here ls ss kept graph.consistent chosen none in
-    let made = shown_world nodes g.literals (graph_nodes shown) (graph_edges shown) t shows (tree_below (length nodes) rows flat (subst Q size below)) met in record {
-      known = λ a h. (let k = (there a).0 h in named_in nodes k.0 a k.1 k.3);
+pub witness : (v : Version) (t : Numbered) (b : OpenBranch) (shown : PlainGraph) → IsNumbered t → HasNoFalse t → IsOpen v t b [] → IsGraph b.graph
+    → AreChosen (spelled t.rows) (positions b.asserted) → ArePresent t.nodes b.graph.literals (length t.nodes) (graph_nodes shown)
+    → AreEdges t.nodes b.graph.literals (graph_edges shown) → IsWitness t.nodes (tree_over t.nodes (spelled t.rows)) shown
+witness v t b shown numbered none kept graph chosen present edges =
+    let nodes = t.nodes in
+    let ls = b.graph.literals in
+    let B : ℕ → Type 0 = λ m. All (IsBelow m) ls in
+    let shows : Shows nodes ls (graph_nodes shown) (graph_edges shown) =
+    record { distinct = numbered.distinct; below = subst B kept.all_nodes graph.below; consistent = graph.consistent; present = present; edges = edges } in
+    let met = kept_met v t b kept graph.consistent chosen none in
+    let below = tree_below (length nodes) t.rows numbered.tree numbered.below in
+    let made = shown_world nodes ls (graph_nodes shown) (graph_edges shown) (spelled t.rows) shows below met in record {
+      known = λ a h. (let k = (present a).0 h in named_in nodes k.0 a k.1 k.3);
       ends = made.0;
       world = made.1.0;
       generated = made.1.1;
@@ -148,33 +147,30 @@ witness v nodes n rows g here ls ss shown size flat distinct below none kept gra
     }
 
 -- in version 1 no position of the branch has a sign
-pub kept_signs : (v : Version) (nodes : List Node) (t : Tree ℕ) (g : Graph) (here : List Place) (ls : List Later) (ss : List (Step Node)) → IsState v nodes t g here ls ss []
-    → HasSignsOf v (positions here)
-kept_signs One nodes t g here ls ss kept =
-    let ps = positions here in
-    let opened = opens t ps here ls in
-    λ q has. one_has_no_sign (tree_over nodes t) ss opened (kept_run One nodes t g here ls ss kept) ps (contains_from_in ps opened (inl refl)) q has
-kept_signs Two nodes t g here ls ss kept = tt
+pub kept_signs : (v : Version) (t : Numbered) (b : OpenBranch) → IsOpen v t b [] → HasSignsOf v (positions b.asserted)
+kept_signs One t b kept =
+    let ps = positions b.asserted in
+    λ q has. one_has_no_sign (tree_over t.nodes (spelled t.rows)) b.refutation (branches_of t b) (kept_run One t b kept) ps (contains_from_in ps (branches_of t b) (inl refl)) q has
+kept_signs Two t b kept = tt
 
 plain_part : (t : Tree ℕ) (n : Bool) (p : ℕ) (s : Tree ℕ) → subtree_at (turned n t) p ≡ Some s → subtree_at t p ≡ Some (turned n s)
 plain_part t false p s e = e
 plain_part t true p s e = subtree_denied t true p s e
 
 -- what the type of a search keeps, as its clauses say it
-pub searching : (v : Version) (keys : List NodeKey) (rows : List (Row ℕ)) (g : Graph) (here : List Place) (ls : List Later) (ss : List (Step Node)) (first : Place)
-    → IsSearch v keys rows g here ls ss first
-    → IsSearching (record { version = v; nodes = map key_node keys; rows = rows; graph = g; steps = ss; branches = branches_of rows here ls })
-searching v keys rows g here ls ss first s =
-    let nodes = map key_node keys in
-    let t = spelled rows in
+pub searching : (v : Version) (tree : Numbered) (b : OpenBranch) (first : Place) → IsSearch v tree b first
+    → IsSearching (record { version = v; nodes = tree.nodes; rows = tree.rows; graph = b.graph; steps = b.refutation; branches = branches_of tree b })
+searching v tree b first s =
+    let here = b.asserted in
+    let t = spelled tree.rows in
     let q = place_signed first in
     let candidate = s.candidate in
     let part = turned q.negated (either candidate.left candidate.right) in
     let P : List (Literal ℕ) → Type 0 = λ xs. IsMetUnder q.negated xs part in record {
       first = positions here;
-      others = waiting t (positions here) (reverse ls);
+      others = waiting t (positions here) (reverse b.later.items);
       branches = refl;
-      partial = kept_run v nodes t g here ls ss s.state;
+      partial = kept_run v tree b s.state;
       nodes = s.state.all_nodes;
       literals = s.state.literals;
       place = q;
@@ -262,18 +258,18 @@ not_false rows r flat at other e =
     other (ap (λ (x : Row ℕ). x.kind) there.2 ∙ ap root_kind same)
 
 -- what is kept before the root is entered
-pub first_kept : (v : Version) (nodes : List Node) (t : Tree ℕ) (g : Graph) (here : List Place) (ls : List Later) (ss : List (Step Node)) → g.nodes ≡ length nodes → g.literals ≡ [] → g.marks ≡ []
-    → here ≡ [] → ls ≡ [] → ss ≡ [] → IsState v nodes t g here ls ss (side_positions t root_side)
-first_kept v nodes t g here ls ss all literals marks none_here none_later none_steps =
-    let A : List Place → List Later → List (Step Node) → Type 0 = λ as' ls' ss'. IsState v nodes t g as' ls' ss' (side_positions t root_side) in
+pub first_kept : (v : Version) (t : Numbered) (b : OpenBranch) → IsBlank t b → IsOpen v t b (side_positions (spelled t.rows) root_side)
+first_kept v t b blank =
+    let s = spelled t.rows in
+    let A : List Place → List Later → List (Step Node) → Type 0 = λ as' ls' ss'. IsState v t.nodes s b.graph as' ls' ss' (side_positions s root_side) in
     let first : A [] [] [] = record {
-      literals = literals;
-      all_nodes = all;
-      marks = omega (arith, ap length marks);
+      literals = blank.literals;
+      all_nodes = blank.nodes;
+      marks = omega (arith, ap length blank.marks);
       waits = tt;
-      partial = ap (λ ps. all_signed false ps ∷ []) (asserted_renamed (node_at nodes) t 0);
+      partial = ap (λ ps. all_signed false ps ∷ []) (asserted_renamed (node_at t.nodes) s 0);
     } in
-    subst (λ x. A here ls x) (sym none_steps) (subst (λ x. A here x []) (sym none_later) (subst (λ x. A x [] []) (sym none_here) first))
+    subst (λ x. A b.asserted b.later.items x) (sym blank.steps) (subst (λ x. A b.asserted x []) (sym blank.later) (subst (λ x. A x [] []) (sym blank.asserted) first))
 
 -- the refutation of False
 pub false_refuted : (v : Version) (nodes : List Node) (t : Tree ℕ) (ss : List (Step Node)) → t ≡ never → ss ≡ close false_step ∷ [] → IsRefutation v (tree_over nodes t) ss

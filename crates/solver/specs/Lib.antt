@@ -1,9 +1,11 @@
 pub mod Spelled
 pub mod Renamed
 pub mod Below
+pub mod Numbered
 pub mod Met
 pub mod Places
 pub mod Opens
+pub mod Branches
 pub mod Weights
 pub mod Flags
 pub mod Leaves

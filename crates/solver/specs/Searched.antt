@@ -1,24 +1,21 @@
 -- What a search is seen as, and what it keeps.
-use Rattle.std.specs.Prelude.{ℕ, ◌≡◌, ◌<◌, ◌≤◌, ◌^◌, List, [], ◌∷◌, Some, Contains, All, length, map}
+use Rattle.std.specs.Prelude.{ℕ, ◌≡◌, ◌<◌, ◌^◌, List, [], ◌∷◌, Some, Contains, length}
 use Rattle.pc_common.specs.World.{Node}
 use Rattle.pc_common.specs.Steps.{Step}
-use Rattle.pc_common.specs.declared.limits.TheConstants.{MAX_NODES}
-use Rattle.pc_ground.specs.declared.node_key.NodeKey.{NodeKey}
 use Rattle.pc_ground.specs.declared.row.Row.{Row}
-use Rattle.pc_ground.specs.Keys.{key_node}
-use Rattle.pc_ground.specs.Numbers.{AreDistinct}
-use Rattle.pc_ground.specs.Tree.{Tree, never}
+use Rattle.pc_ground.specs.Tree.{Tree}
 use Rattle.pc_ground.specs.declared.version.Version.{Version}
-use Rattle.pc_ground.specs.Refutes.{Signed, Branch, subtree_at, literals_of, IsPartial}
+use Rattle.pc_ground.specs.Refutes.{Signed, Branch as Positions, subtree_at, literals_of, IsPartial}
 use Rattle.order_graph.specs.State.{Graph}
-use Rattle.solver.specs.Spelled.{spelled, IsSpelled}
+use Rattle.solver.specs.Spelled.{spelled}
+use Rattle.solver.specs.Numbered.{Numbered, HasNoFalse}
 use Rattle.solver.specs.Renamed.{tree_over}
-use Rattle.solver.specs.Below.{IsRowBelow}
 use Rattle.solver.specs.Met.{IsMetUnder}
 use Rattle.solver.specs.Places.{place_signed, IsCandidate}
-use Rattle.solver.specs.Opens.{positions, opens, IsState}
+use Rattle.solver.specs.Opens.{positions}
+use Rattle.solver.specs.Branches.{IsOpen}
 use Rattle.solver.specs.declared.place.Place.{Place}
-use Rattle.solver.specs.declared.later.Later.{Later}
+use Rattle.solver.specs.declared.branch.Branch.{Branch}
 
 pub record Searched : Type 0 where
   -- how its steps are read
@@ -30,7 +27,7 @@ pub record Searched : Type 0 where
   pub graph : Graph
   pub steps : List (Step Node)
   -- the open branches, the first one first
-  pub branches : List Branch
+  pub branches : List Positions
 
 -- the tree over numbers, and over nodes
 abbrev pub number_tree : Searched → Tree ℕ
@@ -41,8 +38,8 @@ searched_tree s = tree_over s.nodes (number_tree s)
 
 pub record IsSearching (s : Searched) : Type 0 where
   -- a branch is open
-  pub first : Branch
-  pub others : List Branch
+  pub first : Positions
+  pub others : List Positions
   pub branches : s.branches ≡ first ∷ others
   -- the steps with the open branches are a partial refutation
   pub partial : IsPartial s.version (searched_tree s) s.steps s.branches
@@ -56,16 +53,9 @@ pub record IsSearching (s : Searched) : Type 0 where
   pub at_place : subtree_at (number_tree s) place.position ≡ Some part
   pub not_met : IsMetUnder place.negated s.graph.literals part → ⊥
 
--- what the fields of a search keep
-pub record IsSearch (v : Version) (keys : List NodeKey) (rows : List (Row ℕ)) (graph : Graph) (asserted : List Place) (later : List Later) (steps : List (Step Node)) (place : Place) : Type 0 where
-  pub tree : IsSpelled rows
-  pub few : length keys ≤ MAX_NODES
-  pub distinct : AreDistinct (map key_node keys)
-  pub below : All (IsRowBelow (length keys)) rows
-  pub no_false : (p : ℕ) → subtree_at (spelled rows) p ≡ Some never → ⊥
-  pub state : IsState v (map key_node keys) (spelled rows) graph asserted later steps []
-  pub candidate : IsCandidate (spelled rows) (positions asserted) (place_signed place)
-  pub small : place.position < 2 ^ 63
-
-abbrev pub branches_of : List (Row ℕ) → List Place → List Later → List Branch
-branches_of rows asserted later = opens (spelled rows) (positions asserted) asserted later
+-- what a search keeps between its turns: its first open branch has this candidate
+pub record IsSearch (v : Version) (t : Numbered) (b : Branch) (first : Place) : Type 0 where
+  pub no_false : HasNoFalse t
+  pub state : IsOpen v t b []
+  pub candidate : IsCandidate (spelled t.rows) (positions b.asserted) (place_signed first)
+  pub small : first.position < 2 ^ 63

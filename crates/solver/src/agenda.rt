@@ -1,10 +1,10 @@
 ghost use Rattle.std.specs.Prelude.{◌≡◌, All, length};
-ghost use Rattle.solver.specs.Spelled.{IsSpelled};
 ghost use Rattle.solver.specs.Below.{IsRowBelow};
 
 use super::bits::Bits;
 use super::gains::{Gained, Gains};
 use super::hints::{Truth, or_truth};
+use super::numbered_tree::NumberedTree;
 use super::ors::is_or;
 use super::place::Place;
 use super::rows::skip_at;
@@ -13,7 +13,7 @@ use super::standing::Standing;
 use super::watch::{Watch, Watched};
 use order_graph::OrderGraph;
 use pc_common::Memory;
-use pc_ground::{NodeKey, Row, Version};
+use pc_ground::{Row, Version};
 use std::alloc::Global;
 
 /// What stood at a position before a change.
@@ -176,12 +176,10 @@ impl Agenda {
     }
 
     /// Looks at the positions that were asserted since the last call: each Or is a choice.
-    fn take(&mut self, rows: &[Row<u32>], asserted: &[Place]) -> Result<(), Memory>
-        requires { IsSpelled rows.now }
-    {
+    fn take(&mut self, tree: &NumberedTree, asserted: &[Place]) -> Result<(), Memory> {
         for k in self.seen..asserted.len() {
             let place = asserted[k];
-            if is_or(rows, place) {
+            if is_or(tree, place) {
                 self.change(place.position, Standing::fresh(place.negated))?;
             }
         }
@@ -192,31 +190,27 @@ impl Agenda {
     /// Looks at what is asserted on this branch since the side was to be entered.
     pub(crate) fn note(
         &mut self,
-        rows: &[Row<u32>],
+        tree: &NumberedTree,
         graph: &OrderGraph,
-        keys: &[NodeKey],
         asserted: &[Place],
     ) -> Result<(), Memory>
-        requires tree { IsSpelled rows.now }
-        requires nodes { graph.now.nodes ≡ length keys.now }
+        requires { graph.now.nodes ≡ length tree.now.nodes }
     {
-        self.gains.note(graph, keys, self.seen > 0)?;
-        self.touch_gained(rows)?;
-        self.take(rows, asserted)
+        self.gains.note(tree, graph, self.seen > 0)?;
+        self.touch_gained(tree.rows())?;
+        self.take(tree, asserted)
     }
 
     /// Looks at what the side would change, before it is entered.
     pub(crate) fn foresee(
         &mut self,
-        rows: &[Row<u32>],
+        tree: &NumberedTree,
         side: Side,
         graph: &OrderGraph,
-        keys: &[NodeKey],
     ) -> Result<(), Memory>
-        requires nodes { graph.now.nodes ≡ length keys.now }
-        requires below { All (IsRowBelow graph.now.nodes) rows.now }
+        requires { graph.now.nodes ≡ length tree.now.nodes }
     {
-        self.gains.foresee(rows, side, graph, keys)
+        self.gains.foresee(tree, side, graph)
     }
 
     /// What is known of the pending Or that the literal is within may have changed: whether a side is closed at once, and
@@ -317,9 +311,12 @@ impl Agenda {
         Ok(None)
     }
 
-    /// A leaf closed the side of a split of version 2. The Or stands right before its left side, which a right
-    /// side names as what it denies.
-    pub(crate) fn count_closed(&mut self, side: Side) {
+    /// A leaf closed the side of a split, which counts in version 2. The Or stands right before its left side,
+    /// which a right side names as what it denies.
+    pub(crate) fn count_closed(&mut self, version: Version, side: Side) {
+        let Version::Two = version else {
+            return;
+        };
         let left = side.denied.unwrap_or(side.root);
         let position = left.saturating_sub(1);
         if position < self.closings.len() {

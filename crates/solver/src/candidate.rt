@@ -1,17 +1,17 @@
-ghost use Rattle.std.specs.Prelude.{◌≡◌, ◌<◌, ◌^◌, ℕ, All, IfOk, IsTrue};
+ghost use Rattle.std.specs.Prelude.{◌≡◌, ◌<◌, ◌^◌, ℕ, IfOk, IsTrue, length};
 ghost use Rattle.pc_ground.specs.Refutes.{literals_of};
-ghost use Rattle.solver.specs.Spelled.{spelled, IsSpelled};
-ghost use Rattle.solver.specs.Below.{IsRowBelow};
+ghost use Rattle.solver.specs.Spelled.{spelled};
 ghost use Rattle.solver.specs.Places.{place_signed, IsCandidate, IsUntaken};
 ghost use Rattle.solver.specs.Opens.{positions};
 
 use super::asserted::Asserted;
+use super::numbered_tree::NumberedTree;
 use super::ors::{is_or, sides};
 use super::place::Place;
 use super::truths::truth_at;
 use order_graph::OrderGraph;
 use pc_common::Memory;
-use pc_ground::{Row, Version};
+use pc_ground::Version;
 use std::alloc::Global;
 
 /// Whether the place is asserted, and its sides at these positions are not.
@@ -54,26 +54,25 @@ fn is_one(a: bool, b: bool) -> bool
 /// it.
 pub(crate) fn is_candidate_now(
     alloc: Global,
-    rows: &[Row<u32>],
+    tree: &NumberedTree,
     graph: &OrderGraph,
     asserted: &Asserted,
     place: Place,
 ) -> Result<bool, Memory>
-    requires tree { IsSpelled rows.now }
-    requires below { All (IsRowBelow graph.now.nodes) rows.now }
-    requires literals { graph.now.literals ≡ literals_of (spelled rows.now) (positions asserted.now) }
+    requires nodes { graph.now.nodes ≡ length tree.now.nodes }
+    requires literals { graph.now.literals ≡ literals_of (spelled tree.now.rows) (positions asserted.now) }
     ensures candidate { IfOk result (λ yes. IsTrue yes
-        → IsCandidate (spelled rows.now) (positions asserted.now) (place_signed place)) }
+        → IsCandidate (spelled tree.now.rows) (positions asserted.now) (place_signed place)) }
     ensures small { IfOk result (λ yes. IsTrue yes → place.position < 2 ^ 63) }
 {
-    if !is_or(rows, place) {
+    if !is_or(tree, place) {
         return Ok(false);
     }
-    let (left, right) = sides(rows, Version::One, place);
+    let (left, right) = sides(tree, Version::One, place);
     if !is_untaken(asserted, place, left.root, right.root) {
         return Ok(false);
     }
-    let truth = truth_at(alloc, rows, graph, place.position)?;
+    let truth = truth_at(alloc, tree.rows(), graph, place.position)?;
     if !is_one(truth, place.negated) {
         return Ok(false);
     }

@@ -1,13 +1,13 @@
 ghost use Rattle.std.specs.Prelude.{◌≡◌, ◌<◌, ◌+◌, ℕ, not, if◌then◌else◌, List, [], All, IfOk, OnOk, MatchBool, length};
 ghost use Rattle.pc_ground.specs.Refutes.{Branch, signed, literals_of};
 ghost use Rattle.solver.specs.Spelled.{spelled, IsSpelled};
-ghost use Rattle.solver.specs.Below.{IsRowBelow};
 ghost use Rattle.solver.specs.Places.{HasSignsOf, IsCandidate, AreCandidates, IsChosen, AreChosen, IsNoted};
 ghost use Rattle.solver.specs.Flags.{flag, AreTruths};
 ghost use Rattle.solver.specs.Weights.{under, is_on};
 ghost use Rattle.solver.specs.Opens.{positions};
 
 use super::flags::{branch_flags, plain_flags};
+use super::numbered_tree::NumberedTree;
 use super::place::Place;
 use super::rows::row_at;
 use super::truths::{child_flags, truths};
@@ -137,19 +137,20 @@ fn signed_candidates(
 /// positions. In version 2 the tree's Ands under the sign `~` are Ors too.
 pub(crate) fn candidates(
     alloc: Global,
-    rows: &[Row<u32>],
+    tree: &NumberedTree,
     version: Version,
     graph: &OrderGraph,
     asserted: &[Place],
 ) -> Result<Vec<Place>, Memory>
-    requires tree { IsSpelled rows.now }
-    requires below { All (IsRowBelow graph.now.nodes) rows.now }
-    requires inside { All (λ a. a.position < length rows.now) asserted.now }
+    requires nodes { graph.now.nodes ≡ length tree.now.nodes }
+    requires inside { All (λ a. a.position < length tree.now.rows) asserted.now }
     requires signs { HasSignsOf version (positions asserted.now) }
-    requires literals { graph.now.literals ≡ literals_of (spelled rows.now) (positions asserted.now) }
-    ensures all { IfOk result (λ found. AreCandidates (spelled rows.now) (positions asserted.now) found.items) }
-    ensures none { IfOk result (λ found. found.items ≡ [] → AreChosen (spelled rows.now) (positions asserted.now)) }
+    requires literals { graph.now.literals ≡ literals_of (spelled tree.now.rows) (positions asserted.now) }
+    ensures all { IfOk result (λ found. AreCandidates (spelled tree.now.rows) (positions asserted.now) found.items) }
+    ensures none { IfOk result (λ found.
+        found.items ≡ [] → AreChosen (spelled tree.now.rows) (positions asserted.now)) }
 {
+    let rows = tree.rows();
     let holding = truths(alloc, rows, graph)?;
     match version {
         Version::One => plain_candidates(alloc, rows, &holding, asserted),

@@ -1,14 +1,16 @@
 ghost use Rattle.std.specs.Prelude.{◌≡◌, ◌<◌, ◌+◌, ◌^◌, ℕ, All, IfOk, length};
 ghost use Rattle.pc_ground.specs.Refutes.{literals_of};
-ghost use Rattle.solver.specs.Spelled.{spelled, IsSpelled};
+ghost use Rattle.solver.specs.Spelled.{spelled};
 ghost use Rattle.solver.specs.Below.{IsRowBelow};
 ghost use Rattle.solver.specs.Places.{place_signed, IsCandidate, IsSideIn};
 ghost use Rattle.solver.specs.Opens.{positions, IsFurther, IsSame, IsMarked};
+ghost use Rattle.solver.specs.Branches.{HasSameRest};
 
 use super::agenda::Agenda;
-use super::asserted::Asserted;
+use super::branch::Branch;
 use super::candidate::is_candidate_now;
 use super::enter::add_row;
+use super::numbered_tree::NumberedTree;
 use super::ors::{is_or, literal_at, sides};
 use super::place::Place;
 use super::rows::row_at;
@@ -72,45 +74,43 @@ fn part_clashes<L: Ledger>(
 
 /// Whether the literals that the side asserts clash.
 fn side_clashes<L: Ledger>(
-    rows: &[Row<u32>],
+    tree: &NumberedTree,
     side: Side,
     graph: &mut OrderGraph,
     steps: &mut Steps<L>,
 ) -> Result<bool, Memory>
-    requires tree { IsSpelled rows.now }
-    requires side { IsSideIn (spelled rows.now) side }
-    requires below { All (IsRowBelow graph.old.nodes) rows.now }
+    requires side { IsSideIn (spelled tree.now.rows) side }
+    requires nodes { graph.old.nodes ≡ length tree.now.nodes }
     ensures { IfOk result (λ _. IsFurther graph.old graph.new) }
 {
     if let Some(left) = side.denied {
-        if part_clashes(rows, !side.negated, left, graph, steps)? {
+        if part_clashes(tree.rows(), !side.negated, left, graph, steps)? {
             return Ok(true);
         }
     }
-    part_clashes(rows, side.negated, side.root, graph, steps)
+    part_clashes(tree.rows(), side.negated, side.root, graph, steps)
 }
 
 /// Whether the side is closed at once: whether its literals clash with those asserted. A side of one literal
 /// is not asserted. The graph is as before.
 fn is_closed<L: Ledger>(
-    rows: &[Row<u32>],
+    tree: &NumberedTree,
     side: Side,
     mark: Mark,
     graph: &mut OrderGraph,
     steps: &mut Steps<L>,
 ) -> Result<bool, Memory>
-    requires tree { IsSpelled rows.now }
-    requires side { IsSideIn (spelled rows.now) side }
-    requires below { All (IsRowBelow graph.old.nodes) rows.now }
+    requires side { IsSideIn (spelled tree.now.rows) side }
+    requires nodes { graph.old.nodes ≡ length tree.now.nodes }
     requires marked { IsMarked graph.old mark }
     ensures graph { IfOk result (λ _. IsSame graph.old graph.new) }
 {
     if side.denied.is_none() {
-        if let Some(literal) = literal_at(rows, side.negated, side.root) {
+        if let Some(literal) = literal_at(tree.rows(), side.negated, side.root) {
             return Ok(graph.would_clash(literal));
         }
     }
-    let clashes = side_clashes(rows, side, graph, steps)?;
+    let clashes = side_clashes(tree, side, graph, steps)?;
     graph.undo(mark, steps);
     Ok(clashes)
 }
@@ -118,7 +118,7 @@ fn is_closed<L: Ledger>(
 /// The same standing, once the sides of the Or have been asked, the left one first. In version 1 the right
 /// one is asked only where the left one is open.
 fn with_sides<L: Ledger>(
-    rows: &[Row<u32>],
+    tree: &NumberedTree,
     version: Version,
     place: Place,
     standing: Standing,
@@ -126,22 +126,21 @@ fn with_sides<L: Ledger>(
     graph: &mut OrderGraph,
     steps: &mut Steps<L>,
 ) -> Result<Standing, Memory>
-    requires tree { IsSpelled rows.now }
-    requires below { All (IsRowBelow graph.old.nodes) rows.now }
+    requires nodes { graph.old.nodes ≡ length tree.now.nodes }
     requires marked { IsMarked graph.old mark }
     ensures graph { IfOk result (λ _. IsSame graph.old graph.new) }
 {
-    if !is_or(rows, place) {
+    if !is_or(tree, place) {
         return Ok(standing.asked(false, false));
     }
-    let (left, right) = sides(rows, version, place);
-    let left_closed = is_closed(rows, left, mark, graph, steps)?;
+    let (left, right) = sides(tree, version, place);
+    let left_closed = is_closed(tree, left, mark, graph, steps)?;
     if left_closed {
         if let Version::One = version {
             return Ok(standing.asked(true, true));
         }
     }
-    let right_closed = is_closed(rows, right, mark, graph, steps)?;
+    let right_closed = is_closed(tree, right, mark, graph, steps)?;
     let closed = left_closed | right_closed;
     let settled = match version {
         Version::One => closed,
@@ -152,7 +151,7 @@ fn with_sides<L: Ledger>(
 
 /// What is known of the position, once its sides were asked where that may have changed.
 fn ask<L: Ledger>(
-    rows: &[Row<u32>],
+    tree: &NumberedTree,
     version: Version,
     position: usize,
     mark: Mark,
@@ -160,12 +159,11 @@ fn ask<L: Ledger>(
     agenda: &mut Agenda,
     steps: &mut Steps<L>,
 ) -> Result<Standing, Memory>
-    requires tree { IsSpelled rows.now }
-    requires below { All (IsRowBelow graph.old.nodes) rows.now }
+    requires nodes { graph.old.nodes ≡ length tree.now.nodes }
     requires marked { IsMarked graph.old mark }
     ensures graph { IfOk result (λ _. IsSame graph.old graph.new) }
 {
-    let standing = agenda.look(rows, graph, position);
+    let standing = agenda.look(tree.rows(), graph, position);
     if !standing.needs_asking() {
         agenda.change(position, standing)?;
         return Ok(standing);
@@ -174,7 +172,7 @@ fn ask<L: Ledger>(
         negated: standing.is_negated(),
         position,
     };
-    let asked = with_sides(rows, version, place, standing, mark, graph, steps)?;
+    let asked = with_sides(tree, version, place, standing, mark, graph, steps)?;
     agenda.change(position, asked)?;
     Ok(asked)
 }
@@ -182,25 +180,24 @@ fn ask<L: Ledger>(
 /// The first choice with enough sides closed at once, as far as the agenda knows: in version 1 one side, and
 /// in version 2 both. Where no choice has enough, the first with one.
 fn first_closed<L: Ledger>(
-    rows: &[Row<u32>],
+    tree: &NumberedTree,
     version: Version,
     mark: Mark,
     graph: &mut OrderGraph,
     agenda: &mut Agenda,
     steps: &mut Steps<L>,
 ) -> Result<Option<Place>, Memory>
-    requires tree { IsSpelled rows.now }
-    requires below { All (IsRowBelow graph.old.nodes) rows.now }
+    requires nodes { graph.old.nodes ≡ length tree.now.nodes }
     requires marked { IsMarked graph.old mark }
     ensures graph { IfOk result (λ _. IsSame graph.old graph.new) }
 {
     let mut from = 0;
     let mut one_sided = None;
-    for _turn in 0..rows.len() {
+    for _turn in 0..tree.len() {
         let Some(position) = agenda.next_ready(from) else {
             return Ok(one_sided);
         };
-        let standing = ask(rows, version, position, mark, graph, agenda, steps)?;
+        let standing = ask(tree, version, position, mark, graph, agenda, steps)?;
         let place = Place {
             negated: standing.is_negated(),
             position,
@@ -219,18 +216,39 @@ fn first_closed<L: Ledger>(
 /// The choice to split where none has a closed side: the first, and in version 2 the one whose sides were
 /// closed most often so far.
 fn open_choice(
-    rows: &[Row<u32>],
+    tree: &NumberedTree,
     version: Version,
     first: Place,
     graph: &OrderGraph,
     agenda: &mut Agenda,
 ) -> Result<Place, Memory>
-    requires { All (IsRowBelow graph.now.nodes) rows.now }
+    requires { graph.now.nodes ≡ length tree.now.nodes }
 {
     match version {
         Version::One => Ok(first),
-        Version::Two => agenda.most_closed(rows, graph, first),
+        Version::Two => agenda.most_closed(tree.rows(), graph, first),
     }
+}
+
+/// The choice that the agenda proposes to split: the first with enough sides closed at once or with one, and
+/// where none has one, as `open_choice` says.
+fn propose<L: Ledger>(
+    tree: &NumberedTree,
+    version: Version,
+    first: Place,
+    mark: Mark,
+    graph: &mut OrderGraph,
+    agenda: &mut Agenda,
+    steps: &mut Steps<L>,
+) -> Result<Place, Memory>
+    requires nodes { graph.old.nodes ≡ length tree.now.nodes }
+    requires marked { IsMarked graph.old mark }
+    ensures graph { IfOk result (λ _. IsSame graph.old graph.new) }
+{
+    if let Some(place) = first_closed(tree, version, mark, graph, agenda, steps)? {
+        return Ok(place);
+    }
+    open_choice(tree, version, first, graph, agenda)
 }
 
 /// The candidate to split. In version 1 it is the first with a side that is closed at once, and where none
@@ -239,35 +257,39 @@ fn open_choice(
 /// is tested.
 pub(crate) fn choose<L: Ledger>(
     alloc: Global,
-    rows: &[Row<u32>],
+    tree: &NumberedTree,
     version: Version,
     first: Place,
     mark: Mark,
-    graph: &mut OrderGraph,
-    asserted: &Asserted,
-    agenda: &mut Agenda,
+    branch: &mut Branch,
     steps: &mut Steps<L>,
 ) -> Result<Place, Memory>
-    requires tree { IsSpelled rows.now }
-    requires first { IsCandidate (spelled rows.now) (positions asserted.now) (place_signed first) }
+    requires first { IsCandidate (spelled tree.now.rows) (positions branch.old.asserted) (place_signed first) }
     requires small { first.position < 2 ^ 63 }
-    requires below { All (IsRowBelow graph.old.nodes) rows.now }
-    requires literals { graph.old.literals ≡ literals_of (spelled rows.now) (positions asserted.now) }
-    requires marked { IsMarked graph.old mark }
+    requires nodes { branch.old.graph.nodes ≡ length tree.now.nodes }
+    requires literals { branch.old.graph.literals
+        ≡ literals_of (spelled tree.now.rows) (positions branch.old.asserted) }
+    requires marked { IsMarked branch.old.graph mark }
     ensures found { IfOk result (λ q.
-        IsCandidate (spelled rows.now) (positions asserted.now) (place_signed q)) }
+        IsCandidate (spelled tree.now.rows) (positions branch.old.asserted) (place_signed q)) }
     ensures small { IfOk result (λ q. q.position < 2 ^ 63) }
-    ensures graph { IfOk result (λ _. IsSame graph.old graph.new) }
+    ensures graph { IfOk result (λ _. IsSame branch.old.graph branch.new.graph) }
+    ensures asserted { branch.new.asserted ≡ branch.old.asserted }
+    ensures rest { HasSameRest branch.old branch.new }
 {
-    let found = first_closed(rows, version, mark, graph, agenda, steps)?;
-    let place = match found {
-        Some(place) => place,
-        None => open_choice(rows, version, first, graph, agenda)?,
-    };
+    let place = propose(
+        tree,
+        version,
+        first,
+        mark,
+        &mut branch.graph,
+        &mut branch.agenda,
+        steps,
+    )?;
     if place.position == first.position {
         return Ok(first);
     }
-    if is_candidate_now(alloc, rows, graph, asserted, place)? {
+    if is_candidate_now(alloc, tree, &branch.graph, &branch.asserted, place)? {
         return Ok(place);
     }
     Ok(first)

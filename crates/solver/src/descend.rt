@@ -1,22 +1,17 @@
-ghost use Rattle.std.specs.Prelude.{◌≡◌, ◌<◌, ◌+◌, ◌++◌, ℕ, All, IfOk, length, map};
-ghost use Rattle.pc_ground.specs.Keys.{key_node};
-ghost use Rattle.solver.specs.Spelled.{spelled, IsSpelled};
-ghost use Rattle.solver.specs.Below.{IsRowBelow};
+ghost use Rattle.std.specs.Prelude.{◌+◌, IfOk};
+ghost use Rattle.solver.specs.Spelled.{spelled};
 ghost use Rattle.solver.specs.Places.{side_positions, IsSideIn};
-ghost use Rattle.solver.specs.Opens.{positions, opens, IsState};
+ghost use Rattle.solver.specs.Branches.{branches_with, IsOpen};
 ghost use Rattle.solver.specs.Weights.{weight};
 ghost use Rattle.solver.specs.Descents.{HasDescended, IsLonger};
 
-use super::agenda::Agenda;
-use super::asserted::Asserted;
+use super::branch::Branch;
 use super::enter::{enter_next, go_back};
-use super::later::Later;
 use super::leaf::close;
+use super::numbered_tree::NumberedTree;
 use super::side::Side;
-use order_graph::OrderGraph;
 use pc_common::Memory;
-use pc_ground::{NodeKey, Row, Version};
-use refutation::Refutation;
+use pc_ground::Version;
 use std::alloc::Global;
 use std::sync::ledger::Ledger;
 use undo_trail::Steps;
@@ -25,40 +20,29 @@ use undo_trail::Steps;
 /// the next one that waits is entered, until a branch stays open (true) or none waits (false).
 pub(crate) fn descend<L: Ledger>(
     alloc: Global,
-    keys: &[NodeKey],
-    rows: &[Row<u32>],
+    tree: &NumberedTree,
     version: Version,
     side: Side,
-    graph: &mut OrderGraph,
-    asserted: &mut Asserted,
-    agenda: &mut Agenda,
-    later: &mut Vec<Later>,
-    refutation: &mut Refutation,
+    branch: &mut Branch,
     steps: &mut Steps<L>,
 ) -> Result<bool, Memory>
-    requires tree { IsSpelled rows.now }
-    requires side { IsSideIn (spelled rows.now) side }
-    requires below { All (IsRowBelow (length keys.now)) rows.now }
-    requires state { IsState version (map key_node keys.now) (spelled rows.now) graph.old asserted.old
-        later.old.items refutation.old (side_positions (spelled rows.now) side) }
-    ensures descended { IfOk result (λ is_open. HasDescended version (map key_node keys.now) (spelled rows.now)
-        (weight (spelled rows.now) (opens (spelled rows.now)
-        (positions asserted.old ++ side_positions (spelled rows.now) side)
-        asserted.old later.old.items) + 1)
-        graph.new asserted.new later.new.items refutation.new is_open) }
-    ensures longer { IfOk result (λ _. IsLonger refutation.old refutation.new) }
+    requires side { IsSideIn (spelled tree.now.rows) side }
+    requires state { IsOpen version tree.now branch.old (side_positions (spelled tree.now.rows) side) }
+    ensures descended { IfOk result (HasDescended version tree.now
+        (weight (spelled tree.now.rows)
+        (branches_with tree.now branch.old (side_positions (spelled tree.now.rows) side)) + 1)
+        branch.new) }
+    ensures longer { IfOk result (λ _. IsLonger branch.old.refutation branch.new.refutation) }
 {
+    let _positions = tree.len();
     let mut side = side;
-    while let Some(clash) = enter_next(keys, rows, side, graph, asserted, agenda, steps)? {
-        if let Version::Two = version {
-            agenda.count_closed(side);
-        }
-        close(alloc, keys, clash, refutation)?;
-        let Some(next) = later.pop() else {
+    while let Some(clash) = enter_next(tree, side, branch, steps)? {
+        branch.agenda.count_closed(version, side);
+        close(alloc, tree, clash, &mut branch.refutation)?;
+        let Some(next) = go_back(branch, steps) else {
             return Ok(false);
         };
-        go_back(next.count, next.mark, graph, asserted, agenda, steps);
-        side = next.side;
+        side = next;
     }
     Ok(true)
 }

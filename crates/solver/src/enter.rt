@@ -1,20 +1,21 @@
-ghost use Rattle.std.specs.Prelude.{◌≡◌, ◌<◌, ◌≤◌, ◌^◌, ℕ, not, All, length, take, slice_index, IfOk};
+ghost use Rattle.std.specs.Prelude.{◌≡◌, ◌<◌, ◌^◌, ◌++◌, ◌∷◌, [], List, not, length, take, IfOk};
 ghost use Rattle.pc_ground.specs.Tree.{size_of};
 ghost use Rattle.pc_ground.specs.Refutes.{literals_of};
-ghost use Rattle.order_graph.specs.State.{IsCut};
-ghost use Rattle.solver.specs.Spelled.{spelled, IsSpelled};
+ghost use Rattle.solver.specs.Spelled.{spelled};
 ghost use Rattle.solver.specs.Below.{IsRowBelow};
 ghost use Rattle.solver.specs.Places.{asserted_at, denied_positions, side_positions, IsDeniedIn, IsSideIn};
 ghost use Rattle.solver.specs.Opens.{positions, IsFurther, HasAsserted, HasAddedRow, HasAssertedRow};
+ghost use Rattle.solver.specs.Branches.{HasSameRest, HasGoneBack};
+ghost use Rattle.solver.specs.declared.later.Later.{Later as PlainLater};
 
-use super::agenda::Agenda;
 use super::asserted::Asserted;
+use super::branch::Branch;
+use super::numbered_tree::NumberedTree;
 use super::place::Place;
-use super::rows::row_at;
 use super::side::Side;
-use order_graph::{Added, Clash, Mark, OrderGraph};
+use order_graph::{Added, Clash, OrderGraph};
 use pc_common::Memory;
-use pc_ground::{NodeKey, Row, RowKind};
+use pc_ground::{Row, RowKind};
 use std::sync::ledger::Ledger;
 use undo_trail::Steps;
 
@@ -57,27 +58,26 @@ fn enter_row<L: Ledger>(
 /// Asserts what the part at `root` asserts under this sign, in preorder, up to the first clash. The walk is
 /// a loop, which goes past the whole of an Or.
 fn enter_part<L: Ledger>(
-    rows: &[Row<u32>],
+    tree: &NumberedTree,
     negated: bool,
     root: usize,
     graph: &mut OrderGraph,
     asserted: &mut Asserted,
     steps: &mut Steps<L>,
 ) -> Result<Option<Clash>, Memory>
-    requires tree { IsSpelled rows.now }
-    requires root { root < size_of (spelled rows.now) }
-    requires below { All (IsRowBelow graph.old.nodes) rows.now }
-    requires literals { graph.old.literals ≡ literals_of (spelled rows.now) (positions asserted.old) }
+    requires root { root < size_of (spelled tree.now.rows) }
+    requires nodes { graph.old.nodes ≡ length tree.now.nodes }
+    requires literals { graph.old.literals ≡ literals_of (spelled tree.now.rows) (positions asserted.old) }
     ensures further { IfOk result (λ _. IsFurther graph.old graph.new) }
     ensures kept { IfOk result (λ _. take (length asserted.old) asserted.new ≡ asserted.old) }
-    ensures entered { IfOk result (λ found. HasAsserted (spelled rows.now)
-        (asserted_at (spelled rows.now) negated root)
+    ensures entered { IfOk result (λ found. HasAsserted (spelled tree.now.rows)
+        (asserted_at (spelled tree.now.rows) negated root)
         asserted.old graph.new asserted.new found) }
 {
-    let end = root + row_at(rows, root).skip;
+    let end = root + tree.row(root).skip;
     let mut at = root;
     while at < end {
-        let row = row_at(rows, at).turned(negated);
+        let row = tree.row(at).turned(negated);
         let place = Place {
             negated,
             position: at,
@@ -92,24 +92,23 @@ fn enter_part<L: Ledger>(
 
 /// Asserts that the left side is false, where this side says so.
 fn enter_denied<L: Ledger>(
-    rows: &[Row<u32>],
+    tree: &NumberedTree,
     side: Side,
     graph: &mut OrderGraph,
     asserted: &mut Asserted,
     steps: &mut Steps<L>,
 ) -> Result<Option<Clash>, Memory>
-    requires tree { IsSpelled rows.now }
-    requires denied { IsDeniedIn (spelled rows.now) side.denied }
-    requires below { All (IsRowBelow graph.old.nodes) rows.now }
-    requires literals { graph.old.literals ≡ literals_of (spelled rows.now) (positions asserted.old) }
+    requires denied { IsDeniedIn (spelled tree.now.rows) side.denied }
+    requires nodes { graph.old.nodes ≡ length tree.now.nodes }
+    requires literals { graph.old.literals ≡ literals_of (spelled tree.now.rows) (positions asserted.old) }
     ensures further { IfOk result (λ _. IsFurther graph.old graph.new) }
     ensures kept { IfOk result (λ _. take (length asserted.old) asserted.new ≡ asserted.old) }
-    ensures entered { IfOk result (λ found. HasAsserted (spelled rows.now)
-        (denied_positions (spelled rows.now) side.negated side.denied)
+    ensures entered { IfOk result (λ found. HasAsserted (spelled tree.now.rows)
+        (denied_positions (spelled tree.now.rows) side.negated side.denied)
         asserted.old graph.new asserted.new found) }
 {
     match side.denied {
-        Some(left) => enter_part(rows, !side.negated, left, graph, asserted, steps),
+        Some(left) => enter_part(tree, !side.negated, left, graph, asserted, steps),
         None => Ok(None),
     }
 }
@@ -117,65 +116,60 @@ fn enter_denied<L: Ledger>(
 /// Asserts what the side asserts, up to the first clash: first that the left side is false, where it says
 /// so, then its own part.
 fn enter_side<L: Ledger>(
-    rows: &[Row<u32>],
+    tree: &NumberedTree,
     side: Side,
     graph: &mut OrderGraph,
     asserted: &mut Asserted,
     steps: &mut Steps<L>,
 ) -> Result<Option<Clash>, Memory>
-    requires tree { IsSpelled rows.now }
-    requires side { IsSideIn (spelled rows.now) side }
-    requires below { All (IsRowBelow graph.old.nodes) rows.now }
-    requires literals { graph.old.literals ≡ literals_of (spelled rows.now) (positions asserted.old) }
+    requires side { IsSideIn (spelled tree.now.rows) side }
+    requires nodes { graph.old.nodes ≡ length tree.now.nodes }
+    requires literals { graph.old.literals ≡ literals_of (spelled tree.now.rows) (positions asserted.old) }
     ensures further { IfOk result (λ _. IsFurther graph.old graph.new) }
     ensures kept { IfOk result (λ _. take (length asserted.old) asserted.new ≡ asserted.old) }
-    ensures entered { IfOk result (λ found. HasAsserted (spelled rows.now) (side_positions (spelled rows.now) side)
+    ensures entered { IfOk result (λ found. HasAsserted (spelled tree.now.rows)
+        (side_positions (spelled tree.now.rows) side)
         asserted.old graph.new asserted.new found) }
 {
-    if let Some(clash) = enter_denied(rows, side, graph, asserted, steps)? {
+    if let Some(clash) = enter_denied(tree, side, graph, asserted, steps)? {
         return Ok(Some(clash));
     }
-    enter_part(rows, side.negated, side.root, graph, asserted, steps)
+    enter_part(tree, side.negated, side.root, graph, asserted, steps)
 }
 
 /// Asserts what the side asserts, as `enter_side` does, once the agenda has looked at it.
 pub(crate) fn enter_next<L: Ledger>(
-    keys: &[NodeKey],
-    rows: &[Row<u32>],
+    tree: &NumberedTree,
     side: Side,
-    graph: &mut OrderGraph,
-    asserted: &mut Asserted,
-    agenda: &mut Agenda,
+    branch: &mut Branch,
     steps: &mut Steps<L>,
 ) -> Result<Option<Clash>, Memory>
-    requires tree { IsSpelled rows.now }
-    requires side { IsSideIn (spelled rows.now) side }
-    requires nodes { graph.old.nodes ≡ length keys.now }
-    requires below { All (IsRowBelow graph.old.nodes) rows.now }
-    requires literals { graph.old.literals ≡ literals_of (spelled rows.now) (positions asserted.old) }
-    ensures further { IfOk result (λ _. IsFurther graph.old graph.new) }
-    ensures kept { IfOk result (λ _. take (length asserted.old) asserted.new ≡ asserted.old) }
-    ensures entered { IfOk result (λ found. HasAsserted (spelled rows.now) (side_positions (spelled rows.now) side)
-        asserted.old graph.new asserted.new found) }
+    requires side { IsSideIn (spelled tree.now.rows) side }
+    requires nodes { branch.old.graph.nodes ≡ length tree.now.nodes }
+    requires literals { branch.old.graph.literals
+        ≡ literals_of (spelled tree.now.rows) (positions branch.old.asserted) }
+    ensures further { IfOk result (λ _. IsFurther branch.old.graph branch.new.graph) }
+    ensures kept { IfOk result (λ _.
+        take (length branch.old.asserted) branch.new.asserted ≡ branch.old.asserted) }
+    ensures entered { IfOk result (λ found. HasAsserted (spelled tree.now.rows)
+        (side_positions (spelled tree.now.rows) side)
+        branch.old.asserted branch.new.graph branch.new.asserted found) }
+    ensures rest { HasSameRest branch.old branch.new }
 {
-    agenda.foresee(rows, side, graph, keys)?;
-    enter_side(rows, side, graph, asserted, steps)
+    branch.agenda.foresee(tree, side, &branch.graph)?;
+    enter_side(tree, side, &mut branch.graph, &mut branch.asserted, steps)
 }
 
-/// Goes back to the first `count` asserted positions and to the literals at `mark`.
-pub(crate) fn go_back<L: Ledger>(
-    count: usize,
-    mark: Mark,
-    graph: &mut OrderGraph,
-    asserted: &mut Asserted,
-    agenda: &mut Agenda,
-    steps: &mut Steps<L>,
-)
-    requires live { mark < length graph.old.marks }
-    ensures cut { IsCut graph.old (slice_index graph.old.marks mark) mark graph.new }
-    ensures positions { asserted.new ≡ take count asserted.old }
+/// Goes back to the next branch that waits, where one does: to the asserted positions and the literals that it
+/// begins with. Answers the side that it is to assert.
+pub(crate) fn go_back<L: Ledger>(branch: &mut Branch, steps: &mut Steps<L>) -> Option<Side>
+    requires { (ls : List PlainLater) (l : PlainLater)
+        → branch.old.later.items ≡ ls ++ l ∷ [] → l.mark < length branch.old.graph.marks }
+    ensures { HasGoneBack branch.old branch.new result }
 {
-    asserted.cut(count);
-    agenda.go_back(count);
-    graph.undo(mark, steps);
+    let next = branch.later.pop()?;
+    branch.asserted.cut(next.count);
+    branch.agenda.go_back(next.count);
+    branch.graph.undo(next.mark, steps);
+    Some(next.side)
 }

@@ -1,13 +1,10 @@
-ghost use Rattle.std.specs.Prelude.{◌≡◌, ◌<◌, ◌≤◌, ◌+◌, ◌++◌, ◌^◌, ℕ, Some, All, IfOk, IfSome, length, map};
-ghost use Rattle.pc_common.specs.declared.limits.TheConstants.{MAX_NODES};
-ghost use Rattle.pc_ground.specs.Keys.{key_node};
-ghost use Rattle.pc_ground.specs.Tree.{never};
-ghost use Rattle.pc_ground.specs.Numbers.{AreDistinct};
-ghost use Rattle.pc_ground.specs.Refutes.{subtree_at, literals_of};
-ghost use Rattle.solver.specs.Spelled.{spelled, IsSpelled};
-ghost use Rattle.solver.specs.Below.{IsRowBelow};
+ghost use Rattle.std.specs.Prelude.{◌≡◌, ◌<◌, ◌≤◌, ◌+◌, ◌^◌, IfOk, IfSome, length};
+ghost use Rattle.pc_ground.specs.Refutes.{literals_of};
+ghost use Rattle.solver.specs.Spelled.{spelled};
+ghost use Rattle.solver.specs.Numbered.{HasNoFalse};
 ghost use Rattle.solver.specs.Places.{place_signed, side_positions, IsCandidate, IsSideIn};
-ghost use Rattle.solver.specs.Opens.{positions, opens, IsState};
+ghost use Rattle.solver.specs.Opens.{positions};
+ghost use Rattle.solver.specs.Branches.{branches_with, IsOpen};
 ghost use Rattle.solver.specs.Weights.{weight};
 ghost use Rattle.solver.specs.Descents.{IsLonger};
 ghost use Rattle.solver.specs.Statuses.{IsStatus, status_weight};
@@ -15,18 +12,17 @@ ghost use Rattle.solver.specs.Statuses.{IsStatus, status_weight};
 use super::agenda::Agenda;
 use super::answer::graph_of;
 use super::asserted::Asserted;
+use super::branch::Branch;
 use super::candidate::is_candidate_now;
 use super::candidates::candidates;
 use super::descend::descend;
-use super::later::Later;
+use super::numbered_tree::NumberedTree;
 use super::place::Place;
-use super::rows::row_at;
 use super::side::Side;
 use graph_text::Graph;
 use order_graph::OrderGraph;
 use pc_common::Memory;
-use pc_ground::{NodeKey, Row, Version};
-use refutation::Refutation;
+use pc_ground::Version;
 use std::alloc::Global;
 use std::sync::ledger::Ledger;
 use undo_trail::Steps;
@@ -45,25 +41,22 @@ pub(crate) enum SearchStatus {
 /// The first candidate of the branch, where the agenda proposes one that is.
 fn next_place(
     alloc: Global,
-    keys: &[NodeKey],
-    rows: &[Row<u32>],
+    tree: &NumberedTree,
     graph: &OrderGraph,
     asserted: &Asserted,
     agenda: &mut Agenda,
 ) -> Result<Option<Place>, Memory>
-    requires tree { IsSpelled rows.now }
-    requires nodes { graph.now.nodes ≡ length keys.now }
-    requires below { All (IsRowBelow graph.now.nodes) rows.now }
-    requires literals { graph.now.literals ≡ literals_of (spelled rows.now) (positions asserted.now) }
+    requires nodes { graph.now.nodes ≡ length tree.now.nodes }
+    requires literals { graph.now.literals ≡ literals_of (spelled tree.now.rows) (positions asserted.now) }
     ensures candidate { IfOk result (λ found. IfSome found (λ q.
-        IsCandidate (spelled rows.now) (positions asserted.now) (place_signed q))) }
+        IsCandidate (spelled tree.now.rows) (positions asserted.now) (place_signed q))) }
     ensures small { IfOk result (λ found. IfSome found (λ q. q.position < 2 ^ 63)) }
 {
-    agenda.note(rows, graph, keys, asserted.as_slice())?;
-    let Some(place) = agenda.first_open(rows, graph)? else {
+    agenda.note(tree, graph, asserted.as_slice())?;
+    let Some(place) = agenda.first_open(tree.rows(), graph)? else {
         return Ok(None);
     };
-    if is_candidate_now(alloc, rows, graph, asserted, place)? {
+    if is_candidate_now(alloc, tree, graph, asserted, place)? {
         return Ok(Some(place));
     }
     Ok(None)
@@ -73,47 +66,45 @@ fn next_place(
 /// all is true in the graph's world.
 pub(crate) fn find<L: Ledger>(
     alloc: Global,
-    keys: &[NodeKey],
-    rows: &[Row<u32>],
+    tree: &NumberedTree,
     version: Version,
     side: Side,
-    graph: &mut OrderGraph,
-    asserted: &mut Asserted,
-    agenda: &mut Agenda,
-    later: &mut Vec<Later>,
-    refutation: &mut Refutation,
+    branch: &mut Branch,
     steps: &mut Steps<L>,
 ) -> Result<SearchStatus, Memory>
-    requires tree { IsSpelled rows.now }
-    requires side { IsSideIn (spelled rows.now) side }
-    requires few { length keys.now ≤ MAX_NODES }
-    requires distinct { AreDistinct (map key_node keys.now) }
-    requires below { All (IsRowBelow (length keys.now)) rows.now }
-    requires no_false { (p : ℕ) → subtree_at (spelled rows.now) p ≡ Some never → ⊥ }
-    requires state { IsState version (map key_node keys.now) (spelled rows.now) graph.old asserted.old
-        later.old.items refutation.old (side_positions (spelled rows.now) side) }
-    ensures found { IfOk result (IsStatus version (map key_node keys.now) rows.now graph.new asserted.new
-        later.new.items refutation.new) }
-    ensures lighter { IfOk result (λ found. status_weight rows.now asserted.new later.new.items found
-        ≤ 1 + weight (spelled rows.now) (opens (spelled rows.now)
-        (positions asserted.old ++ side_positions (spelled rows.now) side)
-        asserted.old later.old.items)) }
-    ensures longer { IfOk result (λ _. IsLonger refutation.old refutation.new) }
+    requires side { IsSideIn (spelled tree.now.rows) side }
+    requires no_false { HasNoFalse tree.now }
+    requires state { IsOpen version tree.now branch.old (side_positions (spelled tree.now.rows) side) }
+    ensures found { IfOk result (IsStatus version tree.now branch.new) }
+    ensures lighter { IfOk result (λ found. status_weight tree.now branch.new found
+        ≤ 1 + weight (spelled tree.now.rows)
+        (branches_with tree.now branch.old (side_positions (spelled tree.now.rows) side))) }
+    ensures longer { IfOk result (λ _. IsLonger branch.old.refutation branch.new.refutation) }
 {
-    let is_open = descend(
-        alloc, keys, rows, version, side, graph, asserted, agenda, later, refutation, steps,
-    )?;
+    let is_open = descend(alloc, tree, version, side, branch, steps)?;
     if !is_open {
         return Ok(SearchStatus::Refuted);
     }
-    let _asserted_so_far = graph.len();
-    let _root = row_at(rows, 0);
-    if let Some(place) = next_place(alloc, keys, rows, graph, asserted, agenda)? {
+    let _asserted_so_far = branch.graph.len();
+    let _root = tree.row(0);
+    if let Some(place) = next_place(
+        alloc,
+        tree,
+        &branch.graph,
+        &branch.asserted,
+        &mut branch.agenda,
+    )? {
         return Ok(SearchStatus::Undecided(place));
     }
-    let found = candidates(alloc, rows, version, graph, asserted.as_slice())?;
+    let found = candidates(
+        alloc,
+        tree,
+        version,
+        &branch.graph,
+        branch.asserted.as_slice(),
+    )?;
     if found.is_empty() {
-        let shown = graph_of(alloc, keys, graph)?;
+        let shown = graph_of(alloc, tree, &branch.graph)?;
         return Ok(SearchStatus::Satisfied(shown));
     }
     Ok(SearchStatus::Undecided(found[0]))

@@ -1,14 +1,14 @@
-ghost use Rattle.std.specs.Prelude.{◌≡◌, ◌<◌, All, length};
+ghost use Rattle.std.specs.Prelude.{◌≡◌, ◌<◌, length};
 ghost use Rattle.order_graph.specs.Ways.{IsBelow};
-ghost use Rattle.solver.specs.Below.{IsRowBelow};
 
 use super::bits::Bits;
+use super::numbered_tree::NumberedTree;
 use super::ors::literal_at;
 use super::side::Side;
 use super::watch::{ends_of, node_of, starts_of};
 use order_graph::OrderGraph;
 use pc_common::Memory;
-use pc_ground::{Literal, NodeKey, Row};
+use pc_ground::Literal;
 use std::alloc::Global;
 
 /// A list of `Watch`, whose literals may have become a clash, and with `in_truth` true or false.
@@ -205,25 +205,23 @@ impl Gains {
     /// Looks at the side before it is entered.
     pub(crate) fn foresee(
         &mut self,
-        rows: &[Row<u32>],
+        tree: &NumberedTree,
         side: Side,
         graph: &OrderGraph,
-        keys: &[NodeKey],
     ) -> Result<(), Memory>
-        requires nodes { graph.now.nodes ≡ length keys.now }
-        requires below { All (IsRowBelow graph.now.nodes) rows.now }
+        requires { graph.now.nodes ≡ length tree.now.nodes }
     {
         self.lists.clear();
         self.known = graph.len();
         self.foreseen = false;
         let nodes = self.nodes;
-        if nodes as usize != keys.len() {
+        if nodes != tree.count() {
             return Ok(());
         }
         if side.denied.is_some() {
             return Ok(());
         }
-        match literal_at(rows, side.negated, side.root) {
+        match literal_at(tree.rows(), side.negated, side.root) {
             Some(literal) => self.foresee_literal(graph, nodes, literal),
             None => Ok(()),
         }
@@ -233,14 +231,14 @@ impl Gains {
     /// they deny.
     pub(crate) fn note(
         &mut self,
+        tree: &NumberedTree,
         graph: &OrderGraph,
-        keys: &[NodeKey],
         was_asked: bool,
     ) -> Result<(), Memory>
-        requires { graph.now.nodes ≡ length keys.now }
+        requires { graph.now.nodes ≡ length tree.now.nodes }
     {
         let nodes = self.nodes;
-        if nodes as usize != keys.len() {
+        if nodes != tree.count() {
             return Ok(());
         }
         if self.foreseen {

@@ -1,9 +1,10 @@
 ghost use Rattle.std.specs.Prelude.{◌≡◌, ◌<◌, ◌+◌, ◌^◌, ℕ, All, IfSome, IsTrue, length};
 ghost use Rattle.order_graph.specs.Ways.{IsBelow};
-ghost use Rattle.solver.specs.Spelled.{spelled, IsSpelled};
+ghost use Rattle.solver.specs.Spelled.{spelled};
 ghost use Rattle.solver.specs.Below.{IsRowBelow};
 ghost use Rattle.solver.specs.Places.{place_signed, denied_left as left_of_right, IsOr, IsSideIn, AreSides};
 
+use super::numbered_tree::NumberedTree;
 use super::place::Place;
 use super::rows::row_at;
 use super::side::Side;
@@ -23,16 +24,15 @@ pub(crate) fn literal_at(rows: &[Row<u32>], negated: bool, p: usize) -> Option<L
 }
 
 /// Whether an Or stands there: of the tree, or of its negation.
-pub(crate) fn is_or(rows: &[Row<u32>], place: Place) -> bool
-    requires tree { IsSpelled rows.now }
-    ensures is_or { IsTrue result → IsOr (spelled rows.now) (place_signed place) }
-    ensures inside { IsTrue result → place.position < length rows.now }
+pub(crate) fn is_or(tree: &NumberedTree, place: Place) -> bool
+    ensures is_or { IsTrue result → IsOr (spelled tree.now.rows) (place_signed place) }
+    ensures inside { IsTrue result → place.position < length tree.now.rows }
     ensures small { IsTrue result → place.position < 2 ^ 63 }
 {
-    if place.position >= rows.len() {
+    if place.position >= tree.len() {
         return false;
     }
-    match row_at(rows, place.position).turned(place.negated).kind {
+    match tree.row(place.position).turned(place.negated).kind {
         RowKind::Or => true,
         _ => false,
     }
@@ -50,17 +50,16 @@ fn denied_left(version: Version, left: usize) -> Option<usize>
 
 /// The sides of an Or: of the tree, or of its negation. In version 2 the right side asserts first that the
 /// left one is false.
-pub(crate) fn sides(rows: &[Row<u32>], version: Version, place: Place) -> (Side, Side)
-    requires tree { IsSpelled rows.now }
-    requires is_or { IsOr (spelled rows.now) (place_signed place) }
+pub(crate) fn sides(tree: &NumberedTree, version: Version, place: Place) -> (Side, Side)
+    requires is_or { IsOr (spelled tree.now.rows) (place_signed place) }
     requires small { place.position < 2 ^ 63 }
-    ensures sides { AreSides version (spelled rows.now) (place_signed place) result }
-    ensures left_in { IsSideIn (spelled rows.now) result.0 }
-    ensures right_in { IsSideIn (spelled rows.now) result.1 }
+    ensures sides { AreSides version (spelled tree.now.rows) (place_signed place) result }
+    ensures left_in { IsSideIn (spelled tree.now.rows) result.0 }
+    ensures right_in { IsSideIn (spelled tree.now.rows) result.1 }
 {
     let Place { negated, position } = place;
     let left = position + 1;
-    let root = left + row_at(rows, left).skip;
+    let root = left + tree.row(left).skip;
     let denied = denied_left(version, left);
     (
         Side {

@@ -1,5 +1,4 @@
-use Rattle.std.proofs.Common.{◌≤◌, ◌<◌, ◌+◌, ◌++◌, ℕ, [], map, refl, arith}
-use Rattle.pc_ground.specs.Keys.{key_node}
+use Rattle.std.proofs.Common.{◌≤◌, ◌<◌, ◌+◌, ◌∙◌, ◌++◌, ◌∷◌, ℕ, [], length, ap, refl, arith}
 use Rattle.pc_common.specs.Steps.{split}
 use Rattle.solver.specs.Spelled.{spelled}
 use Rattle.order_graph.proofs.Results.{if_ok}
@@ -9,12 +8,15 @@ use Rattle.solver.specs.Weights.{weight}
 use Rattle.solver.specs.Descents.{IsLonger, HasMore}
 use Rattle.solver.specs.Statuses.{status_weight}
 use Rattle.solver.specs.declared.find.SearchStatus.{SearchStatus}
+use Rattle.solver.specs.declared.later.Later.{Later}
 use Rattle.solver.proofs.HasDescended.{one_open, more_longer, advanced}
 use Rattle.solver.proofs.advance.advance.Goals as goal
 
 pub push_split-requires : goal.push_split-requires
 push_split-requires g c =
-    one_open c.args.version (map key_node c.args.keys.now) (spelled c.args.rows.now) c.args.graph.now c.args.asserted.now c.args.later.now.items c.args.refutation.now [] c.requires.state
+    let b = c.args.branch.now in
+    let some = one_open c.args.version c.args.tree.now b [] c.requires.state in
+    rw c.choose.ensures.rest.steps some
 
 pub sides-requires-clause-is_or : goal.sides-requires-clause-is_or
 sides-requires-clause-is_or g c =
@@ -23,39 +25,49 @@ sides-requires-clause-is_or g c =
 
 pub find-requires : goal.find-requires
 find-requires g c =
-    let t = spelled c.args.rows.now in
-    let here = c.args.asserted.now in
+    let t = spelled c.args.tree.now.rows in
+    let b = c.args.branch.now in
+    let chosen = c.choose.new.branch in
+    let later : Later = record { count = c.len-count.result; mark = c.mark-mark.result; side = c.sides.result.1 } in
+    let split_at = split c.in_ok-place.place.negated c.in_ok-place.place.position in
     let next =
-    advanced c.args.version (map key_node c.args.keys.now) t c.args.graph.now c.mark-mark.new.self c.choose.new.graph here here c.args.later.now.items
-    c.push.new.self.items c.args.refutation.now c.push_split.new.self _ (place_signed c.in_ok-place.place) c.sides.result c.requires.state
+    advanced c.args.version c.args.tree.now.nodes t b.graph c.mark-mark.new.self chosen.graph b.asserted chosen.asserted b.later.items
+    c.push.new.self.items b.refutation c.push_split.new.self later (place_signed c.in_ok-place.place) c.sides.result c.requires.state
     c.in_ok-place.ensures.found
-    c.mark-mark.ensures.graph c.in_ok-place.ensures.graph refl c.sides.ensures.sides
-    c.len-count.ensures c.mark-mark.ensures.place refl c.in_ok-push.ensures.items c.in_ok-push_split.ensures in record {
-      tree = c.requires.tree;
+    c.mark-mark.ensures.graph c.in_ok-place.ensures.graph c.choose.ensures.asserted c.sides.ensures.sides
+    (c.len-count.ensures ∙ ap length c.choose.ensures.asserted) c.mark-mark.ensures.place refl
+    (c.in_ok-push.ensures.items ∙ ap (λ ls. ls ++ later ∷ []) c.choose.ensures.rest.later)
+    (c.in_ok-push_split.ensures ∙ ap (λ ss. ss ++ split_at ∷ []) c.choose.ensures.rest.steps) in record {
       side = c.sides.ensures.left_in;
-      few = c.requires.few;
-      distinct = c.requires.distinct;
-      below = c.requires.below;
       no_false = c.requires.no_false;
       state = next.0;
     }
 
 pub returns-clause-lighter : goal.returns-clause-lighter
 returns-clause-lighter g c =
-    let rows = c.args.rows.now in
-    let t = spelled rows in
-    let here = c.args.asserted.now in
+    let t = spelled c.args.tree.now.rows in
+    let b = c.args.branch.now in
+    let chosen = c.choose.new.branch in
+    let later : Later = record { count = c.len-count.result; mark = c.mark-mark.result; side = c.sides.result.1 } in
+    let split_at = split c.in_ok-place.place.negated c.in_ok-place.place.position in
     let next =
-    advanced c.args.version (map key_node c.args.keys.now) t c.args.graph.now c.mark-mark.new.self c.choose.new.graph here here c.args.later.now.items
-    c.push.new.self.items c.args.refutation.now c.push_split.new.self _ (place_signed c.in_ok-place.place) c.sides.result c.requires.state
+    advanced c.args.version c.args.tree.now.nodes t b.graph c.mark-mark.new.self chosen.graph b.asserted chosen.asserted b.later.items
+    c.push.new.self.items b.refutation c.push_split.new.self later (place_signed c.in_ok-place.place) c.sides.result c.requires.state
     c.in_ok-place.ensures.found
-    c.mark-mark.ensures.graph c.in_ok-place.ensures.graph refl c.sides.ensures.sides
-    c.len-count.ensures c.mark-mark.ensures.place refl c.in_ok-push.ensures.items c.in_ok-push_split.ensures in
-    let W : SearchStatus → ℕ = status_weight rows c.find.new.asserted c.find.new.later.items in
-    if_ok (λ found. W found ≤ 1 + weight t (opens t (positions here ++ side_positions t c.sides.result.0) here c.push.new.self.items))
-    (λ found. W found < 1 + weight t (opens t (positions here) here c.args.later.now.items)) c.find.result c.find.ensures.lighter (λ found h. omega (arith, h, next.1))
+    c.mark-mark.ensures.graph c.in_ok-place.ensures.graph c.choose.ensures.asserted c.sides.ensures.sides
+    (c.len-count.ensures ∙ ap length c.choose.ensures.asserted) c.mark-mark.ensures.place refl
+    (c.in_ok-push.ensures.items ∙ ap (λ ls. ls ++ later ∷ []) c.choose.ensures.rest.later)
+    (c.in_ok-push_split.ensures ∙ ap (λ ss. ss ++ split_at ∷ []) c.choose.ensures.rest.steps) in
+    let W : SearchStatus → ℕ = status_weight c.args.tree.now c.find.new.branch in
+    if_ok
+    (λ found. W found ≤ 1 + weight t (opens t (positions chosen.asserted ++ side_positions t c.sides.result.0) chosen.asserted c.push.new.self.items))
+    (λ found. W found < 1 + weight t (opens t (positions b.asserted) b.asserted b.later.items)) c.find.result c.find.ensures.lighter
+    (λ found h. omega (arith, h, next.1))
 
 pub returns-clause-longer : goal.returns-clause-longer
 returns-clause-longer g c =
-    if_ok (λ _. IsLonger c.push_split.new.self c.find.new.refutation) (λ _. HasMore c.args.refutation.now c.find.new.refutation) c.find.result c.find.ensures.longer
-    (λ _ h. more_longer c.args.refutation.now c.push_split.new.self c.find.new.refutation (split c.in_ok-place.place.negated c.in_ok-place.place.position) c.in_ok-push_split.ensures h)
+    let old = c.args.branch.now.refutation in
+    let new = c.find.new.branch.refutation in
+    let split_at = split c.in_ok-place.place.negated c.in_ok-place.place.position in
+    if_ok (λ _. IsLonger c.push_split.new.self new) (λ _. HasMore old new) c.find.result c.find.ensures.longer
+    (λ _ h. more_longer old c.push_split.new.self new split_at (c.in_ok-push_split.ensures ∙ ap (λ ss. ss ++ split_at ∷ []) c.choose.ensures.rest.steps) h)

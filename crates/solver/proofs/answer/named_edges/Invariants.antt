@@ -1,8 +1,7 @@
 use Rattle.std.proofs.Common.{◌≡◌, map, take}
-use Rattle.pc_ground.specs.Keys.{key_node}
 use Rattle.graph_text.specs.Graphs.{key_edge}
 use Rattle.solver.specs.Shown.{edge_over}
 use Rattle.solver.proofs.answer.named_edges.Given as goal
 
 abbrev pub invariant-loop-pair : goal.invariant-loop-pair
-invariant-loop-pair l = map key_edge l.edges ≡ map (edge_over (map key_node l.keys)) (take l.pair-index l.pairs)
+invariant-loop-pair l = map key_edge l.edges ≡ map (edge_over l.tree.nodes) (take l.pair-index l.pairs)

@@ -7,7 +7,7 @@ use Rattle.solver.proofs.answer.note_present.Goals as goal
 pub returns-in_ok-push : goal.returns-in_ok-push
 returns-in_ok-push c = inl (
   c.present.ensures.0 c.if-present.true,
-  ap (map key_node) c.in_ok-push.ensures ∙ map_push key_node c.args.nodes.now c.key_at.result ∙ ap (λ y. map key_node c.args.nodes.now ++ y ∷ []) c.key_at.ensures,
+  ap (map key_node) c.in_ok-push.ensures ∙ map_push key_node c.args.nodes.now c.key.result ∙ ap (λ y. map key_node c.args.nodes.now ++ y ∷ []) c.key.ensures,
 )
 
 pub returns-else-present : goal.returns-else-present

@@ -6,11 +6,11 @@ use Rattle.solver.proofs.answer.present_nodes.Goals as goal
 
 pub loop-k-preserved : goal.loop-k-preserved
 loop-k-preserved c =
-    present_more (map key_node c.args.keys.now) c.args.graph.now.literals c.loop-k.k (map key_node c.loop-k.nodes) (map key_node c.note_present.new.nodes)
+    present_more c.args.tree.now.nodes c.args.graph.now.literals c.loop-k.k (map key_node c.loop-k.nodes) (map key_node c.note_present.new.nodes)
     c.in_ok-note_present.ensures c.loop-k.invariant
 
 pub returns : goal.returns
 returns c =
-    let P : ℕ → Type 0 = λ n. ArePresent (map key_node c.args.keys.now) c.args.graph.now.literals n (map key_node c.loop-k.nodes) in
-    let same : c.loop-k.k ≡ length c.args.keys.now = omega arith in
+    let P : ℕ → Type 0 = λ n. ArePresent c.args.tree.now.nodes c.args.graph.now.literals n (map key_node c.loop-k.nodes) in
+    let same : c.loop-k.k ≡ length c.args.tree.now.nodes = omega arith in
     subst P same c.loop-k.invariant

@@ -4,4 +4,4 @@ use Rattle.solver.specs.Shown.{ArePresent}
 use Rattle.solver.proofs.answer.present_nodes.Given as goal
 
 abbrev pub invariant-loop-k : goal.invariant-loop-k
-invariant-loop-k l = ArePresent (map key_node l.keys) l.graph.literals l.k (map key_node l.nodes)
+invariant-loop-k l = ArePresent l.tree.nodes l.graph.literals l.k (map key_node l.nodes)

@@ -1,4 +1,11 @@
+use Rattle.std.proofs.Common.{ℕ, List, sym, subst}
+use Rattle.std.specs.Prelude.{All}
+use Rattle.pc_ground.specs.declared.row.Row.{Row}
+use Rattle.solver.specs.Below.{IsRowBelow}
 use Rattle.solver.proofs.choose.is_closed.Goals as goal
 
 pub would_clash-requires : goal.would_clash-requires
-would_clash-requires g c = c.in-Some.ensures c.args.graph.now.nodes c.requires.below
+would_clash-requires g c =
+    let B : List (Row ℕ) → ℕ → Type 0 = λ rows n. All (IsRowBelow n) rows in
+    c.in-Some.ensures c.args.graph.now.nodes
+    (subst (λ rows. B rows c.args.graph.now.nodes) (sym c.rows.ensures.rows) (subst (B c.args.tree.now.rows) (sym c.requires.nodes) c.rows.ensures.numbered.below))

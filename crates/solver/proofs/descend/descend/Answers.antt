@@ -1,16 +1,19 @@
-use Rattle.std.proofs.Common.{◌++◌, length, map, ap, subst, arith}
+use Rattle.std.proofs.Common.{◌≡◌, ◌≤◌, ◌++◌, ◌∷◌, List, [], length, ap, sym, ◌∙◌, subst, arith}
 use Rattle.std.specs.Prelude.{Option}
-use Rattle.std.proofs.lemmas.List.{nil_from_length}
-use Rattle.pc_ground.specs.Keys.{key_node}
+use Rattle.pc_common.specs.World.{Node}
+use Rattle.pc_common.specs.Steps.{Step}
 use Rattle.pc_ground.specs.Refutes.{literals_of}
 use Rattle.order_graph.specs.Clashes.{leaf_of}
 use Rattle.order_graph.specs.declared.clash.Clash.{Clash}
 use Rattle.solver.specs.Renamed.{node_at, renamed_leaf}
 use Rattle.solver.specs.Spelled.{spelled}
-use Rattle.solver.specs.Places.{side_positions}
+use Rattle.solver.specs.Places.{side_positions, IsSideIn}
 use Rattle.solver.specs.Leaves.{clash_step}
-use Rattle.solver.specs.Opens.{positions, HasAsserted}
+use Rattle.solver.specs.Opens.{positions, opens, IsState, HasAsserted}
+use Rattle.solver.specs.Branches.{branches_with}
 use Rattle.solver.specs.Weights.{weight}
+use Rattle.solver.specs.declared.side.Side.{Side}
+use Rattle.solver.specs.declared.later.Later.{Later}
 use Rattle.solver.proofs.ClashLeaf.{clash_leaf, clash_closes}
 use Rattle.solver.proofs.IsState.{closed_kept, closed_all, entered_kept}
 use Rattle.solver.proofs.HasDescended.{clash_in, one_open, longer_push, lighter_closed, next_inside}
@@ -18,79 +21,91 @@ use Rattle.solver.proofs.descend.descend.Goals as goal
 
 pub close-requires-clause-below : goal.close-requires-clause-below
 close-requires-clause-below g c =
-    let t = spelled c.args.rows.now in
-    let here = c.loop-clash.asserted in
-    let E : Option Clash → Type 0 = HasAsserted t (side_positions t c.loop-clash.side) here c.enter_next.new.graph c.enter_next.new.asserted in
+    let t = spelled c.args.tree.now.rows in
+    let here = c.loop-branch.branch.asserted in
+    let E : Option Clash → Type 0 = HasAsserted t (side_positions t c.loop-branch.side) here c.enter_next.new.branch.graph c.enter_next.new.branch.asserted in
     let clash = subst E c.in-Some.is c.in_ok-clash.ensures.entered in
-    clash_in (length c.args.keys.now) c.args.rows.now (positions here ++ side_positions t c.loop-clash.side) c.in-Some.clash c.requires.tree c.requires.below clash
+    let numbered = c.len-positions.ensures.numbered in
+    clash_in (length c.args.tree.now.nodes) c.args.tree.now.rows (positions here ++ side_positions t c.loop-branch.side) c.in-Some.clash numbered.tree numbered.below clash
 
 pub close-requires-clause-leaf : goal.close-requires-clause-leaf
 close-requires-clause-leaf g c =
-    let t = spelled c.args.rows.now in
-    let here = c.loop-clash.asserted in
-    let E : Option Clash → Type 0 = HasAsserted t (side_positions t c.loop-clash.side) here c.enter_next.new.graph c.enter_next.new.asserted in
+    let t = spelled c.args.tree.now.rows in
+    let here = c.loop-branch.branch.asserted in
+    let E : Option Clash → Type 0 = HasAsserted t (side_positions t c.loop-branch.side) here c.enter_next.new.branch.graph c.enter_next.new.branch.asserted in
     let clash = subst E c.in-Some.is c.in_ok-clash.ensures.entered in
-    clash_leaf (map key_node c.args.keys.now) (literals_of t (positions here ++ side_positions t c.loop-clash.side)) c.in-Some.clash clash
+    clash_leaf c.args.tree.now.nodes (literals_of t (positions here ++ side_positions t c.loop-branch.side)) c.in-Some.clash clash
 
 pub close-requires-clause-open : goal.close-requires-clause-open
 close-requires-clause-open g c =
-    let t = spelled c.args.rows.now in
-    one_open c.args.version (map key_node c.args.keys.now) t c.loop-clash.graph c.loop-clash.asserted c.loop-clash.later.items c.loop-clash.refutation
-    (side_positions t c.loop-clash.side) c.loop-clash.invariant.state
+    let t = spelled c.args.tree.now.rows in
+    let b = c.loop-branch.branch in
+    let some = one_open c.args.version c.args.tree.now b (side_positions t c.loop-branch.side) c.loop-branch.invariant.state in
+    rw c.enter_next.ensures.rest.steps some
 
-pub returns-in_default-pop-clause-descended : goal.returns-in_default-pop-clause-descended
-returns-in_default-pop-clause-descended g c =
-    let nodes = map key_node c.args.keys.now in
-    let t = spelled c.args.rows.now in
-    let here = c.loop-clash.asserted in
-    let E : Option Clash → Type 0 = HasAsserted t (side_positions t c.loop-clash.side) here c.enter_next.new.graph c.enter_next.new.asserted in
+pub returns-in_default-go_back-clause-descended : goal.returns-in_default-go_back-clause-descended
+returns-in_default-go_back-clause-descended g c =
+    let nodes = c.args.tree.now.nodes in
+    let t = spelled c.args.tree.now.rows in
+    let b = c.loop-branch.branch in
+    let here = b.asserted in
+    let E : Option Clash → Type 0 = HasAsserted t (side_positions t c.loop-branch.side) here c.enter_next.new.branch.graph c.enter_next.new.branch.asserted in
     let clash = subst E c.in-Some.is c.in_ok-clash.ensures.entered in
-    closed_all c.args.version nodes t c.loop-clash.graph here c.loop-clash.later.items c.loop-clash.refutation c.close.new.refutation (renamed_leaf (node_at nodes) (leaf_of c.in-Some.clash)) (side_positions t c.loop-clash.side)
-    c.loop-clash.invariant.state (clash_closes nodes t (positions here ++ side_positions t c.loop-clash.side) c.in-Some.clash clash) c.in_ok-close.ensures
-    (nil_from_length c.loop-clash.later.items (let h = rw c.in_default-pop.is at c.pop.ensures.cases in omega (arith, h.0)))
+    let rest = c.enter_next.ensures.rest in
+    let back = c.in_default-go_back.ensures in
+    closed_all c.args.version nodes t b.graph here b.later.items b.refutation c.go_back.new.branch.refutation (renamed_leaf (node_at nodes) (leaf_of c.in-Some.clash)) (side_positions t c.loop-branch.side)
+    c.loop-branch.invariant.state (clash_closes nodes t (positions here ++ side_positions t c.loop-branch.side) c.in-Some.clash clash)
+    (back.1 ∙ c.in_ok-close.ensures ∙ ap (λ ss. ss ++ clash_step nodes c.in-Some.clash ∷ []) rest.steps) (sym rest.later ∙ back.0)
 
-pub returns-in_default-pop-clause-longer : goal.returns-in_default-pop-clause-longer
-returns-in_default-pop-clause-longer g c =
-    longer_push c.args.refutation.now c.loop-clash.refutation c.close.new.refutation (clash_step (map key_node c.args.keys.now) c.in-Some.clash)
-    c.loop-clash.invariant.longer c.in_ok-close.ensures
-
-pub go_back-requires : goal.go_back-requires
-go_back-requires g c =
-    let t = spelled c.args.rows.now in
-    let is_later = next_inside c.args.version (map key_node c.args.keys.now) t c.loop-clash.graph c.loop-clash.asserted c.loop-clash.later.items c.pop.new.self.items
-    c.loop-clash.refutation c.in-Some-pop.next (side_positions t c.loop-clash.side) c.loop-clash.invariant.state c.in-Some-pop.ensures.items in
-    omega (arith, is_later.live, ap length c.in_ok-clash.ensures.further.same_marks)
-
-pub loop-clash-preserved : goal.loop-clash-preserved
-loop-clash-preserved g c =
-    let nodes = map key_node c.args.keys.now in
-    let t = spelled c.args.rows.now in
-    let here = c.loop-clash.asserted in
-    let next = c.in-Some-pop.next in
-    let E : Option Clash → Type 0 = HasAsserted t (side_positions t c.loop-clash.side) here c.enter_next.new.graph c.enter_next.new.asserted in
+pub loop-branch-preserved : goal.loop-branch-preserved
+loop-branch-preserved g c =
+    let nodes = c.args.tree.now.nodes in
+    let t = spelled c.args.tree.now.rows in
+    let b = c.loop-branch.branch in
+    let here = b.asserted in
+    let more = side_positions t c.loop-branch.side in
+    let step = clash_step nodes c.in-Some.clash in
+    let entered = c.enter_next.new.branch in
+    let back = c.go_back.new.branch in
+    let resumed = c.in-Some-go_back.ensures in
+    let next = resumed.next in
+    let E : Option Clash → Type 0 = HasAsserted t more here entered.graph entered.asserted in
     let clash = subst E c.in-Some.is c.in_ok-clash.ensures.entered in
-    let closes = clash_closes nodes t (positions here ++ side_positions t c.loop-clash.side) c.in-Some.clash clash in
-    let is_later = next_inside c.args.version nodes t c.loop-clash.graph here c.loop-clash.later.items c.pop.new.self.items c.loop-clash.refutation next
-    (side_positions t c.loop-clash.side) c.loop-clash.invariant.state c.in-Some-pop.ensures.items in
+    let closes = clash_closes nodes t (positions here ++ more) c.in-Some.clash clash in
+    let popped : b.later.items ≡ back.later.items ++ next ∷ [] = sym c.enter_next.ensures.rest.later ∙ resumed.popped in
+    let stepped : back.refutation ≡ b.refutation ++ step ∷ [] =
+    resumed.steps ∙ c.in_ok-close.ensures ∙ ap (λ ss. ss ++ step ∷ []) c.enter_next.ensures.rest.steps in
+    let is_later = next_inside c.args.version c.args.tree.now b more back.later.items next c.loop-branch.invariant.state popped in
     let gone =
-    closed_kept c.args.version nodes t c.loop-clash.graph c.enter_next.new.graph c.go_back.new.graph here c.enter_next.new.asserted c.go_back.new.asserted
-    c.loop-clash.later.items c.pop.new.self.items c.loop-clash.refutation c.close.new.refutation (renamed_leaf (node_at nodes) (leaf_of c.in-Some.clash)) next (side_positions t c.loop-clash.side)
-    c.loop-clash.invariant.state closes c.in_ok-close.ensures c.in-Some-pop.ensures.items c.in_ok-clash.ensures.further c.in_ok-clash.ensures.kept
-    c.go_back.ensures.cut c.go_back.ensures.positions in record {
-      inside = is_later.side;
-      state = gone.0;
-      lighter = lighter_closed t _ _ (positions here ++ side_positions t c.loop-clash.side) _ gone.1 c.loop-clash.invariant.lighter;
-      longer = longer_push c.args.refutation.now c.loop-clash.refutation c.close.new.refutation (clash_step nodes c.in-Some.clash) c.loop-clash.invariant.longer c.in_ok-close.ensures;
+    closed_kept c.args.version nodes t b.graph entered.graph back.graph here entered.asserted back.asserted
+    b.later.items back.later.items b.refutation back.refutation (renamed_leaf (node_at nodes) (leaf_of c.in-Some.clash)) next more
+    c.loop-branch.invariant.state closes stepped popped c.in_ok-clash.ensures.further c.in_ok-clash.ensures.kept
+    resumed.cut resumed.positions in
+    let lighter = lighter_closed t _ _ (positions here ++ more) _ gone.1 c.loop-branch.invariant.lighter in
+    let S : Side → Type 0 = λ side. IsSideIn t side in
+    let K : Side → Type 0 = λ side. IsState c.args.version nodes t back.graph back.asserted back.later.items back.refutation (side_positions t side) in
+    let most = weight t (branches_with c.args.tree.now c.args.branch.now (side_positions t c.args.side)) in
+    let W : Side → Type 0 = λ side. weight t (branches_with c.args.tree.now back (side_positions t side)) ≤ most in record {
+      inside = subst S resumed.side_is is_later.side;
+      state = subst K resumed.side_is gone.0;
+      lighter = subst W resumed.side_is lighter;
+      longer = longer_push c.args.branch.now.refutation b.refutation back.refutation step c.loop-branch.invariant.longer stepped;
     }
 
 pub returns-clause-descended : goal.returns-clause-descended
 returns-clause-descended g c =
-    let nodes = map key_node c.args.keys.now in
-    let t = spelled c.args.rows.now in
-    let here = c.loop-clash.asserted in
-    let E : Option Clash → Type 0 = HasAsserted t (side_positions t c.loop-clash.side) here c.enter_next.new.graph c.enter_next.new.asserted in
-    let entered = subst E c.in_default.is c.in_ok-clash.ensures.entered in
+    let nodes = c.args.tree.now.nodes in
+    let t = spelled c.args.tree.now.rows in
+    let b = c.loop-branch.branch in
+    let entered = c.enter_next.new.branch in
+    let more = side_positions t c.loop-branch.side in
+    let rest = c.enter_next.ensures.rest in
+    let E : Option Clash → Type 0 = HasAsserted t more b.asserted entered.graph entered.asserted in
+    let came = subst E c.in_default.is c.in_ok-clash.ensures.entered in
+    let K : List Later → List (Step Node) → Type 0 = λ ls ss. IsState c.args.version nodes t b.graph b.asserted ls ss more in
+    let state = subst (λ ss. K entered.later.items ss) (sym rest.steps) (subst (λ ls. K ls b.refutation) (sym rest.later) c.loop-branch.invariant.state) in
     let kept =
-    entered_kept c.args.version nodes t c.loop-clash.graph c.enter_next.new.graph here c.enter_next.new.asserted c.loop-clash.later.items c.loop-clash.refutation (side_positions t c.loop-clash.side)
-    c.loop-clash.invariant.state entered.0 entered.1 c.in_ok-clash.ensures.further in
-    (kept.0, omega (arith, ap (weight t) kept.1, c.loop-clash.invariant.lighter))
+    entered_kept c.args.version nodes t b.graph entered.graph b.asserted entered.asserted entered.later.items entered.refutation more
+    state came.0 came.1 c.in_ok-clash.ensures.further in
+    let same = ap (λ ls. weight t (opens t (positions b.asserted ++ more) b.asserted ls)) rest.later in
+    (kept.0, omega (arith, ap (weight t) kept.1, same, c.loop-branch.invariant.lighter))

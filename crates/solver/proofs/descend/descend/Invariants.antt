@@ -1,20 +1,19 @@
-use Rattle.std.proofs.Common.{◌≤◌, ◌++◌, length, map}
-use Rattle.pc_ground.specs.Keys.{key_node}
+use Rattle.std.proofs.Common.{◌≤◌, length}
 use Rattle.solver.specs.Spelled.{spelled}
 use Rattle.solver.specs.Places.{side_positions, IsSideIn}
-use Rattle.solver.specs.Opens.{positions, opens, IsState}
+use Rattle.solver.specs.Branches.{branches_with, IsOpen}
 use Rattle.solver.specs.Weights.{weight}
 use Rattle.solver.specs.Descents.{IsLonger}
 use Rattle.solver.proofs.descend.descend.Given as goal
 
-abbrev pub invariant-loop-clash : goal.invariant-loop-clash
-invariant-loop-clash g l = record {
-  inside : IsSideIn (spelled l.rows) l.side;
-  state : IsState l.fn.version (map key_node l.keys) (spelled l.rows) l.graph l.asserted l.later.items l.refutation (side_positions (spelled l.rows) l.side);
-  lighter : weight (spelled l.rows) (opens (spelled l.rows) (positions l.asserted ++ side_positions (spelled l.rows) l.side) l.asserted l.later.items)
-      ≤ weight (spelled l.rows) (opens (spelled l.rows) (positions l.fn.asserted ++ side_positions (spelled l.rows) l.fn.side) l.fn.asserted l.fn.later.items);
-  longer : IsLonger l.fn.refutation l.refutation;
+abbrev pub invariant-loop-branch : goal.invariant-loop-branch
+invariant-loop-branch g l = record {
+  inside : IsSideIn (spelled l.tree.rows) l.side;
+  state : IsOpen l.fn.version l.tree l.branch (side_positions (spelled l.tree.rows) l.side);
+  lighter : weight (spelled l.tree.rows) (branches_with l.tree l.branch (side_positions (spelled l.tree.rows) l.side))
+      ≤ weight (spelled l.tree.rows) (branches_with l.tree l.fn.branch (side_positions (spelled l.tree.rows) l.fn.side));
+  longer : IsLonger l.fn.branch.refutation l.branch.refutation;
 }
 
-abbrev pub decreases-loop-clash : goal.decreases-loop-clash
-decreases-loop-clash g l = length l.later.items
+abbrev pub decreases-loop-branch : goal.decreases-loop-branch
+decreases-loop-branch g l = length l.branch.later.items

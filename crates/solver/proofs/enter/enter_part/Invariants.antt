@@ -10,10 +10,10 @@ use Rattle.solver.proofs.enter.enter_part.Given as goal
 -- the positions so far and those that the walk still comes to are those of the whole part
 abbrev pub invariant-loop-at : goal.invariant-loop-at
 invariant-loop-at g l = record {
-  end : l.end ≤ length l.rows;
-  walk : (ps : List ℕ) × Walk (turned_rows l.negated l.rows) l.end l.at ps
-      × (positions l.asserted ++ all_signed l.negated ps ≡ positions l.fn.asserted ++ asserted_at (spelled l.rows) l.negated l.root);
-  literals : l.graph.literals ≡ literals_of (spelled l.rows) (positions l.asserted);
+  end : l.end ≤ length l.tree.rows;
+  walk : (ps : List ℕ) × Walk (turned_rows l.negated l.tree.rows) l.end l.at ps
+      × (positions l.asserted ++ all_signed l.negated ps ≡ positions l.fn.asserted ++ asserted_at (spelled l.tree.rows) l.negated l.root);
+  literals : l.graph.literals ≡ literals_of (spelled l.tree.rows) (positions l.asserted);
   further : IsFurther l.fn.graph l.graph;
   kept : take (length l.fn.asserted) l.asserted ≡ l.fn.asserted;
 }

@@ -1,8 +1,7 @@
-use Rattle.std.proofs.Common.{◌≡◌, ℕ, length, take, subst, sym}
-use Rattle.std.specs.Prelude.{Option, All}
+use Rattle.std.proofs.Common.{◌≡◌, length, take, subst, ◌∙◌}
+use Rattle.std.specs.Prelude.{Option}
 use Rattle.order_graph.specs.declared.clash.Clash.{Clash}
 use Rattle.order_graph.proofs.Results.{if_ok}
-use Rattle.solver.specs.Below.{IsRowBelow}
 use Rattle.solver.specs.Spelled.{spelled}
 use Rattle.solver.specs.Places.{denied_positions, asserted_at, side_positions}
 use Rattle.solver.specs.Opens.{IsFurther, HasAsserted}
@@ -11,7 +10,7 @@ use Rattle.solver.proofs.enter.enter_side.Goals as goal
 
 pub returns-in-Some-clause-entered : goal.returns-in-Some-clause-entered
 returns-in-Some-clause-entered g c =
-    let t = spelled c.args.rows.now in
+    let t = spelled c.args.tree.now.rows in
     let side = c.args.side in
     let old = c.args.asserted.now in
     let first = denied_positions t side.negated side.denied in
@@ -20,14 +19,12 @@ returns-in-Some-clause-entered g c =
 
 pub enter_part-requires : goal.enter_part-requires
 enter_part-requires g c =
-    let t = spelled c.args.rows.now in
+    let t = spelled c.args.tree.now.rows in
     let side = c.args.side in
     let old = c.args.asserted.now in
-    let E : Option Clash → Type 0 = HasAsserted t (denied_positions t side.negated side.denied) old c.enter_denied.new.graph c.enter_denied.new.asserted in
-    let B : ℕ → Type 0 = λ n. All (IsRowBelow n) c.args.rows.now in record {
-      tree = c.requires.tree;
+    let E : Option Clash → Type 0 = HasAsserted t (denied_positions t side.negated side.denied) old c.enter_denied.new.graph c.enter_denied.new.asserted in record {
       root = c.requires.side.0;
-      below = subst B (sym c.in_ok-clash.ensures.further.same_nodes) c.requires.below;
+      nodes = c.in_ok-clash.ensures.further.same_nodes ∙ c.requires.nodes;
       literals = (subst E c.in_default.is c.in_ok-clash.ensures.entered).1;
     }
 
@@ -46,7 +43,7 @@ returns-clause-kept g c =
 
 pub returns-clause-entered : goal.returns-clause-entered
 returns-clause-entered g c =
-    let t = spelled c.args.rows.now in
+    let t = spelled c.args.tree.now.rows in
     let side = c.args.side in
     let old = c.args.asserted.now in
     let mid = c.enter_denied.new.asserted in

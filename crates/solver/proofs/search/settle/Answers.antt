@@ -1,5 +1,6 @@
-use Rattle.std.proofs.Common.{map, refl, subst, []}
-use Rattle.pc_ground.specs.Keys.{key_node}
+use Rattle.std.proofs.Common.{refl, sym, subst, List, []}
+use Rattle.pc_common.specs.World.{Node}
+use Rattle.pc_common.specs.Steps.{Step}
 use Rattle.pc_ground.specs.Refutes.{IsPartial}
 use Rattle.pc_ground.proofs.Refuted.{refutation_sound}
 use Rattle.solver.specs.Renamed.{tree_over}
@@ -11,46 +12,23 @@ use Rattle.solver.proofs.search.settle.Goals as goal
 
 pub returns-in-Refuted-clause-turn : goal.returns-in-Refuted-clause-turn
 returns-in-Refuted-clause-turn c =
-    let nodes = map key_node c.args.keys.items in
-    let rows = c.args.rows.items in
-    let F : SearchStatus → Type 0 = IsStatus c.args.version nodes rows c.args.graph c.args.asserted c.args.later.items c.args.refutation in
-    let closed : IsPartial c.args.version (tree_over nodes (spelled rows)) c.args.refutation [] = subst F c.in-Refuted.is c.requires.status in
-    (closed, refutation_sound c.args.version (tree_over nodes (spelled rows)) c.args.refutation closed)
+    let t = tree_over c.args.tree.nodes (spelled c.args.tree.rows) in
+    let F : SearchStatus → Type 0 = IsStatus c.args.version c.args.tree c.args.branch in
+    let P : List (Step Node) → Type 0 = λ ss. IsPartial c.args.version t ss [] in
+    let closed = subst P (sym c.into_refutation.ensures) (subst F c.in-Refuted.is c.requires) in
+    (closed, refutation_sound c.args.version t c.into_refutation.result closed)
 
 pub returns-in-Satisfied-clause-turn : goal.returns-in-Satisfied-clause-turn
 returns-in-Satisfied-clause-turn c =
-    let F : SearchStatus → Type 0 = IsStatus c.args.version (map key_node c.args.keys.items) c.args.rows.items c.args.graph c.args.asserted c.args.later.items c.args.refutation in
-    subst F c.in-Satisfied.is c.requires.status
+    let F : SearchStatus → Type 0 = IsStatus c.args.version c.args.tree c.args.branch in
+    subst F c.in-Satisfied.is c.requires
 
 pub invariant_of-result : goal.invariant_of-result
 invariant_of-result c =
-    let F : SearchStatus → Type 0 = IsStatus c.args.version (map key_node c.args.keys.items) c.args.rows.items c.args.graph c.args.asserted c.args.later.items c.args.refutation in
-    let open_now = subst F c.in-Undecided.is c.requires.status in record {
-      tree = c.requires.tree;
-      few = c.requires.few;
-      distinct = c.requires.distinct;
-      below = c.requires.below;
-      no_false = open_now.no_false;
-      state = open_now.state;
-      candidate = open_now.candidate;
-      small = open_now.small;
-    }
+    let F : SearchStatus → Type 0 = IsStatus c.args.version c.args.tree c.args.branch in
+    subst F c.in-Undecided.is c.requires
 
 pub returns-in-Undecided-clause-turn : goal.returns-in-Undecided-clause-turn
 returns-in-Undecided-clause-turn c =
-    let F : SearchStatus → Type 0 = IsStatus c.args.version (map key_node c.args.keys.items) c.args.rows.items c.args.graph c.args.asserted c.args.later.items c.args.refutation in
-    let open_now = subst F c.in-Undecided.is c.requires.status in (
-      refl,
-      refl,
-      refl,
-      searching c.args.version c.args.keys.items c.args.rows.items c.args.graph c.args.asserted c.args.later.items c.args.refutation c.in-Undecided.first (record {
-        tree = c.requires.tree;
-        few = c.requires.few;
-        distinct = c.requires.distinct;
-        below = c.requires.below;
-        no_false = open_now.no_false;
-        state = open_now.state;
-        candidate = open_now.candidate;
-        small = open_now.small;
-      }),
-    )
+    let F : SearchStatus → Type 0 = IsStatus c.args.version c.args.tree c.args.branch in
+    (refl, refl, refl, searching c.args.version c.args.tree c.args.branch c.in-Undecided.first (subst F c.in-Undecided.is c.requires))

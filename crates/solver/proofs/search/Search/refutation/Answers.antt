@@ -7,4 +7,4 @@ pub returns-clause-searching : goal.returns-clause-searching
 returns-clause-searching c =
     let s = c.self.inside in
     let P : Searched → Type 0 = IsSearching in
-    subst P c.self.view_is (searching s.version s.keys.items s.rows.items s.graph s.asserted s.later.items s.refutation s.first c.self.invariant)
+    subst P c.self.view_is (searching s.version s.tree s.branch s.first c.self.invariant)

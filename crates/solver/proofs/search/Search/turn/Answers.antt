@@ -1,11 +1,8 @@
-use Rattle.std.proofs.Common.{◌≡◌, ◌<◌, ◌+◌, sym, map, subst, arith, List, ℕ}
-use Rattle.pc_ground.specs.declared.node_key.NodeKey.{NodeKey}
-use Rattle.pc_ground.specs.declared.row.Row.{Row}
-use Rattle.pc_ground.specs.Keys.{key_node}
+use Rattle.std.proofs.Common.{◌≡◌, ◌<◌, ◌+◌, sym, subst, arith, List}
 use Rattle.solver.specs.Spelled.{spelled}
 use Rattle.solver.specs.Weights.{weight}
-use Rattle.solver.specs.Searched.{Searched, branches_of}
-use Rattle.solver.specs.Statuses.{IsStatus, status_weight}
+use Rattle.solver.specs.Branches.{branches_of}
+use Rattle.solver.specs.Searched.{Searched}
 use Rattle.solver.specs.Turns.{turn_weight, GoesOn}
 use Rattle.solver.specs.Descents.{HasMore}
 use Rattle.solver.specs.declared.search.Turn.{Turn}
@@ -14,40 +11,14 @@ use Rattle.pc_common.specs.World.{Node}
 use Rattle.pc_common.specs.Steps.{Step}
 use Rattle.solver.proofs.search.Search.turn.Goals as goal
 
-pub advance-requires : goal.advance-requires
-advance-requires g c =
-    let kept = c.self.invariant in
-    rw (c.deref.ensures.value, c.deref-2.ensures.value) (record {
-      tree = kept.tree;
-      few = kept.few;
-      distinct = kept.distinct;
-      below = kept.below;
-      no_false = kept.no_false;
-      first = kept.candidate;
-      small = kept.small;
-      state = kept.state;
-    })
-
 pub settle-requires : goal.settle-requires
-settle-requires g c =
-    let kept = c.self.invariant in
-    let F : List NodeKey → List (Row ℕ) → Type 0 = λ ks rs.
-    IsStatus c.self.inside.version (map key_node ks) rs c.advance.new.graph c.advance.new.asserted c.advance.new.later.items c.advance.new.refutation c.in_ok-status.status in record {
-      tree = kept.tree;
-      few = kept.few;
-      distinct = kept.distinct;
-      below = kept.below;
-      status = subst (λ rs. F c.self.inside.keys.items rs) c.deref-2.ensures.value (subst (λ ks. F ks c.deref-2.result.now) c.deref.ensures.value c.in_ok-status.ensures.found);
-    }
+settle-requires g c = c.in_ok-status.ensures.found
 
 pub returns-clause-weight : goal.returns-clause-weight
 returns-clause-weight g c =
     let s = c.self.inside in
-    let W : List (Row ℕ) → Type 0 = λ rs.
-    status_weight rs c.advance.new.asserted c.advance.new.later.items c.in_ok-status.status < 1 + weight (spelled rs) (branches_of rs s.asserted s.later.items) in
-    let lighter : W s.rows.items = subst W c.deref-2.ensures.value c.in_ok-status.ensures.lighter in
-    let less : turn_weight c.settle.result < 1 + weight (spelled s.rows.items) (branches_of s.rows.items s.asserted s.later.items) =
-    omega (arith, c.settle.ensures.weight, lighter) in
+    let less : turn_weight c.settle.result < 1 + weight (spelled s.tree.rows) (branches_of s.tree s.branch) =
+    omega (arith, c.settle.ensures.weight, c.in_ok-status.ensures.lighter) in
     let S : Searched → Type 0 = λ x. turn_weight c.settle.result < 1 + weight (spelled x.rows) x.branches in
     subst S c.self.view_is less
 
@@ -59,4 +30,4 @@ pub returns-clause-steps : goal.returns-clause-steps
 returns-clause-steps g c =
     let s = c.self.inside in
     let S : Searched → Type 0 = λ x. GoesOn HasMore x.steps c.settle.result in
-    subst S c.self.view_is (goes_more s.refutation c.advance.new.refutation c.settle.result c.settle.ensures.steps c.in_ok-status.ensures.longer)
+    subst S c.self.view_is (goes_more s.branch.refutation c.advance.new.branch.refutation c.settle.result c.settle.ensures.steps c.in_ok-status.ensures.longer)
