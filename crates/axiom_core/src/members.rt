@@ -26,9 +26,9 @@ pub(crate) fn refuted_by<S: Search>(
     requires forbidden { Forbid front.now.case (taken (flagged flags.now) (plain_axioms front.now.axioms)) }
     ensures { IfOk result (IsRefutedWith front.now (flagged flags.now)) }
 {
-    let part = part_of::<S>(alloc, front, flags, None)?;
-    match S::found_of(alloc, &part)? {
-        Answer::Unobservable(steps) => Ok((part, steps)),
+    let kept = part_of::<S>(alloc, front, flags, None)?;
+    match S::found_of(alloc, &kept)? {
+        Answer::Unobservable(steps) => Ok((kept, steps)),
         Answer::Observable(_) => unreachable!(),
     }
 }

@@ -38,19 +38,26 @@ fn written_of(alloc: Global, command: &str, axioms: &[&str]) -> Result<Vec<u8>, 
 }
 
 /// A line, and the axioms of which the certificate follows.
-const PIECES: &[(&'static str, &'static [&'static str])] = &[
+type Piece = (&'static str, &'static [&'static str]);
+
+const PIECES: &[Piece] = &[
     ("core 2\naxiom 1\naxiom 2\nrefutation\n", &[ORDER, READS]),
     ("without 1\n", &[READS]),
     ("without 2\n", &[ORDER]),
 ];
 
+/// Puts a line behind the text, and the certificate that check writes.
+fn put_piece(text: &mut Vec<u8>, alloc: Global, (line, axioms): Piece) -> Result<(), Memory> {
+    text.extend_from_slice(line.as_bytes())?;
+    text.extend_from_slice(&written_of(alloc, "check model test", axioms)?)?;
+    Ok(())
+}
+
 /// Lines, each with the certificate that check writes behind it.
 fn lines_with_checks(alloc: Global) -> Result<Vec<u8>, Memory> {
     let mut text = Vec::new(alloc);
-    for (line, axioms) in PIECES {
-        text.extend_from_slice(line.as_bytes())?;
-        let certificate = written_of(alloc, "check model test", axioms)?;
-        text.extend_from_slice(&certificate)?;
+    for piece in PIECES {
+        put_piece(&mut text, alloc, *piece)?;
     }
     text.extend_from_slice(b"end\n")?;
     Ok(text)

@@ -8,6 +8,6 @@ unreachable-requires g c =
     let front = c.args.front.now in
     let keep = flagged c.args.flags.now in
     never_both front.case (taken keep (plain_axioms front.axioms))
-    (part_allow front keep c.in_ok-part.part c.in_ok-part.ensures
-    (found_allow c.in_ok-part.part c.in-Observable.field-0 (rw c.in-Observable.is at c.in_ok-steps.ensures)))
+    (part_allow front keep c.in_ok-kept.kept c.in_ok-kept.ensures
+    (found_allow c.in_ok-kept.kept c.in-Observable.field-0 (rw c.in-Observable.is at c.in_ok-steps.ensures)))
     c.requires.forbidden
