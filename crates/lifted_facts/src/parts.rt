@@ -141,7 +141,10 @@ fn at_value<'a>(
         (meanings said.now.env.items) (place_of_value sort value) }
     ensures proper { IfSome result (IsProper case.now) }
 {
-    at_place(case, said, sort, body, place_of(sort, value)?)
+    match place_of(sort, value) {
+        Some(place) => at_place(case, said, sort, body, place),
+        None => None,
+    }
 }
 
 /// The body of a quantifier at a value of its range, where it holds with the whole.
