@@ -1,5 +1,5 @@
 -- What the fact of a number has: its part, its sides, an edge or a denied node, and that it holds nowhere.
-use Rattle.std.proofs.Common.{◌≡◌, ℕ, Bool, true, false, Option, Some, None, sym, ◌∙◌, ap, subst}
+use Rattle.std.proofs.Common.{◌≡◌, ℕ, Bool, false, Option, Some, None, sym, ◌∙◌, ap, subst}
 use Rattle.std.specs.Prelude.{◌↔◌, IsTrue, MatchOption, slice_get}
 use Rattle.std.specs.Option.{option_map}
 use Rattle.pc_common.specs.Case.{Case}

@@ -41,7 +41,7 @@ returns-in_ok-push-in-Some-2-clause-advanced c =
     let Q : List Waiting → Type 0 = λ ls.
     HasAdvanced me.case.now (split_step c.args.number) (opens_of me.is_open me.facts.items (reverse me.later.items)) (opens_of me.is_open c.push-in-Some.new.self.items ls) true in
     subst Q (sym (ap reverse c.in_ok-push-in-Some.ensures.items ∙ reversed me.later.items w))
-    (did_split me.case.now c.args.number me.is_open me.facts.items c.push-in-Some.new.self.items x y (reverse me.later.items) w c.if-not-self.false
+    (did_split me.case.now c.args.number me.is_open me.facts.items c.push-in-Some.new.self.items x y (reverse me.later.items) w c.requires
     (subst P c.deref.ensures.value c.in-Some.ensures.is) c.in_ok-push-in-Some-2.ensures.items same refl me.kept.within)
 
 pub returns-in-None-clause-advanced : goal.returns-in-None-clause-advanced
