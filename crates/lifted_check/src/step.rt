@@ -1,27 +1,59 @@
 ghost use Rattle.std.specs.Prelude.{◌≡◌};
 ghost use Rattle.std.specs.Option.{option_map};
+ghost use Rattle.lifted_facts.specs.declared.way.Way.TheVariants.{Member as MemberWay};
+ghost use Rattle.lifted_facts.specs.Lifted.{derive, split, close, falsity, absent};
 ghost use Rattle.lifted_facts.specs.Steps.{plain_step};
 ghost use Rattle.lifted_check.specs.Decoding.{only_number, two_numbers, cycle_of, path_of, decoded};
 
 use super::keyword::Keyword;
 use lifted_facts::{Leaf, Step, Way};
 
-/// The number of a list of one.
-fn only(numbers: &[u64]) -> Option<u64>
-    ensures { result ≡ only_number numbers.now }
+/// The step that adds a part of a fact, with these numbers: one, that of the fact.
+fn derive_with(way: Way, numbers: &[u64]) -> Option<Step<'_>>
+    ensures { option_map plain_step result ≡ option_map (derive way) (only_number numbers.now) }
 {
     match numbers {
-        [number] => Some(*number),
+        [number] => Some(Step::Derive(way, *number)),
         _ => None,
     }
 }
 
-/// The numbers of a list of two.
-fn two(numbers: &[u64]) -> Option<(u64, u64)>
-    ensures { result ≡ two_numbers numbers.now }
+/// The step `member` with these numbers: that of the fact, and a place.
+fn member_with(numbers: &[u64]) -> Option<Step<'_>>
+    ensures { option_map plain_step result ≡ option_map (λ r. derive (MemberWay r.1) r.0) (two_numbers numbers.now) }
 {
     match numbers {
-        [first, second] => Some((*first, *second)),
+        [number, place] => Some(Step::Derive(Way::Member(*place), *number)),
+        _ => None,
+    }
+}
+
+/// The step `split` with these numbers.
+fn split_with(numbers: &[u64]) -> Option<Step<'_>>
+    ensures { option_map plain_step result ≡ option_map split (only_number numbers.now) }
+{
+    match numbers {
+        [number] => Some(Step::Split(*number)),
+        _ => None,
+    }
+}
+
+/// The step `false` with these numbers.
+fn false_with(numbers: &[u64]) -> Option<Step<'_>>
+    ensures { option_map plain_step result ≡ option_map (λ k. close (falsity k)) (only_number numbers.now) }
+{
+    match numbers {
+        [number] => Some(Step::Close(Leaf::False(*number))),
+        _ => None,
+    }
+}
+
+/// The step `absent` with these numbers.
+fn absent_with(numbers: &[u64]) -> Option<Step<'_>>
+    ensures { option_map plain_step result ≡ option_map (λ r. close (absent r.0 r.1)) (two_numbers numbers.now) }
+{
+    match numbers {
+        [denial, number] => Some(Step::Close(Leaf::Absent(*denial, *number))),
         _ => None,
     }
 }
@@ -52,22 +84,16 @@ pub(crate) fn step_of(keyword: Keyword, numbers: &[u64]) -> Option<Step<'_>>
     ensures { option_map plain_step result ≡ decoded keyword numbers.now }
 {
     match keyword {
-        Keyword::Left => Some(Step::Derive(Way::Left, only(numbers)?)),
-        Keyword::Right => Some(Step::Derive(Way::Right, only(numbers)?)),
-        Keyword::Not => Some(Step::Derive(Way::Not, only(numbers)?)),
-        Keyword::Bind => Some(Step::Derive(Way::Bind, only(numbers)?)),
+        Keyword::Left => derive_with(Way::Left, numbers),
+        Keyword::Right => derive_with(Way::Right, numbers),
+        Keyword::Not => derive_with(Way::Not, numbers),
+        Keyword::Bind => derive_with(Way::Bind, numbers),
         Keyword::Inst => None,
-        Keyword::Member => {
-            let (number, place) = two(numbers)?;
-            Some(Step::Derive(Way::Member(place), number))
-        }
-        Keyword::Split => Some(Step::Split(only(numbers)?)),
-        Keyword::False => Some(Step::Close(Leaf::False(only(numbers)?))),
+        Keyword::Member => member_with(numbers),
+        Keyword::Split => split_with(numbers),
+        Keyword::False => false_with(numbers),
         Keyword::Cycle => cycle_with(numbers),
         Keyword::Path => path_with(numbers),
-        Keyword::Absent => {
-            let (denial, number) = two(numbers)?;
-            Some(Step::Close(Leaf::Absent(denial, number)))
-        }
+        Keyword::Absent => absent_with(numbers),
     }
 }

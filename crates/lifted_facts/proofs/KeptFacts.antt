@@ -64,3 +64,18 @@ pub opened_later : (c : Case) (is_open : Bool) (facts new : List Fact) (later ol
 opened_later c is_open facts new later older w kept is made b rest e =
     opened_next is_open facts new w (reverse older) made (within_next (length facts) later older w is kept.within) b rest
     (sym (ap (opens_of is_open facts) (ap reverse is ∙ reversed older w)) ∙ e)
+
+-- one more branch that waits, with all facts and one more
+pub kept_later : (c : Case) (facts : List Fact) (later new : List Waiting) (w : Waiting) (ok : Bool) → AreKept c facts later → IsProper c w.fact
+    → w.count ≡ length facts → new ≡ (if ok then later ++ w ∷ [] else later) → AreKept c facts new
+kept_later c facts later new w true kept proper count is =
+    let L : Waiting → Type 0 = λ l. IsProper c l.fact in
+    let P : List Waiting → Type 0 = λ ls. AreKept c facts ls in
+    let W : List Waiting → Type 0 = λ ls. AreWithin (length facts) ls in
+    let N : ℕ → Type 0 = λ n. AreWithin n (reverse later) in
+    subst P (sym is) (record {
+      proper = kept.proper;
+      later_proper = All-push L later w kept.later_proper proper;
+      within = subst W (sym (reversed later w)) (omega (arith, count), subst N (sym count) kept.within);
+    })
+kept_later c facts later new w false kept proper count is = (let P : List Waiting → Type 0 = λ ls. AreKept c facts ls in subst P (sym is) kept)

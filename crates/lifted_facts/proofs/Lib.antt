@@ -6,3 +6,4 @@ pub mod Members
 pub mod JoinedEdges
 pub mod OpenFacts
 pub mod KeptFacts
+pub mod NamedFacts

@@ -1,4 +1,4 @@
-ghost use Rattle.std.specs.Prelude.{◌≡◌, ◌↔◌, ◌∷◌, [], All, List, map, IsTrue, IfOk, OnOk};
+ghost use Rattle.std.specs.Prelude.{◌≡◌, ◌↔◌, ◌∷◌, [], All, List, map, true, IsTrue, IfOk, OnOk};
 ghost use Rattle.pc_common.specs.Case.{Case as PlainCase};
 ghost use Rattle.pc_ground.specs.Stages.{plain_axioms};
 ghost use Rattle.lifted_facts.specs.PlainFacts.{Branch, root, plain_fact, IsProper};
@@ -70,15 +70,13 @@ impl<'a> Branches<'a> {
         !self.is_open
     }
 
-    /// Adds a part of a fact.
+    /// Adds a part of a fact to the open branch.
     fn derive(&mut self, way: Way, number: u64) -> Result<bool, Memory>
+        requires { self.old.is_open ≡ true }
         ensures case { self.new.case.now ≡ self.old.case.now }
         ensures advanced { IfOk result (HasAdvanced self.old.case.now (derive_step way number) (opens_at self.old)
             (opens_at self.new)) }
     {
-        if !self.is_open {
-            return Ok(false);
-        }
         match part_at(self.case, &self.facts, way, number) {
             Some(part) => {
                 self.facts.push(part)?;
@@ -88,15 +86,13 @@ impl<'a> Branches<'a> {
         }
     }
 
-    /// Adds the first side of a fact, and lets the branch with the second one wait.
+    /// Adds the first side of a fact to the open branch, and lets the branch with the second one wait.
     fn split(&mut self, number: u64) -> Result<bool, Memory>
+        requires { self.old.is_open ≡ true }
         ensures case { self.new.case.now ≡ self.old.case.now }
         ensures advanced { IfOk result (HasAdvanced self.old.case.now (split_step number) (opens_at self.old)
             (opens_at self.new)) }
     {
-        if !self.is_open {
-            return Ok(false);
-        }
         match sides_at(self.case, &self.facts, number) {
             Some((first, second)) => {
                 self.later.push(Waiting {
@@ -110,15 +106,13 @@ impl<'a> Branches<'a> {
         }
     }
 
-    /// Closes the branch by a leaf, so that the next one that waits is first.
+    /// Closes the open branch by a leaf, so that the next one that waits is first.
     fn close(&mut self, leaf: Leaf<'_>) -> Result<bool, Memory>
+        requires { self.old.is_open ≡ true }
         ensures case { self.new.case.now ≡ self.old.case.now }
         ensures advanced { IfOk result (HasAdvanced self.old.case.now (close_step (plain_leaf leaf.entry))
             (opens_at self.old) (opens_at self.new)) }
     {
-        if !self.is_open {
-            return Ok(false);
-        }
         if !closes(self.case, &self.facts, leaf) {
             return Ok(false);
         }

@@ -1,12 +1,13 @@
 ghost use Rattle.std.specs.Prelude.{◌≡◌, ◌↔◌, ◌∷◌, All, false, true, Some, map, IsTrue, MatchOption};
 ghost use Rattle.pc_common.specs.World.{Node};
 ghost use Rattle.pc_ground.specs.Keys.{key_node};
-ghost use Rattle.lifted_facts.specs.PlainFacts.{plain_fact, one_node, IsProper};
+ghost use Rattle.lifted_facts.specs.PlainFacts.{plain_fact, one_node, one_edge, IsProper};
 ghost use Rattle.lifted_facts.specs.Lifted.{HasFact, IsEdge, Follows, Asserts, IsCycle, IsPath, IsAbsent, IsFalsity, Closes};
 ghost use Rattle.lifted_facts.specs.Steps.{plain_leaf};
 
 use super::fact::Fact;
 use super::falsity::is_false;
+use super::named::fact_at;
 use super::step::Leaf;
 use pc_case::Case;
 use pc_ground::NodeKey;
@@ -18,12 +19,12 @@ fn is_same(one: NodeKey, other: NodeKey) -> bool
     one == other
 }
 
-/// The ends of the edge that is the fact of this number, under this sign; None where that is no such edge.
-fn edge_at(facts: &[Fact<'_>], plus: bool, number: u64) -> Option<(NodeKey, NodeKey)>
-    ensures { MatchOption result ((x y : Node) → IsEdge (map plain_fact facts.now) plus number x y → ⊥)
-        (λ ends. IsEdge (map plain_fact facts.now) plus number (key_node ends.0) (key_node ends.1)) }
+/// The ends of the edge that a fact is, under this sign; None where it is no such edge.
+fn edge_of(fact: &Fact<'_>, plus: bool) -> Option<(NodeKey, NodeKey)>
+    ensures { MatchOption result ((x y : Node) → plain_fact fact.now ≡ one_edge plus (Some x) (Some y) → ⊥)
+        (λ ends. plain_fact fact.now ≡ one_edge plus (Some (key_node ends.0)) (Some (key_node ends.1))) }
 {
-    match facts.get(number as usize)? {
+    match fact {
         Fact::Edge {
             plus: sign,
             from,
@@ -36,6 +37,17 @@ fn edge_at(facts: &[Fact<'_>], plus: bool, number: u64) -> Option<(NodeKey, Node
             }
         }
         _ => None,
+    }
+}
+
+/// The ends of the edge that is the fact of this number, under this sign; None where that is no such edge.
+fn edge_at(facts: &[Fact<'_>], plus: bool, number: u64) -> Option<(NodeKey, NodeKey)>
+    ensures { MatchOption result ((x y : Node) → IsEdge (map plain_fact facts.now) plus number x y → ⊥)
+        (λ ends. IsEdge (map plain_fact facts.now) plus number (key_node ends.0) (key_node ends.1)) }
+{
+    match fact_at(facts, number) {
+        Some(fact) => edge_of(fact, plus),
+        None => None,
     }
 }
 
@@ -88,14 +100,25 @@ fn is_path(facts: &[Fact<'_>], first: u64, more: &[u64], denial: u64) -> bool
     is_same(from, start) && is_same(to, end)
 }
 
+/// The node that a fact denies; None where it denies none.
+fn denied_of(fact: &Fact<'_>) -> Option<NodeKey>
+    ensures { MatchOption result ((a : Node) → plain_fact fact.now ≡ one_node false (Some a) → ⊥)
+        (λ a. plain_fact fact.now ≡ one_node false (Some (key_node a))) }
+{
+    match fact {
+        Fact::Node { plus, node } => { if *plus { None } else { Some(*node) } }
+        _ => None,
+    }
+}
+
 /// The node that is the denied one of this number; None where that is none.
 fn denied_at(facts: &[Fact<'_>], number: u64) -> Option<NodeKey>
     ensures { MatchOption result ((a : Node) → HasFact (map plain_fact facts.now) number (one_node false (Some a)) → ⊥)
         (λ a. HasFact (map plain_fact facts.now) number (one_node false (Some (key_node a)))) }
 {
-    match facts.get(number as usize)? {
-        Fact::Node { plus, node } => { if *plus { None } else { Some(*node) } }
-        _ => None,
+    match fact_at(facts, number) {
+        Some(fact) => denied_of(fact),
+        None => None,
     }
 }
 
@@ -114,9 +137,12 @@ fn asserts(fact: &Fact<'_>, a: NodeKey) -> bool
 fn is_absent(facts: &[Fact<'_>], denial: u64, number: u64) -> bool
     ensures { IsTrue result ↔ IsAbsent (map plain_fact facts.now) denial number }
 {
-    match (denied_at(facts, denial), facts.get(number as usize)) {
-        (Some(a), Some(fact)) => asserts(fact, a),
-        _ => false,
+    let Some(a) = denied_at(facts, denial) else {
+        return false;
+    };
+    match fact_at(facts, number) {
+        Some(fact) => asserts(fact, a),
+        None => false,
     }
 }
 
@@ -125,7 +151,7 @@ fn is_falsity(case: &Case, facts: &[Fact<'_>], number: u64) -> bool
     requires { All (IsProper case.now) facts.now }
     ensures { IsTrue result ↔ IsFalsity case.now (map plain_fact facts.now) number }
 {
-    match facts.get(number as usize) {
+    match fact_at(facts, number) {
         Some(fact) => is_false(case, fact),
         None => false,
     }

@@ -1,13 +1,14 @@
-ghost use Rattle.std.specs.Prelude.{◌≡◌, ◌≤◌, ◌+◌, length, IfSome};
+ghost use Rattle.std.specs.Prelude.{◌≡◌, ◌≤◌, ◌<◌, ◌+◌, length, IfSome};
 ghost use Rattle.std.specs.Option.{option_map};
 ghost use Rattle.pc_common.specs.Case.{Case as PlainCase};
 ghost use Rattle.pc_syntax.specs.Closed.{plain_closed};
-ghost use Rattle.pc_syntax.specs.IsClosed.{IsClosed};
+ghost use Rattle.pc_syntax.specs.IsClosed.{IsClosed, with_sort};
+ghost use Rattle.pc_syntax.specs.declared.limits.TheConstants.{MAX_VARIABLES};
 ghost use Rattle.static_preds.specs.Slots.{AreInRange};
 ghost use Rattle.static_preds.specs.Values.{meanings, scope_of};
 ghost use Rattle.lifted_facts.specs.declared.way.Way.TheVariants.{Left as LeftWay, Right as RightWay, Not as NotWay, Bind as BindWay, Inst as InstWay, Member as MemberWay};
 ghost use Rattle.lifted_facts.specs.PlainFacts.{plain_fact, plain_part, said as plain_said, IsProper, IsProperPart};
-ghost use Rattle.lifted_facts.specs.Parts.{part_of, place_of as place_of_value};
+ghost use Rattle.lifted_facts.specs.Parts.{part_of, said_at, place_of as place_of_value};
 
 use super::fact::{Fact, Said};
 use super::inside::at_place;
@@ -125,6 +126,27 @@ fn place_of(sort: Sort, value: Instance) -> Option<u64>
     }
 }
 
+/// The body of a quantifier at a value of its range.
+fn at_value<'a>(
+    case: &Case,
+    said: &Said<'a>,
+    sort: Sort,
+    body: &'a ClosedFormula,
+    value: Instance,
+) -> Option<Fact<'a>>
+    requires room { length said.now.env.items < MAX_VARIABLES }
+    requires closed { IsClosed (with_sort (scope_of said.now.env.items) sort) (plain_closed body.now) }
+    requires range { AreInRange case.now said.now.env.items }
+    ensures is { option_map plain_fact result ≡ said_at case.now said.now.plus sort (plain_closed body.now)
+        (meanings said.now.env.items) (place_of_value sort value) }
+    ensures proper { IfSome result (IsProper case.now) }
+{
+    match place_of(sort, value) {
+        Some(place) => at_place(case, said, sort, body, place),
+        None => None,
+    }
+}
+
 /// The body of a quantifier at a value of its range, where it holds with the whole.
 fn instance<'a>(case: &Case, said: &Said<'a>, value: Instance) -> Option<Fact<'a>>
     requires { IsProperPart case.now said.now }
@@ -134,7 +156,7 @@ fn instance<'a>(case: &Case, said: &Said<'a>, value: Instance) -> Option<Fact<'a
     match said.formula {
         ClosedFormula::Forall { sort, body } => {
             if said.plus {
-                at_place(case, said, *sort, body, place_of(*sort, value)?)
+                at_value(case, said, *sort, body, value)
             } else {
                 None
             }
@@ -143,7 +165,7 @@ fn instance<'a>(case: &Case, said: &Said<'a>, value: Instance) -> Option<Fact<'a
             if said.plus {
                 None
             } else {
-                at_place(case, said, *sort, body, place_of(*sort, value)?)
+                at_value(case, said, *sort, body, value)
             }
         }
         _ => None,

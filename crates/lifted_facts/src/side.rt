@@ -1,8 +1,10 @@
-ghost use Rattle.std.specs.Prelude.{◌≡◌, ◌+◌, ◌<◌, ◌^◌, IfSome};
+ghost use Rattle.std.specs.Prelude.{◌≡◌, ◌+◌, ◌<◌, ◌^◌, IfSome, true, false};
 ghost use Rattle.std.specs.Option.{option_map};
 ghost use Rattle.pc_common.specs.Case.{Case as PlainCase};
 ghost use Rattle.pc_syntax.specs.Closed.{plain_closed};
-ghost use Rattle.static_preds.specs.Values.{meanings};
+ghost use Rattle.pc_syntax.specs.IsClosed.{IsClosed};
+ghost use Rattle.static_preds.specs.Slots.{AreInRange};
+ghost use Rattle.static_preds.specs.Values.{meanings, scope_of};
 ghost use Rattle.lifted_facts.specs.PlainFacts.{plain_fact, plain_part, plain_pair, said as plain_said, IsProper, IsProperPart};
 ghost use Rattle.lifted_facts.specs.Parts.{sides as sides_of, or_later};
 
@@ -11,7 +13,7 @@ use super::inside::at_place;
 use super::member::{edge_member, node_member};
 use super::parts::said_of;
 use pc_case::Case;
-use pc_syntax::ClosedFormula;
+use pc_syntax::{ClosedFormula, Env};
 use static_preds::copy_of;
 
 /// The same from the next place of its range or list on.
@@ -43,73 +45,76 @@ fn with_later<'a>(said: &Said<'a>, first: Option<Fact<'a>>) -> Option<(Fact<'a>,
     Some((first, later(said)))
 }
 
+/// Two formulas under their signs, with the slots of the one that they are the sides of.
+fn both_of<'a>(
+    env: &Env,
+    first_plus: bool,
+    first: &'a ClosedFormula,
+    second_plus: bool,
+    second: &'a ClosedFormula,
+) -> (Fact<'a>, Fact<'a>)
+    ensures is { plain_pair result ≡ (
+      plain_said first_plus (plain_closed first.now) (meanings env.now.items) 0,
+      plain_said second_plus (plain_closed second.now) (meanings env.now.items) 0,
+    ) }
+    ensures proper { (c : PlainCase) → IsClosed (scope_of env.now.items) (plain_closed first.now)
+        → IsClosed (scope_of env.now.items) (plain_closed second.now) → AreInRange c env.now.items
+        → IsProper c result.0 × IsProper c result.1 }
+{
+    (
+        said_of(env, first_plus, first),
+        said_of(env, second_plus, second),
+    )
+}
+
+/// The two sides of a formula that is said to hold.
+fn sides_of_plus<'a>(case: &Case, said: &Said<'a>) -> Option<(Fact<'a>, Fact<'a>)>
+    requires plus { said.now.plus ≡ true }
+    requires part { IsProperPart case.now said.now }
+    ensures is { option_map plain_pair result ≡ sides_of case.now (plain_part said.now) }
+    ensures proper { IfSome result (λ both. IsProper case.now both.0 × IsProper case.now both.1) }
+{
+    match said.formula {
+        ClosedFormula::Or(first, second) => Some(both_of(&said.env, true, first, true, second)),
+        ClosedFormula::Implies(first, second) => {
+            Some(both_of(&said.env, false, first, true, second))
+        }
+        ClosedFormula::Exists { sort, body } => {
+            with_later(said, at_place(case, said, *sort, body, said.start as u64))
+        }
+        _ => None,
+    }
+}
+
+/// The two sides of a formula that is said to be false.
+fn sides_of_minus<'a>(case: &Case, said: &Said<'a>) -> Option<(Fact<'a>, Fact<'a>)>
+    requires minus { said.now.plus ≡ false }
+    requires part { IsProperPart case.now said.now }
+    ensures is { option_map plain_pair result ≡ sides_of case.now (plain_part said.now) }
+    ensures proper { IfSome result (λ both. IsProper case.now both.0 × IsProper case.now both.1) }
+{
+    let place = said.start as u64;
+    match said.formula {
+        ClosedFormula::And(first, second) => Some(both_of(&said.env, false, first, false, second)),
+        ClosedFormula::Forall { sort, body } => {
+            with_later(said, at_place(case, said, *sort, body, place))
+        }
+        ClosedFormula::Nodes(nodes) => with_later(said, node_member(case, said, nodes, place)),
+        ClosedFormula::Edges(edges) => with_later(said, edge_member(case, said, edges, place)),
+        _ => None,
+    }
+}
+
 /// The two sides of a formula.
 fn sides_of_said<'a>(case: &Case, said: &Said<'a>) -> Option<(Fact<'a>, Fact<'a>)>
     requires { IsProperPart case.now said.now }
     ensures is { option_map plain_pair result ≡ sides_of case.now (plain_part said.now) }
     ensures proper { IfSome result (λ both. IsProper case.now both.0 × IsProper case.now both.1) }
 {
-    let place = said.start as u64;
-    match said.formula {
-        ClosedFormula::Or(first, second) => {
-            if said.plus {
-                Some((
-                    said_of(&said.env, true, first),
-                    said_of(&said.env, true, second),
-                ))
-            } else {
-                None
-            }
-        }
-        ClosedFormula::And(first, second) => {
-            if said.plus {
-                None
-            } else {
-                Some((
-                    said_of(&said.env, false, first),
-                    said_of(&said.env, false, second),
-                ))
-            }
-        }
-        ClosedFormula::Implies(first, second) => {
-            if said.plus {
-                Some((
-                    said_of(&said.env, false, first),
-                    said_of(&said.env, true, second),
-                ))
-            } else {
-                None
-            }
-        }
-        ClosedFormula::Exists { sort, body } => {
-            if said.plus {
-                with_later(said, at_place(case, said, *sort, body, place))
-            } else {
-                None
-            }
-        }
-        ClosedFormula::Forall { sort, body } => {
-            if said.plus {
-                None
-            } else {
-                with_later(said, at_place(case, said, *sort, body, place))
-            }
-        }
-        ClosedFormula::Nodes(nodes) => {
-            if said.plus {
-                None
-            } else {
-                with_later(said, node_member(case, said, nodes, place))
-            }
-        }
-        ClosedFormula::Edges(edges) => {
-            if said.plus {
-                None
-            } else {
-                with_later(said, edge_member(case, said, edges, place))
-            }
-        }
-        _ => None,
+    if said.plus {
+        sides_of_plus(case, said)
+    } else {
+        sides_of_minus(case, said)
     }
 }
 

@@ -16,7 +16,7 @@ pub returns-in_ok-push-in-Some-clause-advanced : goal.returns-in_ok-push-in-Some
 returns-in_ok-push-in-Some-clause-advanced c =
     let me = c.args.self.now in
     let P : List Fact → Type 0 = λ fs. HasPart me.case.now (map plain_fact fs) c.args.way c.args.number (plain_fact c.in-Some.part) in
-    did_derive me.case.now c.args.way c.args.number me.is_open me.facts.items c.push.new.self.items c.in-Some.part (reverse me.later.items) c.if-not-self.false
+    did_derive me.case.now c.args.way c.args.number me.is_open me.facts.items c.push.new.self.items c.in-Some.part (reverse me.later.items) c.requires
     (subst P c.deref.ensures.value c.in-Some.ensures.is) c.in_ok-push-in-Some.ensures.items me.kept.within
 
 pub returns-in-None-clause-advanced : goal.returns-in-None-clause-advanced
