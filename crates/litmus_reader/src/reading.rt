@@ -77,7 +77,7 @@ pub(crate) fn names_at(
         → (r.0 ≡ names) × (r.1 ≡ k + length names)) }
     ensures within { IfOk result (λ r. r.1 ≤ length tokens.now) }
 {
-    let mut names = Listed::new(alloc);
+    let mut names = TypeNames::new(alloc);
     let mut next = k;
     while next < tokens.len() && is_name_at(tokens, next) {
         names.push(name_at(alloc, tokens, next)?)?;

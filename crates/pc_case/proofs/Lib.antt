@@ -1,4 +1,4 @@
 pub mod Cores
 pub mod Values
-pub mod KindEnds
+pub mod Lookups
 pub mod Names

@@ -1,4 +1,5 @@
 pub mod Plain
 pub mod MicroOps
 pub mod Stated
+pub mod NameSets
 pub mod Tables

@@ -1,16 +1,14 @@
 -- What the tables of a case hold, as plain data.
 use Rattle.std.specs.Prelude.{ℕ, ◌≡◌, Bool, false, List, map, Some, None, ◌==◌, ◌&&◌}
-use Rattle.std.specs.List.{list_any}
 use Rattle.std.specs.Map.{lookup}
-use Rattle.std.specs.Prelude.{Vec}
-use Rattle.std.specs.declared.alloc.Global.{Global}
-use Rattle.indexmap.specs.IndexSet.{IndexSet}
 use Rattle.pc_common.specs.declared.value.Value.{Value}
 use Rattle.pc_common.specs.Case.{Address as PlainAddress, Value as PlainValue, Dependency}
 use Rattle.pc_common.specs.Names.{same_name}
 use Rattle.pc_common.specs.Dependencies.{depends_by}
 use Rattle.pc_case.specs.declared.address.Address.{Address}
 use Rattle.pc_case.specs.declared.dependency.Ends.{Ends}
+use Rattle.pc_case.specs.declared.name_set.NameSet.{NameSet}
+use Rattle.pc_case.specs.NameSets.{has_name}
 use Rattle.pc_case.specs.Plain.{address_at, plain_value}
 
 -- each address with its value
@@ -22,14 +20,13 @@ abbrev pub are_ends : ℕ → ℕ → Ends → Bool
 are_ends i j e = (i == e.source) && (j == e.target)
 
 -- whether the table has a dependency of this kind from i to j
-abbrev pub has_ends : {S : Type 0} → List (Vec ℕ Global × IndexSet Ends S) → List ℕ → ℕ → ℕ → Bool
-has_ends es kind i j =
-    elim (lookup (λ k. same_name kind k.items) es) [ None ↦ false | Some ends ↦ list_any (are_ends i j) ends.keys ]
+abbrev pub has_kind : List (Ends × NameSet) → List ℕ → ℕ → ℕ → Bool
+has_kind es kind i j = elim (lookup (are_ends i j) es) [ None ↦ false | Some kinds ↦ has_name kinds kind ]
 
 -- a dependency of the first kind between these ends is one of this kind from i to j
 abbrev pub goes_between : List ℕ → Ends → List ℕ → ℕ → ℕ → Bool
 goes_between name e kind i j = same_name name kind && are_ends i j e
 
 -- the table answers by the list
-abbrev pub IsTableOf : {S : Type 0} → List (Vec ℕ Global × IndexSet Ends S) → List Dependency → Type 0
-IsTableOf es ds = (kind : List ℕ) (i j : ℕ) → has_ends es kind i j ≡ depends_by ds kind i j
+abbrev pub IsTableOf : List (Ends × NameSet) → List Dependency → Type 0
+IsTableOf es ds = (kind : List ℕ) (i j : ℕ) → has_kind es kind i j ≡ depends_by ds kind i j

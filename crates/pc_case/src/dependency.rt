@@ -1,10 +1,11 @@
 ghost use Rattle.std.specs.Prelude.{◌≡◌, ◌||◌, false, List, [], IfOk, OnOk, ℕ, map, take};
 ghost use Rattle.pc_case.specs.Plain.{dependency};
 ghost use Rattle.pc_common.specs.Dependencies.{depends_by};
-ghost use Rattle.pc_case.specs.Tables.{has_ends, goes_between};
+ghost use Rattle.pc_case.specs.Tables.{has_kind, goes_between};
 
-use super::op::copy_name;
-use indexmap::{IndexMap, IndexSet};
+use super::name_set::NameSet;
+use super::type_names::copy_name;
+use indexmap::IndexMap;
 use pc_common::{Listed, Memory};
 use std::alloc::Global;
 use std::marker::Model;
@@ -50,20 +51,23 @@ pub(crate) struct Ends {
     target: usize,
 }
 
-/// The ends of the dependencies of each kind. A test may have many thousands of kinds, so that a
-/// kind is looked up and not searched for.
-type EndsByKind = IndexMap<Vec<u8>, IndexSet<Ends>>;
+/// The kinds of the dependencies between two places. A test may have many thousands of kinds, and a
+/// kind as many bytes, so that the ends are looked up first and the kind last.
+type KindsByEnds = IndexMap<Ends, NameSet>;
 
-/// Dependencies in test order, looked up by kind and then by ends.
+/// Dependencies in test order, looked up by ends and then by kind.
 pub(crate) struct DependencyTable {
     listed: Dependencies,
-    ends: EndsByKind,
+    kinds: KindsByEnds,
 }
 
 // Written out, so that a proof of what drops the value meets one call and no field.
 impl Drop for DependencyTable {
     fn drop(self) {
-        let DependencyTable { listed: _, ends: _ } = self;
+        let DependencyTable {
+            listed: _,
+            kinds: _,
+        } = self;
     }
 }
 
@@ -77,22 +81,22 @@ impl Model for DependencyTable {
 
     ghost view = { λ t. map dependency t.listed };
 
-    ghost invariant = { λ t. IsTableOf t.ends.entries (map dependency t.listed) };
+    ghost invariant = { λ t. IsTableOf t.kinds.entries (map dependency t.listed) };
 }
 
 /// Adds a dependency of this kind.
-fn add(alloc: Global, table: &mut EndsByKind, kind: &[u8], ends: Ends) -> Result<(), Memory>
-    ensures { OnOk result ((k : List ℕ) (i j : ℕ) → has_ends table.new.entries k i j
-        ≡ (has_ends table.old.entries k i j || goes_between kind.now ends k i j)) }
+fn add(alloc: Global, table: &mut KindsByEnds, kind: &[u8], ends: Ends) -> Result<(), Memory>
+    ensures { OnOk result ((k : List ℕ) (i j : ℕ) → has_kind table.new.entries k i j
+        ≡ (has_kind table.old.entries k i j || goes_between kind.now ends k i j)) }
 {
-    match table.get_mut(kind) {
-        Some(known) => {
-            known.insert(ends)?;
+    match table.get_mut(&ends) {
+        Some(kinds) => {
+            kinds.add(alloc, kind)?;
         }
         None => {
-            let mut known = IndexSet::new(alloc);
-            known.insert(ends)?;
-            table.insert(Vec::from_slice(alloc, kind)?, known)?;
+            let mut kinds = NameSet::new(alloc);
+            kinds.add(alloc, kind)?;
+            table.insert(ends, kinds)?;
         }
     }
     Ok(())
@@ -115,7 +119,7 @@ impl DependencyTable {
     {
         DependencyTable {
             listed: Listed::new(alloc),
-            ends: IndexMap::new(alloc),
+            kinds: IndexMap::new(alloc),
         }
     }
 
@@ -123,27 +127,28 @@ impl DependencyTable {
     pub(crate) fn of(alloc: Global, listed: Dependencies) -> Result<DependencyTable, Memory>
         ensures { IfOk result (λ t. t ≡ map dependency listed) }
     {
-        let mut ends = IndexMap::new(alloc);
+        let mut kinds = IndexMap::new(alloc);
         for line in listed.as_slice() {
-            let between = Ends {
+            let ends = Ends {
                 source: line.source as usize,
                 target: line.target as usize,
             };
-            add(alloc, &mut ends, line.kind.as_slice(), between)?;
+            add(alloc, &mut kinds, line.kind.as_slice(), ends)?;
         }
-        Ok(DependencyTable { listed, ends })
+        Ok(DependencyTable { listed, kinds })
     }
 
     /// Whether a dependency of this kind goes from place `i` to place `j`. Takes no memory.
     pub(crate) fn has(&self, kind: &[u8], i: usize, j: usize) -> bool
         ensures { result ≡ depends_by self.now kind.now i j }
     {
-        match self.ends.get(kind) {
+        let ends = Ends {
+            source: i,
+            target: j,
+        };
+        match self.kinds.get(&ends) {
             None => false,
-            Some(ends) => ends.contains(&Ends {
-                source: i,
-                target: j,
-            }),
+            Some(kinds) => kinds.has(kind),
         }
     }
 

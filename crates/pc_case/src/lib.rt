@@ -10,9 +10,11 @@
 //! ```
 //!
 //! It takes lists in test order (micro-ops, dependencies, stated initial and final values) and the
-//! expectation, and answers by place, by address, by kind and by name. Addresses and kinds are looked
-//! up by hash, so that no question walks the test; the readers take no memory. A physical address is a
-//! page or the page-table entry of a virtual tag, and a value is a number or such an entry.
+//! expectation, and answers by place, by address, by kind and by name. Addresses, kinds and type names
+//! are looked up by hash, so that no question walks the test; of a kind or a type name the length is
+//! looked up first, so that it is read only where the test has one as long. The readers take no memory.
+//! A physical address is a page or the page-table entry of a virtual tag, and a value is a number or
+//! such an entry.
 //!
 //! The type keeps that there are at most 64 micro-ops, no two with one (g, n), on cores 0 to 63, that
 //! fences alone have no address and no value, that a dependency goes between micro-ops of the case,
@@ -22,11 +24,14 @@
 mod address;
 mod case;
 mod dependency;
+mod name_set;
 mod op;
 mod stated;
+mod type_names;
 
 pub use address::{Address, Page};
 pub use case::{Case, Expect, Ops};
 pub use dependency::{Dependencies, Dependency};
-pub use op::{Access, Memop, Op, OpId, TypeNames};
+pub use op::{Access, Memop, Op, OpId};
 pub use stated::{Stated, StatedValues};
+pub use type_names::TypeNames;

@@ -1,7 +1,8 @@
-ghost use Rattle.std.specs.Prelude.{◌≡◌, IfOk, take};
+ghost use Rattle.std.specs.Prelude.{◌≡◌, IfOk};
 
 use super::address::{Address, Page};
-use pc_common::{Listed, Memory, Value};
+use super::type_names::TypeNames;
+use pc_common::{Memory, Value};
 use std::alloc::Global;
 
 /// A micro-op's name: the number of its instruction and its number inside it.
@@ -25,9 +26,6 @@ pub enum Access {
     Write,
     Fence,
 }
-
-/// Type names, each a list of bytes.
-pub type TypeNames = Listed<Listed<u8>>;
 
 /// A micro-op. `memop` is None exactly for a fence.
 pub struct Op {
@@ -54,24 +52,6 @@ impl Drop for Op {
     }
 }
 
-/// A name once more.
-pub(crate) fn copy_name(alloc: Global, name: &Listed<u8>) -> Result<Listed<u8>, Memory>
-    ensures { IfOk result (λ c. c ≡ name.now) }
-{
-    let bytes = Vec::from_slice(alloc, name.as_slice())?;
-    Ok(Listed::from_vec(bytes))
-}
-
-fn copy_types(alloc: Global, types: &TypeNames) -> Result<TypeNames, Memory>
-    ensures { IfOk result (λ c. c ≡ types.now) }
-{
-    let mut copies = Listed::new(alloc);
-    for name in types.as_slice() {
-        copies.push(copy_name(alloc, name)?)?;
-    }
-    Ok(copies)
-}
-
 impl Op {
     /// The same micro-op once more. The one error is that memory was refused.
     pub fn copy(&self, alloc: Global) -> Result<Op, Memory>
@@ -81,7 +61,7 @@ impl Op {
             id: self.id,
             core: self.core,
             thread: self.thread,
-            types: copy_types(alloc, &self.types)?,
+            types: self.types.copy(alloc)?,
             access: self.access,
             memop: self.memop,
         })

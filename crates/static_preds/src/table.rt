@@ -1,6 +1,4 @@
 ghost use Rattle.std.specs.Prelude.{◌≡◌, length};
-ghost use Rattle.std.specs.List.{list_any};
-ghost use Rattle.pc_common.specs.Names.{same_name};
 ghost use Rattle.pc_case.specs.Plain.{micro_op};
 ghost use Rattle.pc_syntax.specs.IsClosed.{FitArgs};
 ghost use Rattle.pc_syntax.specs.Predicates.{takes_of, predicate_holds, is_before as is_before_of};
@@ -8,7 +6,7 @@ ghost use Rattle.static_preds.specs.Values.{values_of, scope_of, AreOpsBelow};
 
 use super::entry::{is_accessed, is_dirty, is_entry_of, maps_to, same_tag};
 use super::given::Given;
-use pc_case::{Access, Case, Op, TypeNames};
+use pc_case::{Access, Case, Op};
 use pc_syntax::{ClosedArgs, Env, Pred};
 
 /// Whether the predicate is true of its arguments, whose slots stand for what `env` says. Takes no
@@ -34,7 +32,7 @@ pub fn holds(case: &Case, pred: Pred, args: &ClosedArgs, env: &Env) -> bool
         Pred::IsAnyRead => given.op(0).access == Access::Read,
         Pred::IsAnyWrite => given.op(0).access == Access::Write,
         Pred::IsAnyFence => given.op(0).access == Access::Fence,
-        Pred::AccessType => is_among(given.plain(0), &given.op(1).types),
+        Pred::AccessType => given.op(1).types.has(given.plain(0)),
         Pred::OnCore => given.op(1).core == given.core(0),
         Pred::SameCore => given.op(0).core == given.op(1).core,
         Pred::SameThread => given.op(0).thread == given.op(1).thread,
@@ -76,14 +74,4 @@ fn is_before(first: &Op, second: &Op) -> bool
     ensures { result ≡ is_before_of (micro_op first.now) (micro_op second.now) }
 {
     first.core == second.core && first.thread == second.thread && first.id.g < second.id.g
-}
-
-/// Whether one of these is the name.
-fn is_among(name: &[u8], types: &TypeNames) -> bool
-    ensures { result ≡ list_any (λ known. same_name known name.now) types.now }
-{
-    types
-        .as_slice()
-        .iter()
-        .any(|known| known.as_slice() == name)
 }

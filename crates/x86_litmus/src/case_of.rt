@@ -32,7 +32,7 @@ fn asked_value(asked: &[Asked<'_>], thread: u64, register: &[u8]) -> u64
 fn type_names(alloc: Global, action: Action<'_>) -> Result<TypeNames, Memory>
     ensures { IfOk result (λ names. names ≡ types_of (plain_action action.entry)) }
 {
-    let mut names = Listed::new(alloc);
+    let mut names = TypeNames::new(alloc);
     if let Action::Fence = action {
         names.push(Listed::from_vec(b"MFENCE".to_vec(alloc)?))?;
     }

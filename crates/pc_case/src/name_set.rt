@@ -1,0 +1,62 @@
+ghost use Rattle.std.specs.Prelude.{◌≡◌, ◌||◌, ◌&&◌, false, List, ℕ, is_ok};
+ghost use Rattle.pc_common.specs.Names.{same_name};
+ghost use Rattle.pc_case.specs.NameSets.{has_name};
+
+use indexmap::{IndexMap, IndexSet};
+use pc_common::Memory;
+use std::alloc::Global;
+
+/// Names, looked up by their length and only then by their bytes. A name may have many thousands of
+/// bytes, so that it costs its length where it is put in, and where a name of its length is asked for.
+pub(crate) struct NameSet {
+    by_length: IndexMap<usize, IndexSet<Vec<u8>>>,
+}
+
+// Written out, so that a proof of what drops the value meets one call and no field.
+impl Drop for NameSet {
+    fn drop(self) {
+        let NameSet { by_length: _ } = self;
+    }
+}
+
+impl NameSet {
+    /// No names. Takes no memory.
+    pub(crate) fn new(alloc: Global) -> NameSet
+        ensures { (name : List ℕ) → has_name result name ≡ false }
+    {
+        NameSet {
+            by_length: IndexMap::new(alloc),
+        }
+    }
+
+    /// Adds a name, or changes nothing where memory is refused.
+    pub(crate) fn add(&mut self, alloc: Global, name: &[u8]) -> Result<(), Memory>
+        ensures { (other : List ℕ) → has_name self.new other
+            ≡ (has_name self.old other || (is_ok result && same_name name.now other)) }
+    {
+        let length = name.len();
+        let name = Vec::from_slice(alloc, name)?;
+        match self.by_length.get_mut(&length) {
+            Some(known) => {
+                known.insert(name)?;
+            }
+            None => {
+                let mut known = IndexSet::new(alloc);
+                known.insert(name)?;
+                self.by_length.insert(length, known)?;
+            }
+        }
+        Ok(())
+    }
+
+    /// Whether this is one of the names: one look-up of a number, and one of the name where names of
+    /// its length are there. Takes no memory.
+    pub(crate) fn has(&self, name: &[u8]) -> bool
+        ensures { result ≡ has_name self.now name.now }
+    {
+        match self.by_length.get(&name.len()) {
+            None => false,
+            Some(known) => known.contains(name),
+        }
+    }
+}
