@@ -3,6 +3,8 @@ pub mod ItemWalk
 pub mod MeasureLaws
 pub mod Expansions
 pub mod Names
+pub mod RenamedExpansions
+pub mod RenamedFaults
 pub mod SeenNames
 pub mod Tables
 pub mod Walks

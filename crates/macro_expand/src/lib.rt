@@ -4,8 +4,9 @@
 //! `stage_faults` judges the stages. `expand` judges the macros and the expansions in the text's order, measures each
 //! macro's body once, judges the sizes, and only then expands: in place of each `ExpandMacro` stands a binding of the
 //! macro's parameters over a copy of its body, which shares the names and lists of the text. The laws say that
-//! expansion keeps truth. `specs/` of `pc_syntax` has the faults (`StageFaults`, `MacroFaults`, `Sizes`) and
-//! `expansion_of`.
+//! expansion keeps truth, and that names matter only by which are equal: a renamed model has the renamed expansions,
+//! and the same faults of stages, macros and sizes. `specs/` of `pc_syntax` has the faults (`StageFaults`,
+//! `MacroFaults`, `Sizes`), `expansion_of` and `Renaming`.
 //!
 //! ```rust
 //! use uspec_lexer::tokens;
@@ -33,6 +34,9 @@ mod stages;
 mod top;
 
 pub use fault::MacroFault;
-pub use laws::{expansion_keeps_truth, expansions_satisfy};
+pub use laws::{
+    expansion_keeps_truth, expansions_are_renamed, expansions_satisfy, renaming_keeps_items,
+    renaming_keeps_macro_faults, renaming_keeps_size_faults, renaming_keeps_stage_faults,
+};
 pub use stages::stage_faults;
 pub use top::expand;

@@ -5,4 +5,5 @@ pub mod ClosingTruth
 pub mod ClosingShape
 pub mod ClosingStages
 pub mod ExpandedLaws
+pub mod RenamedItems
 mod Examples

@@ -17,3 +17,4 @@ pub mod Fits
 pub mod NameFaults
 pub mod Closing
 pub mod ModelFault
+pub mod Renaming

@@ -5,3 +5,6 @@ pub mod StageWalk
 pub mod StaticLaws
 pub mod ClosingOf
 pub mod FiledFaults
+pub mod RenamedScopes
+pub mod RenamedClosings
+pub mod RenamedFaults

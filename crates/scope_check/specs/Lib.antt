@@ -2,3 +2,4 @@ pub mod Bindings
 pub mod FirstFault
 pub mod Laws
 pub mod QueryFaults
+pub mod Renaming
