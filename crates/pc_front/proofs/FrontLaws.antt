@@ -1,5 +1,5 @@
 -- What a whole model's stages, expansions and closings say of the model.
-use Rattle.std.proofs.Common.{◌≡◌, ℕ, ◌<◌, zero, suc, ◌&&◌, List, [], ◌∷◌, ◌++◌, Option, Some, None, map, length, get_or, nat_lt, ltb-false, refl, sym, ◌∙◌, ap, arith}
+use Rattle.std.proofs.Common.{◌≡◌, ℕ, ◌<◌, zero, suc, ◌&&◌, List, [], ◌∷◌, ◌++◌, Option, Some, None, map, length, get_or, nat_lt, ltb-false, refl, sym, ◌∙◌, ap, subst, arith}
 use Rattle.std.specs.Option.{option_or}
 use Rattle.std.specs.Prelude.{MatchOption}
 use Rattle.pc_common.specs.Case.{Case}
@@ -34,7 +34,8 @@ use Rattle.macro_expand.specs.Faults.{AreExpansions}
 use Rattle.scope_check.specs.FirstFault.{IsNoneOr}
 use Rattle.pc_front.specs.ModelFront.{ModelOf, lexical, syntax, depth, of_tree, closed_axiom, IsModelEnd}
 use Rattle.pc_front.specs.Ends.{end_of, lexical_end, parse_end}
-use Rattle.pc_front.specs.ModelSteps.{axiom_fault, closing_of_axiom}
+use Rattle.pc_front.specs.ModelSteps.{axiom_fault, closing_of_axiom, IsFirstEnd}
+use Rattle.pc_front.specs.declared.model_front.FrontEnd.{FrontEnd}
 
 -- a stage that is not refused has a number of one byte
 numbers_below : (earlier stages : List StageItem) (k : ℕ) (s : StageItem) → stages_fault earlier stages ≡ None → k < length stages
@@ -144,6 +145,9 @@ pub front_end : (bytes : List ℕ) (m : WrittenModel) → ModelOf bytes m → (o
     → IsNoneOr (first_model_fault m) o → IsModelEnd bytes (end_of o)
 front_end bytes m of None is = tt
 front_end bytes m of (Some f) is = (refl, of_tree of is)
+
+pub first_end : (bytes : List ℕ) (m : WrittenModel) → ModelOf bytes m → (e : FrontEnd) → IsFirstEnd m e → IsModelEnd bytes e
+first_end bytes m of e (o, is, end) = subst (IsModelEnd bytes) (sym end) (front_end bytes m of o is)
 
 -- a fault of the bytes, as an end
 pub lexical_is_end : (bytes : List ℕ) (fault : LexFault) → IsRefusal bytes fault → IsModelEnd bytes (lexical_end fault)

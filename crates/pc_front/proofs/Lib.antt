@@ -3,3 +3,4 @@ pub mod OneModel
 pub mod ModelOrFault
 pub mod StageTables
 pub mod PartsOf
+pub mod ShortNames

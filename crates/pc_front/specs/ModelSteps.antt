@@ -2,11 +2,15 @@
 use Rattle.std.specs.Prelude.{◌≡◌, List, [], Option, None, map}
 use Rattle.pc_syntax.specs.declared.expanded.Expanded.{Expanded}
 use Rattle.pc_syntax.specs.declared.model.StageItem.{StageItem}
-use Rattle.pc_syntax.specs.Written.{written}
+use Rattle.pc_syntax.specs.Written.{written, WrittenModel}
 use Rattle.pc_syntax.specs.Fault.{Fault, first_fault}
 use Rattle.pc_syntax.specs.NameFaults.{name_fault}
+use Rattle.pc_syntax.specs.ModelFault.{first_model_fault}
 use Rattle.pc_syntax.specs.Closed.{PlainClosed}
 use Rattle.pc_syntax.specs.Closing.{closing_of}
+use Rattle.scope_check.specs.FirstFault.{IsNoneOr}
+use Rattle.pc_front.specs.declared.model_front.FrontEnd.{FrontEnd}
+use Rattle.pc_front.specs.Ends.{end_of}
 
 -- of an expanded axiom, where these are the stages
 abbrev pub axiom_fault : List StageItem → Expanded → Option Fault
@@ -19,3 +23,7 @@ closing_of_axiom stages e = closing_of stages [] (written e.body)
 pub record AreClosings (stages : List StageItem) (axioms : List Expanded) (closed : List PlainClosed) : Type 0 where
   pub no_fault : first_fault (axiom_fault stages) axioms ≡ None
   pub closings : closed ≡ map (closing_of_axiom stages) axioms
+
+-- the end is that of the model's first fault, or memory was refused
+abbrev pub IsFirstEnd : WrittenModel → FrontEnd → Type 0
+IsFirstEnd m end = (o : Option Fault) × IsNoneOr (first_model_fault m) o × (end ≡ end_of o)

@@ -9,12 +9,13 @@ ghost use Rattle.uspec_lexer.specs.Spells.{Spells};
 ghost use Rattle.scope_check.specs.FirstFault.{Answers};
 ghost use Rattle.pc_ground.specs.Stages.{plain_stage, plain_axioms};
 ghost use Rattle.pc_front.specs.ModelFront.{ModelOf, IsModelFront, IsModelFrontOf, IsModelEnd, written_stage, closed_axiom};
-ghost use Rattle.pc_front.specs.ModelSteps.{axiom_fault, AreClosings};
+ghost use Rattle.pc_front.specs.ModelSteps.{axiom_fault, AreClosings, IsFirstEnd};
 ghost use Rattle.pc_front.specs.Ends.{end_of};
 
 use super::faults::{in_model, no_tree};
 use super::model_front::{FrontEnd, ModelFront};
 use macro_expand::{expand, stage_faults};
+use name_numbers::with_short_names;
 use pc_common::{Listed, Memory};
 use pc_ground::{Axioms, Stage, Stages};
 use pc_syntax::{Expanded, ModelFile, StageItems};
@@ -32,7 +33,8 @@ use uspec_parser::parse_model;
 /// Each name of the text is kept once, and so is each list of arguments as written. Closed arguments are
 /// kept for each use: at most 3 for a predicate, and at most 32 for a binding, one for each variable.
 /// Takes time in proportion to the same. Beside this, each name of a variable is compared with those in
-/// scope, at most 32, and each name of a stage with those of the stages, at most 64.
+/// scope, at most 32, and each name of a stage with those of the stages, at most 64; it is a short one then,
+/// whatever its length in the text.
 pub fn read_model(alloc: Global, bytes: &[u8]) -> Result<ModelFront, FrontEnd>
     requires { length bytes.now < 2 ^ 32 }
     ensures ok { IfOk result (IsModelFront bytes.now) }
@@ -55,14 +57,31 @@ pub fn judged(alloc: Global, model: &ModelFile) -> Result<ModelFront, FrontEnd>
 }
 
 /// The axioms of a model that has no stage fault, expanded and closed.
+///
+/// Where a name is long, each becomes a short one first, so that a macro's body, which is copied for each of its
+/// expansions, costs no name's length again. Neither the first fault nor a closed axiom changes by that.
 fn closed_axioms(alloc: Global, model: &ModelFile) -> Result<Axioms, FrontEnd>
     requires { first_stage_fault (written_model model.now) ≡ None }
     ensures no_fault { IfOk result (λ _. first_model_fault (written_model model.now) ≡ None) }
     ensures no_name_fault { IfOk result (λ _. first_name_fault (written_model model.now) ≡ None) }
     ensures axioms { IfOk result (λ closed. plain_axioms closed
         ≡ map (closed_axiom (written_model model.now)) (axioms_of (written_model model.now))) }
-    ensures err { IfErr result (λ end. (bytes : List ℕ) → ModelOf bytes (written_model model.now)
-        → IsModelEnd bytes end) }
+    ensures err { IfErr result (IsFirstEnd (written_model model.now)) }
+{
+    match with_short_names(alloc, model)? {
+        Some(short) => closings(alloc, &short),
+        None => closings(alloc, model),
+    }
+}
+
+/// The axioms of a model that has no stage fault, expanded and closed with the names that it has.
+fn closings(alloc: Global, model: &ModelFile) -> Result<Axioms, FrontEnd>
+    requires { first_stage_fault (written_model model.now) ≡ None }
+    ensures no_fault { IfOk result (λ _. first_model_fault (written_model model.now) ≡ None) }
+    ensures no_name_fault { IfOk result (λ _. first_name_fault (written_model model.now) ≡ None) }
+    ensures axioms { IfOk result (λ closed. plain_axioms closed
+        ≡ map (closed_axiom (written_model model.now)) (axioms_of (written_model model.now))) }
+    ensures err { IfErr result (IsFirstEnd (written_model model.now)) }
 {
     let expanded = expand(alloc, model)?;
     let axioms = close_axioms(alloc, model, &expanded)?;

@@ -12,4 +12,6 @@ mod models;
 #[cfg(test)]
 mod names;
 #[cfg(test)]
+mod short_names;
+#[cfg(test)]
 mod texts;

@@ -28,15 +28,14 @@ use Rattle.scope_check.specs.QueryFaults.{FiledFault, query_fault, IsFiledOr, Is
 use Rattle.scope_check.proofs.FiledFaults.{query_faults, query_expansion, none_filed}
 use Rattle.pc_front.specs.declared.model_front.FrontEnd.{FrontEnd}
 use Rattle.pc_front.specs.declared.model_front.FrontEnd.TheVariants.{Refused, Memory}
-use Rattle.pc_front.specs.Ends.{end_of}
 use Rattle.pc_front.specs.ModelFront.{closed_axiom, IsModelEnd}
 use Rattle.pc_front.specs.Front.{SaysModel, IsEnd as IsEndOfTwo}
 use Rattle.pc_front.proofs.PartsOf.{model_end}
-use Rattle.query_front.specs.Queries.{FormulaOf, first_byte, with_denial, first_query_fault, IsQueryEnd}
-use Rattle.query_front.specs.Denials.{moved_end, IsLastExpansion}
+use Rattle.query_front.specs.Queries.{first_byte, with_denial, first_query_fault, IsQueryEnd}
+use Rattle.query_front.specs.Denials.{IsLastExpansion}
 use Rattle.query_front.specs.Inquiries.{in_two, in_query, IsEnd}
 use Rattle.query_front.proofs.WithAxiom.{macros_same}
-use Rattle.query_front.proofs.QueryEnds.{macro_ends, name_ends, no_fault_asked}
+use Rattle.query_front.proofs.QueryEnds.{macro_first, name_first, no_fault_asked}
 
 map_end : {A B : Type 0} (g : A → B) (xs : List A) (x : A) → map g (xs ++ x ∷ []) ≡ map g xs ++ g x ∷ []
 map_end g [] x = refl
@@ -58,12 +57,12 @@ module _ (n m : WrittenModel) (f : Written) (is : n ≡ with_denial m f) where
   same_macros = ap macros_of is ∙ macros_same m (not_ f)
 
   -- a fault of macros or of sizes is the query's
-  pub denial_macro_ends : (bytes : List ℕ) → FormulaOf bytes f → (o : Option Fault)
+  pub denial_macro_first : (o : Option Fault)
       → MatchOption o (Unit {0}) (λ told. option_or (first_macro_fault n) (first_size_fault n) ≡ Some told)
-      → IsQueryEnd m bytes (moved_end Query (end_of o))
-  denial_macro_ends bytes of o fault =
+      → IsFiledOr (first_query_fault m f) Query o
+  denial_macro_first o fault =
       let P : WrittenModel → Type 0 = λ k. MatchOption o (Unit {0}) (λ told. option_or (first_macro_fault k) (first_size_fault k) ≡ Some told) in
-      macro_ends m f bytes of o (subst P is fault)
+      macro_first m f o (subst P is fault)
 
   module _ (e : Expanded) (last : IsLastExpansion n e) where
     spelled : written e.body ≡ not_ (expansion_of (macros_of m) f)
@@ -82,11 +81,11 @@ module _ (n m : WrittenModel) (f : Written) (is : n ≡ with_denial m f) where
         ∙ sym (query_expansion m.stages (macros_of m) [] (not_ f))
 
     -- a fault of names is the query's
-    pub denial_name_ends : (bytes : List ℕ) → FormulaOf bytes f → (file : Which) (o : Option Fault)
-        → IsFiledOr (query_fault n.stages [] [] (written e.body)) file o → IsQueryEnd m bytes (moved_end file (end_of o))
-    denial_name_ends bytes of file o fault =
+    pub denial_name_first : (file : Which) (o : Option Fault)
+        → IsFiledOr (query_fault n.stages [] [] (written e.body)) file o → IsFiledOr (first_query_fault m f) file o
+    denial_name_first file o fault =
         let P : Option FiledFault → Type 0 = λ first. IsFiledOr first file o in
-        name_ends m f bytes of expandable file o (subst P same_fault fault)
+        name_first m f expandable file o (subst P same_fault fault)
 
     -- without a fault the formula is closed
     pub denied_closed : (p : PlainClosed) → IsClosingOf n.stages [] (asked (written e.body)) p

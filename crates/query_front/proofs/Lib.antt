@@ -4,3 +4,4 @@ pub mod QueryEnds
 pub mod OneQuery
 pub mod QueryOrFault
 pub mod InquiryParts
+pub mod ShortNames

@@ -1,5 +1,5 @@
 -- The first fault of a query, as an end.
-use Rattle.std.proofs.Common.{◌≡◌, ℕ, List, [], ◌++◌, ◌∷◌, Option, Some, None, length, map, refl, sym, ◌∙◌, ap, arith}
+use Rattle.std.proofs.Common.{◌≡◌, ℕ, List, [], ◌++◌, ◌∷◌, Option, Some, None, length, map, refl, sym, ◌∙◌, ap, subst, arith}
 use Rattle.std.specs.Option.{option_or}
 use Rattle.std.specs.Prelude.{MatchOption}
 use Rattle.pc_common.specs.declared.fault.Which.{Which}
@@ -22,9 +22,10 @@ use Rattle.uspec_parser.specs.declared.fault.ParseFault.{ParseFault}
 use Rattle.uspec_parser.specs.declared.fault.ParseFault.TheVariants.{Syntax as a_syntax_fault, Depth as a_depth_fault, Memory as no_memory_to_parse}
 use Rattle.macro_expand.specs.Faults.{IsExpandable, AreExpansions}
 use Rattle.scope_check.specs.QueryFaults.{filed, query_fault, IsFiledOr}
+use Rattle.pc_front.specs.declared.model_front.FrontEnd.{FrontEnd}
 use Rattle.pc_front.specs.Ends.{end_of, lexical_end}
 use Rattle.query_front.specs.Queries.{FormulaOf, with_axiom, with_denial, first_query_fault, lexical, syntax, depth, of_tree, IsQueryEnd}
-use Rattle.query_front.specs.Denials.{moved_end, parse_end}
+use Rattle.query_front.specs.Denials.{moved_end, parse_end, IsFirstQueryEnd}
 use Rattle.query_front.proofs.WithAxiom.{axioms_more}
 
 -- a fault of the bytes
@@ -47,27 +48,36 @@ or_none : {A : Type 0} (a b : Option A) → a ≡ None → option_or a b ≡ b
 or_none None b h = refl
 or_none (Some x) b h = cc
 
-module _ (m : WrittenModel) (f : Written) (bytes : List ℕ) (of : FormulaOf bytes f) where
+-- the first fault of a formula beside a model, as an end
+pub query_end : (m : WrittenModel) (f : Written) (bytes : List ℕ) → FormulaOf bytes f → (file : Which) (o : Option Fault)
+    → IsFiledOr (first_query_fault m f) file o → IsQueryEnd m bytes (moved_end file (end_of o))
+query_end m f bytes of file None is = tt
+query_end m f bytes of file (Some (kind, at)) is = of_tree of is
+
+pub first_end : (m : WrittenModel) (f : Written) (bytes : List ℕ) → FormulaOf bytes f → (e : FrontEnd) → IsFirstQueryEnd m f e → IsQueryEnd m bytes e
+first_end m f bytes of e (file, o, is, end) = subst (IsQueryEnd m bytes) (sym end) (query_end m f bytes of file o is)
+
+module _ (m : WrittenModel) (f : Written) where
   sizes : Option Fault
   sizes = option_or (first_macro_fault (with_denial m f)) (first_size_fault (with_denial m f))
 
-  -- a fault of macros or of sizes
-  pub macro_ends : (o : Option Fault)
+  -- a fault of macros or of sizes is the first
+  pub macro_first : (o : Option Fault)
       → MatchOption o (Unit {0}) (λ told. option_or (first_macro_fault (with_denial m f)) (first_size_fault (with_denial m f)) ≡ Some told)
-      → IsQueryEnd m bytes (moved_end Query (end_of o))
+      → IsFiledOr (first_query_fault m f) Query o
   unfolding sizes
-  macro_ends None is = tt
-  macro_ends (Some (kind, at)) is =
-      of_tree of (or_some (filed Query sizes) (query_fault m.stages (macros_of m) [] (not_ f)) (Query, (kind, at)) (ap (filed Query) is))
+  macro_first None is = refl
+  macro_first (Some fault) is =
+      or_some (filed Query sizes) (query_fault m.stages (macros_of m) [] (not_ f)) (Query, fault) (ap (filed Query) is)
 
-  -- a fault of names, where there is none of macros and of sizes
-  pub name_ends : IsExpandable (with_denial m f) → (file : Which) (o : Option Fault)
-      → IsFiledOr (query_fault m.stages (macros_of m) [] (not_ f)) file o → IsQueryEnd m bytes (moved_end file (end_of o))
+  -- a fault of names is, where there is none of macros and of sizes
+  pub name_first : IsExpandable (with_denial m f) → (file : Which) (o : Option Fault)
+      → IsFiledOr (query_fault m.stages (macros_of m) [] (not_ f)) file o → IsFiledOr (first_query_fault m f) file o
   unfolding sizes
-  name_ends expandable file None is = tt
-  name_ends expandable file (Some (kind, at)) is =
+  name_first expandable file None is = is
+  name_first expandable file (Some fault) is =
       let none : sizes ≡ None = or_none (first_macro_fault (with_denial m f)) (first_size_fault (with_denial m f)) expandable.0 ∙ expandable.1 in
-      of_tree of (or_none (filed Query sizes) (query_fault m.stages (macros_of m) [] (not_ f)) (ap (filed Query) none) ∙ is)
+      or_none (filed Query sizes) (query_fault m.stages (macros_of m) [] (not_ f)) (ap (filed Query) none) ∙ is
 
 -- no fault of macros, sizes and names is none
 pub no_fault_asked : (m : WrittenModel) (f : Written) → IsExpandable (with_denial m f) → query_fault m.stages (macros_of m) [] (not_ f) ≡ None

@@ -1,5 +1,5 @@
 -- The steps of reading a query: its denial as a model's last axiom, and the ends of its faults.
-use Rattle.std.specs.Prelude.{◌≡◌, ℕ, List}
+use Rattle.std.specs.Prelude.{◌≡◌, ℕ, List, Option}
 use Rattle.pc_common.specs.declared.fault.FaultKind.TheVariants.{Syntax, Depth}
 use Rattle.pc_common.specs.declared.fault.Which.{Which}
 use Rattle.pc_common.specs.declared.fault.Which.TheVariants.{Query}
@@ -12,11 +12,14 @@ use Rattle.uspec_lexer.specs.Token.{Token, token_place}
 use Rattle.uspec_parser.specs.declared.level.TheConstants.{MAX_OPENERS}
 use Rattle.uspec_parser.specs.declared.fault.ParseFault.{ParseFault}
 use Rattle.uspec_parser.specs.declared.fault.ParseFault.TheVariants.{Syntax as a_syntax_fault, Depth as a_depth_fault, Memory as no_memory}
+use Rattle.pc_syntax.specs.Fault.{Fault}
 use Rattle.macro_expand.specs.Faults.{IsExpandable}
+use Rattle.scope_check.specs.QueryFaults.{IsFiledOr}
+use Rattle.pc_front.specs.Ends.{end_of}
 use Rattle.pc_front.specs.Front.{fault_at}
 use Rattle.pc_front.specs.declared.model_front.FrontEnd.{FrontEnd}
 use Rattle.pc_front.specs.declared.model_front.FrontEnd.TheVariants.{Refused, Memory}
-use Rattle.query_front.specs.Queries.{with_axiom, with_denial}
+use Rattle.query_front.specs.Queries.{with_axiom, with_denial, first_query_fault}
 
 -- an end with its fault told of this file
 abbrev pub moved_end : Which → FrontEnd → FrontEnd
@@ -44,3 +47,8 @@ EndsWithDenial n = (m : WrittenModel) × (f : Written) × (n ≡ with_denial m f
 pub record IsLastExpansion (n : WrittenModel) (e : Expanded) : Type 0 where
   pub expandable : IsExpandable n
   pub last : (m : WrittenModel) (w : Written) → n ≡ with_axiom m w → written e.body ≡ expansion_of (macros_of n) w
+
+-- the end is that of the first fault of the formula beside the model, or memory was refused
+abbrev pub IsFirstQueryEnd : WrittenModel → Written → FrontEnd → Type 0
+IsFirstQueryEnd m f end =
+    (file : Which) × (o : Option Fault) × IsFiledOr (first_query_fault m f) file o × (end ≡ moved_end file (end_of o))

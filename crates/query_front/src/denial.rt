@@ -5,10 +5,11 @@ ghost use Rattle.pc_syntax.specs.Closed.{plain_closed};
 ghost use Rattle.macro_expand.specs.Faults.{IsFirstMacroFault};
 ghost use Rattle.pc_front.specs.ModelFront.{closed_axiom};
 ghost use Rattle.query_front.specs.Queries.{FormulaOf, with_denial as with_denial_of, first_query_fault, IsQueryEnd};
-ghost use Rattle.query_front.specs.Denials.{EndsWithAxiom, EndsWithDenial, IsLastExpansion};
+ghost use Rattle.query_front.specs.Denials.{EndsWithAxiom, EndsWithDenial, IsLastExpansion, IsFirstQueryEnd};
 
 use super::ends::moved;
 use macro_expand::{MacroFault, expand};
+use name_numbers::with_short_names;
 use pc_common::{Memory, Place, Which};
 use pc_front::FrontEnd;
 use pc_syntax::{Closed, Expanded, Formula, Item, ModelFile};
@@ -39,16 +40,16 @@ fn last_expansion(alloc: Global, model: &ModelFile) -> Result<Expanded, MacroFau
     }
 }
 
-/// The formula whose denial is the model's last axiom, closed.
+/// The formula whose denial is the model's last axiom, closed with the names that the model has.
 ///
 /// An `Err` is the first fault of the denial: of its macros, of the sizes, or of its names.
-fn close_denied(alloc: Global, model: &ModelFile) -> Result<Closed, FrontEnd>
+fn close_as_named(alloc: Global, model: &ModelFile) -> Result<Closed, FrontEnd>
     requires denial { EndsWithDenial (written_model model.now) }
     requires stages { first_stage_fault (written_model model.now) ≡ None }
     ensures ok { IfOk result (λ closed. (m : WrittenModel) (f : Written) → written_model model.now ≡ with_denial_of m f
         → (first_query_fault m f ≡ None) × (plain_closed closed.body ≡ closed_axiom m f)) }
     ensures err { IfErr result (λ end. (m : WrittenModel) (f : Written) → written_model model.now ≡ with_denial_of m f
-        → (bytes : List ℕ) → FormulaOf bytes f → IsQueryEnd m bytes end) }
+        → IsFirstQueryEnd m f end) }
 {
     let denied = match last_expansion(alloc, model) {
         Ok(denied) => denied,
@@ -57,6 +58,22 @@ fn close_denied(alloc: Global, model: &ModelFile) -> Result<Closed, FrontEnd>
     match close_query(alloc, model, &denied) {
         Ok(closed) => Ok(closed),
         Err((file, fault)) => Err(moved(file, FrontEnd::from(fault))),
+    }
+}
+
+/// The same, where each name of the model became a short one first if one of them is long. Neither the first fault nor
+/// the closed formula changes by that.
+fn close_denied(alloc: Global, model: &ModelFile) -> Result<Closed, FrontEnd>
+    requires denial { EndsWithDenial (written_model model.now) }
+    requires stages { first_stage_fault (written_model model.now) ≡ None }
+    ensures ok { IfOk result (λ closed. (m : WrittenModel) (f : Written) → written_model model.now ≡ with_denial_of m f
+        → (first_query_fault m f ≡ None) × (plain_closed closed.body ≡ closed_axiom m f)) }
+    ensures err { IfErr result (λ end. (m : WrittenModel) (f : Written) → written_model model.now ≡ with_denial_of m f
+        → IsFirstQueryEnd m f end) }
+{
+    match with_short_names(alloc, model)? {
+        Some(short) => close_as_named(alloc, &short),
+        None => close_as_named(alloc, model),
     }
 }
 

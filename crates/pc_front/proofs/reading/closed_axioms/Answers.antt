@@ -1,43 +1,52 @@
-use Rattle.std.proofs.Common.{sym, ◌∙◌}
-use Rattle.std.proofs.lemmas.Result.{err_from_is_err_and}
+use Rattle.std.proofs.Common.{◌≡◌, None, refl, sym, ◌∙◌, map, subst}
+use Rattle.std.proofs.lemmas.Result.{IfOk-weaker, IfErr-weaker, err_from_is_err_and}
 use Rattle.pc_syntax.specs.Written.{written_model}
-use Rattle.macro_expand.specs.Faults.{macro_fault_of}
-use Rattle.scope_check.specs.FirstFault.{name_fault_of}
-use Rattle.pc_front.proofs.FrontLaws.{expansion_first, names_first, only_names, names_of_expansions, closings_of_axioms, front_end}
+use Rattle.pc_syntax.specs.Observable.{axioms_of}
+use Rattle.pc_syntax.specs.ModelFault.{first_model_fault}
+use Rattle.pc_syntax.specs.NameFaults.{first_name_fault}
+use Rattle.pc_ground.specs.Stages.{plain_axioms}
+use Rattle.scope_check.specs.FirstFault.{IsNoneOr}
+use Rattle.pc_front.specs.ModelFront.{closed_axiom}
+use Rattle.pc_front.specs.ModelSteps.{IsFirstEnd}
+use Rattle.pc_front.proofs.ShortNames.{stage_fault_same, name_fault_same, fault_same, axioms_same}
 use Rattle.pc_front.proofs.reading.closed_axioms.Goals as goal
 
-pub returns-in_err-expanded-clause-err : goal.returns-in_err-expanded-clause-err
-returns-in_err-expanded-clause-err c =
-    let m = written_model c.args.model.now in
+pub returns-in_err-short-clause-err : goal.returns-in_err-short-clause-err
+returns-in_err-short-clause-err c =
     let end = err_from_is_err_and c.from_residual.result c.from_residual.ensures.1 in
-    let fault = macro_fault_of c.in_err-expanded.field-0.0 in
-    rw (end.1, end.2) (λ bytes of. front_end bytes m of fault (expansion_first m c.requires fault c.in_err-expanded.ensures.err))
+    rw (end.1, end.2) (None, tt, refl)
 
-pub returns-in_err-axioms-clause-err : goal.returns-in_err-axioms-clause-err
-returns-in_err-axioms-clause-err c =
-    let m = written_model c.args.model.now in
-    let end = err_from_is_err_and c.from_residual-in_err-axioms.result c.from_residual-in_err-axioms.ensures.1 in
-    let expanded = c.in_ok-expanded.ensures.ok in
-    let fault = name_fault_of c.in_err-axioms.field-0.0 in
-    rw (end.1, end.2)
-    (λ bytes of. front_end bytes m of fault
-    (names_first m c.requires expanded.0.0 expanded.0.1 c.in_ok-expanded.expanded.items expanded.1 fault (rw c.deref.ensures.value at c.in_err-axioms.ensures.err)))
+pub closings-requires : goal.closings-requires
+closings-requires c =
+    stage_fault_same (written_model c.args.model.now) (written_model c.in-Some.short) (rw c.in-Some.is at c.in_ok-short.ensures) ∙ c.requires
 
-pub returns-clause-no_fault : goal.returns-clause-no_fault
-returns-clause-no_fault c =
+pub returns-in-Some-clause-no_fault : goal.returns-in-Some-clause-no_fault
+returns-in-Some-clause-no_fault c =
     let m = written_model c.args.model.now in
-    let expanded = c.in_ok-expanded.ensures.ok in
-    let closed = rw c.deref.ensures.value at c.in_ok-axioms.ensures.ok in
-    only_names m c.requires expanded.0.0 expanded.0.1 ∙ sym (names_of_expansions m c.in_ok-expanded.expanded.items expanded.1) ∙ closed.no_fault
+    let n = written_model c.in-Some.short in
+    IfOk-weaker c.closings.result (λ _. first_model_fault n ≡ None) (λ _. first_model_fault m ≡ None)
+    (λ _ none. sym (fault_same m n (rw c.in-Some.is at c.in_ok-short.ensures)) ∙ none) c.closings.ensures.no_fault
 
-pub returns-clause-no_name_fault : goal.returns-clause-no_name_fault
-returns-clause-no_name_fault c =
+pub returns-in-Some-clause-no_name_fault : goal.returns-in-Some-clause-no_name_fault
+returns-in-Some-clause-no_name_fault c =
     let m = written_model c.args.model.now in
-    let closed = rw c.deref.ensures.value at c.in_ok-axioms.ensures.ok in
-    sym (names_of_expansions m c.in_ok-expanded.expanded.items c.in_ok-expanded.ensures.ok.1) ∙ closed.no_fault
+    let n = written_model c.in-Some.short in
+    IfOk-weaker c.closings.result (λ _. first_name_fault n ≡ None) (λ _. first_name_fault m ≡ None)
+    (λ _ none. sym (name_fault_same m n (rw c.in-Some.is at c.in_ok-short.ensures)) ∙ none) c.closings.ensures.no_name_fault
 
-pub returns-clause-axioms : goal.returns-clause-axioms
-returns-clause-axioms c =
+pub returns-in-Some-clause-axioms : goal.returns-in-Some-clause-axioms
+returns-in-Some-clause-axioms c =
     let m = written_model c.args.model.now in
-    let closed = rw c.deref.ensures.value at c.in_ok-axioms.ensures.ok in
-    closed.closings ∙ closings_of_axioms m c.in_ok-expanded.expanded.items c.in_ok-expanded.ensures.ok.1
+    let n = written_model c.in-Some.short in
+    IfOk-weaker c.closings.result
+    (λ closed. plain_axioms closed ≡ map (closed_axiom n) (axioms_of n))
+    (λ closed. plain_axioms closed ≡ map (closed_axiom m) (axioms_of m))
+    (λ closed is. is ∙ axioms_same m n (rw c.in-Some.is at c.in_ok-short.ensures)) c.closings.ensures.axioms
+
+pub returns-in-Some-clause-err : goal.returns-in-Some-clause-err
+returns-in-Some-clause-err c =
+    let m = written_model c.args.model.now in
+    let n = written_model c.in-Some.short in
+    IfErr-weaker c.closings.result (IsFirstEnd n) (IsFirstEnd m)
+    (λ end (o, is, of). (o, subst (λ first. IsNoneOr first o) (fault_same m n (rw c.in-Some.is at c.in_ok-short.ensures)) is, of))
+    c.closings.ensures.err

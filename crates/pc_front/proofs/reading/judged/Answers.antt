@@ -2,7 +2,7 @@ use Rattle.std.proofs.Common.{Some, sym, ◌∙◌, ap}
 use Rattle.std.proofs.lemmas.Result.{err_from_is_err_and}
 use Rattle.pc_syntax.specs.Closed.{closed_satisfies}
 use Rattle.pc_syntax.specs.Written.{written_model}
-use Rattle.pc_front.proofs.FrontLaws.{stage_first, satisfied_alike, front_end}
+use Rattle.pc_front.proofs.FrontLaws.{stage_first, satisfied_alike, front_end, first_end}
 use Rattle.pc_front.proofs.reading.judged.Goals as goal
 
 pub returns-in_err-check_stages-clause-err : goal.returns-in_err-check_stages-clause-err
@@ -11,6 +11,12 @@ returns-in_err-check_stages-clause-err c =
     let end = err_from_is_err_and c.from_residual.result c.from_residual.ensures.1 in
     let (fault, is, end_is) = c.in_err-check_stages.ensures.err in
     rw (end.1, end.2, end_is) (λ bytes of. front_end bytes m of (Some fault) (stage_first m fault is))
+
+pub returns-in_err-axioms-clause-err : goal.returns-in_err-axioms-clause-err
+returns-in_err-axioms-clause-err c =
+    let m = written_model c.args.model.now in
+    let end = err_from_is_err_and c.from_residual-in_err-axioms.result c.from_residual-in_err-axioms.ensures.1 in
+    rw (end.1, end.2) (λ bytes of. first_end bytes m of c.in_err-axioms.field-0.0 c.in_err-axioms.ensures.err)
 
 pub returns-clause-ok : goal.returns-clause-ok
 returns-clause-ok c =

@@ -1,33 +1,43 @@
-use Rattle.pc_syntax.specs.Written.{not_, written_model}
-use Rattle.macro_expand.specs.Faults.{macro_fault_of}
-use Rattle.scope_check.specs.FirstFault.{name_fault_of}
+use Rattle.std.proofs.Common.{◌≡◌, None, refl}
+use Rattle.std.proofs.lemmas.Result.{IfOk-weaker, IfErr-weaker, err_from_is_err_and}
+use Rattle.pc_common.specs.declared.fault.Which.TheVariants.{Query}
+use Rattle.pc_syntax.specs.declared.closed.Closed.{Closed}
+use Rattle.pc_syntax.specs.Written.{Written, WrittenModel, written_model}
 use Rattle.pc_syntax.specs.Closed.{plain_closed}
-use Rattle.query_front.proofs.InquiryParts.{denial_macro_ends, is_denial, denial_name_ends, denied_closed}
+use Rattle.pc_front.specs.declared.model_front.FrontEnd.{FrontEnd}
+use Rattle.pc_front.specs.ModelFront.{closed_axiom}
+use Rattle.query_front.specs.Queries.{with_denial, first_query_fault}
+use Rattle.query_front.specs.Denials.{IsFirstQueryEnd}
+use Rattle.query_front.proofs.ShortNames.{short_denial, short_stages, short_closed, short_end}
 use Rattle.query_front.proofs.denial.close_denied.Goals as goal
 
-pub last_expansion-requires : goal.last_expansion-requires
-last_expansion-requires c = let (m, f, is) = c.requires.denial in (m, not_ f, is)
+pub returns-in_err-short-clause-err : goal.returns-in_err-short-clause-err
+returns-in_err-short-clause-err c =
+    let end = err_from_is_err_and c.from_residual.result c.from_residual.ensures.1 in
+    rw (end.1, end.2) (λ m f is. (Query, None, refl, refl))
 
--- a fault of macros or of sizes
-pub returns-in-Err-clause-err : goal.returns-in-Err-clause-err
-returns-in-Err-clause-err c =
-    let n = written_model c.args.model.now in
-    rw (c.moved.ensures, c.from.ensures)
-    (λ m f is bytes of. denial_macro_ends n m f is bytes of (macro_fault_of c.in-Err.fault) c.in-Err.ensures.err)
+pub close_as_named-requires-clause-denial : goal.close_as_named-requires-clause-denial
+close_as_named-requires-clause-denial c =
+    short_denial (written_model c.args.model.now) (written_model c.in-Some.short) (rw c.in-Some.is at c.in_ok-short.ensures) c.requires.denial
 
-pub close_query-requires-clause-denial : goal.close_query-requires-clause-denial
-close_query-requires-clause-denial c =
-    let (m, f, is) = c.requires.denial in is_denial (written_model c.args.model.now) m f is c.in-Ok.denied c.in-Ok.ensures.ok
+pub close_as_named-requires-clause-stages : goal.close_as_named-requires-clause-stages
+close_as_named-requires-clause-stages c =
+    short_stages (written_model c.args.model.now) (written_model c.in-Some.short) (rw c.in-Some.is at c.in_ok-short.ensures) c.requires.stages
 
-pub returns-in-Ok-close_query-clause-ok : goal.returns-in-Ok-close_query-clause-ok
-returns-in-Ok-close_query-clause-ok c =
-    let n = written_model c.args.model.now in
-    λ m f is. denied_closed n m f is c.in-Ok.denied c.in-Ok.ensures.ok (plain_closed c.in-Ok-close_query.closed.body) c.in-Ok-close_query.ensures.ok
+pub returns-in-Some-clause-ok : goal.returns-in-Some-clause-ok
+returns-in-Some-clause-ok c =
+    let k = written_model c.args.model.now in
+    let n = written_model c.in-Some.short in
+    IfOk-weaker c.close_as_named.result
+    (λ (x : Closed). (m : WrittenModel) (f : Written) → n ≡ with_denial m f → (first_query_fault m f ≡ None) × (plain_closed x.body ≡ closed_axiom m f))
+    (λ (x : Closed). (m : WrittenModel) (f : Written) → k ≡ with_denial m f → (first_query_fault m f ≡ None) × (plain_closed x.body ≡ closed_axiom m f))
+    (λ x. short_closed k n (rw c.in-Some.is at c.in_ok-short.ensures) (plain_closed x.body)) c.close_as_named.ensures.ok
 
--- a fault of names
-pub returns-clause-err : goal.returns-clause-err
-returns-clause-err c =
-    let n = written_model c.args.model.now in
-    rw (c.moved-in-Err-close_query.ensures, c.from-in-Err-close_query.ensures)
-    (λ m f is bytes of. denial_name_ends n m f is c.in-Ok.denied c.in-Ok.ensures.ok bytes of c.in-Err-close_query.file
-    (name_fault_of c.in-Err-close_query.fault) c.in-Err-close_query.ensures.err)
+pub returns-in-Some-clause-err : goal.returns-in-Some-clause-err
+returns-in-Some-clause-err c =
+    let k = written_model c.args.model.now in
+    let n = written_model c.in-Some.short in
+    IfErr-weaker c.close_as_named.result
+    (λ (e : FrontEnd). (m : WrittenModel) (f : Written) → n ≡ with_denial m f → IsFirstQueryEnd m f e)
+    (λ (e : FrontEnd). (m : WrittenModel) (f : Written) → k ≡ with_denial m f → IsFirstQueryEnd m f e)
+    (short_end k n (rw c.in-Some.is at c.in_ok-short.ensures)) c.close_as_named.ensures.err

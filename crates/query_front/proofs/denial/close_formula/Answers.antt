@@ -6,7 +6,9 @@ use Rattle.pc_syntax.specs.Closed.{plain_closed}
 use Rattle.pc_front.specs.declared.model_front.FrontEnd.{FrontEnd}
 use Rattle.pc_front.specs.ModelFront.{closed_axiom}
 use Rattle.query_front.specs.Queries.{FormulaOf, with_denial, first_query_fault, IsQueryEnd}
+use Rattle.query_front.specs.Denials.{IsFirstQueryEnd}
 use Rattle.query_front.proofs.InquiryParts.{stage_fault_kept}
+use Rattle.query_front.proofs.QueryEnds.{first_end}
 use Rattle.query_front.proofs.denial.close_formula.Goals as goal
 
 pub close_denied-requires-clause-denial : goal.close_denied-requires-clause-denial
@@ -32,6 +34,6 @@ returns-clause-err c =
     let m = written_model c.args.model in
     let f = written c.args.formula in
     IfErr-weaker c.close_denied.result
-    (λ (e : FrontEnd). (k : WrittenModel) (g : Written) → n ≡ with_denial k g → (bytes : List ℕ) → FormulaOf bytes g → IsQueryEnd k bytes e)
+    (λ (e : FrontEnd). (k : WrittenModel) (g : Written) → n ≡ with_denial k g → IsFirstQueryEnd k g e)
     (λ (e : FrontEnd). (bytes : List ℕ) → FormulaOf bytes f → IsQueryEnd m bytes e)
-    (λ e each. each m f c.in_ok-model.ensures) c.close_denied.ensures.err
+    (λ e each bytes of. first_end m f bytes of e (each m f c.in_ok-model.ensures)) c.close_denied.ensures.err

@@ -1,0 +1,2 @@
+pub mod RenamedArguments
+pub mod ShortNames

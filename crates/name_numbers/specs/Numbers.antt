@@ -1,0 +1,27 @@
+-- The short name of a name: its number among listed names, in eight bytes.
+use Rattle.std.specs.Prelude.{◌≡◌, ℕ, ◌<◌, List, ◌++◌, slice_get, Option, Some, None, replicate}
+use Rattle.std.specs.Borrow.{Bor}
+use Rattle.std.specs.List.{position}
+use Rattle.std.specs.Int.{w64, to_le_bytes}
+use Rattle.pc_common.specs.Names.{same_name}
+
+abbrev pub name_bytes : Bor (List ℕ) → List ℕ
+name_bytes name = name.now
+
+-- how many of these names stand before the first that is this one
+unfoldable pub number_of : List (List ℕ) → List ℕ → Option ℕ
+number_of names name = position (same_name name) names
+
+unfoldable pub number_bytes : ℕ → List ℕ
+number_bytes n = to_le_bytes w64 n
+
+-- the first n of these are the bytes of their places
+abbrev pub HasNumbers : List (List ℕ) → ℕ → Type 0
+HasNumbers shorts n = (k : ℕ) → k < n → slice_get shorts k ≡ Some (number_bytes k)
+
+-- longer than a number's bytes, so that it is the short name of no listed name
+abbrev pub unlisted : List ℕ → List ℕ
+unlisted name = replicate 9 0 ++ name
+
+unfoldable pub short_name : List (List ℕ) → List ℕ → List ℕ
+short_name names name = elim (number_of names name) [ None ↦ unlisted name | Some n ↦ number_bytes n ]
