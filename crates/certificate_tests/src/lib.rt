@@ -6,6 +6,8 @@
 #[cfg(test)]
 mod certificates;
 #[cfg(test)]
+mod hostile;
+#[cfg(test)]
 mod signs;
 #[cfg(test)]
 mod verifying;
