@@ -1,5 +1,5 @@
 -- Sets of names by their length, and kinds by their ends: what one more name changes.
-use Rattle.std.proofs.Common.{◌≡◌, ℕ, Bool, true, false, List, [], ◌∷◌, ◌++◌, ◌==◌, ◌&&◌, ◌||◌, Option, Some, None, length, refl, sym, ap, ◌∙◌, true≢false, arith, Vec}
+use Rattle.std.proofs.Common.{◌≡◌, ℕ, Bool, true, false, List, [], ◌∷◌, ◌++◌, ◌==◌, ◌<◌, ◌≤◌, get_or, ◌&&◌, ◌||◌, Option, Some, None, length, refl, sym, ap, ◌∙◌, true≢false, arith, Vec}
 use Rattle.std.specs.List.{list_any}
 use Rattle.std.specs.Map.{lookup, set_value}
 use Rattle.std.specs.Cmp.Lexicographic.{bytes_decides}
@@ -252,3 +252,10 @@ kind_first m new e p q i j set none put has =
     first_put same_ends ends_tests (λ s. has_name s q) m new e (to i j) set none put
     ∙ ap (λ t. has_kind m.entries q i j || (same_ends e (to i j) && t)) has
     ∙ ap (λ t. has_kind m.entries q i j || t) (ends_turned e i j (same_name p q))
+
+-- what a list of one name has
+pub among_one : (ks : List (Vec ℕ Global)) (k : Vec ℕ Global) (name : List ℕ) → 1 ≤ length ks → length ks < 2 → k ≡ get_or ks 0 k
+    → same_name name k.items ≡ list_any (λ known. same_name name known.items) ks
+among_one [] k name some few is = absurd (omega (arith, some))
+among_one (x ∷ []) k name some few is = ap (λ x. same_name name x.items) is ∙ or_false (same_name name x.items)
+among_one (x ∷ y ∷ ys) k name some few is = absurd (omega (arith, few))

@@ -1,6 +1,6 @@
 ghost use Rattle.std.specs.Prelude.{◌≡◌, ◌||◌, ◌&&◌, false, List, ℕ, is_ok};
 ghost use Rattle.pc_common.specs.Names.{same_name};
-ghost use Rattle.pc_case.specs.NameSets.{has_name};
+ghost use Rattle.pc_case.specs.NameSets.{is_known, has_name};
 
 use indexmap::{IndexMap, IndexSet};
 use pc_common::Memory;
@@ -49,14 +49,24 @@ impl NameSet {
         Ok(())
     }
 
-    /// Whether this is one of the names: one look-up of a number, and one of the name where names of
-    /// its length are there. Takes no memory.
+    /// Whether this is one of the names: one look-up of a number, and where names of its length are
+    /// there, one of the name. Takes no memory.
     pub(crate) fn has(&self, name: &[u8]) -> bool
         ensures { result ≡ has_name self.now name.now }
     {
         match self.by_length.get(&name.len()) {
             None => false,
-            Some(known) => known.contains(name),
+            Some(known) => is_among(known, name),
         }
+    }
+}
+
+/// Whether this is one of the names. A single one is compared, since that costs less than a hash.
+fn is_among(known: &IndexSet<Vec<u8>>, name: &[u8]) -> bool
+    ensures { result ≡ is_known known.now name.now }
+{
+    match known.as_slice() {
+        [only] => name == only.as_slice(),
+        _ => known.contains(name),
     }
 }
