@@ -1,2 +1,3 @@
+pub mod ListingLaws
 pub mod RenamedArguments
 pub mod ShortNames

@@ -1,2 +1,4 @@
 pub mod Arguments
+pub mod ModelNames
+pub mod Numbered
 pub mod Numbers

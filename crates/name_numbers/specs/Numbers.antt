@@ -1,7 +1,7 @@
 -- The short name of a name: its number among listed names, in eight bytes.
-use Rattle.std.specs.Prelude.{◌≡◌, ℕ, ◌<◌, List, ◌++◌, slice_get, Option, Some, None, replicate}
+use Rattle.std.specs.Prelude.{◌≡◌, ℕ, ◌<◌, true, List, ◌++◌, slice_get, Option, Some, None, replicate}
 use Rattle.std.specs.Borrow.{Bor}
-use Rattle.std.specs.List.{position}
+use Rattle.std.specs.List.{position, list_any}
 use Rattle.std.specs.Int.{w64, to_le_bytes}
 use Rattle.pc_common.specs.Names.{same_name}
 
@@ -25,3 +25,7 @@ unlisted name = replicate 9 0 ++ name
 
 unfoldable pub short_name : List (List ℕ) → List ℕ → List ℕ
 short_name names name = elim (number_of names name) [ None ↦ unlisted name | Some n ↦ number_bytes n ]
+
+-- one of these names is this one
+abbrev pub IsAmong : List (List ℕ) → List ℕ → Type 0
+IsAmong names name = list_any (same_name name) names ≡ true

@@ -22,6 +22,7 @@
 #![tactic(auto)]
 
 mod formulas;
+mod listed_names;
 mod listing;
 mod model;
 mod predicates;

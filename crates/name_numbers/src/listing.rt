@@ -1,162 +1,156 @@
-use indexmap::IndexSet;
+ghost use Rattle.std.specs.Prelude.{◌≡◌, ◌++◌, ◌∷◌, [], map, flat_map, IfOk, OnOk};
+ghost use Rattle.pc_syntax.specs.Written.{written, written_item, written_model};
+ghost use Rattle.name_numbers.specs.ModelNames.{arg_names, node_names, edge_names, formula_names};
+ghost use Rattle.name_numbers.specs.ModelNames.{item_names, names_of_model};
+
+use super::listed_names::ListedNames;
 use pc_common::Memory;
-use pc_syntax::{Arg, EdgeTerm, Formula, Item, ModelFile, Name, NodeTerm, Word};
+use pc_syntax::{Arg, EdgeTerm, Formula, Item, ModelFile, Name, NodeTerm, StageItem, Word};
 use std::alloc::Global;
 
-/// The names of a model as often as it has them. A name left out would only stay long, so no contract says which are
-/// listed.
-pub(crate) struct ListedNames<'a> {
-    names: Vec<&'a [u8]>,
-    longest: usize,
+/// The names of a model. Takes time in proportion to how many there are.
+pub(crate) fn listed_names<'a>(
+    alloc: Global,
+    model: &'a ModelFile,
+) -> Result<ListedNames<'a>, Memory>
+    ensures { IfOk result (λ names. names ≡ names_of_model (written_model model.now)) }
+{
+    let mut names = ListedNames::new(alloc);
+    list_stages(&mut names, model.stages.as_slice())?;
+    list_items(&mut names, model.items.as_slice())?;
+    Ok(names)
 }
 
-// Written out, so that a proof of what drops the value meets one call and no field.
-impl Drop for ListedNames<'_> {
-    fn drop(self) {
-        let ListedNames {
-            names: _,
-            longest: _,
-        } = self;
+fn list_stages<'a>(names: &mut ListedNames<'a>, stages: &'a [StageItem]) -> Result<(), Memory>
+    ensures { OnOk result (names.new ≡ names.old ++ map (λ s. s.name.name) stages.now) }
+{
+    for stage in stages {
+        names.list(&stage.name.name)?;
+    }
+    Ok(())
+}
+
+fn list_items<'a>(names: &mut ListedNames<'a>, items: &'a [Item]) -> Result<(), Memory>
+    ensures { OnOk result (names.new ≡ names.old ++ flat_map item_names (map written_item items.now)) }
+{
+    for item in items {
+        list_item(names, item)?;
+    }
+    Ok(())
+}
+
+fn list_item<'a>(names: &mut ListedNames<'a>, item: &'a Item) -> Result<(), Memory>
+    ensures { OnOk result (names.new ≡ names.old ++ item_names (written_item item.now)) }
+{
+    match item {
+        Item::Axiom { at: _, body } => list_formula(names, body),
+        Item::Macro {
+            name,
+            parameters,
+            body,
+        } => {
+            names.list(&name.name)?;
+            list_words(names, parameters.as_slice())?;
+            list_formula(names, body)
+        }
     }
 }
 
-impl<'a> ListedNames<'a> {
-    /// The names of a model. Takes time in proportion to how many there are.
-    pub(crate) fn of(alloc: Global, model: &'a ModelFile) -> Result<ListedNames<'a>, Memory> {
-        let mut listed = ListedNames {
-            names: Vec::new(alloc),
-            longest: 0,
-        };
-        for stage in model.stages.as_slice() {
-            listed.list_word(&stage.name)?;
+/// It nests one call for each connective and quantifier above an atom.
+fn list_formula<'a>(names: &mut ListedNames<'a>, formula: &'a Formula) -> Result<(), Memory>
+    ensures { OnOk result (names.new ≡ names.old ++ formula_names (written formula.now)) }
+{
+    match formula {
+        Formula::Not(body) => list_formula(names, body),
+        Formula::And(left, right) | Formula::Or(left, right) | Formula::Implies(left, right) => {
+            list_formula(names, left)?;
+            list_formula(names, right)
         }
-        for item in model.items.as_slice() {
-            listed.list_item(item)?;
+        Formula::Forall { name, body, .. } | Formula::Exists { name, body, .. } => {
+            names.list(name)?;
+            list_formula(names, body)
         }
-        Ok(listed)
-    }
-
-    /// How many bytes the longest name has, 0 where there is none.
-    pub(crate) fn longest(&self) -> usize {
-        self.longest
-    }
-
-    /// The names in their order, each once. Takes time in proportion to their bytes.
-    pub(crate) fn once(&self, alloc: Global) -> Result<IndexSet<&'a [u8]>, Memory> {
-        let mut names = IndexSet::new(alloc);
-        for name in self.names.as_slice() {
-            names.insert(*name)?;
+        Formula::Static { pred: _, args } => list_args(names, args.as_slice()),
+        Formula::Nodes(nodes) => list_nodes(names, nodes.as_slice()),
+        Formula::Edges(edges) => list_edges(names, edges.as_slice()),
+        Formula::Expand { at: _, name, args } => {
+            names.list(&name.name)?;
+            list_args(names, args.as_slice())
         }
-        Ok(names)
-    }
-
-    fn list(&mut self, name: &'a Name) -> Result<(), Memory> {
-        let name = name.as_slice();
-        self.longest = self.longest.max(name.len());
-        self.names.push(name)?;
-        Ok(())
-    }
-
-    fn list_word(&mut self, word: &'a Word) -> Result<(), Memory> {
-        self.list(&word.name)
-    }
-
-    fn list_words(&mut self, words: &'a [Word]) -> Result<(), Memory> {
-        for word in words {
-            self.list_word(word)?;
-        }
-        Ok(())
-    }
-
-    fn list_arg(&mut self, arg: &'a Arg) -> Result<(), Memory> {
-        match arg {
-            Arg::Word(word) => self.list_word(word),
-            Arg::Number(_, _) => Ok(()),
+        Formula::Bind {
+            at: _,
+            names: bound,
+            args,
+            body,
+        } => {
+            list_names(names, bound.as_slice())?;
+            list_args(names, args.as_slice())?;
+            list_formula(names, body)
         }
     }
+}
 
-    fn list_args(&mut self, args: &'a [Arg]) -> Result<(), Memory> {
-        for arg in args {
-            self.list_arg(arg)?;
-        }
-        Ok(())
+fn list_edges<'a>(names: &mut ListedNames<'a>, edges: &'a [EdgeTerm]) -> Result<(), Memory>
+    ensures { OnOk result (names.new ≡ names.old ++ flat_map edge_names edges.now) }
+{
+    for edge in edges {
+        list_node(names, &edge.from)?;
+        list_node(names, &edge.to)?;
     }
+    Ok(())
+}
 
-    fn list_node(&mut self, node: &'a NodeTerm) -> Result<(), Memory> {
-        self.list_word(&node.op)?;
-        if let Some(core) = &node.core {
-            self.list_arg(core)?;
-        }
-        self.list_word(&node.stage)
+fn list_nodes<'a>(names: &mut ListedNames<'a>, nodes: &'a [NodeTerm]) -> Result<(), Memory>
+    ensures { OnOk result (names.new ≡ names.old ++ flat_map node_names nodes.now) }
+{
+    for node in nodes {
+        list_node(names, node)?;
     }
+    Ok(())
+}
 
-    fn list_nodes(&mut self, nodes: &'a [NodeTerm]) -> Result<(), Memory> {
-        for node in nodes {
-            self.list_node(node)?;
-        }
-        Ok(())
+fn list_node<'a>(names: &mut ListedNames<'a>, node: &'a NodeTerm) -> Result<(), Memory>
+    ensures { OnOk result (names.new ≡ names.old ++ node_names node.now) }
+{
+    names.list(&node.op.name)?;
+    if let Some(core) = &node.core {
+        list_arg(names, core)?;
     }
+    names.list(&node.stage.name)
+}
 
-    fn list_edges(&mut self, edges: &'a [EdgeTerm]) -> Result<(), Memory> {
-        for edge in edges {
-            self.list_node(&edge.from)?;
-            self.list_node(&edge.to)?;
-        }
-        Ok(())
+fn list_args<'a>(names: &mut ListedNames<'a>, args: &'a [Arg]) -> Result<(), Memory>
+    ensures { OnOk result (names.new ≡ names.old ++ flat_map arg_names args.now) }
+{
+    for arg in args {
+        list_arg(names, arg)?;
     }
+    Ok(())
+}
 
-    fn list_names(&mut self, names: &'a [Name]) -> Result<(), Memory> {
-        for name in names {
-            self.list(name)?;
-        }
-        Ok(())
+fn list_arg<'a>(names: &mut ListedNames<'a>, arg: &'a Arg) -> Result<(), Memory>
+    ensures { OnOk result (names.new ≡ names.old ++ arg_names arg.now) }
+{
+    match arg {
+        Arg::Word(word) => names.list(&word.name),
+        Arg::Number(_, _) => Ok(()),
     }
+}
 
-    /// It nests one call for each connective and quantifier above an atom.
-    fn list_formula(&mut self, formula: &'a Formula) -> Result<(), Memory> {
-        match formula {
-            Formula::Not(body) => self.list_formula(body),
-            Formula::And(left, right) | Formula::Or(left, right) | Formula::Implies(left, right) =>
-                {
-                    self.list_formula(left)?;
-                    self.list_formula(right)
-                }
-            Formula::Forall { name, body, .. } | Formula::Exists { name, body, .. } => {
-                self.list(name)?;
-                self.list_formula(body)
-            }
-            Formula::Static { pred: _, args } => self.list_args(args.as_slice()),
-            Formula::Nodes(nodes) => self.list_nodes(nodes.as_slice()),
-            Formula::Edges(edges) => self.list_edges(edges.as_slice()),
-            Formula::Expand { at: _, name, args } => {
-                self.list_word(name)?;
-                self.list_args(args.as_slice())
-            }
-            Formula::Bind {
-                at: _,
-                names,
-                args,
-                body,
-            } => {
-                self.list_names(names.as_slice())?;
-                self.list_args(args.as_slice())?;
-                self.list_formula(body)
-            }
-        }
+fn list_words<'a>(names: &mut ListedNames<'a>, words: &'a [Word]) -> Result<(), Memory>
+    ensures { OnOk result (names.new ≡ names.old ++ map (λ w. w.name) words.now) }
+{
+    for word in words {
+        names.list(&word.name)?;
     }
+    Ok(())
+}
 
-    fn list_item(&mut self, item: &'a Item) -> Result<(), Memory> {
-        match item {
-            Item::Axiom { at: _, body } => self.list_formula(body),
-            Item::Macro {
-                name,
-                parameters,
-                body,
-            } => {
-                self.list_word(name)?;
-                self.list_words(parameters.as_slice())?;
-                self.list_formula(body)
-            }
-        }
+fn list_names<'a>(names: &mut ListedNames<'a>, bound: &'a [Name]) -> Result<(), Memory>
+    ensures { OnOk result (names.new ≡ names.old ++ bound.now) }
+{
+    for name in bound {
+        names.list(name)?;
     }
+    Ok(())
 }

@@ -1,18 +1,16 @@
-ghost use Rattle.std.specs.Prelude.{◌≡◌, IfOk, MatchOption, map};
+ghost use Rattle.std.specs.Prelude.{◌≡◌, is_some, IfOk, MatchOption, map};
 ghost use Rattle.pc_syntax.specs.Written.{written_item, written_model};
 ghost use Rattle.pc_syntax.specs.Renaming.{renamed_stage, renamed_item, IsRenamed};
+ghost use Rattle.name_numbers.specs.Numbered.{has_long_name, IsNumbered};
 ghost use Rattle.name_numbers.specs.Numbers.{short_name};
 
 use super::formulas::short_formula;
-use super::listing::ListedNames;
+use super::listing::listed_names;
 use super::short_names::ShortNames;
 use super::terms::{short_word, short_words};
 use pc_common::{Listed, Memory};
 use pc_syntax::{Item, Items, ModelFile, StageItem, StageItems};
 use std::alloc::Global;
-
-/// A name of more bytes is long. To look one of so many up costs less than to number it first.
-const SHORT_ENOUGH: usize = 32;
 
 /// A stage by its short name.
 fn short_stage(
@@ -84,19 +82,22 @@ fn short_items(alloc: Global, names: &ShortNames<'_>, items: &Items) -> Result<I
 }
 
 /// A copy of a model with a name of eight bytes in the place of each name, None where no name is long. Two names of the
-/// copy are one exactly where they are one in the model. Places stay, and so do the names of predicates and the plain
-/// names that they take.
+/// copy are one exactly where they are one in the model. Places stay, and so do the names of predicates, the plain
+/// names that they take, arguments past those that a predicate takes, and the arguments of what is no predicate.
 ///
 /// Takes time and memory in proportion to the model's text. An `Err` says that memory was refused.
 pub fn with_short_names(alloc: Global, model: &ModelFile) -> Result<Option<ModelFile>, Memory>
-    ensures { IfOk result (λ copy. MatchOption copy (Unit {0})
+    ensures renamed { IfOk result (λ copy. MatchOption copy (Unit {0})
         (λ short. IsRenamed (written_model model.now) (written_model short))) }
+    ensures long { IfOk result (λ copy. is_some copy ≡ has_long_name (written_model model.now)) }
+    ensures short { IfOk result (λ copy. MatchOption copy (Unit {0})
+        (λ short. IsNumbered (written_model model.now) (written_model short))) }
 {
-    let listed = ListedNames::of(alloc, model)?;
-    if listed.longest() <= SHORT_ENOUGH {
+    let listed = listed_names(alloc, model)?;
+    if !listed.has_long() {
         return Ok(None);
     }
-    let names = ShortNames::of(alloc, listed.once(alloc)?)?;
+    let names = ShortNames::of(alloc, &listed)?;
     let stages = short_stages(alloc, &names, &model.stages)?;
     let items = short_items(alloc, &names, &model.items)?;
     Ok(Some(ModelFile { stages, items }))

@@ -1,7 +1,8 @@
-ghost use Rattle.std.specs.Prelude.{◌≡◌, ◌++◌, IfOk, replicate};
+ghost use Rattle.std.specs.Prelude.{◌≡◌, ◌++◌, length, replicate, All, IfOk};
 ghost use Rattle.pc_syntax.specs.Renaming.{KeepsApart};
 ghost use Rattle.name_numbers.specs.Numbers.{number_of, number_bytes, unlisted, short_name};
 
+use super::listed_names::ListedNames;
 use indexmap::IndexSet;
 use pc_common::{Listed, Memory, Shared};
 use pc_syntax::Name;
@@ -57,9 +58,11 @@ fn unlisted_name(alloc: Global, name: &[u8]) -> Result<Name, Memory>
 
 impl<'a> ShortNames<'a> {
     /// A short name for each of these names.
-    pub(crate) fn of(alloc: Global, names: IndexSet<&'a [u8]>) -> Result<ShortNames<'a>, Memory>
-        ensures { IfOk result (λ names. KeepsApart (short_name names)) }
+    pub(crate) fn of(alloc: Global, listed: &ListedNames<'a>) -> Result<ShortNames<'a>, Memory>
+        ensures apart { IfOk result (λ names. KeepsApart (short_name names)) }
+        ensures short { IfOk result (λ names. All (λ name. length (short_name names name) ≡ 8) listed.now) }
     {
+        let names = listed.once(alloc)?;
         let mut shorts = Listed::new(alloc);
         for number in 0..names.len() {
             shorts.push(number_name(alloc, number)?)?;

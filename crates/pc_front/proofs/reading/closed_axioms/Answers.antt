@@ -18,21 +18,21 @@ returns-in_err-short-clause-err c =
 
 pub closings-requires : goal.closings-requires
 closings-requires c =
-    stage_fault_same (written_model c.args.model.now) (written_model c.in-Some.short) (rw c.in-Some.is at c.in_ok-short.ensures) ∙ c.requires
+    stage_fault_same (written_model c.args.model.now) (written_model c.in-Some.short) (rw c.in-Some.is at c.in_ok-short.ensures.renamed) ∙ c.requires
 
 pub returns-in-Some-clause-no_fault : goal.returns-in-Some-clause-no_fault
 returns-in-Some-clause-no_fault c =
     let m = written_model c.args.model.now in
     let n = written_model c.in-Some.short in
     IfOk-weaker c.closings.result (λ _. first_model_fault n ≡ None) (λ _. first_model_fault m ≡ None)
-    (λ _ none. sym (fault_same m n (rw c.in-Some.is at c.in_ok-short.ensures)) ∙ none) c.closings.ensures.no_fault
+    (λ _ none. sym (fault_same m n (rw c.in-Some.is at c.in_ok-short.ensures.renamed)) ∙ none) c.closings.ensures.no_fault
 
 pub returns-in-Some-clause-no_name_fault : goal.returns-in-Some-clause-no_name_fault
 returns-in-Some-clause-no_name_fault c =
     let m = written_model c.args.model.now in
     let n = written_model c.in-Some.short in
     IfOk-weaker c.closings.result (λ _. first_name_fault n ≡ None) (λ _. first_name_fault m ≡ None)
-    (λ _ none. sym (name_fault_same m n (rw c.in-Some.is at c.in_ok-short.ensures)) ∙ none) c.closings.ensures.no_name_fault
+    (λ _ none. sym (name_fault_same m n (rw c.in-Some.is at c.in_ok-short.ensures.renamed)) ∙ none) c.closings.ensures.no_name_fault
 
 pub returns-in-Some-clause-axioms : goal.returns-in-Some-clause-axioms
 returns-in-Some-clause-axioms c =
@@ -41,12 +41,12 @@ returns-in-Some-clause-axioms c =
     IfOk-weaker c.closings.result
     (λ closed. plain_axioms closed ≡ map (closed_axiom n) (axioms_of n))
     (λ closed. plain_axioms closed ≡ map (closed_axiom m) (axioms_of m))
-    (λ closed is. is ∙ axioms_same m n (rw c.in-Some.is at c.in_ok-short.ensures)) c.closings.ensures.axioms
+    (λ closed is. is ∙ axioms_same m n (rw c.in-Some.is at c.in_ok-short.ensures.renamed)) c.closings.ensures.axioms
 
 pub returns-in-Some-clause-err : goal.returns-in-Some-clause-err
 returns-in-Some-clause-err c =
     let m = written_model c.args.model.now in
     let n = written_model c.in-Some.short in
     IfErr-weaker c.closings.result (IsFirstEnd n) (IsFirstEnd m)
-    (λ end (o, is, of). (o, subst (λ first. IsNoneOr first o) (fault_same m n (rw c.in-Some.is at c.in_ok-short.ensures)) is, of))
+    (λ end (o, is, of). (o, subst (λ first. IsNoneOr first o) (fault_same m n (rw c.in-Some.is at c.in_ok-short.ensures.renamed)) is, of))
     c.closings.ensures.err

@@ -18,11 +18,11 @@ returns-in_err-short-clause-err c =
 
 pub close_as_named-requires-clause-denial : goal.close_as_named-requires-clause-denial
 close_as_named-requires-clause-denial c =
-    short_denial (written_model c.args.model.now) (written_model c.in-Some.short) (rw c.in-Some.is at c.in_ok-short.ensures) c.requires.denial
+    short_denial (written_model c.args.model.now) (written_model c.in-Some.short) (rw c.in-Some.is at c.in_ok-short.ensures.renamed) c.requires.denial
 
 pub close_as_named-requires-clause-stages : goal.close_as_named-requires-clause-stages
 close_as_named-requires-clause-stages c =
-    short_stages (written_model c.args.model.now) (written_model c.in-Some.short) (rw c.in-Some.is at c.in_ok-short.ensures) c.requires.stages
+    short_stages (written_model c.args.model.now) (written_model c.in-Some.short) (rw c.in-Some.is at c.in_ok-short.ensures.renamed) c.requires.stages
 
 pub returns-in-Some-clause-ok : goal.returns-in-Some-clause-ok
 returns-in-Some-clause-ok c =
@@ -31,7 +31,7 @@ returns-in-Some-clause-ok c =
     IfOk-weaker c.close_as_named.result
     (λ (x : Closed). (m : WrittenModel) (f : Written) → n ≡ with_denial m f → (first_query_fault m f ≡ None) × (plain_closed x.body ≡ closed_axiom m f))
     (λ (x : Closed). (m : WrittenModel) (f : Written) → k ≡ with_denial m f → (first_query_fault m f ≡ None) × (plain_closed x.body ≡ closed_axiom m f))
-    (λ x. short_closed k n (rw c.in-Some.is at c.in_ok-short.ensures) (plain_closed x.body)) c.close_as_named.ensures.ok
+    (λ x. short_closed k n (rw c.in-Some.is at c.in_ok-short.ensures.renamed) (plain_closed x.body)) c.close_as_named.ensures.ok
 
 pub returns-in-Some-clause-err : goal.returns-in-Some-clause-err
 returns-in-Some-clause-err c =
@@ -40,4 +40,4 @@ returns-in-Some-clause-err c =
     IfErr-weaker c.close_as_named.result
     (λ (e : FrontEnd). (m : WrittenModel) (f : Written) → n ≡ with_denial m f → IsFirstQueryEnd m f e)
     (λ (e : FrontEnd). (m : WrittenModel) (f : Written) → k ≡ with_denial m f → IsFirstQueryEnd m f e)
-    (short_end k n (rw c.in-Some.is at c.in_ok-short.ensures)) c.close_as_named.ensures.err
+    (short_end k n (rw c.in-Some.is at c.in_ok-short.ensures.renamed)) c.close_as_named.ensures.err
