@@ -5,23 +5,25 @@
 //! where memory for them was refused, as for any want of memory, and 8 for any other cause.
 #![tactic(auto)]
 
-mod real_files;
-mod real_sink;
-mod words;
-
 use pipecheck_run::run;
-use real_files::RealFiles;
-use real_sink::RealSink;
+use real_outside::{RealFiles, RealSink, number_without};
 use std::process::ExitCode;
+use std::{env, io};
 
 fn main(rt: HostRuntime) -> ExitCode {
-    match words::after_name(&rt) {
+    match words_after_name(&rt) {
         Ok(words) => {
             let mut files = RealFiles::new(rt);
             let mut out = RealSink::new(rt.stdout());
             let status = run(rt.alloc(), words.as_slice(), &mut files, &mut out);
             ExitCode::from(status.number())
         }
-        Err(error) => ExitCode::from(words::number_without(error.kind())),
+        Err(error) => ExitCode::from(number_without(error.kind())),
     }
+}
+
+/// The words after the program's name. Fails with the kind `OutOfMemory` where memory for them was
+/// refused, and with another where a word is not UTF-8.
+fn words_after_name(rt: &HostRuntime) -> io::Result<Vec<String>> {
+    Ok(env::args(rt)?.skip(1).collect(rt.alloc())?)
 }

@@ -21,8 +21,6 @@ mod kernels;
 mod mark;
 mod steps;
 mod table;
-#[cfg(test)]
-mod tests;
 mod trail;
 
 pub use kernels::{meets_words, or_words};

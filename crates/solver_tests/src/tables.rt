@@ -1,10 +1,11 @@
+//! The table of bits: what its growths answer, what a mark brings back, and the loops over words.
 ghost use Rattle.std.specs.Prelude.{◌≡◌, ◌<◌, ◌≤◌};
 
-use super::{Steps, UndoTable, meets_words, or_words};
 use pc_common::Memory;
 use std::alloc::Global;
 use std::marker::Brand;
 use std::sync::ledger::{Blank, Ledger};
+use undo_trail::{Steps, UndoTable, meets_words, or_words};
 
 /// The answers of the growths in order, and the two words after the table went back to the mark.
 fn grown_and_back<L: Ledger>(alloc: Global, blank: Blank) -> Result<([bool; 5], u64, u64), Memory>
