@@ -145,7 +145,9 @@ fn is_checked(alloc: Global, (model, test, text, checked): Row) -> bool {
 
 #[test]
 fn a_text_is_the_same_however_it_is_cut(rt: HostRuntime) {
-    for row in JUDGED.iter().chain(SIGNED) {
-        assert!(rt; is_checked(rt.alloc(), *row), "{}", row.2);
+    for rows in [JUDGED, SIGNED] {
+        for row in rows {
+            assert!(rt; is_checked(rt.alloc(), *row), "{}", row.2);
+        }
     }
 }

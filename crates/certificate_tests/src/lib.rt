@@ -6,8 +6,6 @@
 #[cfg(test)]
 mod certificates;
 #[cfg(test)]
-mod hostile;
-#[cfg(test)]
 mod signs;
 #[cfg(test)]
 mod verifying;

@@ -8,7 +8,7 @@ use pc_common::{Memory, Status};
 use std::alloc::Global;
 use std::test::Fail;
 
-pub(crate) const WORDS: &str = "verify model test certificate";
+const WORDS: &str = "verify model test certificate";
 
 const REFUTATION_VERIFIED: End<'static> = (Status::Unobservable, "verified unobservable\n");
 
@@ -20,11 +20,7 @@ fn is_end(alloc: Global, contents: &[(&str, &str)], end: End<'_>) -> Result<bool
 }
 
 /// Whether verify names this line as the refused one.
-pub(crate) fn is_refused_at(
-    alloc: Global,
-    contents: &[(&str, &str)],
-    line: u64,
-) -> Result<bool, Memory> {
+fn is_refused_at(alloc: Global, contents: &[(&str, &str)], line: u64) -> Result<bool, Memory> {
     let text = format!(in alloc; "certificate refused at line {line}\n")?;
     is_end(alloc, contents, (Status::CertRefused, &text))
 }

@@ -8,11 +8,7 @@ mod answers;
 #[cfg(test)]
 mod checking;
 #[cfg(test)]
-mod hostile;
-#[cfg(test)]
 mod laws;
-#[cfg(test)]
-mod models;
 #[cfg(test)]
 mod ties;
 #[cfg(test)]

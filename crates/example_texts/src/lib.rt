@@ -4,10 +4,12 @@
 #![tactic(auto)]
 
 mod certificates;
+mod listings;
 mod litmus;
 mod models;
 
 pub use certificates::TWO_IN_ORDER;
+pub use listings::{LISTED_AS_FORBIDDEN, LISTED_STORE_BUFFERING, LISTED_WITH_AN_OPEN_LOAD};
 pub use litmus::{
     EMPTY, FIRST_IS_LAST, MESSAGE_PASSING, ONE, STORE_BUFFERING, TWO, TWO_CORES, TWO_FORBIDDEN,
 };

@@ -1,6 +1,8 @@
 //! The commands check86 and verify86, through the top call: what check and verify do, of a listing.
-use super::listings::{ONE_LOAD_OPEN, STORE_BUFFERING, STORE_BUFFERING_FORBIDDEN};
-use example_texts::{IN_ORDER, LAST_WRITE, STORE_BUFFER};
+use example_texts::{
+    IN_ORDER, LAST_WRITE, LISTED_AS_FORBIDDEN, LISTED_STORE_BUFFERING, LISTED_WITH_AN_OPEN_LOAD,
+    STORE_BUFFER,
+};
 use memory_runs::{Plan, are_failures_reported, ends_over};
 use pc_common::Status;
 use std::test::Fail;
@@ -66,19 +68,19 @@ Axiom \"fence\": forall microops \"i\", AccessType MFENCE i => AddEdge ((i, S), 
 const CHECKS: &[(&'static str, &'static str, Status, &'static str)] = &[
     (
         STORE_BUFFER,
-        STORE_BUFFERING,
+        LISTED_STORE_BUFFERING,
         Status::Observable,
         SAW_NEITHER,
     ),
     (
         STORE_BUFFER,
-        STORE_BUFFERING_FORBIDDEN,
+        LISTED_AS_FORBIDDEN,
         Status::Observable,
         SAW_NEITHER_FORBIDDEN,
     ),
     (
         STORE_BUFFER,
-        ONE_LOAD_OPEN,
+        LISTED_WITH_AN_OPEN_LOAD,
         Status::Refused,
         "refused test x86-open at 8:20\n",
     ),
@@ -203,7 +205,7 @@ const VERIFIES: &[(
 )] = &[
     (
         STORE_BUFFER,
-        STORE_BUFFERING,
+        LISTED_STORE_BUFFERING,
         SAW_NEITHER,
         Status::Observable,
         "verified observable\n",
@@ -218,7 +220,7 @@ const VERIFIES: &[(
     // the second line of the other expectation
     (
         STORE_BUFFER,
-        STORE_BUFFERING,
+        LISTED_STORE_BUFFERING,
         SAW_NEITHER_FORBIDDEN,
         Status::CertRefused,
         "certificate refused at line 2\n",
@@ -226,14 +228,14 @@ const VERIFIES: &[(
     // the model forbids it
     (
         IN_ORDER,
-        STORE_BUFFERING,
+        LISTED_STORE_BUFFERING,
         SAW_NEITHER,
         Status::CertRefused,
         "certificate refused at line 15\n",
     ),
     (
         STORE_BUFFER,
-        ONE_LOAD_OPEN,
+        LISTED_WITH_AN_OPEN_LOAD,
         SAW_NEITHER,
         Status::Refused,
         "refused test x86-open at 8:20\n",
@@ -341,7 +343,7 @@ fn a_run_that_ends_early_says_why(rt: HostRuntime) -> Result<(), Fail> {
     for (command, read_fails, write_fails, status, text) in ENDS {
         let contents = &[
             ("model", STORE_BUFFER),
-            ("listing", STORE_BUFFERING),
+            ("listing", LISTED_STORE_BUFFERING),
             ("text", SAW_NEITHER),
             ("bad", "t"),
         ];

@@ -1,13 +1,7 @@
-//! Tests of listings through public calls: their cases, their first faults, and the commands check86 and verify86.
+//! Tests of the commands check86 and verify86 through the top call.
 //!
 //! They stand in a crate beside the others of tests, so that all are proved side by side.
 #![tactic(auto)]
 
 #[cfg(test)]
-mod cases;
-#[cfg(test)]
 mod commands;
-#[cfg(test)]
-mod faults;
-#[cfg(test)]
-mod listings;

@@ -1,7 +1,7 @@
-//! Listings that several tables judge.
+//! Listings of herd's for X86.
 
 /// Each of two threads writes, and then sees nothing of what the other wrote.
-pub(crate) const STORE_BUFFERING: &str = "X86 SB
+pub const LISTED_STORE_BUFFERING: &str = "X86 SB
 \"PodWR Fre PodWR Fre\"
 Com=Fr Fr
 {
@@ -14,7 +14,7 @@ exists
 ";
 
 /// The same, forbidden.
-pub(crate) const STORE_BUFFERING_FORBIDDEN: &str = "X86 SB
+pub const LISTED_AS_FORBIDDEN: &str = "X86 SB
 \"PodWR Fre PodWR Fre\"
 Com=Fr Fr
 {
@@ -27,7 +27,7 @@ Com=Fr Fr
 ";
 
 /// The same with a load whose register no equation names.
-pub(crate) const ONE_LOAD_OPEN: &str = "X86 SB
+pub const LISTED_WITH_AN_OPEN_LOAD: &str = "X86 SB
 \"PodWR Fre PodWR Fre\"
 Com=Fr Fr
 {

@@ -1,5 +1,5 @@
 //! Listings and their cases, by the reader.
-use super::listings::{STORE_BUFFERING, STORE_BUFFERING_FORBIDDEN};
+use example_texts::{LISTED_AS_FORBIDDEN, LISTED_STORE_BUFFERING};
 use pc_case::{Access, Address, Case, Expect, Memop, Op, OpId, Page};
 use pc_common::{Memory, Value};
 use std::alloc::Global;
@@ -29,13 +29,13 @@ const SAME_IN_BOTH: &[Done] = &[
 
 const CASES: &[Row] = &[
     (
-        STORE_BUFFERING,
+        LISTED_STORE_BUFFERING,
         SAME_IN_BOTH,
         &[(0, 0, None), (1, 0, None), (2, 0, None)],
         Expect::Unstated,
     ),
     (
-        STORE_BUFFERING_FORBIDDEN,
+        LISTED_AS_FORBIDDEN,
         SAME_IN_BOTH,
         &[(0, 0, None), (1, 0, None)],
         Expect::Forbidden,

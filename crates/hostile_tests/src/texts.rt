@@ -1,6 +1,6 @@
 //! Models and tests that are made to break their readers: long chains of macros, 40,000 edges of one axiom, and one
 //! micro-op too many.
-use super::models::joined;
+use super::limits::joined;
 use example_texts::{EMPTY, ONE};
 use memory_runs::{End, ends_over};
 use pc_common::{Memory, Status};

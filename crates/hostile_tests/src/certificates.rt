@@ -1,13 +1,13 @@
 //! Certificates that are made to break the judge: each beginning of one, a million splits, and one byte too many.
-use super::certificates::REFUTED;
-use super::verifying::{WORDS, is_refused_at};
 use example_texts::{EITHER_ORDER, TWO_FORBIDDEN};
-use memory_runs::{ends_in, held, words};
+use memory_runs::{ends_in, ends_over, held, words, written};
 use pc_common::{Bytes, Calls, Held, HeldFile, MemFiles, Memory, Status};
 use std::alloc::Global;
 use std::test::Fail;
 
-/// Whether the text is refused at this line.
+const WORDS: &str = "verify model test certificate";
+
+/// Whether verify names this line of the text as the refused one.
 fn is_refused(alloc: Global, text: &[u8], line: u64) -> Result<bool, Memory> {
     let Ok(text) = str::from_utf8(text) else {
         return Ok(false);
@@ -17,7 +17,14 @@ fn is_refused(alloc: Global, text: &[u8], line: u64) -> Result<bool, Memory> {
         ("test", TWO_FORBIDDEN),
         ("certificate", text),
     ];
-    is_refused_at(alloc, contents, line)
+    let answer = format!(in alloc; "certificate refused at line {line}\n")?;
+    ends_over(
+        alloc,
+        WORDS,
+        contents,
+        (&[], &[]),
+        (Status::CertRefused, &answer),
+    )
 }
 
 /// Whether each beginning of the text is refused at the line in which it ends.
@@ -34,9 +41,13 @@ fn are_beginnings_refused(alloc: Global, text: &[u8]) -> Result<bool, Memory> {
     Ok(true)
 }
 
+/// The refutation that check writes has a split, and so two branches.
 #[test]
 fn a_beginning_is_refused_at_its_last_line(rt: HostRuntime) -> Result<(), Fail> {
-    assert!(rt; are_beginnings_refused(rt.alloc(), REFUTED.as_bytes())?);
+    let contents = &[("model", EITHER_ORDER), ("test", TWO_FORBIDDEN)];
+    let text = written(rt.alloc(), "check model test", contents)?;
+    assert!(rt; text.starts_with(b"unobservable\n"));
+    assert!(rt; are_beginnings_refused(rt.alloc(), &text)?);
     Ok(())
 }
 

@@ -1,5 +1,5 @@
 //! Listings that are refused, by the reader: the first fault of each, with its place.
-use super::listings::ONE_LOAD_OPEN;
+use example_texts::LISTED_WITH_AN_OPEN_LOAD;
 use pc_common::{FaultKind, Memory, Place, Value, line_col};
 use std::alloc::Global;
 use std::test::Fail;
@@ -258,7 +258,7 @@ const CONTENT: &[Faulty] = &[
         FaultKind::X86Again,
         (5, 20),
     ),
-    (ONE_LOAD_OPEN, FaultKind::X86Open, (8, 20)),
+    (LISTED_WITH_AN_OPEN_LOAD, FaultKind::X86Open, (8, 20)),
     // no location's equation says what a load reads
     (
         "X86 t\n{}\nP0;\nMOV EAX,[x];\nexists (EAX=0 /\\ x=0)\n",
