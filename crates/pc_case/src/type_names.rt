@@ -4,7 +4,7 @@ ghost use Rattle.std.specs.List.{list_any};
 ghost use Rattle.pc_common.specs.Names.{same_name};
 
 use super::name_set::NameSet;
-use pc_common::{Listed, Memory};
+use pc_common::Memory;
 use std::alloc::Global;
 use std::marker::Model;
 
@@ -108,12 +108,4 @@ fn begin_of(ends: &[usize], k: usize) -> usize
     ensures { result ≡ slice_index_or (0 ∷ ends.now) k 0 }
 {
     if k == 0 { 0 } else { ends[k - 1] }
-}
-
-/// A name once more.
-pub(crate) fn copy_name(alloc: Global, name: &Listed<u8>) -> Result<Listed<u8>, Memory>
-    ensures { IfOk result (λ c. c ≡ name.now) }
-{
-    let bytes = Vec::from_slice(alloc, name.as_slice())?;
-    Ok(Listed::from_vec(bytes))
 }
