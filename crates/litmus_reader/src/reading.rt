@@ -80,7 +80,7 @@ pub(crate) fn names_at(
     let mut names = TypeNames::new(alloc);
     let mut next = k;
     while next < tokens.len() && is_name_at(tokens, next) {
-        names.push(name_at(alloc, tokens, next)?)?;
+        names.push(tokens.get(next).piece)?;
         next += 1;
     }
     Ok((names, next))

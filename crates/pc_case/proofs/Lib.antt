@@ -2,3 +2,4 @@ pub mod Cores
 pub mod Values
 pub mod Lookups
 pub mod Names
+pub mod Pieces

@@ -4,7 +4,6 @@ ghost use Rattle.pc_common.specs.Dependencies.{depends_by};
 ghost use Rattle.pc_case.specs.Tables.{has_kind, goes_between};
 
 use super::name_set::NameSet;
-use super::type_names::copy_name;
 use indexmap::IndexMap;
 use pc_common::{Listed, Memory};
 use std::alloc::Global;
@@ -33,8 +32,9 @@ impl Dependency {
     pub fn copy(&self, alloc: Global) -> Result<Dependency, Memory>
         ensures { IfOk result (λ c. c ≡ self.now) }
     {
+        let kind = Vec::from_slice(alloc, self.kind.as_slice())?;
         Ok(Dependency {
-            kind: copy_name(alloc, &self.kind)?,
+            kind: Listed::from_vec(kind),
             source: self.source,
             target: self.target,
         })

@@ -1,36 +1,44 @@
-ghost use Rattle.std.specs.Prelude.{◌≡◌, ◌^◌, ◌<◌, ◌++◌, [], ◌∷◌, Some, IfOk, length, slice_get, is_ok, take};
+ghost use Rattle.std.specs.Prelude.{◌≡◌, ◌^◌, ◌<◌, ◌≤◌, ◌++◌, [], ◌∷◌, Some, IfOk, length, slice_get, slice_index_or, is_ok};
 ghost use Rattle.std.specs.Prelude.{if◌then◌else◌};
 ghost use Rattle.std.specs.List.{list_any};
 ghost use Rattle.pc_common.specs.Names.{same_name};
 
 use super::name_set::NameSet;
-use pc_common::{Listed, Memory};
+use pc_common::Memory;
 use std::alloc::Global;
 use std::marker::Model;
 
 /// Type names, each a list of bytes, in the order that a line gives them in. A line may give many
-/// thousands, so that a name is looked up and not searched for.
+/// thousands, so that a name is looked up and not searched for. The names stand behind each other in
+/// one block, so that the list takes no block for each of them.
 pub struct TypeNames {
-    names: Vec<Listed<u8>>,
+    bytes: Vec<u8>,
+    ends: Vec<usize>,
     known: NameSet,
 }
 
 // Written out, so that a proof of what drops the value meets one call and no field.
 impl Drop for TypeNames {
     fn drop(self) {
-        let TypeNames { names: _, known: _ } = self;
+        let TypeNames {
+            bytes: _,
+            ends: _,
+            known: _,
+        } = self;
     }
 }
 
 impl Model for TypeNames {
-    ghost use Rattle.std.specs.Prelude.{ℕ, List, ◌<◌, ◌^◌, length};
+    ghost use Rattle.std.specs.Prelude.{ℕ, List, length};
+    ghost use Rattle.pc_case.specs.Cuts.{cuts, Rises};
     ghost use Rattle.pc_case.specs.NameSets.{AreNamesOf};
 
     ghost Value = { List (List ℕ) };
 
-    ghost view = { λ t. t.names.items };
+    ghost view = { λ t. cuts t.bytes.items 0 t.ends.items };
 
-    ghost invariant = { λ t. (length t.names.items < 2 ^ 63) × AreNamesOf t.known t.names.items };
+    ghost invariant = { λ t. Rises 0 t.ends.items (length t.bytes.items)
+        × AreNamesOf t.known (cuts t.bytes.items 0 t.ends.items) };
 }
 
 impl TypeNames {
@@ -39,7 +47,8 @@ impl TypeNames {
         ensures { result ≡ [] }
     {
         TypeNames {
-            names: Vec::new(alloc),
+            bytes: Vec::new(alloc),
+            ends: Vec::new(alloc),
             known: NameSet::new(alloc),
         }
     }
@@ -48,22 +57,15 @@ impl TypeNames {
         ensures value { result ≡ length self.now }
         ensures bound { length self.now < 2 ^ 63 }
     {
-        self.names.len()
+        self.ends.len()
     }
 
     /// The name at `k`, from 0.
-    pub fn get(&self, k: usize) -> &Listed<u8>
+    pub fn get(&self, k: usize) -> &[u8]
         requires { k < length self.now }
         ensures { slice_get self.now k ≡ Some result.now }
     {
-        &self.names[k]
-    }
-
-    pub fn as_slice(&self) -> &[Listed<u8>]
-        ensures value { result.now ≡ self.now }
-        ensures bound { length self.now < 2 ^ 63 }
-    {
-        self.names.as_slice()
+        &self.bytes[begin_of(self.ends.as_slice(), k)..self.ends[k]]
     }
 
     /// Whether this is one of the names: one look-up of a number, and one of the name where names of
@@ -75,14 +77,16 @@ impl TypeNames {
     }
 
     /// Puts `name` last, or changes nothing where memory is refused.
-    pub fn push(&mut self, name: Listed<u8>) -> Result<(), Memory>
-        ensures { self.new ≡ (if is_ok result then self.old ++ name ∷ [] else self.old) }
+    pub fn push(&mut self, name: &[u8]) -> Result<(), Memory>
+        ensures { self.new ≡ (if is_ok result then self.old ++ name.now ∷ [] else self.old) }
     {
-        let alloc = *self.names.allocator();
+        let alloc = *self.bytes.allocator();
         // The room comes first, so that the list takes each name that the set takes.
-        self.names.reserve(1)?;
-        self.known.add(alloc, name.as_slice())?;
-        self.names.push(name)?;
+        self.bytes.reserve(name.len())?;
+        self.ends.reserve(1)?;
+        self.known.add(alloc, name)?;
+        self.bytes.extend_from_slice(name)?;
+        self.ends.push(self.bytes.len())?;
         Ok(())
     }
 
@@ -91,17 +95,17 @@ impl TypeNames {
         ensures { IfOk result (λ c. c ≡ self.now) }
     {
         let mut copies = TypeNames::new(alloc);
-        for name in self.names.as_slice() {
-            copies.push(copy_name(alloc, name)?)?;
+        for k in 0..self.len() {
+            copies.push(self.get(k))?;
         }
         Ok(copies)
     }
 }
 
-/// A name once more.
-pub(crate) fn copy_name(alloc: Global, name: &Listed<u8>) -> Result<Listed<u8>, Memory>
-    ensures { IfOk result (λ c. c ≡ name.now) }
+/// Where the name at `k` begins: the first one at 0, another where the one before it ends.
+fn begin_of(ends: &[usize], k: usize) -> usize
+    requires { k ≤ length ends.now }
+    ensures { result ≡ slice_index_or (0 ∷ ends.now) k 0 }
 {
-    let bytes = Vec::from_slice(alloc, name.as_slice())?;
-    Ok(Listed::from_vec(bytes))
+    if k == 0 { 0 } else { ends[k - 1] }
 }

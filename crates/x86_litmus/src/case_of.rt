@@ -34,7 +34,7 @@ fn type_names(alloc: Global, action: Action<'_>) -> Result<TypeNames, Memory>
 {
     let mut names = TypeNames::new(alloc);
     if let Action::Fence = action {
-        names.push(Listed::from_vec(b"MFENCE".to_vec(alloc)?))?;
+        names.push(b"MFENCE")?;
     }
     Ok(names)
 }

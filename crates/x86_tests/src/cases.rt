@@ -190,7 +190,7 @@ fn is_on(op: &Op, thread: u64) -> bool {
 
 /// Whether the only type is `MFENCE`.
 fn is_mfence(op: &Op) -> bool {
-    op.types.len() == 1 && op.types.get(0).as_slice() == b"MFENCE".as_slice()
+    op.types.len() == 1 && op.types.get(0) == b"MFENCE".as_slice()
 }
 
 fn is_done(op: &Op, done: Done) -> bool {

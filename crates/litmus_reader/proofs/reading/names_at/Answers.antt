@@ -1,6 +1,8 @@
-use Rattle.std.proofs.Common.{◌≡◌, ℕ, ◌+◌, List, [], ◌∷◌, ◌++◌, length, arith, sym, ap, ◌∙◌, refl, append_assoc}
+use Rattle.std.proofs.Common.{◌≡◌, ℕ, ◌+◌, List, [], ◌∷◌, ◌++◌, Some, length, arith, sym, ap, ◌∙◌, append_assoc}
 use Rattle.std.proofs.lemmas.List.{append-nil, length-append}
 use Rattle.std.proofs.lemmas.Option.{slice_get_within}
+use Rattle.uspec_lexer.specs.View.{plain}
+use Rattle.uspec_lexer.specs.Token.{Token as PlainToken}
 use Rattle.litmus_reader.specs.Reading.{IsNameAt}
 use Rattle.litmus_reader.proofs.Places.{names-more, names-none}
 use Rattle.litmus_reader.proofs.reading.names_at.Goals as goal
@@ -9,10 +11,10 @@ use Rattle.litmus_reader.proofs.reading.names_at.Goals.{then-loop-next-test+else
 pub loop-next-preserved : goal.loop-next-preserved
 loop-next-preserved c =
     let n : IsNameAt c.args.tokens.now c.loop-next.next = c.is_name_at.ensures.0 c.if-is_name_at.true in
-    let read : c.in_ok-name_at.field-0 ≡ n.token.piece =
-    c.in_ok-name_at.ensures n.token.piece (record { token = n.token; at = n.at; is = (n.named, refl) }) in
+    let found : Some (plain c.get.result) ≡ Some n.token = sym c.get.ensures ∙ n.at in
+    let read : plain c.get.result ≡ n.token = cc in
     let pushed : c.push.new.self ≡ c.loop-next.names ++ n.token.piece ∷ [] =
-    c.in_ok-push.ensures ∙ ap (λ (x : List ℕ). c.loop-next.names ++ x ∷ []) read in
+    c.in_ok-push.ensures ∙ ap (λ (t : PlainToken). c.loop-next.names ++ t.piece ∷ []) read in
     record {
       reached = omega (arith, c.loop-next.invariant.reached, ap length pushed, length-append c.loop-next.names (n.token.piece ∷ []));
       within = omega arith;
