@@ -1,9 +1,9 @@
 //! Which axioms forbid the outcome, with the certificates, line by line.
+use super::rows::{Row, first_wrong};
 use example_texts::{
     BOTH_ORDERS, EITHER_ORDER, EMPTY, IN_ORDER, MESSAGE_PASSING, ONE, ORDERED, SOME_OP, TWO,
     TWO_FORBIDDEN,
 };
-use memory_runs::ends_over;
 use pc_common::Status;
 use std::test::Fail;
 
@@ -58,7 +58,7 @@ Axiom \"self\": forall microops \"i\", ExpandMacro before_itself i.
 ";
 
 /// A model and a test, and the text of their core.
-const CORES: &[(&'static str, &'static str, &'static str)] = &[
+const CORES: &[Row] = &[
     // no axioms
     (
         "",
@@ -136,13 +136,8 @@ const CORES: &[(&'static str, &'static str, &'static str)] = &[
 
 #[test]
 fn a_core_comes_with_its_certificates(rt: HostRuntime) -> Result<(), Fail> {
-    for (model, test, text) in CORES {
-        let contents = &[("model", *model), ("test", *test)];
-        let end = (Status::Done, *text);
-        assert!(rt;
-            ends_over(rt.alloc(), "core model test", contents, (&[], &[]), end)?,
-            "{text}"
-        );
+    if let Some(text) = first_wrong(rt.alloc(), CORES, Status::Done)? {
+        panic!(rt; "{text}");
     }
     Ok(())
 }

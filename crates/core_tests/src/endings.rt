@@ -1,4 +1,5 @@
 //! How the command ends without a core: words, faults of the two files, and calls that fail.
+use super::rows::{Row, first_wrong};
 use example_texts::{BOTH_ORDERS, ORDERED, TWO, TWO_FORBIDDEN};
 use memory_runs::ends_over;
 use pc_common::Status;
@@ -6,35 +7,13 @@ use std::test::Fail;
 
 const USAGE: &str = "pipecheck: bad command line\n";
 
-const NO_COMMANDS: &[&'static str] = &[
-    "core",
-    "core model",
-    "core model test more",
-    "Core model test",
-    "cores model test",
-    "model test core",
-];
-
-#[test]
-fn words_of_no_command_are_told_so(rt: HostRuntime) -> Result<(), Fail> {
-    for command in NO_COMMANDS {
-        let contents = &[("model", ORDERED), ("test", TWO)];
-        let end = (Status::Usage, USAGE);
-        assert!(rt;
-            ends_over(rt.alloc(), command, contents, (&[], &[]), end)?,
-            "{command}"
-        );
-    }
-    Ok(())
-}
-
 /// The first axiom forbids every outcome, and the second, which would be no part of a core, has a fault.
 const NEVER_AND_UNBOUND: &str = "Axiom \"never\": False.
 Axiom \"n\": NodeExists (i, S).
 ";
 
 /// A model and a test, and the line that refuses them.
-const REFUSED: &[(&'static str, &'static str, &'static str)] = &[
+const REFUSED: &[Row] = &[
     ("True.", TWO, "refused model syntax at 1:1\n"),
     ("Axiom \"a: True.", TWO, "refused model lexical at 1:7\n"),
     (NEVER_AND_UNBOUND, TWO, "refused model unbound at 2:24\n"),
@@ -52,13 +31,8 @@ const REFUSED: &[(&'static str, &'static str, &'static str)] = &[
 
 #[test]
 fn a_fault_of_the_two_files_comes_before_all(rt: HostRuntime) -> Result<(), Fail> {
-    for (model, test, text) in REFUSED {
-        let contents = &[("model", *model), ("test", *test)];
-        let end = (Status::Refused, *text);
-        assert!(rt;
-            ends_over(rt.alloc(), "core model test", contents, (&[], &[]), end)?,
-            "{text}"
-        );
+    if let Some(text) = first_wrong(rt.alloc(), REFUSED, Status::Refused)? {
+        panic!(rt; "{text}");
     }
     Ok(())
 }
@@ -78,7 +52,14 @@ const FAILS: &[(
     ("core model test", &[2], &[], Status::ReadFault, ""),
     ("core model test", &[3], &[], Status::ReadFault, ""),
     ("core model test", &[4], &[], Status::ReadFault, ""),
-    // no word is a command, and no file is started
+    // the words are no command
+    ("core", &[], &[], Status::Usage, USAGE),
+    ("core model", &[], &[], Status::Usage, USAGE),
+    ("core model test more", &[], &[], Status::Usage, USAGE),
+    ("Core model test", &[], &[], Status::Usage, USAGE),
+    ("cores model test", &[], &[], Status::Usage, USAGE),
+    ("model test core", &[], &[], Status::Usage, USAGE),
+    // and no file is started
     ("core model", &[1], &[], Status::Usage, USAGE),
     // each line before the first certificate is one piece
     ("core model test", &[], &[1], Status::WriteFault, ""),

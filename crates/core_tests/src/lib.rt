@@ -14,3 +14,5 @@ mod laws;
 mod many;
 #[cfg(test)]
 mod parts;
+#[cfg(test)]
+mod rows;

@@ -1,8 +1,8 @@
 //! Two hundred axioms, of which two matter.
+use super::rows::joined;
 use example_texts::TWO_FORBIDDEN;
 use memory_runs::ends_over;
-use pc_common::{Memory, Status};
-use std::alloc::Global;
+use pc_common::Status;
 use std::test::Fail;
 
 const NODE: &str = "Axiom \"node\": forall microops \"i\", NodeExists (i, S).\n";
@@ -16,19 +16,14 @@ const REVERSE: &str = "Axiom \"rev\": forall microops \"i\", forall microops \"j
 ";
 
 /// A model of two hundred axioms: program order is kept by the one of number 57, and reversed by the one of number 142.
-fn two_hundred_axioms(alloc: Global) -> Result<String, Memory> {
-    let mut text = String::new(alloc);
-    text.push_str("StageName 0 \"S\".\n")?;
-    for number in 0..200 {
-        let axiom = match number {
-            57 => ORDER,
-            142 => REVERSE,
-            _ => NODE,
-        };
-        text.push_str(axiom)?;
-    }
-    Ok(text)
-}
+const TWO_HUNDRED: &[(&'static str, usize)] = &[
+    ("StageName 0 \"S\".\n", 1),
+    (NODE, 57),
+    (ORDER, 1),
+    (NODE, 84),
+    (REVERSE, 1),
+    (NODE, 57),
+];
 
 const CORE: &str = "core 2
 axiom 57
@@ -57,7 +52,7 @@ end
 
 #[test]
 fn two_of_two_hundred_axioms_matter(rt: HostRuntime) -> Result<(), Fail> {
-    let model = two_hundred_axioms(rt.alloc())?;
+    let model = joined(rt.alloc(), TWO_HUNDRED)?;
     let contents = &[("model", model.as_str()), ("test", TWO_FORBIDDEN)];
     let end = (Status::Done, CORE);
     assert!(rt; ends_over(rt.alloc(), "core model test", contents, (&[], &[]), end)?);

@@ -1,4 +1,5 @@
 //! The certificates of a core are those that check writes for the models of just those axioms.
+use super::rows::joined;
 use example_texts::STORE_BUFFERING;
 use memory_runs::written;
 use pc_common::Memory;
@@ -23,33 +24,32 @@ const READS: &str = "Axiom \"read\": forall microops \"i\", IsAnyRead i =>
     /\\ AddEdge ((w, Mem), (i, Mem), \"rf\").
 ";
 
-/// What a command writes for the stages with these axioms, and store buffering.
-fn written_of(alloc: Global, command: &str, axioms: &[&str]) -> Result<Vec<u8>, Memory> {
-    let mut model = String::new(alloc);
-    model.push_str(STAGES)?;
-    for axiom in axioms {
-        model.push_str(axiom)?;
-    }
-    written(
-        alloc,
-        command,
-        &[("model", model.as_str()), ("test", STORE_BUFFERING)],
-    )
+/// The stages with all three axioms.
+const MODEL: &[(&'static str, usize)] = &[(STAGES, 1), (PATH, 1), (ORDER, 1), (READS, 1)];
+
+/// What a command writes for a model in pieces, and store buffering.
+fn written_of(alloc: Global, command: &str, pieces: &[(&str, usize)]) -> Result<Vec<u8>, Memory> {
+    let model = joined(alloc, pieces)?;
+    let contents = &[("model", model.as_str()), ("test", STORE_BUFFERING)];
+    written(alloc, command, contents)
 }
 
-/// A line, and the axioms of which the certificate follows.
-type Piece = (&'static str, &'static [&'static str]);
+/// A line, and the model whose certificate follows.
+type Piece = (&'static str, &'static [(&'static str, usize)]);
 
 const PIECES: &[Piece] = &[
-    ("core 2\naxiom 1\naxiom 2\nrefutation\n", &[ORDER, READS]),
-    ("without 1\n", &[READS]),
-    ("without 2\n", &[ORDER]),
+    (
+        "core 2\naxiom 1\naxiom 2\nrefutation\n",
+        &[(STAGES, 1), (ORDER, 1), (READS, 1)],
+    ),
+    ("without 1\n", &[(STAGES, 1), (READS, 1)]),
+    ("without 2\n", &[(STAGES, 1), (ORDER, 1)]),
 ];
 
 /// Puts a line behind the text, and the certificate that check writes.
-fn put_piece(text: &mut Vec<u8>, alloc: Global, (line, axioms): Piece) -> Result<(), Memory> {
+fn put_piece(text: &mut Vec<u8>, alloc: Global, (line, model): Piece) -> Result<(), Memory> {
     text.extend_from_slice(line.as_bytes())?;
-    text.extend_from_slice(&written_of(alloc, "check model test", axioms)?)?;
+    text.extend_from_slice(&written_of(alloc, "check model test", model)?)?;
     Ok(())
 }
 
@@ -65,7 +65,7 @@ fn lines_with_checks(alloc: Global) -> Result<Vec<u8>, Memory> {
 
 #[test]
 fn each_certificate_is_that_of_a_check(rt: HostRuntime) -> Result<(), Fail> {
-    let core = written_of(rt.alloc(), "core model test", &[PATH, ORDER, READS])?;
+    let core = written_of(rt.alloc(), "core model test", MODEL)?;
     let text = lines_with_checks(rt.alloc())?;
     assert!(rt; core == text);
     Ok(())

@@ -11,3 +11,6 @@ unreachable-requires g c =
     (part_allow front keep c.in_ok-kept.kept c.in_ok-kept.ensures
     (found_allow c.in_ok-kept.kept c.in-Observable.field-0 (rw c.in-Observable.is at c.in_ok-steps.ensures)))
     c.requires.forbidden
+
+pub returns : goal.returns
+returns g c = (c.in_ok-kept.ensures, rw c.in-Unobservable.is at c.in_ok-steps.ensures)

@@ -10,3 +10,6 @@ unreachable-requires g c =
     never_both front.case (taken keep (plain_axioms front.axioms)) c.requires.allowed
     (part_forbid front keep c.in_ok-part.part c.in_ok-part.ensures
     (found_forbid c.in_ok-part.part c.in-Unobservable.field-0 (rw c.in-Unobservable.is at c.in_ok-graph.ensures)))
+
+pub returns : goal.returns
+returns g c = (c.in_ok-part.ensures, rw c.in-Observable.is at c.in_ok-graph.ensures)

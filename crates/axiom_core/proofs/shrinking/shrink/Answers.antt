@@ -1,4 +1,4 @@
-use Rattle.std.proofs.Common.{◌≡◌, ◌∙◌, Bool, true, List, length, replicate, rules, sym, ap, subst}
+use Rattle.std.proofs.Common.{◌≡◌, ◌∙◌, Bool, true, List, length, replicate, sym, ap, subst}
 use Rattle.std.proofs.lemmas.List.{length-map}
 use Rattle.pc_ground.specs.Stages.{plain_axioms}
 use Rattle.axiom_core.specs.Choices.{IsTried}
@@ -9,7 +9,7 @@ pub try_all-requires : goal.try_all-requires
 try_all-requires g c =
     let front = c.args.front.now in
     let ps = plain_axioms front.axioms in
-    let set : c.in_ok-flags.flags.items ≡ replicate c.len.result true = c.in_ok-flags.ensures.items_if_clones_equal (search rules) in
+    let set : c.in_ok-flags.flags.items ≡ replicate c.len.result true = c.in_ok-flags.ensures.items_if_clones_equal (λ y same. same) in
     let size : length ps ≡ length front.axioms = length-map front.axioms _ in
     let all : c.in_ok-flags.flags.items ≡ replicate (length ps) true =
     set ∙ ap (λ n. replicate n true) (c.len.ensures.value ∙ sym size) in

@@ -1,5 +1,5 @@
 use Rattle.pc_ground.specs.Stages.{plain_axioms}
-use Rattle.axiom_core.proofs.Tries.{tried_dropped}
+use Rattle.axiom_core.proofs.Tries.{tried_dropped, tried_kept}
 use Rattle.axiom_core.proofs.shrinking.try_without.Goals as goal
 
 pub returns-then-branch : goal.returns-then-branch
@@ -7,3 +7,8 @@ returns-then-branch g c =
     let front = c.args.front.now in
     tried_dropped front.case (plain_axioms front.axioms) c.args.flags.now c.args.at c.requires.tried c.requires.inside
     (rw c.if-branch.true at c.in_ok-are_refuted.ensures)
+
+pub returns-else-branch : goal.returns-else-branch
+returns-else-branch g c =
+    let front = c.args.front.now in
+    tried_kept front.case (plain_axioms front.axioms) c.args.flags.now c.args.at c.requires.tried (rw c.if-branch.false at c.in_ok-are_refuted.ensures)
