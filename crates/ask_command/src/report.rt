@@ -8,7 +8,7 @@ use ask_words::{AskWord, word};
 use pc_common::{Failed, Sink, write_all};
 use verdicts::write_verdict;
 
-/// The line of the word, and the one behind it.
+/// The line of the word, and the one after it.
 fn head(word: AskWord) -> &'static [u8]
     ensures { result.now ≡ head_text word }
 {

@@ -58,7 +58,7 @@ const ANSWERS: &[(&'static str, &'static str, &'static str, &'static str)] = &[
         "exists microop \"i\", NodeExists (i, S)",
         "ask sometimes\nwith\nobservable\ntest unstated\nnode 0.0@0:S\nend\nagainst\nobservable\ntest unstated\nend\nend\n",
     ),
-    // behind a comment, and before one
+    // after a comment, and before one
     (
         NO_AXIOMS,
         ONE,

@@ -50,7 +50,7 @@ all_more p [] x = and-true (p x)
 all_more p (y ∷ ys) x = ap (λ b. p y && b) (all_more p ys x) ∙ and_assoc (p y) (list_all p ys) (p x)
 
 module _ (c : Case) (stages : List Stage) (ps : List PlainClosed) (p : PlainClosed) where
-  -- the axioms with this one behind them
+  -- the axioms with this one after them
   satisfied_more : (front : Front) → IsFrontMore c stages ps p front → (w : World Node)
       → closed_satisfies (plain_axioms front.axioms) front.case w ≡ (closed_satisfies ps c w && closed_true c w [] p)
   satisfied_more front is w =

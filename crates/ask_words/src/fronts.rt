@@ -11,7 +11,7 @@ use pc_ground::{Front, Parts, copy_stages};
 use pc_syntax::Closed;
 use std::alloc::Global;
 
-/// The parts once more, in memory of their own, with one axiom more behind the others.
+/// The parts once more, in memory of their own, with one axiom more after the others.
 fn parts_more(alloc: Global, parts: &Parts, last: Closed) -> Result<Parts, Memory>
     requires { StagesWithin (numbers_of (map plain_stage parts.now.stages)) (plain_closed last.body) }
     ensures case { IfOk result (λ p. p.case ≡ parts.now.case) }
@@ -30,7 +30,7 @@ fn parts_more(alloc: Global, parts: &Parts, last: Closed) -> Result<Parts, Memor
     })
 }
 
-/// The front of these parts with one axiom more behind the others.
+/// The front of these parts with one axiom more after the others.
 pub(crate) fn front_more<S: Search>(
     alloc: Global,
     parts: &Parts,

@@ -25,7 +25,7 @@ begins_wide q ls (one_graph nodes edges of_names ends is) = in_graph nodes edges
 begins_wide q ls (one_tree steps opens run is) = in_tree version_one steps opens run is
 begins_wide q ls (one_whole v certificate) = whole v (certificate_wide q v ls certificate)
 
--- behind a header of a refutation stands the line of version 2
+-- after a header of a refutation stands the line of version 2
 pub record HasTwo (q : Question) (ls : List Line) : Type 0 where
   pub more : List Line
   pub are : ls ≡ header q unobservable ++ version_two ∷ more
@@ -50,7 +50,7 @@ no_two q l [] tail more (inr last) words e =
 no_two q l (s ∷ steps) tail more which words e =
     let same : step s ≡ l = cc in no_version_step q.names s (ap (line_words q.names) same ∙ words)
 
--- by the rules of version 1 no line with the text of that line stands behind a header of a refutation
+-- by the rules of version 1 no line with the text of that line stands after a header of a refutation
 pub one_not_two : (q : Question) (l : Line) (more : List Line) → line_words q.names l ≡ codes "version 2"
     → BeginsOne q (header q unobservable ++ l ∷ more) → ⊥
 one_not_two q l more words (one_header v others is) = cc

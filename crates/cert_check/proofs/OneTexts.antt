@@ -24,7 +24,7 @@ use Rattle.cert_check.proofs.Propers.{proper_header, proper_certificate}
 use Rattle.cert_check.proofs.Raws.{line_from_lacks, raw_lines, text_of_words}
 use Rattle.cert_check.proofs.OneLines.{certificate_wide, HasTwo, one_or_two, raw_one_wide, raw_whole_wide, raw_one_first, raw_one_whole, raw_two_stuck}
 
--- the header of a refutation and what stands behind it, as a text
+-- the header of a refutation and what stands after it, as a text
 pub header_lines : (q : Question) (ls : List Line) → lines_text q.names (header q unobservable ++ ls) ≡ header_text q.expectation ++ lines_text q.names ls
 header_lines q ls =
     sym (append_assoc (line_text q.names (verdict unobservable)) (line_text q.names (second unobservable q.expectation)) (lines_text q.names ls))

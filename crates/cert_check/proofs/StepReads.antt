@@ -49,7 +49,7 @@ runs_readable q asked v (close l ∷ ss) (ps ∷ opens) rest r =
     (readable_of q asked (close l) (line_of_run q asked v (close l) (ps ∷ opens) opens (line_words q.names (step (close l))) (r.0, refl) refl))
     (runs_readable q asked v ss opens rest r.1)
 
--- behind the header all steps are ahead
+-- after the header all steps are ahead
 pub ahead_start : (q : Question) → IsAsked q → (text left : List ℕ) (steps : List (Step Node)) → IsTreeText q text steps → text ≡ header_text q.expectation ++ left
     → IsAhead q.names q.tree [] steps left
 ahead_start q asked text left steps t is = record {
@@ -88,7 +88,7 @@ never_one_line {names} {t} {done} {more} {text} ahead line = go more ahead.text_
 line_of : {names : Names} {s : Step Node} {line : List ℕ} → IsReadable names s → line ≡ step_words names s → IsLineOf names line s
 line_of r is = record { has_line = r.has_line; inside = r.inside; is = is }
 
--- how the first line is that of the first step, and which text is behind it
+-- how the first line is that of the first step, and which text is after it
 record FirstStep (names : Names) (more : List (Step Node)) (line rest : List ℕ) : Type 0 where
   first : Step Node
   others : List (Step Node)
@@ -108,7 +108,7 @@ first_step {names} {t} {done} {more} {text} {line} {rest} ahead first other = go
         (sym (first.text_is ∙ first_cons line rest) ∙ is ∙ lines_cons names (step s) (map step ss ++ end ∷ [])) in
         record { first = s; others = ss; more_is = refl; line_is = same.0; rest_is = same.1 }
 
--- the last line stands behind the last step
+-- the last line stands after the last step
 pub last_ahead : {names : Names} {t : GroundTree Node} {done more : List (Step Node)} {text line rest : List ℕ} → IsAhead names t done more text → IsFirstLine text line rest
     → line ≡ codes "end" → more ≡ []
 last_ahead {names} {t} {done} {more} {text} {line} {rest} ahead first is_end = go more ahead.text_is ahead.each
@@ -144,7 +144,7 @@ fold_snoc : (n : ℕ) (xs : List (Step Node)) (s : Step Node) → fold open_afte
 fold_snoc n [] s = refl
 fold_snoc n (x ∷ xs) s = fold_snoc (open_after n x) xs s
 
--- the branches behind a step
+-- the branches after a step
 record StepsTo (t : GroundTree Node) (s : Step Node) (ss : List (Step Node)) (n : ℕ) : Type 0 where
   opens : List Branch
   count : open_after n s ≡ length opens

@@ -14,7 +14,7 @@ use Rattle.refutation.specs.Steps.{HasLine, IsStepIn, open_branches}
 abbrev pub header_text : Expectation → List ℕ
 header_text e = (verdict_text unobservable ++ codes "\n") ++ (second_text unobservable e ++ codes "\n")
 
--- behind the header of a refutation stands the line of version 2
+-- after the header of a refutation stands the line of version 2
 abbrev pub SaysTwo : Expectation → List ℕ → Type 0
 SaysTwo e text = (rest : List ℕ) × (text ≡ header_text e ++ (codes "version 2\n" ++ rest))
 
@@ -32,7 +32,7 @@ pub record IsAhead (names : Names) (t : Tree Node) (done more : List (Step Node)
   pub count : open_branches done ≡ length opens
   pub runs : Runs version_one t more opens []
 
--- a line was read: a step is put last, and the text behind the line is that of the others
+-- a line was read: a step is put last, and the text after the line is that of the others
 pub record HasRead (names : Names) (t : Tree Node) (old more new : List (Step Node)) (rest : List ℕ) : Type 0 where
   pub first : Step Node
   pub others : List (Step Node)

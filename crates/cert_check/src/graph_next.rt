@@ -56,7 +56,7 @@ fn end_graph(alloc: Global, parts: &Parts, graph: &OpenGraph) -> Result<Option<G
     Ok(Some(GraphStage::Ended))
 }
 
-/// Puts the next stage in a stage's place, if there is one. Answers whether there is.
+/// Puts the next stage in a stage's place, if there is one. Returns whether there is.
 fn go_on(stage: &mut GraphStage, next: Option<GraphStage>) -> bool
     ensures { (q : Question) (lines : List Line) (text : List ℕ) → GraphAdvances q lines text next
         → HasGraphAdvanced q lines text stage.new result }
@@ -68,7 +68,7 @@ fn go_on(stage: &mut GraphStage, next: Option<GraphStage>) -> bool
     true
 }
 
-/// Takes the next line, so that the stage is the one after it. Answers whether a certificate goes on so that is no
+/// Takes the next line, so that the stage is the one after it. Returns whether a certificate goes on so that is no
 /// refutation. After false, or where memory is refused, nothing is said of the stage.
 ///
 /// A line of a graph changes the stage where it is.

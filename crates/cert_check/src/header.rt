@@ -79,7 +79,7 @@ pub(crate) fn is_second(line: &[u8], verdict: Verdict, expect: Expect) -> bool
     line == &wanted[..wanted.len() - 1]
 }
 
-/// What stands behind the header of a refutation, by what the test states; None where it does not stand in front.
+/// What stands after the header of a refutation, by what the test states; None where it does not stand in front.
 pub(crate) fn behind_header(expect: Expect, text: &[u8]) -> Option<&[u8]>
     ensures { MatchOption result ((rest : List ℕ) → text.now ≡ header_text (expectation expect) ++ rest → ⊥)
         (λ rest. text.now ≡ header_text (expectation expect) ++ rest.now) }

@@ -85,7 +85,7 @@ pub(crate) fn show_asked(front: &Front, names: &NodeText<'_>)
     let _positions = front.tree.len();
 }
 
-/// Puts the next stage in a stage's place, if there is one. Answers whether there is.
+/// Puts the next stage in a stage's place, if there is one. Returns whether there is.
 fn go_on<'a>(stage: &mut Stage<'a>, next: Option<Stage<'a>>) -> bool
     ensures { (q : Question) (lines : List Line) (text : List ℕ) → Advances q lines text next.entry
         → HasAdvanced q lines text stage.new result }
@@ -97,7 +97,7 @@ fn go_on<'a>(stage: &mut Stage<'a>, next: Option<Stage<'a>>) -> bool
     true
 }
 
-/// Takes the next line, so that the stage is the one after it. Answers whether a certificate goes on so.
+/// Takes the next line, so that the stage is the one after it. Returns whether a certificate goes on so.
 /// After false, or where memory is refused, nothing is said of the stage.
 ///
 /// A line of a graph or of a refutation changes the stage where it is. Moving the stage from line to line cost a

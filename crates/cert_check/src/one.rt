@@ -26,7 +26,7 @@ pub enum One {
     Refused(u64),
 }
 
-/// Whether behind the header of a refutation stands the line of version 2.
+/// Whether after the header of a refutation stands the line of version 2.
 fn says_two(front: &Front, bytes: &[u8]) -> bool
     ensures { (result ≡ true) ↔ SaysTwo front.now.case.expectation bytes.now }
 {

@@ -108,7 +108,7 @@ impl<'a> OpenTree<'a> {
     }
 
     /// Takes the next line, which is not the last one: the line of version 2 after the header, or a step line.
-    /// Answers whether a certificate goes on so. After false, or where memory is refused, nothing is said of the
+    /// Returns whether a certificate goes on so. After false, or where memory is refused, nothing is said of the
     /// refutation.
     pub(crate) fn take(
         &mut self,

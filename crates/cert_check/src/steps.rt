@@ -19,7 +19,7 @@ use pc_ground::{Front, NodeKey, NodeText};
 use refutation::{NodeRow, Nodes, Refutation, Step, StepHead, read_line};
 use std::alloc::Global;
 
-/// The first line without its LF, and what stands behind the LF. None where there is no LF.
+/// The first line without its LF, and what stands after the LF. None where there is no LF.
 fn first_line(text: &[u8]) -> Option<(&[u8], &[u8])>
     ensures { MatchOption result (IsLine text.now) (λ parts. IsFirstLine text.now parts.0.now parts.1.now) }
 {
@@ -79,7 +79,7 @@ fn push_line(
     }
 }
 
-/// Reads the first line of what is left of a text. A step is put last, and what stands behind its line is answered;
+/// Reads the first line of what is left of a text. A step is put last, and what stands after its line is returned;
 /// None where it is the last line.
 fn take_step<'t>(
     alloc: Global,

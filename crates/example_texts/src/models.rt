@@ -69,7 +69,7 @@ Axiom \"far\": forall microops \"i\", NodeExists (i, (5, S)) /\\ ~OnCore 5 i
   /\\ NodeExists (i, S).
 ";
 
-/// Program order is kept, and the last write of an address is behind the others.
+/// Program order is kept, and the last write of an address is after the others.
 pub const LAST_WRITE: &str = "StageName 0 \"S\".
 Axiom \"PO\": forall microops \"i\", forall microops \"j\",
   ProgramOrder i j => AddEdge ((i, S), (j, S), \"po\").
@@ -98,7 +98,7 @@ Axiom \"read\": forall microops \"i\", IsAnyRead i =>
     AddEdge ((v, Mem), (w, Mem), \"co\") \\/ AddEdge ((i, Mem), (v, Mem), \"fr\").
 ";
 
-/// Writes go to memory later than the reads behind them.
+/// Writes go to memory later than the reads after them.
 pub const STORE_BUFFER: &str = "StageName 0 \"Exec\".
 StageName 1 \"Mem\".
 Axiom \"path\": forall microops \"i\", IsAnyWrite i =>

@@ -29,16 +29,16 @@ mark_of marks b = slice_index_or marks b New
 abbrev pub nodes_of : List Visit → List ℕ
 nodes_of path = map (λ x. x.node) path
 
--- each node leads to all behind it
+-- each node leads to all after it
 abbrev pub IsPath : Arcs → List ℕ → Type 0
 IsPath v [] = Unit {0}
 IsPath v (x ∷ xs) = ((y : ℕ) → In y xs → Chain (Joins v) x y) × IsPath v xs
 
--- each node stands behind those that its edges lead to
+-- each node stands after those that its edges lead to
 abbrev pub IsSorted : Arcs → List ℕ → Type 0
 IsSorted v order = (k a b : ℕ) → slice_get order k ≡ Some a → Joins v a b → In b (take k order)
 
--- all nodes, each behind those that its edges lead to
+-- all nodes, each after those that its edges lead to
 pub record IsTopological (v : Arcs) (order : List ℕ) : Type 0 where
   pub all : (a : ℕ) → a < length v.heads → In a order
   pub known : (a : ℕ) → In a order → a < length v.heads

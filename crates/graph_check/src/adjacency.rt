@@ -52,7 +52,7 @@ impl Adjacency {
         })
     }
 
-    /// Enters the edge from `from` to `to`, behind the others. Where memory is refused, nothing changes.
+    /// Enters the edge from `from` to `to`, after the others. Where memory is refused, nothing changes.
     pub(crate) fn push(&mut self, from: u32, to: u32) -> Result<(), Memory>
         requires from { from < length self.old.heads }
         requires to { to < length self.old.heads }

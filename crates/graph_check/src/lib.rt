@@ -16,7 +16,7 @@
 //! axioms in it, one by one. They read a test and axioms, and neither a ground tree nor its node numbers.
 //!
 //! That the edges have no cycle is found by one walk along them, depth first (Tarjan 1972), which puts each node
-//! behind those that its edges lead to. What leads to a node is then worked out in that order, for the nodes that
+//! after those that its edges lead to. What leads to a node is then worked out in that order, for the nodes that
 //! the axioms ask for.
 #![tactic(auto)]
 

@@ -15,7 +15,7 @@ pub(crate) enum Mark {
     New,
     /// It is on the path: its edges are being followed.
     Open,
-    /// It is behind all that its edges lead to.
+    /// It is after all that its edges lead to.
     Done,
 }
 
@@ -55,7 +55,7 @@ fn open(search: &mut Search, adjacency: &Adjacency, node: usize) -> Result<(), M
 }
 
 /// Goes on with the last node of the path, `visit`, which was taken off it: follows its next edge, or is done
-/// with it. Answers false where the edge leads back to the path.
+/// with it. Returns false where the edge leads back to the path.
 fn step(search: &mut Search, adjacency: &Adjacency, visit: Visit) -> Result<bool, Memory>
     requires { IsSearching adjacency.now (with_visit (progress search.old) visit) }
     ensures searching { IfOk result (λ good. MatchBool good (IsSearching adjacency.now (progress search.new))
@@ -89,7 +89,7 @@ fn step(search: &mut Search, adjacency: &Adjacency, visit: Visit) -> Result<bool
     }
 }
 
-/// Goes on until the path is empty. Answers false where the edges have a cycle.
+/// Goes on until the path is empty. Returns false where the edges have a cycle.
 fn run(search: &mut Search, adjacency: &Adjacency) -> Result<bool, Memory>
     requires { IsSearching adjacency.now (progress search.old) }
     ensures searching { IfOk result (λ good. MatchBool good
@@ -105,7 +105,7 @@ fn run(search: &mut Search, adjacency: &Adjacency) -> Result<bool, Memory>
     Ok(true)
 }
 
-/// Searches from a node, where it is new. Answers false where the edges have a cycle.
+/// Searches from a node, where it is new. Returns false where the edges have a cycle.
 fn search_from(search: &mut Search, adjacency: &Adjacency, node: usize) -> Result<bool, Memory>
     requires searching { IsSearching adjacency.now (progress search.old) }
     requires at_rest { search.old.path.items ≡ [] }
@@ -125,7 +125,7 @@ fn search_from(search: &mut Search, adjacency: &Adjacency, node: usize) -> Resul
     }
 }
 
-/// All nodes, each behind those that its edges lead to; None where the edges have a cycle.
+/// All nodes, each after those that its edges lead to; None where the edges have a cycle.
 ///
 /// It takes time and memory in proportion to nodes and edges. The one error is that memory was refused.
 pub(crate) fn topological_order(

@@ -14,7 +14,7 @@ use pc_common::Memory;
 use pc_syntax::{Closed, ClosedArgs, ClosedEdge, ClosedFormula, ClosedNode, Env, Sort};
 use static_preds::{bind_next, copy_of, holds, node_key, range_len, value_in_range, with_values};
 
-/// Whether each axiom is true. None behind one that is false is walked. The one error is that memory was refused.
+/// Whether each axiom is true. None after one that is false is walked. The one error is that memory was refused.
 pub(crate) fn are_true(
     case: &Case,
     order: &mut Order<'_>,

@@ -68,7 +68,7 @@ pub no_ends_again : (names : Names) (words : List ℕ) → Lacks space words →
 no_ends_again names words lacks a b inside is =
     (let P : List ℕ → Type 0 = λ w. Lacks space w in has_mark space (node_text names a) (node_text names b) (subst P is lacks))
 
--- a line of a word before the first space, and what is behind it
+-- a line of a word before the first space, and what is after it
 module _ (names : Names) (line kind words : List ℕ) (cut : IsCut space line kind words) where
   kind_of : (word rest : List ℕ) → Lacks space word → line ≡ word ++ space ∷ rest → (kind ≡ word) × (words ≡ rest)
   kind_of word rest lacks is = cut_is space line kind words word rest cut (lacks, is)

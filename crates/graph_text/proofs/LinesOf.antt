@@ -47,7 +47,7 @@ nodes_of_edges : (es : List Edge) → nodes_in (map (λ (e : Edge). edge_line e.
 nodes_of_edges [] = refl
 nodes_of_edges (e ∷ es) = nodes_of_edges es
 
--- with a line behind them
+-- with a line after them
 nodes_before : (ns : List Node) (es : List Edge) (l : Line) → nodes_in (graph_lines ns es ++ l ∷ []) ≡ ns ++ nodes_in (l ∷ [])
 nodes_before [] es l = behind es
   where

@@ -108,7 +108,7 @@ module _ (names : Names) (readable : AreReadable names) where
         text_is = last.text_is;
       }
 
--- no node line stands behind an edge line
+-- no node line stands after an edge line
 late_node : (es fs : List Edge) (a : Node) → map (λ (e : Edge). edge_line e.0 e.1) es ≡ map (λ (e : Edge). edge_line e.0 e.1) fs ++ node_line a ∷ [] → ⊥
 late_node [] [] a e = no_lines (node_line a) [] (sym e)
 late_node [] (f ∷ fs) a e = no_lines (edge_line f.0 f.1) (map (λ (x : Edge). edge_line x.0 x.1) fs ++ node_line a ∷ []) (sym e)

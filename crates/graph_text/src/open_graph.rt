@@ -50,7 +50,7 @@ impl OpenGraph {
     }
 
     /// Puts a line last, without its LF, where it is a node line or an edge line that may stand next: a node line
-    /// where there is no edge yet, an edge line where both ends are listed. Answers whether it did.
+    /// where there is no edge yet, an edge line where both ends are listed. Returns whether it did.
     ///
     /// After false, and where memory is refused, nothing has changed.
     pub fn take(&mut self, names: &NodeText<'_>, line: &[u8]) -> Result<bool, Memory>

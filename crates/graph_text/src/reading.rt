@@ -6,7 +6,7 @@ ghost use Rattle.graph_text.specs.GraphTexts.{space, IsGraphLineIn, ReadsLine, A
 use super::graph_line::GraphLine;
 use pc_ground::{LineFault, NodeKey, NodeText};
 
-/// What stands before the first space, and what behind it; None where there is none.
+/// What stands before the first space, and what after it; None where there is none.
 fn cut(line: &[u8]) -> Option<(&[u8], &[u8])>
     ensures { MatchOption result (Lacks space line.now) (λ r. IsCut space line.now r.0.now r.1.now) }
 {

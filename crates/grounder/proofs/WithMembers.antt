@@ -43,7 +43,7 @@ before-decider : (con : Operator) (gs : List PlainGround) → with_members con g
 before-decider con [] = refl
 before-decider con (g ∷ gs) = ap (with_member con g) (before-decider con gs) ∙ with_member-decider con g
 
--- a member that decides, whatever stands behind it
+-- a member that decides, whatever stands after it
 pub decided : (con : Operator) (gs : List PlainGround) (g : PlainGround) (rest : List PlainGround)
     → g ≡ decider_of con → whole_of con (gs ++ g ∷ rest) ≡ decider_of con
 decided con gs g rest e =

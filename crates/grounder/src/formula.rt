@@ -90,7 +90,7 @@ fn ground_rest(
     operator.join(alloc, left, right)
 }
 
-/// The members of a quantifier, in the order of its range, joined from the last one. No member behind
+/// The members of a quantifier, in the order of its range, joined from the last one. No member after
 /// one that decides is walked.
 #[cycle(walk)]
 fn ground_range(

@@ -14,7 +14,7 @@ use std::alloc::Global;
 /// What the axioms say of the case together: And over them, ending in True, each unfolded, with
 /// constants folded from the bottom up, so that one is left only where it is the whole.
 ///
-/// Axioms are walked in their order, and none behind one that is False. The walk nests a call for each
+/// Axioms are walked in their order, and none after one that is False. The walk nests a call for each
 /// connective, quantifier and binding above an atom, which in a model without faults are at most 512.
 /// The memory that it takes follows the largest part that is left after folding, and never the unfolded
 /// axioms. The one error is that memory was refused.

@@ -64,7 +64,7 @@ impl Operator {
         }
     }
 
-    /// Puts a member behind those that are kept, unless it is a constant. True where it decides the
+    /// Puts a member after those that are kept, unless it is a constant. True where it decides the
     /// whole.
     #[tactic(auto, using(crate::proofs::WithMembers::decided, crate::proofs::WithMembers::skipped, crate::proofs::WithMembers::put_last))]
     pub(crate) fn keep(self, kept: &mut Vec<Ground>, member: Ground) -> Result<bool, Memory>

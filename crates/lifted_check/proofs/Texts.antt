@@ -11,7 +11,7 @@ use Rattle.lifted_check.specs.declared.stage.Stage.TheVariants.{Start, First, Se
 use Rattle.lifted_check.proofs.OneStep.{no_end_step}
 use Rattle.lifted_check.proofs.LineRuns.{lines_then, lines_cut, lines_one}
 
--- what stands behind a header in lines that begin well: step lines, or these and the last line
+-- what stands after a header in lines that begin well: step lines, or these and the last line
 pub data IsBody (q : Question) (body : List (List ℕ)) : Type 0 where
   of_steps : (opens : List Branch) → LinesRun q.case body (root q.axioms ∷ []) opens → IsBody q body
   of_all : (steps : List (List ℕ)) → body ≡ steps ++ codes "end" ∷ [] → LinesRun q.case steps (root q.axioms ∷ []) [] → IsBody q body
@@ -30,7 +30,7 @@ body_of q lines b = go b.begins
     go (inl p) = record { more = b.more; body = p.steps; are = p.are; is = of_steps p.opens p.run }
     go (inr w) = record { more = b.more; body = w.steps ++ codes "end" ∷ []; are = w.are; is = of_all w.steps refl w.run }
 
--- a body behind lines that are the whole header or more
+-- a body after lines that are the whole header or more
 pub body_at : (q : Question) (steps : List (List ℕ)) (lines : List (List ℕ)) (line : List ℕ) → lines ≡ header q ++ steps → (b : HasBody q (lines ++ line ∷ []))
     → steps ++ line ∷ b.more ≡ b.body
 body_at q steps lines line are b =
@@ -84,7 +84,7 @@ last_cut (x ∷ xs) line more (y ∷ ys) last e = go (last_cut xs line more ys l
     go (at_end none is are) = at_end none is (ap (λ (z : List ℕ). z ∷ xs) same ∙ ap (λ (zs : List (List ℕ)). y ∷ zs) are)
     go (inside more are) = inside more (ap (λ (z : List ℕ). z ∷ ys) (sym same) ∙ ap (λ (zs : List (List ℕ)). x ∷ zs) are)
 
--- a line behind steps leads on, or is the last one
+-- a line after steps leads on, or is the last one
 pub data IsNext (q : Question) (opens : List Branch) (line : List ℕ) : Type 0 where
   a_step : (next : List Branch) → LineAdvances q.case line opens next → IsNext q opens line
   the_end : line ≡ codes "end" → opens ≡ [] → IsNext q opens line
@@ -121,7 +121,7 @@ steps_next q kept lines steps opens line are run begins = go b.is
             (let P : List (List ℕ) → Type 0 = λ ls. LinesRun q.case ls (root q.axioms ∷ []) [] in
             next_in q kept steps opens line rest [] run (subst P same all))
 
--- nothing stands behind the last line
+-- nothing stands after the last line
 pub no_more : (q : Question) → (lines : List (List ℕ)) (line : List ℕ) → IsLiftedText q lines → BeginsLifted q (lines ++ line ∷ []) → ⊥
 no_more q lines line w begins = go b.is
   where

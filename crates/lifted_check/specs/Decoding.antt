@@ -43,7 +43,7 @@ abbrev pub path_of : List ℕ → Option LiftedStep
 path_of [] = None
 path_of (k ∷ ks) = option_map (λ r. close (path k r.0 r.1)) (front_and_last ks)
 
--- no step has other numbers behind its keyword; an instantiation has a value behind its number
+-- no step has other numbers after its keyword; an instantiation has a value after its number
 abbrev pub decoded : Keyword → List ℕ → Option LiftedStep
 decoded Left ks = option_map (derive LeftWay) (only_number ks)
 decoded Right ks = option_map (derive RightWay) (only_number ks)

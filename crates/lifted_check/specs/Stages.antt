@@ -9,7 +9,7 @@ use Rattle.lifted_check.specs.LiftedTexts.{Question, header, second_line, LineAd
 use Rattle.lifted_check.specs.declared.stage.Stage.{Stage}
 use Rattle.lifted_check.specs.declared.stage.Stage.TheVariants.{Start, First, Second, Steps, Ended}
 
--- step lines behind a header, which leave these branches open
+-- step lines after a header, which leave these branches open
 pub record AreStepsSoFar (q : Question) (o : Branches) (lines : List (List ℕ)) : Type 0 where
   pub steps : List (List ℕ)
   pub case : o.case.now ≡ q.case
@@ -23,12 +23,12 @@ StandsAt q Second lines = lines ≡ codes "unobservable" ∷ second_line q ∷ [
 StandsAt q (Steps o) lines = AreStepsSoFar q o lines
 StandsAt q Ended lines = IsLiftedText q lines
 
--- what the next line makes of a stage: the one behind it, or none where no text begins so
+-- what the next line makes of a stage: the one after it, or none where no text begins so
 abbrev pub GoesTo : Question → List (List ℕ) → List ℕ → Option Stage → Type 0
 GoesTo q lines line None = BeginsLifted q (lines ++ line ∷ []) → ⊥
 GoesTo q lines line (Some next) = StandsAt q next (lines ++ line ∷ [])
 
--- what came of the next line: where it is good, the next stage stands behind it; else no text begins so
+-- what came of the next line: where it is good, the next stage stands after it; else no text begins so
 abbrev pub HasGone : Question → List (List ℕ) → List ℕ → Stage → Bool → Type 0
 HasGone q lines line new true = StandsAt q new (lines ++ line ∷ [])
 HasGone q lines line new false = BeginsLifted q (lines ++ line ∷ []) → ⊥

@@ -42,7 +42,7 @@ impl<'a> LiftedChecker<'a> {
 
     /// Takes the next piece of the text. It is not copied, but for a line that ends in a later piece. Where the text
     /// with this piece is longer than 67,108,864 bytes, or a line before it was refused, the piece is only counted,
-    /// which takes no memory.
+    /// and Memory is never returned.
     pub fn feed(self, piece: &[u8]) -> Result<LiftedChecker<'a>, Memory>
         ensures took { (q : Question) (text : List ℕ) → IsFed self.entry q text
             → IfOk result (λ c. IsFed c q (text ++ piece.now)) }

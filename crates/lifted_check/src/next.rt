@@ -22,7 +22,7 @@ use pc_common::Memory;
 use pc_syntax::Closed;
 use std::alloc::Global;
 
-/// The keyword that a step line begins with, and what stands behind its space; None where the line is that of no step.
+/// The keyword that a step line begins with, and what stands after its space; None where the line is that of no step.
 fn read_keyword(line: &[u8]) -> Option<(Keyword, &[u8])>
     ensures { MatchOption result ((ops : List MicroOp) (s : LiftedStep) → IsStepLine ops line.now s → ⊥)
         (λ r. words line.now ≡ keyword_text r.0 ∷ words r.1.now) }
@@ -31,7 +31,7 @@ fn read_keyword(line: &[u8]) -> Option<(Keyword, &[u8])>
     Some((keyword_named(word)?, rest?))
 }
 
-/// Takes the line of an instantiation, of which this stands behind its keyword.
+/// Takes the line of an instantiation, of which this stands after its keyword.
 fn take_instance(case: &Case, branches: &mut Branches<'_>, rest: &[u8]) -> Result<bool, Memory>
     ensures case { branches.new.case.now ≡ branches.old.case.now }
     ensures stepped { IfOk result (λ good. (line : List ℕ) → IsCase case.now → branches.old.case.now ≡ case.now
@@ -44,7 +44,7 @@ fn take_instance(case: &Case, branches: &mut Branches<'_>, rest: &[u8]) -> Resul
     }
 }
 
-/// Takes the line of a step without a value, of which this stands behind its keyword.
+/// Takes the line of a step without a value, of which this stands after its keyword.
 fn take_numbers(
     row: &mut Vec<u64>,
     branches: &mut Branches<'_>,
@@ -67,7 +67,7 @@ fn take_numbers(
     }
 }
 
-/// Takes a step line at the first open branch. Answers whether the line is that of a step whose condition holds. After
+/// Takes a step line at the first open branch. Returns whether the line is that of a step whose condition holds. After
 /// false, or where memory is refused, nothing is said of the branches.
 pub(crate) fn take_line(
     case: &Case,
@@ -88,7 +88,7 @@ pub(crate) fn take_line(
     }
 }
 
-/// The stage behind the first line.
+/// The stage after the first line.
 fn after_start<'a>(line: &[u8]) -> Option<Stage<'a>>
     ensures { (q : Question) (lines : List (List ℕ)) → StandsAt q Start lines → GoesTo q lines line.now result }
 {
@@ -99,7 +99,7 @@ fn after_start<'a>(line: &[u8]) -> Option<Stage<'a>>
     }
 }
 
-/// The stage behind the second line.
+/// The stage after the second line.
 fn after_first<'a>(case: &Case, line: &[u8]) -> Option<Stage<'a>>
     ensures { (q : Question) (lines : List (List ℕ)) → q.case ≡ case.now → StandsAt q First lines
         → GoesTo q lines line.now result }
@@ -111,7 +111,7 @@ fn after_first<'a>(case: &Case, line: &[u8]) -> Option<Stage<'a>>
     }
 }
 
-/// The stage behind the third line.
+/// The stage after the third line.
 fn after_second<'a>(
     alloc: Global,
     case: &'a Case,
@@ -127,7 +127,7 @@ fn after_second<'a>(
     Ok(Some(Stage::Steps(Branches::new(alloc, case, axioms)?)))
 }
 
-/// The stage behind the last line, where no branch may be open.
+/// The stage after the last line, where no branch may be open.
 fn end_steps<'a>(branches: &Branches<'_>) -> Option<Stage<'a>>
     ensures { (q : Question) (lines : List (List ℕ)) → IsAsked q → AreStepsSoFar q branches.now lines
         → GoesTo q lines (codes "end") result }
@@ -139,7 +139,7 @@ fn end_steps<'a>(branches: &Branches<'_>) -> Option<Stage<'a>>
     }
 }
 
-/// Puts the next stage in a stage's place, if there is one. Answers whether there is.
+/// Puts the next stage in a stage's place, if there is one. Returns whether there is.
 fn go_on<'a>(stage: &mut Stage<'a>, next: Option<Stage<'a>>) -> bool
     ensures { (q : Question) (lines : List (List ℕ)) (line : List ℕ) → GoesTo q lines line next.entry
         → HasGone q lines line stage.new result }
@@ -151,7 +151,7 @@ fn go_on<'a>(stage: &mut Stage<'a>, next: Option<Stage<'a>>) -> bool
     true
 }
 
-/// Takes the next line, so that the stage is the one behind it. Answers whether a lifted text goes on so. After false,
+/// Takes the next line, so that the stage is the one after it. Returns whether a lifted text goes on so. After false,
 /// or where memory is refused, nothing is said of the stage.
 pub(crate) fn advance<'a>(
     alloc: Global,

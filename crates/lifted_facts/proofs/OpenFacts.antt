@@ -10,7 +10,7 @@ use Rattle.lifted_facts.specs.PlainFacts.{PlainFact, Branch, plain_fact}
 use Rattle.lifted_facts.specs.Lifted.{LiftedLeaf, LiftedStep, derive, split, close, HasPart, HasSides, Closes, HasAdvanced}
 use Rattle.lifted_facts.specs.OpenBranches.{waiting, opens_of, AreWithin}
 
--- more facts behind those that waiting branches keep change none of them
+-- more facts after those that waiting branches keep change none of them
 pub waiting_more : (b more : Branch) (ls : List Waiting) → AreWithin (length b) ls → waiting (b ++ more) ls ≡ waiting b ls
 waiting_more b more [] within = refl
 waiting_more b more (l ∷ ls) within =

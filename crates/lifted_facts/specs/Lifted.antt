@@ -98,7 +98,7 @@ IsPartial c axioms steps opens = Runs c steps (root axioms ∷ []) opens
 abbrev pub IsLiftedRefutation : Case → List PlainClosed → List LiftedStep → Type 0
 IsLiftedRefutation c axioms steps = IsPartial c axioms steps []
 
--- what came of a step: where it is good, these branches are open behind it; else its condition does not hold
+-- what came of a step: where it is good, these branches are open after it; else its condition does not hold
 abbrev pub HasAdvanced : Case → LiftedStep → List Branch → List Branch → Bool → Type 0
 HasAdvanced c s old new true = Advances c s old new
 HasAdvanced c s old new false = (rest : List Branch) → Advances c s old rest → ⊥

@@ -14,7 +14,7 @@ use Rattle.lifted_kinds.specs.declared.kind.Kind.{Kind}
 use Rattle.lifted_kinds.specs.Kinds.{kind_of, joined_kind, decider, neutral}
 use Rattle.lifted_kinds.proofs.KindLaws.{kind_of_none, kind_of_more, decided_first, decided_second, neutral_second, joined_assoc}
 
--- the next body and those behind it
+-- the next body and those after it
 pub body_next : (c : Case) (plus : Bool) (slots inside : List Bound) (sort : Sort) (p : PlainClosed) (k : ℕ) (v : Bound)
     → k < length (range_of c sort) → v ≡ bound_at sort k → inside ≡ slots ++ v ∷ []
     → bodies c plus sort p (meanings slots) k ≡ said_tree c plus p (meanings inside) ∷ bodies c plus sort p (meanings slots) (k + 1)

@@ -85,7 +85,7 @@ fn kind_of_two(
 }
 
 /// Which constant a quantifier's body is at all values of its range from a place on, or, where not `all`, at some.
-/// Values behind one that decides are not walked. Takes no memory.
+/// Values after one that decides are not walked. Takes no memory.
 #[cycle(walk)]
 pub(crate) fn kind_of_range(
     case: &Case,

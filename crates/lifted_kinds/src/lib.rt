@@ -1,7 +1,13 @@
 //! Which constant a fact of a lifted refutation is, if it is one.
 //!
+//! ```rust
+//! // the axiom is `exists microop "i", True`, and the case has no micro-op
+//! let fact = Fact::Said(Said { plus: true, formula: &axiom.body, env: Env::new(), start: 0 });
+//! assert!(rt; kind_of_fact(&case, &fact) == Kind::False);
+//! ```
+//!
 //! A fact stands for a tree: its formula under its sign, with quantifiers unfolded, predicates decided and constants
-//! folded. `specs/Trees.antt` says which. `kind_of_fact` answers whether that tree is True, False or neither, without
+//! folded. `specs/Trees.antt` says which. `kind_of_fact` returns whether that tree is True, False or neither, without
 //! making it. A list's kind is known at once, however long the list is. `part_at` lists the parts that hold with a fact.
 #![tactic(auto)]
 

@@ -126,7 +126,7 @@ const ENDS: &[(
         Status::CertRefused,
         "certificate refused at line 3\n",
     ),
-    // a step that closes nothing, and a byte behind the end
+    // a step that closes nothing, and a byte after the end
     (
         BOTH_ORDERS,
         TWO_FORBIDDEN,

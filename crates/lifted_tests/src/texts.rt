@@ -110,7 +110,7 @@ pub(crate) const PARTS: &[Row] = &[
         "unobservable\ntest unstated\nlifted\ninst 0 0.0\nleft 1\nright 1\nnot 2\nmember 2 0\nsplit 4\nabsent 6 5\nfalse 6\nend\n",
         Lifted::Refused(7),
     ),
-    // behind the list; a member of a denied one
+    // after the list; a member of a denied one
     (
         HERE_AND_NOT,
         ONE,
@@ -167,7 +167,7 @@ pub(crate) const PARTS: &[Row] = &[
         "unobservable\ntest unstated\nlifted\ninst 0 0.0\nleft 1\nright 1\nnot 3\nmember 2 0\nsplit 4\nabsent 6 6\nfalse 6\nend\n",
         Lifted::Refused(10),
     ),
-    // a fact of the other branch; no falsity; too early; behind its end
+    // a fact of the other branch; no falsity; too early; after its end
     (
         HERE_AND_NOT,
         ONE,
@@ -349,7 +349,7 @@ pub(crate) const QUANTIFIERS: &[Row] = &[
         "unobservable\ntest permitted: stricter\nlifted\nsplit 0\nfalse 1\nfalse 1\nfalse 2\nfalse 2\nend\n",
         Lifted::Refused(6),
     ),
-    // behind its end; a start before it
+    // after its end; a start before it
     (
         A_READ,
         TWO,

@@ -46,7 +46,7 @@ const ENDS: &[(
         Status::Unobservable,
         VERIFIED,
     ),
-    // no line, a line without its end, a byte behind the last line, and a byte that no line has
+    // no line, a line without its end, a byte after the last line, and a byte that no line has
     (
         SOME_OP,
         EMPTY,

@@ -1,4 +1,4 @@
--- Bytes that are put behind a text, one part after another, and the lines that they make.
+-- Bytes that are put after a text, one part after another, and the lines that they make.
 use Rattle.std.proofs.Common.{◌≡◌, ℕ, ◌+◌, List, [], ◌∷◌, ◌++◌, Some, map, take, refl, sym, ◌∙◌, ap, subst, append_assoc}
 use Rattle.std.specs.Prelude.{Result, OnOk, All, codes, slice_get}
 use Rattle.std.specs.List.{flat_map}

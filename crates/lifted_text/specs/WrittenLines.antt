@@ -15,7 +15,7 @@ line_of ops s = join_with_byte 32 (step_words ops s)
 abbrev pub lines_of : List MicroOp → List LiftedStep → List (List ℕ)
 lines_of ops steps = map (line_of ops) steps
 
--- each word behind a space
+-- each word after a space
 abbrev pub spaced : List (List ℕ) → List ℕ
 spaced ws = flat_map (λ w. codes " " ++ w) ws
 

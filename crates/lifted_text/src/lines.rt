@@ -27,7 +27,7 @@ fn put_value(text: &mut Vec<u8>, case: &Case, value: Instance) -> Result<(), Mem
     }
 }
 
-/// Puts a keyword and a number behind a space.
+/// Puts a keyword and a number after a space.
 fn put_one(text: &mut Vec<u8>, keyword: &[u8], number: u64) -> Result<(), Memory>
     ensures { OnOk result (text.new.items ≡ text.old.items ++ (keyword.now ++ (codes " " ++ decimal number))) }
 {
@@ -35,7 +35,7 @@ fn put_one(text: &mut Vec<u8>, keyword: &[u8], number: u64) -> Result<(), Memory
     put_number(text, number)
 }
 
-/// Puts a keyword and numbers, each behind a space.
+/// Puts a keyword and numbers, each after a space.
 fn put_many(text: &mut Vec<u8>, keyword: &[u8], first: u64, more: &[u64]) -> Result<(), Memory>
     ensures { OnOk result (text.new.items
         ≡ text.old.items ++ (keyword.now ++ ((codes " " ++ decimal first) ++ spaced (map decimal more.now)))) }

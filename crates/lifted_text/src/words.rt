@@ -5,7 +5,7 @@ ghost use Rattle.lifted_text.specs.WrittenLines.{spaced};
 use itoa::Buffer;
 use pc_common::Memory;
 
-/// Puts bytes behind the text.
+/// Puts bytes after the text.
 pub(crate) fn put(text: &mut Vec<u8>, bytes: &[u8]) -> Result<(), Memory>
     ensures { OnOk result (text.new.items ≡ text.old.items ++ bytes.now) }
 {
@@ -21,7 +21,7 @@ pub(crate) fn put_decimal(text: &mut Vec<u8>, number: u64) -> Result<(), Memory>
     put(text, digits.format(number).as_bytes())
 }
 
-/// Puts a decimal number behind a space.
+/// Puts a decimal number after a space.
 pub(crate) fn put_number(text: &mut Vec<u8>, number: u64) -> Result<(), Memory>
     ensures { OnOk result (text.new.items ≡ text.old.items ++ (codes " " ++ decimal number)) }
 {
@@ -29,7 +29,7 @@ pub(crate) fn put_number(text: &mut Vec<u8>, number: u64) -> Result<(), Memory>
     put_decimal(text, number)
 }
 
-/// Puts decimal numbers, each behind a space.
+/// Puts decimal numbers, each after a space.
 pub(crate) fn put_numbers(text: &mut Vec<u8>, numbers: &[u64]) -> Result<(), Memory>
     ensures { OnOk result (text.new.items ≡ text.old.items ++ spaced (map decimal numbers.now)) }
 {

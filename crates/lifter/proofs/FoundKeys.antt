@@ -144,7 +144,7 @@ pub get_found : (key : Key) (es : List (Key × ℕ)) (r : Option ℕ) → r ≡ 
 get_found key es None e = found_none key es (sym e)
 get_found key es (Some k) e = found_some key k es (sym e)
 
--- a key that no entry has is put behind the others
+-- a key that no entry has is put after the others
 pub put_last : (key : Key) (k : ℕ) (es : List (Key × ℕ)) → ((j : ℕ) → In (entry (plain_key key) j) (entries_of es) → ⊥) → insert_entry known_eq es key k ≡ es ++ (key, k) ∷ []
 put_last key k [] none = refl
 put_last key k (x ∷ es) none =

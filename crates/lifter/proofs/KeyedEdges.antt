@@ -9,12 +9,12 @@ use Rattle.pc_ground.specs.declared.node_key.NodeKey.{NodeKey}
 use Rattle.static_preds.proofs.Walked.{drop_at}
 use Rattle.lifter.specs.KnownFacts.{edge, no_edge, Entry, entry, HasKey, AreEdges, AreNumbers, IsCycleKnown, IsPathKnown}
 
--- the nodes behind the first one
+-- the nodes after the first one
 abbrev pub along : List NodeKey → NodeKey → List Node
 along via to = map key_node via ++ key_node to ∷ []
 
 module _ (es : List Entry) (to : NodeKey) (via : List NodeKey) where
-  -- the next edge, and those behind it
+  -- the next edge, and those after it
   pub next_edges : (at : NodeKey) (k : ℕ) (x : NodeKey) → slice_get via k ≡ Some x → AreEdges es (key_node at) (along (drop k via) to)
       → HasKey es (edge (key_node at) (key_node x)) × AreEdges es (key_node x) (along (drop (k + 1) via) to)
   next_edges at k x there h = (let P : List NodeKey → Type 0 = λ ys. AreEdges es (key_node at) (along ys to) in subst P (drop_at via k (k + 1) x there refl) h)

@@ -117,7 +117,7 @@ module _ (c : Case) (rows : List (Row Node)) (start : List Branch) where
         matched = found;
       })
 
-  -- behind a first part of the branch
+  -- after a first part of the branch
   waiting_whole : (b : Branch) (n : ℕ) (es : List Entry) (ls : List Later) → AreLater c rows (take n b) es ls → waiting b ls ≡ waiting (take n b) ls
   waiting_whole b n es ls h =
       ap (λ (x : Branch). waiting x ls) (sym (take-append-drop n b)) ∙ waiting_more c rows (take n b) (drop n b) es ls h

@@ -17,7 +17,7 @@ pub as_many : (axioms : List Closed) → length (root (plain_axioms axioms)) ≡
 as_many [] = refl
 as_many (a ∷ as_) = ap suc (as_many as_)
 
--- behind the last axiom nothing is left
+-- after the last axiom nothing is left
 pub none_behind : (c : Case) (axioms : List Closed) (k : ℕ) → length axioms ≤ k → facts_from c (root (plain_axioms axioms)) k ≡ always
 none_behind c axioms k past =
     let same = as_many axioms in

@@ -1,4 +1,4 @@
--- One step of the refutation of the ground tree: that it can be taken, and what is ahead behind it.
+-- One step of the refutation of the ground tree: that it can be taken, and what is ahead after it.
 use Rattle.std.proofs.Common.{◌≡◌, ℕ, ◌+◌, Bool, true, false, ◌<◌, List, [], ◌∷◌, length, drop, refl, sym, ◌∙◌, subst}
 use Rattle.std.specs.Prelude.{Result, IfOk}
 use Rattle.std.proofs.lemmas.Result.{IfOk-weaker}

@@ -74,7 +74,7 @@ disjoined_never (both a b) = refl
 disjoined_never (either a b) = refl
 
 module _ (c : Case) (rows : List (Row Node)) (fs : List PlainFact) where
-  -- the fact at a place and those behind it, neither a constant
+  -- the fact at a place and those after it, neither a constant
   pub two_open : (k : ℕ) (f : PlainFact) → slice_get fs k ≡ Some f → kind_of (fact_tree c f) ≡ Open → kind_of (facts_from c fs (k + 1)) ≡ Open
       → facts_from c fs k ≡ both (fact_tree c f) (facts_from c fs (k + 1))
   two_open k f there e g = rest_next (fact_tree c) fs k f there ∙ open_both (fact_tree c f) (facts_from c fs (k + 1)) e g

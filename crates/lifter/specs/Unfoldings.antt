@@ -33,7 +33,7 @@ facts_from c fs k = joined_trees true (map (fact_tree c) (drop k fs))
 abbrev pub parts_from : Case → PlainFact → ℕ → Tree Node
 parts_from c f k = facts_from c (parts c f) k
 
--- the fact at a place is unfolded, and those behind it stand further on
+-- the fact at a place is unfolded, and those after it stand further on
 pub record HasTaken (c : Case) (rows : List (Row Node)) (fs : List PlainFact) (k at next : ℕ) (old new : State) : Type 0 where
   pub moves : Moves c rows old new
   pub stands : IsPart rows next (facts_from c fs (k + 1))

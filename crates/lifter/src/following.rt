@@ -104,7 +104,7 @@ fn go_on<'a>(case: &Case, tree: &Flat, state: &mut State<'a>) -> Result<bool, Me
     Ok(false)
 }
 
-/// Takes the next step of the refutation. Answers whether a branch is open behind it.
+/// Takes the next step of the refutation. Returns whether a branch is open after it.
 fn take_step<'a>(
     alloc: Global,
     case: &Case,

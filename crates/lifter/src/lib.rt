@@ -1,6 +1,12 @@
 //! Lifting: a refutation of a ground tree becomes one on the closed axioms themselves.
 //!
-//! `lift` follows the steps of a refutation of version 1. On each branch it knows, for each Or and each literal that is
+//! ```rust
+//! // the one axiom is `exists microop "i", True`, the test has no micro-op, and the refutation is `false`
+//! let steps = lift_steps(alloc, &front.case, front.axioms.as_slice(), &front.tree, &refutation)?;
+//! assert!(rt; steps.len() == 1);
+//! ```
+//!
+//! `lift_steps` follows the steps of a refutation of version 1. On each branch it knows, for each Or and each literal that is
 //! asserted on the branch of the tree, the fact that it is the tree of. A split of an Or becomes a split of its fact,
 //! and a side is unfolded at once: And is taken apart, and an Or of which one side is a constant is split, with the
 //! side that is False closed. `specs/` say what is known, and that the steps so far lead to the open branches.

@@ -43,7 +43,7 @@ pub(crate) fn copy_fact<'a>(fact: &Fact<'a>) -> Fact<'a>
     }
 }
 
-/// Adds a part of the fact of this number to the first branch, and answers the part's number.
+/// Adds a part of the fact of this number to the first branch, and returns the part's number.
 pub(crate) fn derive<'a>(
     case: &Case,
     state: &mut State<'a>,
@@ -61,7 +61,7 @@ pub(crate) fn derive<'a>(
     Ok(count as u64)
 }
 
-/// Splits the fact of this number, whose first side is False: the branch goes on with the second one. Answers the
+/// Splits the fact of this number, whose first side is False: the branch goes on with the second one. Returns the
 /// second side's number.
 pub(crate) fn lose_first<'a>(
     case: &Case,
@@ -90,7 +90,7 @@ pub(crate) fn lose_first<'a>(
 }
 
 /// Splits the fact of this number, whose second side is False: the branch goes on with the first one, and one that has
-/// the second waits to be closed. Answers the first side's number.
+/// the second waits to be closed. Returns the first side's number.
 pub(crate) fn lose_second<'a>(
     case: &Case,
     state: &mut State<'a>,

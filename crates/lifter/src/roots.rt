@@ -100,7 +100,7 @@ fn last_axiom(case: &Case, axioms: &[Closed]) -> usize
     unreachable!()
 }
 
-/// Unfolds the axiom at a place, behind which some axiom is no constant. Answers where the axioms behind it stand.
+/// Unfolds the axiom at a place, after which some axiom is no constant. Returns where the axioms after it stand.
 fn unfold_next_axiom<'a>(
     case: &Case,
     tree: &Flat,

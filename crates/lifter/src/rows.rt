@@ -5,7 +5,7 @@ ghost use Rattle.lifter.specs.KnownFacts.{IsPart};
 
 use pc_ground::Flat;
 
-/// Where the right child of the And or the Or at this position stands, whose left child is behind it. Takes no memory.
+/// Where the right child of the And or the Or at this position stands, whose left child is after it. Takes no memory.
 pub(crate) fn right_of(tree: &Flat, at: usize) -> usize
     requires { (a : Tree Node) × IsPart tree.now (at + 1) a }
     ensures { (a : Tree Node) → IsPart tree.now (at + 1) a → result ≡ at + 1 + size_of a }

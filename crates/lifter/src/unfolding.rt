@@ -160,7 +160,7 @@ fn unfold_all<'a>(
     unfold_last(case, tree, state, fact, number, last, at)
 }
 
-/// Unfolds the part at a place, behind which some part is no constant. Answers where the parts behind it stand.
+/// Unfolds the part at a place, after which some part is no constant. Returns where the parts after it stand.
 #[cycle(unfold)]
 fn unfold_next<'a>(
     case: &Case,

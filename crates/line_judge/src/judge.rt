@@ -13,7 +13,7 @@ pub trait Judge: Drop {
     /// The judge took these lines, and all of them were good.
     ghost stands: { Self → List (List ℕ) → Type 0 };
 
-    /// Takes the next line, without its LF, and answers whether a whole text may begin so. Where it answers
+    /// Takes the next line, without its LF, and returns whether a whole text may begin so. Where it returns
     /// false, or `Memory`, nothing is said of the judge any more but that its texts are the same.
     fn step(&mut self, line: &[u8]) -> Result<bool, Memory>
         ensures same_begins { (lines : List (List ℕ)) → begins self.old lines ↔ begins self.new lines }

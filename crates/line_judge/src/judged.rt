@@ -30,7 +30,7 @@ impl<J: Judge> Judged<J> {
         }
     }
 
-    /// Takes the next piece of the text, up to the end of the first line that is refused. Answers whether
+    /// Takes the next piece of the text, up to the end of the first line that is refused. Returns whether
     /// there is none. Each byte is looked at once, and only a line that goes over a cut is copied.
     pub(crate) fn read(&mut self, piece: &[u8]) -> Result<bool, Memory>
         ensures { (start : J) → (text : List ℕ) → IsGood J.begins J.whole J.stands start text self.old
@@ -48,7 +48,7 @@ impl<J: Judge> Judged<J> {
         Ok(true)
     }
 
-    /// The open line ends with these bytes, and is judged. Answers whether it is good. A line that does not
+    /// The open line ends with these bytes, and is judged. Returns whether it is good. A line that does not
     /// go over a cut is judged where it stands.
     fn end_line(&mut self, end: &[u8]) -> Result<bool, Memory>
         requires { IsLine end.now }

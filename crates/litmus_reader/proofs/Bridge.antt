@@ -123,7 +123,7 @@ page_of ts c s own e = absurd (cc)
 virtual_page : IsRule VirtualPage Open (Class Va ∷ Class Number ∷ Class Number ∷ Class Close ∷ [])
 virtual_page _ _ (class (class (class (class none)))) ts e = page_of ts Va refl (λ h. cc) e
 
--- behind the bracket of an address
+-- after the bracket of an address
 page_inside : (f : Format) → IsRule (AddressInside f) Pa (Class Number ∷ Class Number ∷ Class Close ∷ [])
 page_inside f _ _ (class (class (class none))) (w ∷ t ∷ x ∷ z ∷ []) e =
     let (tag, is_tag) = is_number t cc in
@@ -147,7 +147,7 @@ address f _ _ (part {cs = cs} inside none) (o ∷ ts) e =
     (a, of, spells o (is_open o cc))
 address f _ _ (part inside none) [] e = absurd (cc)
 
--- behind the bracket of a value
+-- after the bracket of a value
 number_inside : (f : Format) → IsRule (ValueInside f) Data (Class Number ∷ Class Close ∷ [])
 number_inside f _ _ (class (class none)) (w ∷ d ∷ z ∷ []) e =
     let (n, is_n) = is_number d cc in
@@ -203,7 +203,7 @@ types c h _ _ (part {cs = cs} names none) (t ∷ ts) e =
     (t.piece ∷ ws, (is_any_name t (ap is_name (sym same) ∙ h), s))
 types c h _ _ (part names none) [] e = absurd (cc)
 
--- names, and behind them what is touched
+-- names, and after them what is touched
 touched : (f : Format) (value : Phrase)
     → ((ts : List Token) → Spelled value ts → (v : ValueText) × IsValueOf f v × Spell (spelled_value v) ts)
     → (cs : List Terminal) (marks : List Bool)
@@ -293,7 +293,7 @@ items_value f c item s own of spells _ _ (part {cs = xs} {ds = ys} page (part {c
     )
 items_value f c item s own of spells _ _ (part page (part value (class (part others none)))) [] e = absurd (cc)
 
--- g n "->" g n ".", and whatever stands behind
+-- g n "->" g n ".", and whatever stands after it
 ends_of : (ts : List Token) (cs : List Terminal) → map terminal_of ts ≡ Number ∷ Number ∷ Arrow ∷ Number ∷ Number ∷ Dot ∷ cs
     → (source : End) × (target : End) × (rest : List Token) × (map terminal_of rest ≡ cs)
     × ((es : List Expected) → Spell es rest
@@ -325,7 +325,7 @@ items_relationship f _ _ (part {cs = xs} {ds = ys} kind (class (class (class (cl
     )
 items_relationship f _ _ (part kind (class (class (class (class (class (class (part others none)))))))) [] e = absurd (cc)
 
--- Microop g core thread n "(", and whatever stands behind
+-- Microop g core thread n "(", and whatever stands after it
 head_of : (ts : List Token) (cs : List Terminal) → map terminal_of ts ≡ Microop ∷ Number ∷ Number ∷ Number ∷ Number ∷ Open ∷ cs
     → (head : Head) × (rest : List Token) × (map terminal_of rest ≡ cs)
     × ((es : List Expected) → Spell es rest → Spell (spelled_head head ++ (open_ ∷ es)) ts)
@@ -343,7 +343,7 @@ head_of (t ∷ g ∷ c ∷ h ∷ n ∷ o ∷ rest) cs e =
     )
 head_of ts cs e = absurd (cc)
 
--- ")" ".", and whatever stands behind
+-- ")" ".", and whatever stands after it
 closed_of : (ts : List Token) (cs : List Terminal) → map terminal_of ts ≡ Close ∷ Dot ∷ cs
     → (rest : List Token) × (map terminal_of rest ≡ cs) × ((es : List Expected) → Spell es rest → Spell (close_ ∷ dot ∷ es) ts)
 closed_of (z ∷ d ∷ rest) cs e =

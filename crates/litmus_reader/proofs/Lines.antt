@@ -32,13 +32,13 @@ terminal-stands {e = e} t at s =
     let same : s.token ≡ t = let h = s.at in cc in
     ap terminal_of (sym same) ∙ terminal-of_token e s.token s.is
 
--- up to the first symbol behind
+-- up to the first symbol after it
 up_to_symbol : {ts : List Token} {k : ℕ} (xs : List Expected) (s : List ℕ) (others : List Expected)
     → BeginsAt ts k (xs ++ a_symbol s ∷ others) → BeginsAt ts k (xs ++ a_symbol s ∷ [])
 up_to_symbol {ts} {k} xs s others b =
     begins-front (xs ++ a_symbol s ∷ []) others (subst (BeginsAt ts k) (sym (append_assoc xs (a_symbol s ∷ []) others)) b)
 
--- an address: its word, and what stands behind it
+-- an address: its word, and what stands after it
 abbrev pub terminal_of_address : Address → Terminal
 terminal_of_address (PageAddress tag index) = Pa
 terminal_of_address (EntryAddress tag) = Entry
@@ -82,7 +82,7 @@ pub address_known : (a : Address) → (terminal_of_address a ≢ Pa) → (termin
 address_known (PageAddress tag index) p e = p refl
 address_known (EntryAddress tag) p e = e refl
 
--- a value behind its word
+-- a value after its word
 abbrev pub terminal_of_value : ValueText → Terminal
 terminal_of_value (number_text n) = Data
 terminal_of_value (entry_text tag accessed dirty) = Maps
@@ -231,7 +231,7 @@ access-behind {ts} {k} types action b =
     subst (BeginsAt ts (k + 1)) (append_assoc (map a_word types) (spelled_action action) (close_ ∷ []))
     (begins-behind (a_word (action_word action) ∷ []) ((map a_word types ++ spelled_action action) ++ close_ ∷ []) b)
 
--- behind the names stands a bracket
+-- after the names stands a bracket
 pub access-names : {ts : List Token} {k : ℕ} (types : List (List ℕ)) (action : Action)
     → BeginsAt ts k (spelled_access types action ++ close_ ∷ []) → NamesAt ts (k + 1) types
 access-names types (read t) b = record { behind = codes "("; they = up_to_symbol (map a_word types) (codes "(") _ (access-behind types (read t) b) }

@@ -1,4 +1,4 @@
--- Items have one first fault at most, and an item behind items without a fault has one at most.
+-- Items have one first fault at most, and an item after items without a fault has one at most.
 use Rattle.std.proofs.Common.{◌≡◌, ◌≢◌, ℕ, ◌<◌, ◌≤◌, List, [], ◌∷◌, ◌++◌, Some, length, slice_get, refl, sym, ap, subst, ◌∙◌, ◌⊎◌, inl, inr, arith}
 use Rattle.std.specs.Prelude.{Contains}
 use Rattle.std.proofs.lemmas.Option.{slice_get-get_or}
@@ -150,7 +150,7 @@ one_action (reads t) = one_mark t.value
 one_action (writes t) = one_mark t.value
 one_action fences = λ j k p q a b. absurd a
 
--- an item behind items without a fault has one fault at most
+-- an item after items without a fault has one fault at most
 pub one_fault_of : (before : List Item) (i : Item) → IsClean before → IsOne (IsFaultOf before i)
 one_fault_of before (microop m) clean =
     one-first (HeadFault (heads_in before) m.head) (ActionFault m.action)

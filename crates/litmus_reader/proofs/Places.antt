@@ -43,7 +43,7 @@ stands-first {ts} {k} e es b =
 pub number-stands : {ts : List Token} {k : ℕ} (n : Numeral) → StandsAt ts k (number_at n) → StandsAt ts k (a_number n.value)
 number-stands n s = record { token = s.token; at = s.at; is = s.is.0 }
 
--- what stands behind
+-- what stands after it
 pub spell-behind : (ts : List Token) (k : ℕ) (es fs : List Expected) → Spell (es ++ fs) (drop k ts) → Spell fs (drop (k + length es) ts)
 spell-behind ts k es fs s =
     let (us, vs, same, front, back) = spell-part es fs (drop k ts) s in
@@ -51,7 +51,7 @@ spell-behind ts k es fs s =
     let at : drop (k + length us) ts ≡ vs = drop-two k ts us vs same in
     subst (Spell fs) (sym at ∙ ap (λ (i : ℕ). drop (k + i) ts) (sym n)) back
 
--- what begins behind
+-- what begins after it
 pub begins-behind : {ts : List Token} {k : ℕ} (es fs : List Expected) → BeginsAt ts k (es ++ fs) → BeginsAt ts (k + length es) fs
 begins-behind {ts} {k} es fs b = record {
   others = b.others;
@@ -78,7 +78,7 @@ names-none (w ∷ ws) n not =
     let s = stands-first (a_word w) (map a_word ws ++ a_symbol n.behind ∷ []) n.they in
     absurd (not (record { token = s.token; at = s.at; named = s.is.0 }))
 
--- where a name stands it is the first, and the others begin behind it
+-- where a name stands it is the first, and the others begin after it
 pub names-more : {ts : List Token} {k : ℕ} (names : List (List ℕ)) → NamesAt ts k names → (n : IsNameAt ts k)
     → (ws : List (List ℕ)) × (names ≡ n.token.piece ∷ ws) × NamesAt ts (k + 1) ws
 names-more [] ns n =

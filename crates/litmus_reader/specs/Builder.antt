@@ -39,7 +39,7 @@ stated_expectations (Some s) = (expectation s.expect, s.at) ∷ []
 pub record HasLines (k : CaseBuilder) (before : List Item) : Type 0 where
   pub heads : k.heads.items ≡ heads_in before
   pub ops : map micro_op k.ops ≡ map op_of (microops_in before)
-  -- whatever micro-ops come behind
+  -- whatever micro-ops come after it
   pub dependencies : (more : List Head)
       → map dependency k.dependencies ≡ map (dependency_of (heads_in before ++ more)) (relationships_in before)
   pub initial : k.initial ≡ map stated_of (initial_in before)
@@ -69,7 +69,7 @@ pub record AddsRelationship (old new : CaseBuilder) (r : Relationship) : Type 0 
 abbrev pub HasTest : List Token → CaseBuilder → Type 0
 HasTest ts k = (items : List Item) × IsTestOf items ts × IsClean items × HasLines k items
 
--- why a line is not taken behind these: its fault, or want of memory
+-- why a line is not taken after these: its fault, or want of memory
 abbrev pub IsLineFault : List Item → Item → CaseFault → Type 0
 IsLineFault before item (Content kind place) = IsFaultOf before item kind place
 IsLineFault before item Memory = ⊤

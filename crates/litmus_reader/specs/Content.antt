@@ -91,7 +91,7 @@ HeadFault before h =
     First (OverCore h)
     (First (OverMany before h) (First (SomeEarlier before (SplitFrom h)) (SomeEarlier before (DuplicateOf h))))
 
--- the fault of an item behind these
+-- the fault of an item after these
 abbrev pub IsFaultOf : List Item → Item → FaultKind → Place → Type 0
 IsFaultOf before (microop m) = First (HeadFault (heads_in before) m.head) (ActionFault m.action)
 IsFaultOf before (relationship r) = First (Unknown (heads_in before) r.source) (Unknown (heads_in before) r.target)

@@ -1,4 +1,4 @@
--- The grammar of tests as a table: what stands behind a token where a phrase begins with it.
+-- The grammar of tests as a table: what stands after a token where a phrase begins with it.
 use Rattle.std.specs.Prelude.{◌≡◌, ℕ, Bool, true, false, List, [], ◌∷◌, Option, Some, None, refl, slice_get, if◌then◌else◌}
 use Rattle.ll_grammar.specs.Rules.{Rules}
 use Rattle.ll_grammar.specs.Steps.{IsStep}

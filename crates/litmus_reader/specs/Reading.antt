@@ -33,7 +33,7 @@ pub record BeginsAt (ts : List Token) (k : ℕ) (es : List Expected) : Type 0 wh
 abbrev pub IsNumberAt : List Token → ℕ → Type 0
 IsNumberAt ts k = (n : ℕ) × StandsAt ts k (a_number n)
 
--- the numbers of this page stand behind the bracket at k and its word
+-- the numbers of this page stand after the bracket at k and its word
 abbrev pub IsPageAt : List Token → ℕ → Page → Type 0
 IsPageAt ts k p = StandsAt ts (k + 2) (a_number p.tag) × StandsAt ts (k + 3) (a_number p.index)
 
@@ -56,7 +56,7 @@ pub record NamesAt (ts : List Token) (k : ℕ) (names : List (List ℕ)) : Type 
 abbrev pub SomeAt : {X : Type 0} → (X → List Expected) → List Token → ℕ → Type 0
 SomeAt {X} spelled ts k = (x : X) × BeginsAt ts k (spelled x)
 
--- whatever is spelled so and begins at k is x, and `next` is the place behind
+-- whatever is spelled so and begins at k is x, and `next` is the place after it
 abbrev pub IsReadAt : {X : Type 0} → (X → List Expected) → List Token → ℕ → X → ℕ → Type 0
 IsReadAt {X} spelled ts k x next = (y : X) → BeginsAt ts k (spelled y) → (x ≡ y) × (next ≡ k + length (spelled y))
 
@@ -95,7 +95,7 @@ IsAccessAt ts k types action next =
     (names : List (List ℕ)) (a : Action) → BeginsAt ts k (spelled_access names a ++ close_ ∷ [])
     → (types ≡ names) × (action ≡ a) × (next ≡ k + length (spelled_access names a))
 
--- whatever line has its word at this place, and behind it k, is this one
+-- whatever line has its word at this place, and after it k, is this one
 abbrev pub IsValueLineAt : List Token → Place → ℕ → ValueLine → ℕ → Type 0
 IsValueLineAt ts at k line next =
     (v : ValueLine) → at ≡ v.at → BeginsAt ts k (spelled_statement v)

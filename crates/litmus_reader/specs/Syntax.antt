@@ -65,7 +65,7 @@ action_word (Read t) = codes "Read"
 action_word (Write t) = codes "Write"
 action_word Fence = codes "Fence"
 
--- what stands behind the type names
+-- what stands after the type names
 abbrev pub spelled_action : Action → List Expected
 spelled_action (Read t) = spelled_touch t
 spelled_action (Write t) = spelled_touch t

@@ -152,7 +152,7 @@ impl CaseBuilder {
         }
     }
 
-    /// The fault of a line behind those so far.
+    /// The fault of a line after those so far.
     fn fault(&self, item: &Item) -> Option<ContentFault>
         ensures { (before : List ItemText) → HasLines self.now before → Answers (IsFaultOf before item.now) result }
     {

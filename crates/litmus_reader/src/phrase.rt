@@ -23,13 +23,13 @@ pub(crate) enum Phrase {
     VirtualPage,
     /// `(PA t x)` or `(Entry t)`.
     Address(Format),
-    /// An address behind its bracket.
+    /// An address after its bracket.
     AddressInside(Format),
     /// `(Data d)` or `(Maps t a d)`, as a read reads it.
     ReadValue(Format),
     /// `(Data d)` or `(Maps t a d)`, as a write writes it.
     WriteValue(Format),
-    /// A value behind its bracket.
+    /// A value after its bracket.
     ValueInside(Format),
     /// `d` or `(Maps t a d)`, as a line states it.
     StatedValue(Format),

@@ -66,7 +66,7 @@ fn is_name_at(tokens: &Tokens<'_>, k: usize) -> bool
     matches!(tokens.get(k).kind, TokenKind::Name)
 }
 
-/// The names that stand from `k` on, and the place behind them.
+/// The names that stand from `k` on, and the place after them.
 pub(crate) fn names_at(
     alloc: Global,
     tokens: &Tokens<'_>,
@@ -94,7 +94,7 @@ fn terminal_at(tokens: &Tokens<'_>, k: usize) -> Terminal
     Terminal::from_token(tokens.get(k))
 }
 
-/// The physical address whose bracket opens at `k`, and the place behind.
+/// The physical address whose bracket opens at `k`, and the place after it.
 fn address_at(tokens: &Tokens<'_>, k: usize) -> (Address, usize)
     requires begins { SomeAt spelled_address tokens.now k }
     requires few { length tokens.now < 2 ^ 63 }
@@ -131,7 +131,7 @@ fn entry_at(tokens: &Tokens<'_>, k: usize) -> ValueText
     }
 }
 
-/// The value whose bracket opens at `k`, and the place behind.
+/// The value whose bracket opens at `k`, and the place after it.
 fn value_at(tokens: &Tokens<'_>, k: usize) -> (ValueText, usize)
     requires begins { SomeAt spelled_value tokens.now k }
     requires few { length tokens.now < 2 ^ 63 }
@@ -144,7 +144,7 @@ fn value_at(tokens: &Tokens<'_>, k: usize) -> (ValueText, usize)
     }
 }
 
-/// The value that a line states from `k` on, and the place behind.
+/// The value that a line states from `k` on, and the place after it.
 fn stated_at(tokens: &Tokens<'_>, k: usize) -> (ValueText, usize)
     requires begins { SomeAt spelled_stated tokens.now k }
     requires few { length tokens.now < 2 ^ 63 }
@@ -157,7 +157,7 @@ fn stated_at(tokens: &Tokens<'_>, k: usize) -> (ValueText, usize)
     }
 }
 
-/// What a read or a write touches, where its first bracket opens at `k`, and the place behind.
+/// What a read or a write touches, where its first bracket opens at `k`, and the place after it.
 fn touch_at(tokens: &Tokens<'_>, k: usize) -> (Touch, usize)
     requires begins { SomeAt spelled_touch tokens.now k }
     requires few { length tokens.now < 2 ^ 63 }
@@ -186,7 +186,7 @@ fn head_at(tokens: &Tokens<'_>, k: usize) -> Head
 }
 
 /// What a micro-op of this word does, where the bracket of what it touches opens at `next`, and the
-/// place behind.
+/// place after it.
 fn action_at(tokens: &Tokens<'_>, word: Terminal, next: usize) -> (Action, usize)
     requires begins { SomeActionAt tokens.now word next }
     requires few { length tokens.now < 2 ^ 63 }
@@ -206,7 +206,7 @@ fn action_at(tokens: &Tokens<'_>, word: Terminal, next: usize) -> (Action, usize
     }
 }
 
-/// What stands in the brackets of a `Microop` line from `k` on, and the place behind.
+/// What stands in the brackets of a `Microop` line from `k` on, and the place after it.
 fn access_at(
     alloc: Global,
     tokens: &Tokens<'_>,
@@ -268,7 +268,7 @@ fn relationship_at(alloc: Global, tokens: &Tokens<'_>, k: usize) -> Result<Relat
 }
 
 /// The address and the value that an `Init` or a `Final` line states, whose word stands at this place
-/// and `k` behind it, and where the next line begins.
+/// and `k` after it, and where the next line begins.
 fn value_line_at(tokens: &Tokens<'_>, at: Place, k: usize) -> (ValueLine, usize)
     requires begins { (v : ValueLineText) × BeginsAt tokens.now k (spelled_statement v) }
     requires few { length tokens.now < 2 ^ 63 }

@@ -8,7 +8,7 @@ use super::item::{Action, End, Head};
 use super::marks::action_fault;
 use pc_common::{FaultKind, MAX_CORE, MAX_OPS};
 
-/// The fault of a micro-op behind the micro-ops of these heads.
+/// The fault of a micro-op after the micro-ops of these heads.
 pub(crate) fn microop_fault(before: &[Head], head: Head, action: Action) -> Option<ContentFault>
     requires { length before.now < 2 ^ 63 }
     ensures { Answers (First (HeadFault before.now head) (ActionFault action)) result }
@@ -157,7 +157,7 @@ fn unknown(before: &[Head], end: End) -> Option<ContentFault>
     })
 }
 
-/// The fault of a relationship behind the micro-ops of these heads.
+/// The fault of a relationship after the micro-ops of these heads.
 pub(crate) fn relationship_fault(before: &[Head], source: End, target: End) -> Option<ContentFault>
     ensures { Answers (First (Unknown before.now source) (Unknown before.now target)) result }
 {

@@ -17,7 +17,7 @@ use Rattle.ll_grammar.specs.declared.grammar.Step.TheVariants.{Absent, Pushed, D
 use Rattle.ll_grammar.specs.declared.fault.Fault.TheVariants.{Syntax, Depth}
 use Rattle.ll_grammar.proofs.ViablePrefixes.{some_text}
 
--- the tokens before i are read, none too deep, and the symbols read what may come behind them
+-- the tokens before i are read, none too deep, and the symbols read what may come after them
 pub record IsReading {C N : Type 0} (g : Rules C N) (follow : N → C → Bool) (start : N) (cs : List C) (i : ℕ)
     (symbols : List (Symbol C N)) : Type 0 where
   pub only : (rest : List C) (marks : List Bool) → Derives g start (take i cs ++ rest) marks
@@ -39,7 +39,7 @@ falses i others =
     ap (λ (front : List Bool). front ++ others) (sym (replicate_more i false))
     ∙ append_assoc (replicate i false) (false ∷ []) others
 
--- the mark at a place behind as many others
+-- the mark at a place after as many others
 slice_get-replicate : (i : ℕ) (b : Bool) (others : List Bool) → slice_get (replicate i false ++ (b ∷ others)) i ≡ Some b
 slice_get-replicate zero b others = refl
 slice_get-replicate (suc i) b others = slice_get-replicate i b others

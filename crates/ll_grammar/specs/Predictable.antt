@@ -27,7 +27,7 @@ pub record IsPredictable {C N : Type 0} (g : Rules C N) (follow : N → C → Bo
   -- a part that may be without tokens begins with no class that may follow it
   pub apart : (n : N) (c : C) → IsTrue (g.may_end n) → IsTrue (follow n c) → g.behind n c ≡ None
 
--- The same of the symbols on the stack, behind which the text ends.
+-- The same of the symbols on the stack, after which the text ends.
 abbrev pub IsReady : {C N : Type 0} → Rules C N → (N → C → Bool) → List (Symbol C N) → Type 0
 IsReady g follow symbols = IsFollowed g follow (λ m. Unit {0}) symbols
 

@@ -5,7 +5,7 @@ use Rattle.ll_grammar.specs.declared.grammar.Symbol.TheVariants.{Class, Part}
 
 -- `C` are the classes of tokens, the terminals; `N` are the parts, the nonterminals.
 pub record Rules (C N : Type 0) : Type 0 where
-  -- what stands behind a token of this class where the part begins with it; None where it does not
+  -- what stands after a token of this class where the part begins with it; None where it does not
   pub behind : N → C → Option (List (Symbol C N))
   -- whether the part may have no token at all
   pub may_end : N → Bool

@@ -6,7 +6,7 @@ use Rattle.ll_grammar.specs.declared.grammar.Symbol.{Symbol}
 use Rattle.ll_grammar.specs.declared.grammar.Step.{Step}
 use Rattle.ll_grammar.specs.declared.grammar.Step.TheVariants.{Absent, Pushed, Deep}
 
--- The step of a part at a token: what stands behind it is on the stack, the next symbol on top.
+-- The step of a part at a token: what stands after it is on the stack, the next symbol on top.
 abbrev pub IsStep : {C N : Type 0} → Option (List (Symbol C N)) → Bool → List (Symbol C N) → Step
     → List (Symbol C N) → Type 0
 IsStep None deep old Absent new = new ≡ old
@@ -16,7 +16,7 @@ IsStep (Some body) deep old Absent new = ⊥
 IsStep (Some body) deep old Pushed new = (deep ≡ false) × (new ≡ old ++ reverse body)
 IsStep (Some body) deep old Deep new = deep ≡ true
 
--- What the symbols `before` read behind a token that is not too deep, the symbols `after` read.
+-- What the symbols `before` read after a token that is not too deep, the symbols `after` read.
 pub record Passes {C N : Type 0} (g : Rules C N) (follow : N → C → Bool)
     (before : List (Symbol C N)) (c : C) (after : List (Symbol C N)) : Type 0 where
   pub only : (rest : List C) (marks : List Bool) → Yields g before (c ∷ rest) marks

@@ -10,7 +10,7 @@ use Rattle.ll_grammar.specs.Predictable.{MayFollow, IsFollowed, IsPredictable, H
 use Rattle.ll_grammar.specs.declared.grammar.Symbol.{Symbol}
 use Rattle.ll_grammar.specs.declared.grammar.Symbol.TheVariants.{Class, Part}
 
--- two lists of symbols, one behind the other, read their texts one behind the other
+-- two lists of symbols, one after the other, read their texts one after the other
 pub yields-append : {C N : Type 0} {g : Rules C N} {front back : List (Symbol C N)} {cs ds : List C} {ms ns : List Bool}
     → Yields g front cs ms → Yields g back ds ns → Yields g (front ++ back) (cs ++ ds) (ms ++ ns)
 yields-append done behind = behind

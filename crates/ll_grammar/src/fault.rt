@@ -48,7 +48,7 @@ pub fn first_fault<C: TokenClass, N: Grammar<C>>(
 
 // The token against the top of the stack. A part that does not begin with it, but may end, is done
 // and leaves it to the symbol below. A part that begins with it is not ended, though it may be able
-// to: by the LL(1) condition no text goes on behind such an end with this token.
+// to: by the LL(1) condition no text goes on after such an end with this token.
 fn read<C: TokenClass, N: Grammar<C>>(
     stack: &mut Vec<Symbol<C, N>>,
     class: C,

@@ -24,7 +24,7 @@ pub enum Symbol<C, N> {
 pub enum Step {
     /// The part does not begin with the token.
     Absent,
-    /// It does, and what stands behind the token waits on the stack.
+    /// It does, and what stands after the token waits on the stack.
     Pushed,
     /// It does, but there the token stands too deep.
     Deep,
@@ -40,7 +40,7 @@ pub trait Grammar<C: TokenClass>: Copy + 'static {
 
     ghost follow: { Self → C → Bool };
 
-    /// Where the part begins with a token of this class, puts what stands behind the token on the
+    /// Where the part begins with a token of this class, puts what stands after the token on the
     /// stack, the next symbol on top; [`push!`] does so for a body in the order of reading.
     /// Where it does not, leaves the stack as it was. `Deep` is for a token with which the part
     /// begins: any other is `Absent` at every depth. `Err` is for want of memory alone.
@@ -59,7 +59,7 @@ pub trait Grammar<C: TokenClass>: Copy + 'static {
     ghost has_texts: { HasTexts rules };
 }
 
-/// Puts the body of a rule on the stack, its first symbol on top, and answers `Pushed`.
+/// Puts the body of a rule on the stack, its first symbol on top, and returns `Pushed`.
 /// `Err` is for want of memory; then some of the body may be on the stack.
 pub fn push_body<C: Copy, N: Copy>(
     stack: &mut Vec<Symbol<C, N>>,

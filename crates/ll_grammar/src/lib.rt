@@ -1,6 +1,6 @@
 //! Recognises the texts of a context-free grammar with one token in view, and names the first fault
 //! of every other list of tokens. It takes the classes of the tokens and a grammar, an impl of
-//! [`Grammar`]: what stands behind a token where a part begins with it, which parts may have no
+//! [`Grammar`]: what stands after a token where a part begins with it, which parts may have no
 //! token, and which tokens stand too deep. It gives `None` for a text with no token too deep, else
 //! the one first [`Fault`]: the token at which no text goes on, or the token that is too deep.
 //!

@@ -156,7 +156,7 @@ fn is_cut_short_by_each_step(
     )
 }
 
-/// The words behind the first, each with what the file of that name holds.
+/// The words after the first, each with what the file of that name holds.
 fn named<'a>(
     alloc: Global,
     words: &'a [String],

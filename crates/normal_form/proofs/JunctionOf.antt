@@ -139,7 +139,7 @@ backward-junction c a b e f =
     ∙ ap (λ xs. reverse (rows_of b) ++ xs ++ root_row c a b ∷ []) (backward-rows a e)
     ∙ sym (backward-root c a b) ∙ ap backward (sym (junction_rows c a b e f))
 
--- rows behind others
+-- rows after others
 
 -- both parts' rows, and the root's
 pub push_root : {N : Type 0} (c : Junction) (first old : List (Row N)) (a b : Tree N) (r : Row N)

@@ -23,6 +23,6 @@ backward (leaf l) = reverse (rows_of (leaf l))
 backward (both a b) = reverse (rows_of (both a b))
 backward (either a b) = reverse (rows_of (either a b))
 
--- the tree is written behind what was there, and the part says what it is
+-- the tree is written after what was there, and the part says what it is
 abbrev pub IsWritten : List (Row Node) → List (Row Node) → Part → Tree Node → Type 0
 IsWritten old new part t = (part ≡ part_of t) × (new ≡ old ++ backward t)

@@ -9,7 +9,7 @@ use Rattle.pc_ground.specs.declared.literal.Literal.TheVariants.{Node, Edge, NoN
 use Rattle.order_graph.specs.Ways.{IsBelow}
 use Rattle.order_graph.specs.Levels.{OnList, here, later, AreLists, HasListed}
 
--- an edge stays on its list where links are put behind the others
+-- an edge stays on its list where links are put after the others
 stays : (links : List ℕ) (more e k : ℕ) → ((j : ℕ) → get_or links j 0 ≤ j) → e ≤ length links → OnList links e k → OnList (links ++ more ∷ []) e k
 stays links more e k falling low (here m) = here m
 stays links more e k falling low (later d m rest) =

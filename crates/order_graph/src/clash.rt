@@ -27,7 +27,7 @@ impl Drop for Clash {
 /// What came of a literal.
 #[derive(Drop)]
 pub enum Added {
-    /// It stands behind the others.
+    /// It stands after the others.
     Kept,
     /// It can't stand with the others, and the graph is as it was.
     Clash(Clash),

@@ -167,7 +167,7 @@ impl OrderGraph {
         would_clash(&self.table, self.nodes, literal)
     }
 
-    /// Puts the literal behind the others, or answers a clash where it can't stand with them. After a clash,
+    /// Puts the literal after the others, or returns a clash where it can't stand with them. After a clash,
     /// and after `Memory`, the graph is as it was.
     ///
     /// An edge from a to b is tried for these clashes, in this order: a is denied, b is denied, a chain leads

@@ -1,4 +1,4 @@
--- The open values of a pattern: the word `Any` behind `( Data`, in the brackets of a read.
+-- The open values of a pattern: the word `Any` after `( Data`, in the brackets of a read.
 use Rattle.std.specs.Prelude.{ℕ, zero, suc, ◌+◌, ◌-◌, ◌≡◌, ◌≤◌, Bool, false, ◌&&◌, ◌||◌, List, [], ◌∷◌, ◌++◌, Option, Some, None, codes, length, slice_get, if◌then◌else◌}
 use Rattle.std.specs.Str.{bytes_eq}
 use Rattle.uspec_lexer.specs.Token.{Token, place_or}

@@ -15,7 +15,7 @@ abbrev pub written_at : Address → Kind → Option Touch → Option Value
 written_at pa write (Some t) = if same_address t.pa pa then Some t.value else None
 written_at pa _ _ = None
 
--- behind those before, unless it is one of them
+-- after those before, unless it is one of them
 abbrev pub once_more : List Value → Option Value → List Value
 once_more vs None = vs
 once_more vs (Some v) = if list_any (same_value v) vs then vs else vs ++ v ∷ []

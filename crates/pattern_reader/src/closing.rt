@@ -15,7 +15,7 @@ fn put(bytes: &mut Vec<u8>, at: usize, byte: u8)
     }
 }
 
-/// Puts a 0 in place of an `Any`, and blanks behind it.
+/// Puts a 0 in place of an `Any`, and blanks after it.
 fn close(bytes: &mut Vec<u8>, any: Open)
     ensures { bytes.new.items ≡ with_zero bytes.old.items (plain_open any) }
 {

@@ -91,7 +91,7 @@ fn place_of(tokens: &Tokens<'_>, k: usize) -> Place
     }
 }
 
-/// Puts the open value at `k` behind the others, if there is one.
+/// Puts the open value at `k` after the others, if there is one.
 fn note_open(
     tokens: &Tokens<'_>,
     k: usize,

@@ -81,7 +81,7 @@ fn nth(opens: &[Open], k: usize) -> Open
     opens[k]
 }
 
-/// Puts a read behind the others.
+/// Puts a read after the others.
 fn push_read(reads: &mut Vec<OpenRead>, read: OpenRead) -> Result<(), Memory>
     ensures { OnOk result (reads.new.items ≡ reads.old.items ++ read ∷ []) }
 {
@@ -89,7 +89,7 @@ fn push_read(reads: &mut Vec<OpenRead>, read: OpenRead) -> Result<(), Memory>
     Ok(())
 }
 
-/// Puts one more open read behind the others: the number of rows with it.
+/// Puts one more open read after the others: the number of rows with it.
 fn add_read(
     alloc: Global,
     lists: &CaseLists,

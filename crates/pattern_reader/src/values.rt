@@ -130,7 +130,7 @@ fn has_value(values: &[Value], value: Value) -> bool
     false
 }
 
-/// Puts the value behind the others, unless it is one of them.
+/// Puts the value after the others, unless it is one of them.
 fn add_once(values: &mut Values, value: Option<Value>) -> Result<(), Memory>
     ensures { OnOk result (map plain_value values.new
         ≡ once_more (map plain_value values.old) (option_map plain_value value)) }

@@ -12,12 +12,12 @@ drop_at xs i x e =
     let at = get_or_from_slice_get xs i x x e in
     drop_more xs i x (slice_get_within xs i x e) ∙ ap (λ y. y ∷ drop (i + 1) xs) at
 
--- the count at i is the greater of the micro-op's there and the count behind it
+-- the count at i is the greater of the micro-op's there and the count after it
 pub cores_more : (ops : List Op) (i : ℕ) (o : Op) → slice_get ops i ≡ Some o
     → cores_of (map micro_op (drop i ops)) ≡ max (o.core + 1) (cores_of (map micro_op (drop (i + 1) ops)))
 cores_more ops i o e = ap (λ os. cores_of (map micro_op os)) (drop_at ops i o e)
 
--- one turn: the count behind i, and the greater of it and the micro-op's at i
+-- one turn: the count after i, and the greater of it and the micro-op's at i
 pub cores_step : (ops : List Op) (i j k : ℕ) (o : Op) (old new : ℕ) → slice_get ops i ≡ Some o → j ≡ i + 1 → k ≡ i
     → old ≡ cores_of (map micro_op (drop j ops)) → new ≡ max (o.core + 1) old → new ≡ cores_of (map micro_op (drop k ops))
 cores_step ops i j k o old new e at here was is =

@@ -57,7 +57,7 @@ module _ {K V : Type 0} (same : K → K → Bool) (tests : Tests same) (f : V �
   flipped : (p q : K) → same q p ≡ false → same p q ≡ false
   flipped p q g = not_so (same p q) (λ h. true≢false (sym ((tests q p).1 (sym ((tests p q).0 h))) ∙ g))
 
-  -- one entry and those behind it, where the value at p becomes w
+  -- one entry and those after it, where the value at p becomes w
   written_more : (p q : K) (x : K × V) (es : List (K × V)) (s w : V) (b : Bool) → f w ≡ (f s || b) → at p (x ∷ es) ≡ Some s
       → (at p es ≡ Some s → found (at q (with_at p es w)) ≡ (found (at q es) || (same p q && b)))
       → found (at q (with_at p (x ∷ es) w)) ≡ (found (at q (x ∷ es)) || (same p q && b))
@@ -80,7 +80,7 @@ module _ {K V : Type 0} (same : K → K → Bool) (tests : Tests same) (f : V �
   written p q [] s w b is here = absurd (none_some here)
   written p q (x ∷ es) s w b is here = written_more p q x es s w b is here (written p q es s w b is)
 
-  -- one entry and those behind it, where w is put last at p
+  -- one entry and those after it, where w is put last at p
   added_more : (p q : K) (x : K × V) (es : List (K × V)) (w : V) → at p (x ∷ es) ≡ None
       → (at p es ≡ None → found (at q (es ++ (p, w) ∷ [])) ≡ (found (at q es) || (same p q && f w)))
       → found (at q (x ∷ es ++ (p, w) ∷ [])) ≡ (found (at q (x ∷ es)) || (same p q && f w))

@@ -1,4 +1,4 @@
--- Lists that stand behind each other in one list: one more of them, and the one at a place.
+-- Lists that stand one after another in one list: one more of them, and the one at a place.
 use Rattle.std.proofs.Common.{◌≡◌, ◌≤◌, ◌<◌, ◌+◌, ◌-◌, ◌++◌, ◌∷◌, [], ◌||◌, ◌∙◌, Bool, false, sym, ap, refl, ℕ, zero, suc, List, Some, length, get_or, take, drop, arith}
 use Rattle.std.specs.Prelude.{slice_get}
 use Rattle.std.specs.List.{list_any}
@@ -28,7 +28,7 @@ unfolding Rises
 one_end_more from [] last more rises within = (omega (arith, rises, within), refl)
 one_end_more from (end ∷ ends) last more rises within = (rises.0, one_end_more end ends last more rises.1 within)
 
--- what is put behind all of them leaves each as it is
+-- what is put after all of them leaves each as it is
 before : (bytes piece : List ℕ) (from end : ℕ) → from ≤ end → end ≤ length bytes
     → take (end - from) (drop from (bytes ++ piece)) ≡ take (end - from) (drop from bytes)
 before bytes piece from end up within =

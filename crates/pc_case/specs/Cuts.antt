@@ -1,4 +1,4 @@
--- Lists that stand behind each other in one list.
+-- Lists that stand one after another in one list.
 use Rattle.std.specs.Prelude.{ℕ, ◌≡◌, ◌≤◌, ◌-◌, List, [], ◌∷◌, take, drop}
 
 -- each of them begins where the one before it ends, and the first one at `from`

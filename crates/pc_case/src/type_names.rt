@@ -9,7 +9,7 @@ use std::alloc::Global;
 use std::marker::Model;
 
 /// Type names, each a list of bytes, in the order that a line gives them in. A line may give many
-/// thousands, so that a name is looked up and not searched for. The names stand behind each other in
+/// thousands, so that a name is looked up and not searched for. The names stand one after another in
 /// one block, so that the list takes no block for each of them.
 pub struct TypeNames {
     bytes: Vec<u8>,

@@ -24,7 +24,7 @@ went_on before between after piece at n so_far next =
     ∙ append_assoc before (take at piece) (take n (drop at piece))
     ∙ ap (λ xs. before ++ xs) (sym (take-add at n piece))
 
--- what goes behind the used bytes goes behind those of them that wait
+-- what goes after the used bytes goes after those of them that wait
 pub went_behind : (from used n : ℕ) (old new piece : List ℕ) →
     from ≤ used → used ≤ length old → take (used + n) new ≡ take used old ++ piece →
     drop from (take (used + n) new) ≡ drop from (take used old) ++ piece

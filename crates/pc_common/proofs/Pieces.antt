@@ -4,7 +4,7 @@ use Rattle.std.proofs.lemmas.List.{take-append-le}
 use Rattle.std.proofs.Math.Seq.{take-append-add}
 use Rattle.pc_common.specs.Pieces.{IsCutShort}
 
--- where a piece is cut short, so is that piece with more behind it
+-- where a piece is cut short, so is that piece with more after it
 pub cut_in_first : {before piece after : List ℕ} (next : List ℕ) →
     IsCutShort before piece after → IsCutShort before (piece ++ next) after
 cut_in_first {before} {piece} next cut = record {

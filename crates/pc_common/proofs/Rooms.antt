@@ -54,7 +54,7 @@ puts_nothing {K} view old new same =
       grows = λ is. ([], sym (append-nil (view old.out.now).taken));
     })
 
--- bytes that were put behind what waits
+-- bytes that were put after what waits
 pub puts_behind : {K : Type 0} (view : K → SinkView) (old : Room K) (w : Waiting) (text : List ℕ)
     → waiting_bytes w ≡ waits old ++ text → Puts view old (record { out = old.out; waiting = w }) success text
 puts_behind view old w text behind = record {

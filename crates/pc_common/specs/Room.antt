@@ -10,7 +10,7 @@ use Rattle.pc_common.specs.declared.room.Room.{Room}
 abbrev pub waits : {K : Type 0} → Room K → List ℕ
 waits room = waiting_bytes room.waiting
 
--- the sink behind a room, as if what waits had been taken already
+-- the sink after a room, as if what waits had been taken already
 abbrev pub room_view : {K : Type 0} → (K → SinkView) → Room K → SinkView
 room_view view room =
     record {

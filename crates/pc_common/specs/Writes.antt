@@ -4,7 +4,7 @@ use Rattle.pc_common.specs.Outside.{SinkView}
 use Rattle.pc_common.specs.Faults.{Rose}
 use Rattle.pc_common.specs.Pieces.{IsCutShort}
 
--- all of the text stands behind what was there, or, where a call failed, its first bytes
+-- all of the text stands after what was there, or, where a call failed, its first bytes
 abbrev pub Went : {T E : Type 0} → Result T E → List ℕ → List ℕ → List ℕ → Type 0
 Went (Ok x) before text after = after ≡ before ++ text
 Went (Err e) before text after = IsCutShort before text after

@@ -24,7 +24,7 @@ pub trait Files {
         ensures whole { OnOk result (IsTrue (view self.old).modelled →
             (view self.old).holds name.now ≡ Some (view self.new).left) };
 
-    /// Puts the next bytes of what is left at the front of `buf`, and answers how many, at most the
+    /// Puts the next bytes of what is left at the front of `buf`, and returns how many, at most the
     /// length of `buf`. For a `buf` that is not empty, 0 says that nothing is left.
     fn read(&mut self, buf: &mut [u8]) -> Result<usize, Failed>
         requires { IsTrue (view self.old).started }

@@ -18,7 +18,7 @@ pub fn line_col(bytes: &[u8], place: Place) -> (u32, u32)
     (line as u32, column as u32)
 }
 
-/// How many bytes stand behind the last LF, or in all where there is none.
+/// How many bytes stand after the last LF, or in all where there is none.
 fn tail_len(before: &[u8]) -> usize
     ensures value { result ≡ suffix_len (λ b. not (b == 10)) before.now }
     ensures bound { result ≤ length before.now }

@@ -31,10 +31,10 @@ impl<'a, K: Sink> Room<'a, K> {
         }
     }
 
-    /// Puts the piece behind what waits. A full room is handed on where more is put; where that fails,
+    /// Puts the piece after what waits. A full room is handed on where more is put; where that fails,
     /// the first bytes of the piece were put, but not all of them.
     ///
-    /// A piece that has space behind what waits is put without a call of the sink.
+    /// A piece that has space after what waits is put without a call of the sink.
     pub fn put(&mut self, piece: &[u8]) -> Result<(), Failed>
         ensures puts { Puts K.view self.old self.new result piece.now }
         ensures fits { self.old.waiting.used + length piece.now ≤ 4096
@@ -48,7 +48,7 @@ impl<'a, K: Sink> Room<'a, K> {
         Ok(())
     }
 
-    /// Puts the pieces behind what waits, one after another. Where handing on fails, the first bytes of them
+    /// Puts the pieces after what waits, one after another. Where handing on fails, the first bytes of them
     /// were put, but not all.
     pub fn put_all(&mut self, pieces: &[&[u8]]) -> Result<(), Failed>
         ensures { Puts K.view self.old self.new result (flat_map (λ p. p.now) pieces.now) }

@@ -38,7 +38,7 @@ impl Schedule {
         }
     }
 
-    /// Counts a call, and answers whether it is to fail.
+    /// Counts a call, and returns whether it is to fail.
     pub fn is_due(&mut self) -> bool
         ensures listed { result ≡ is_next_listed self.old }
         ensures counted { self.new ≡ record self.old { calls = one_more self.old.calls } }

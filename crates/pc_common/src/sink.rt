@@ -11,7 +11,7 @@ pub trait Sink {
     /// What contracts see of the sink.
     ghost view: { Self → SinkView };
 
-    /// Takes the first bytes of the piece, and answers how many. It takes at least one of a piece
+    /// Takes the first bytes of the piece, and returns how many. It takes at least one of a piece
     /// that is not empty, or fails: otherwise writing the whole piece would not end. Where it fails it took
     /// nothing of this piece.
     fn write(&mut self, piece: &[u8]) -> Result<usize, Failed>

@@ -38,14 +38,14 @@ impl Waiting {
         part(&self.bytes, self.from, self.used)
     }
 
-    /// Whether no byte has space behind what waits.
+    /// Whether no byte has space after what waits.
     pub(crate) fn is_full(&self) -> bool
         ensures { result ≡ nat_eq self.now.used 4096 }
     {
         self.used == ROOM
     }
 
-    /// Puts as many bytes of the piece as have space behind what waits, and answers how many.
+    /// Puts as many bytes of the piece as have space after what waits, and returns how many.
     pub(crate) fn put(&mut self, piece: &[u8]) -> usize
         ensures moved { result ≡ min (length piece.now) (4096 - self.old.used) }
         ensures bytes { waiting_bytes self.new ≡ waiting_bytes self.old ++ take result piece.now }

@@ -5,7 +5,7 @@ ghost use Rattle.pc_common.specs.Writes.{Writes};
 use super::failed::Failed;
 use super::sink::Sink;
 
-/// Writes the first bytes of the piece, as many as go out before a call fails, and answers how many.
+/// Writes the first bytes of the piece, as many as go out before a call fails, and returns how many.
 pub(crate) fn send<K: Sink>(sink: &mut K, piece: &[u8]) -> usize
     ensures same_modelled { (K.view sink.new).modelled ≡ (K.view sink.old).modelled }
     ensures count { (K.view sink.old).faults ≤ (K.view sink.new).faults }

@@ -19,7 +19,7 @@ pub read_on-le : (n : ℕ) (ds : List ℕ) → n ≤ read_on n ds
 read_on-le n [] = omega arith
 read_on-le n (d ∷ ds) = omega (arith, read_on-le (10 * n + (d - 48)) ds)
 
--- the digits from k on, read behind the value of those before
+-- the digits from k on, read after the value of those before
 abbrev pub ReadUpTo : List ℕ → ℕ → ℕ → Type 0
 ReadUpTo ds k value = (all_ascii_digits (drop k ds) ≡ all_ascii_digits ds) × (read_on value (drop k ds) ≡ read_on 0 ds)
 

@@ -71,7 +71,7 @@ part_below rows p r a b rest e =
     let right : drop (p + 1 + length (rows_of a)) rows ≡ rows_of b ++ rest = drop_more (p + 1) rows (rows_of a) (rows_of b ++ rest) left in
     ((rows_of b ++ rest, left), (rest, ap (λ n. drop (p + 1 + n) rows) (sym (length_rows a)) ∙ right))
 
--- the children of a part: the left one stands at p + 1, the right one behind it
+-- the children of a part: the left one stands at p + 1, the right one after it
 pub parts_both : {N : Type 0} (rows : List (Row N)) (p : ℕ) (a b : Tree N) → IsPart rows p (both a b) → IsPart rows (p + 1) a × IsPart rows (p + 1 + size_of a) b
 parts_both rows p a b (rest, e) = part_below rows p _ a b rest e
 
@@ -241,7 +241,7 @@ row_subtree t p r e =
     some_same : {X : Type 0} {x y : X} → Some x ≡ Some y → x ≡ y
     some_same {X} {x} {y} e = ap (λ o. unwrap_or o x) e
 
--- an Or's sides by its rows: the left child at p + 1, the right child behind its skip
+-- an Or's sides by its rows: the left child at p + 1, the right child after its skip
 pub or_subtree : {N : Type 0} (t : Tree N) (p : ℕ) (r : Row N) → slice_get (rows_of t) p ≡ Some r → r.kind ≡ Or
     → (a : Tree N) × (b : Tree N) × (subtree_at t p ≡ Some (either a b)) × (slice_get (rows_of t) (p + 1) ≡ Some (root_of a))
 or_subtree {N} t p r e k = go (row_subtree t p r e)
@@ -254,7 +254,7 @@ or_subtree {N} t p r e k = go (row_subtree t p r e)
     go (both a b, at, is) = (let h : And ≡ Or = ap (λ (q : Row N). q.kind) is ∙ k in cc)
     go (either a b, at, is) = (a, b, at, subtree_row t (p + 1) a (children_either t p a b at).0)
 
--- behind its last position a tree has no subtree
+-- after its last position a tree has no subtree
 pub subtree_past : {N : Type 0} (t : Tree N) (p : ℕ) → size_of t ≤ p → subtree_at t p ≡ None
 subtree_past t zero past = absurd (omega (arith, past, size_pos t))
 subtree_past always (suc p) past = refl

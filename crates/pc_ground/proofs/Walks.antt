@@ -8,7 +8,7 @@ use Rattle.pc_ground.specs.Refutes.{subtree_at, asserted}
 use Rattle.pc_ground.specs.Walks.{stride, Walk, at_end, onward}
 use Rattle.pc_ground.proofs.FlatRows.{IsPart, parts_both, part_row, root_of, size_pos, subtree_part}
 
--- through a part, where a walk goes on behind it
+-- through a part, where a walk goes on after it
 pub walk_through : {N : Type 0} (rows : List (Row N)) (end : ℕ) (s : Tree N) (p : ℕ) (ps : List ℕ) → IsPart rows p s → p + size_of s ≤ end
     → Walk rows end (p + size_of s) ps → Walk rows end p (asserted s p ++ ps)
 walk_through rows end always p ps part within walk = onward p (root_of always) (omega (arith, within)) (part_row rows p always part) walk
@@ -40,7 +40,7 @@ walk_part rows s p part =
 pub walk_side : {N : Type 0} (t : Tree N) (p : ℕ) (s : Tree N) → subtree_at t p ≡ Some s → Walk (rows_of t) (p + size_of s) p (asserted s p)
 walk_side t p s at = walk_part (rows_of t) s p (subtree_part t p s at)
 
--- one turn: before its end a walk is at a position, and goes on behind it
+-- one turn: before its end a walk is at a position, and goes on after it
 pub walk_turn : {N : Type 0} {rows : List (Row N)} {end at : ℕ} {ps : List ℕ} → Walk rows end at ps → at < end
     → (r : Row N) × (rest : List ℕ) × (slice_get rows at ≡ Some r) × (ps ≡ at ∷ rest) × Walk rows end (at + stride r) rest
 walk_turn at_end before = absurd (omega (arith, before))

@@ -7,7 +7,7 @@ use Rattle.std.specs.Str.{all_ascii_digits}
 abbrev pub IsDecimal : List ℕ → ℕ → Type 0
 IsDecimal bytes n = (n ≤ 18446744073709551615) × (bytes ≡ decimal n)
 
--- n with these digits behind it
+-- n with these digits after it
 abbrev pub read_on : ℕ → List ℕ → ℕ
 read_on n [] = n
 read_on n (c ∷ cs) = read_on (10 * n + (c - 48)) cs

@@ -12,11 +12,11 @@ use Rattle.pc_ground.specs.declared.node_words.NodeWords.{NodeWords}
 abbrev pub Lacks : ℕ → List ℕ → Type 0
 Lacks mark bytes = list_any (λ c. c == mark) bytes ≡ false
 
--- before the first byte `mark` stands `front`, and behind it `back`
+-- before the first byte `mark` stands `front`, and after it `back`
 abbrev pub IsCut : ℕ → List ℕ → List ℕ → List ℕ → Type 0
 IsCut mark word front back = Lacks mark front × (word ≡ front ++ mark ∷ back)
 
--- the word is these three numbers, and this behind them
+-- the word is these three numbers, and this after them
 pub record AreWords (word : List ℕ) (w : NodeWords) : Type 0 where
   pub g : w.g ≤ 18446744073709551615
   pub n : w.n ≤ 18446744073709551615

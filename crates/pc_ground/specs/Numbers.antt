@@ -29,7 +29,7 @@ first_seen seen (x ∷ xs) = if list_any (same_node x) seen then first_seen seen
 abbrev pub numbered : Tree Node → List Node
 numbered t = first_seen [] (nodes_of_tree t)
 
--- the nodes with this one behind them, where it is not among them
+-- the nodes with this one after them, where it is not among them
 abbrev pub seen : List Node → Node → List Node
 seen nodes a = if list_any (same_node a) nodes then nodes else nodes ++ a ∷ []
 

@@ -82,7 +82,7 @@ with_side ps n side p = ps ++ all_signed n (asserted side p)
 abbrev pub left_branch : {N : Type 0} → Branch → Bool → ℕ → Tree N → Branch
 left_branch ps n p a = with_side ps n a (p + 1)
 
--- the right side; in version 2 it comes behind the negation of the left one, which was refuted before
+-- the right side; in version 2 it comes after the negation of the left one, which was refuted before
 abbrev pub right_branch : {N : Type 0} → Version → Branch → Bool → ℕ → Tree N → Tree N → Branch
 right_branch One ps n p a b = with_side ps n b (p + 1 + size_of a)
 right_branch Two ps n p a b = with_side (with_side ps (not n) (negation a) (p + 1)) n b (p + 1 + size_of a)

@@ -13,7 +13,7 @@ pub(crate) struct NodeWords<'a> {
     pub(crate) stage: &'a [u8],
 }
 
-/// What stands before the first byte `mark`, and what behind it; None where there is none.
+/// What stands before the first byte `mark`, and what after it; None where there is none.
 fn cut(word: &[u8], mark: u8) -> Option<(&[u8], &[u8])>
     ensures { MatchOption result (Lacks mark word.now) (λ r. IsCut mark word.now r.0.now r.1.now) }
 {

@@ -44,7 +44,7 @@ impl Numbering {
         }
     }
 
-    /// Numbers this node behind the others, where it has no number. Where memory is refused, nothing changes.
+    /// Numbers this node after the others, where it has no number. Where memory is refused, nothing changes.
     pub fn see(&mut self, key: NodeKey) -> Result<(), Memory>
         ensures { self.new ≡ (if is_ok result then seen self.old (key_node key) else self.old) }
     {

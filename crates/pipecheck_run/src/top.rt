@@ -247,7 +247,7 @@ fn tell<K: Sink>(out: &mut K, answer: &Answer) -> Status
     }
 }
 
-/// Answers a command. `check MODEL TEST` reads the two named files, at most 1,048,576 bytes each,
+/// Runs a command. `check MODEL TEST` reads the two named files, at most 1,048,576 bytes each,
 /// decides whether the outcome of the test is observable on the model, and writes the verdict with
 /// its certificate, or the first fault of the files. The other commands read so too:
 ///

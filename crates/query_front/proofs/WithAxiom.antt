@@ -41,7 +41,7 @@ module _ (at : Place) (body : Written) where
   items_macros (macro_ x ∷ items) = ap (λ zs. x ∷ zs) (items_macros items)
   items_macros (axiom_ there other ∷ items) = items_macros items
 
-  -- behind items without a macro fault, the first is that of the axiom
+  -- after items without a macro fault, the first is that of the axiom
   calls_more : (all earlier : List MacroAt) (items : List WrittenItem) → items_fault all earlier items ≡ None
       → items_fault all earlier (items ++ axiom_ at body ∷ []) ≡ body_fault all body
   calls_more all earlier [] none = or_nothing (body_fault all body)
@@ -54,13 +54,13 @@ module _ (at : Place) (body : Written) where
       pass (body_fault all other) (items_fault all earlier (items ++ axiom_ at body ∷ [])) (none_first (body_fault all other) rest none)
       ∙ calls_more all earlier items (none_second (body_fault all other) rest none)
 
--- the size of the axioms among the items, behind others of this size
+-- the size of the axioms among the items, after others of this size
 pub size_after : List MacroAt → ℕ → List WrittenItem → ℕ
 size_after ms total [] = total
 size_after ms total (macro_ x ∷ items) = size_after ms total items
 size_after ms total (axiom_ at body ∷ items) = size_after ms (total + expanded_size ms body) items
 
--- the size fault of an axiom behind others of this size
+-- the size fault of an axiom after others of this size
 abbrev pub size_fault : List MacroAt → ℕ → Place → Written → Option Fault
 size_fault ms before at body =
     option_or (depth_fault at (expanded_height ms body)) (total_fault at (before + expanded_size ms body))

@@ -34,7 +34,7 @@ pub record FormulaOf (bytes : List ℕ) (f : Written) : Type 0 where
 abbrev pub first_byte : Place
 first_byte = record { offset = 0 }
 
--- the model with this axiom behind its last item. The axiom stands in no model's file: its place is the query's first byte
+-- the model with this axiom after its last item. The axiom stands in no model's file: its place is the query's first byte
 abbrev pub with_axiom : WrittenModel → Written → WrittenModel
 with_axiom m f = record { stages = m.stages; items = m.items ++ axiom_ first_byte f ∷ [] }
 

@@ -12,7 +12,7 @@
 //! ```
 //!
 //! A query's file has one formula and nothing after it. What macros, sizes and names say against it is judged as for an
-//! axiom `~F` behind the model's last item: its macros are those of the model, and its size comes to that of the axioms.
+//! axiom `~F` after the model's last item: its macros are those of the model, and its size comes to that of the axioms.
 //! A fault stands in the query, but a name fault in the body of a macro stands in the model.
 //!
 //! `specs/Queries.antt` says what the bytes of a query say and which fault is its first, `specs/Inquiries.antt` what three

@@ -54,7 +54,7 @@ impl<W: Write> Sink for RealSink<W> {
     }
 }
 
-// Writes first bytes of the piece and flushes them, and answers how many. A failed flush is a failed write, so that a
+// Writes first bytes of the piece and flushes them, and returns how many. A failed flush is a failed write, so that a
 // fault of standard output is seen before the status.
 fn put<W: Write>(writer: &mut W, piece: &[u8]) -> io::Result<usize>
     ensures within { IfOk result (λ n. n ≤ length piece.now) }

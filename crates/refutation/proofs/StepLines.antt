@@ -46,7 +46,7 @@ words_of_nodes names readable w h nodes inside =
 line_of_nodes : (names : Names) (line w : List ℕ) (nodes : List Node) → words line ≡ w ∷ map (node_text names) nodes → line ≡ w ++ nodes_text names nodes
 line_of_nodes names line w nodes e = line_spaced line w (map (node_text names) nodes) e ∙ ap (λ r. w ++ r) (sym (nodes_spaced names nodes))
 
--- a decimal behind a sign has no space, and none begins with a sign
+-- a decimal after a sign has no space, and none begins with a sign
 pub signed_lacks : (negated : Bool) (digits : List ℕ) (p : ℕ) → IsDecimal digits p → Lacks 32 (sign_text negated ++ digits)
 signed_lacks true digits p d = decimal_lacks 32 digits refl (p, d)
 signed_lacks false digits p d = decimal_lacks 32 digits refl (p, d)
@@ -119,7 +119,7 @@ line_of_form line (of_path a b more all e) =
 line_of_form line (of_absence a f e) = an_absence a f (line_two line (codes "absent") a e)
 line_of_form line (of_falsity e) = a_falsity (line_spaced line (codes "false") [] e)
 
--- the words behind the first
+-- the words after the first
 abbrev pub behind : List (List ℕ) → List (List ℕ)
 behind [] = []
 behind (w ∷ ws) = ws

@@ -1,4 +1,4 @@
--- What reading the words behind the first one makes of a line.
+-- What reading the words after the first one makes of a line.
 use Rattle.std.proofs.Common.{◌≡◌, ◌≢◌, ℕ, ◌≤◌, Bool, drop, ◌++◌, List, [], ◌∷◌, length, refl, sym, ◌∙◌, ap, arith, subst, ◌==◌, true, false, Option, Some, None, Ok, Err, Bor, is_err}
 use Rattle.std.specs.Prelude.{All, Result, OnErr, codes, is_some}
 use Rattle.std.specs.Option.{option_map_or}
@@ -27,7 +27,7 @@ split_read names text negated digits p is d =
     let are : words text ≡ (sign_text negated ++ digits) ∷ [] = ap words is ∙ words_last (sign_text negated ++ digits) (signed_lacks negated digits p d) in
     (split negated p, record { has_line = d.0; inside = tt; are = ap (λ ws. codes "split" ∷ ws) (are ∙ ap (λ w. (sign_text negated ++ w) ∷ []) d.1) }, refl, refl)
 
--- what is behind the sign is all that can be a decimal
+-- what is after the sign is all that can be a decimal
 behind_sign : (text : List ℕ) (negated : Bool) (digits : List ℕ) → text ≡ sign_text negated ++ digits → (negated ≡ false → (rest : List ℕ) → text ≢ codes "~" ++ rest)
     → (m : Bool) (ds : List ℕ) (p : ℕ) → IsDecimal ds p → text ≡ sign_text m ++ ds → ds ≡ digits
 behind_sign text true digits is plain true ds p d e = ap (λ xs. drop 1 xs) (sym e ∙ is)

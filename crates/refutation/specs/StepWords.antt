@@ -58,7 +58,7 @@ ReadsWords names ws nodes (Ok head) = (s : PlainStep Node) × AreWordsOf names w
 ReadsWords names ws nodes (Err Malformed) = AreOfForm ws → ⊥
 ReadsWords names ws nodes (Err Foreign) = AreOfForm ws × ((s : PlainStep Node) → AreWordsOf names ws s → ⊥)
 
--- reading a word as a node answers whether it is one of these names, and then puts it behind the nodes
+-- reading a word as a node answers whether it is one of these names, and then puts it after the nodes
 abbrev pub ReadsWord : Names → List ℕ → List Node → List Node → Result Bool LineFault → Type 0
 ReadsWord names word old new (Ok true) = (a : Node) × IsNodeIn names a × IsNodeForm word × (word ≡ node_text names a)
     × (new ≡ old ++ a ∷ [])

@@ -35,7 +35,7 @@ abbrev pub HasLine : PlainStep Node → Type 0
 HasLine (split negated p) = p ≤ 18446744073709551615
 HasLine (close l) = HasItsNodes l
 
--- how many branches are open behind a step, where so many were before it
+-- how many branches are open after a step, where so many were before it
 abbrev pub open_after : ℕ → PlainStep Node → ℕ
 open_after n (split negated p) = n + 1
 open_after n (close l) = n - 1

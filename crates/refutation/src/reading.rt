@@ -23,7 +23,7 @@ fn read_alone(word: &[u8]) -> Result<StepHead, LineFault>
     }
 }
 
-/// Whether the sign `~` stands in front, and what stands behind it.
+/// Whether the sign `~` stands in front, and what stands after it.
 fn read_sign(text: &[u8]) -> (bool, &[u8])
     ensures is { text.now ≡ sign_text result.0 ++ result.1.now }
     ensures plain { result.0 ≡ false → (rest : List ℕ) → text.now ≢ codes "~" ++ rest }
@@ -34,7 +34,7 @@ fn read_sign(text: &[u8]) -> (bool, &[u8])
     }
 }
 
-/// Reads what stands behind the word `split`.
+/// Reads what stands after the word `split`.
 fn read_split(text: &[u8]) -> Result<StepHead, LineFault>
     ensures { (names : Names) → ReadsWords names (codes "split" ∷ words text.now) [] result }
 {
@@ -45,7 +45,7 @@ fn read_split(text: &[u8]) -> Result<StepHead, LineFault>
     }
 }
 
-/// Reads what stands behind the word `cycle`.
+/// Reads what stands after the word `cycle`.
 fn read_cycle(names: &NodeText<'_>, rest: &[u8], row: &mut NodeRow) -> Result<StepHead, LineFault>
     requires empty { row.old.nodes ≡ [] }
     requires room { length (words rest.now) ≤ row.old.spare }
@@ -56,7 +56,7 @@ fn read_cycle(names: &NodeText<'_>, rest: &[u8], row: &mut NodeRow) -> Result<St
     Ok(StepHead::Cycle)
 }
 
-/// Reads what stands behind the word `path`: two nodes at least.
+/// Reads what stands after the word `path`: two nodes at least.
 fn read_path(names: &NodeText<'_>, rest: &[u8], row: &mut NodeRow) -> Result<StepHead, LineFault>
     requires empty { row.old.nodes ≡ [] }
     requires room { length (words rest.now) ≤ row.old.spare }
@@ -70,7 +70,7 @@ fn read_path(names: &NodeText<'_>, rest: &[u8], row: &mut NodeRow) -> Result<Ste
     Ok(StepHead::Path)
 }
 
-/// Reads what stands behind the word `absent`: one node.
+/// Reads what stands after the word `absent`: one node.
 fn read_absent(names: &NodeText<'_>, rest: &[u8], row: &mut NodeRow) -> Result<StepHead, LineFault>
     requires empty { row.old.nodes ≡ [] }
     requires room { length (words rest.now) ≤ row.old.spare }

@@ -2,7 +2,7 @@ ghost use Rattle.std.specs.Prelude.{◌≡◌, ◌<◌, [], ◌∷◌, length, I
 ghost use Rattle.std.specs.Option.{option_map_or};
 ghost use Rattle.refutation.specs.Words.{words};
 
-/// The first word of a line, and what stands behind its space; None where it is the only one.
+/// The first word of a line, and what stands after its space; None where it is the only one.
 pub(crate) fn first_word(line: &[u8]) -> (&[u8], Option<&[u8]>)
     ensures words { words line.now ≡ result.0.now ∷ option_map_or (λ rest. words rest.now) result.1 [] }
     ensures shorter { IfSome result.1 (λ rest. length rest.now < length line.now) }

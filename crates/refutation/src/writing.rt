@@ -26,7 +26,7 @@ fn put_node<K: Sink>(
     put_line_parts(room, names, &[LinePart::Bytes(b" "), LinePart::Node(key)])
 }
 
-/// Puts the nodes, each behind a space.
+/// Puts the nodes, each after a space.
 fn put_nodes<K: Sink>(
     room: &mut Room<'_, K>,
     names: &NodeText<'_>,

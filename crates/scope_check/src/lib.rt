@@ -14,7 +14,7 @@
 //! ```
 //!
 //! `close` walks the formula once, outside before inside and left before right, with the variables that
-//! are in scope at each place. It answers the closed formula, or the first name fault with what its
+//! are in scope at each place. It returns the closed formula, or the first name fault with what its
 //! fault word carries. `close_query` does the same with a formula that is asked of a model and stands in a file of its
 //! own, and says of a fault in which of the two files it stands. Names matter only by which of them are one: the laws
 //! `renaming_keeps_..` say that a formula with other names, apart where they were, has the same closing and the same

@@ -5,13 +5,13 @@ use std::alloc::Global;
 /// A text in pieces, each with how often it stands there.
 pub type Pieces = &'static [(&'static str, usize)];
 
-/// Puts the piece behind the text.
+/// Puts the piece after the text.
 pub fn put(text: &mut Vec<u8>, piece: &[u8]) -> Result<(), Memory> {
     text.extend_from_slice(piece)?;
     Ok(())
 }
 
-/// Puts the number behind the text, in decimal digits.
+/// Puts the number after the text, in decimal digits.
 pub fn put_number(text: &mut Vec<u8>, number: u64) -> Result<(), Memory> {
     let mut digits = itoa::Buffer::new();
     put(text, digits.format(number).as_bytes())

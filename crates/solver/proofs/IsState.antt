@@ -24,7 +24,7 @@ use Rattle.solver.proofs.RenamedTree.{part_renamed, negation_renamed, asserted_r
 use Rattle.solver.proofs.HasAsserted.{asserted_is, literals_more}
 use Rattle.solver.proofs.AreTruths.{denied_in}
 
--- reading and taking before an end that is put behind
+-- reading and taking before an end that is put after it
 take_front : {X : Type 0} (k : ℕ) (xs ys : List X) → k ≤ length xs → take k (xs ++ ys) ≡ take k xs
 take_front k xs ys h = take-append-le k xs ys h
 

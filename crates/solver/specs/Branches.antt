@@ -1,4 +1,4 @@
--- The first open branch of a search, with those that wait behind it, over the search's tree.
+-- The first open branch of a search, with those that wait after it, over the search's tree.
 use Rattle.std.specs.Prelude.{◌≡◌, List, [], ◌∷◌, ◌++◌, Option, Some, None, length, take, slice_index}
 use Rattle.pc_ground.specs.declared.version.Version.{Version}
 use Rattle.pc_ground.specs.Refutes.{Branch as Positions}

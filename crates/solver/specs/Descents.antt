@@ -1,4 +1,4 @@
--- What comes of entering a side, and of the branches that wait behind it.
+-- What comes of entering a side, and of the branches that wait after it.
 use Rattle.std.specs.Prelude.{ℕ, ◌≡◌, ◌<◌, Bool, true, false, List, [], ◌∷◌, ◌++◌}
 use Rattle.pc_common.specs.World.{Node}
 use Rattle.pc_common.specs.Steps.{Step}

@@ -48,7 +48,7 @@ pub record IsState (v : Version) (nodes : List Node) (t : Tree ℕ) (graph : Gra
   pub waits : AreLater t (positions asserted) graph.marks (reverse later)
   pub partial : IsPartial v (tree_over nodes t) steps (opens t (positions asserted ++ more) asserted later)
 
--- literals were put behind those there were
+-- literals were put after those there were
 pub record IsFurther (old new : Graph) : Type 0 where
   pub same_nodes : new.nodes ≡ old.nodes
   pub same_marks : new.marks ≡ old.marks

@@ -6,7 +6,7 @@ use Rattle.pc_ground.specs.declared.row.Row.{Row}
 use Rattle.pc_ground.specs.Tree.{Tree, always, never, leaf, both, either}
 use Rattle.pc_ground.specs.Rows.{rows_of}
 
--- a row before the trees that the rows behind it spell
+-- a row before the trees that the rows after it spell
 abbrev pub before : {N : Type 0} → RowKind N → List (Tree N) → List (Tree N)
 before True ts = always ∷ ts
 before False ts = never ∷ ts

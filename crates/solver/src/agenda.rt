@@ -161,7 +161,7 @@ impl Agenda {
         Ok(())
     }
 
-    /// Takes back what came behind the last split that waits, before which so many positions were asserted.
+    /// Takes back what came after the last split that waits, before which so many positions were asserted.
     pub(crate) fn go_back(&mut self, count: usize) {
         let Some(length) = self.marks.pop() else {
             return;

@@ -11,7 +11,7 @@ use pc_ground::Version;
 use refutation::Refutation;
 use std::alloc::Global;
 
-/// The first open branch of a search, with the sides that wait behind it and the steps so far. What it keeps
+/// The first open branch of a search, with the sides that wait after it and the steps so far. What it keeps
 /// is said of it and the tree together, by `IsOpen`: the graph's literals are those of the asserted
 /// positions, each side that waits begins with a first part of them, and the steps with the open branches
 /// are a partial refutation.

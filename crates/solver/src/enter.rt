@@ -161,7 +161,7 @@ pub(crate) fn enter_next<L: Ledger>(
 }
 
 /// Goes back to the next branch that waits, where one does: to the asserted positions and the literals that it
-/// begins with. Answers the side that it is to assert.
+/// begins with. Returns the side that it is to assert.
 pub(crate) fn go_back<L: Ledger>(branch: &mut Branch, steps: &mut Steps<L>) -> Option<Side>
     requires { (ls : List PlainLater) (l : PlainLater)
         → branch.old.later.items ≡ ls ++ l ∷ [] → l.mark < length branch.old.graph.marks }

@@ -34,7 +34,7 @@ fn told(truths: &[bool], p: usize) -> bool {
     p < truths.len() && truths[p]
 }
 
-/// Whether the row's tree is true now, where `truths` tells it of the positions behind.
+/// Whether the row's tree is true now, where `truths` tells it of the positions after it.
 fn row_holds(rows: &[Row<u32>], graph: &OrderGraph, truths: &[bool], p: usize) -> bool
     requires { All (IsRowBelow graph.now.nodes) rows.now }
 {

@@ -25,7 +25,7 @@ pub(crate) fn child_flags(rows: &[Row<u32>], flags: &[bool], p: usize) -> (bool,
     (flags[left], flags[right])
 }
 
-/// Whether the subtree at `p` is true now, where `truths` tells it of the positions behind.
+/// Whether the subtree at `p` is true now, where `truths` tells it of the positions after it.
 fn is_true_at(rows: &[Row<u32>], truths: &[bool], graph: &OrderGraph, p: usize) -> bool
     requires tree { IsSpelled rows.now }
     requires count { length truths.now ≡ length rows.now }

@@ -26,7 +26,7 @@ pub map_take : {A B : Type 0} (f : A → B) (xs : List A) (k : ℕ) (x : A) → 
     → map f (take (k + 1) xs) ≡ map f (take k xs) ++ f x ∷ []
 map_take f xs k x h = rw (add-one, take-next xs k x h) (map-append f (take k xs) (x ∷ []))
 
--- the same of what the members are mapped to, behind a first part
+-- the same of what the members are mapped to, after a first part
 pub mapped_more : {A B C : Type 0} (f : A → C) (g : B → C) (first : List C) (xs ys : List A) (zs : List B) (k : ℕ) (x : A) (z : B)
     → slice_get zs k ≡ Some z → ys ≡ xs ++ x ∷ [] → f x ≡ g z → map f xs ≡ first ++ map g (take k zs)
     → map f ys ≡ first ++ map g (take (k + 1) zs)

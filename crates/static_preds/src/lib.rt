@@ -8,7 +8,7 @@
 //! assert!(rt; holds(&case, Pred::IsAnyRead, &args, &env));
 //! ```
 //!
-//! `holds` takes a case, a predicate, its closed arguments and what their slots stand for, and answers
+//! `holds` takes a case, a predicate, its closed arguments and what their slots stand for, and returns
 //! the predicate's row in the table of `pc_syntax`. What is asked of addresses or values is false of a
 //! fence, which has neither.
 //!

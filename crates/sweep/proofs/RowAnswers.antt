@@ -1,4 +1,4 @@
--- What the search finds of a row's ground tree answers the row, and answers come one behind the other.
+-- What the search finds of a row's ground tree answers the row, and answers come one after the other.
 use Rattle.std.proofs.Common.{◌≡◌, ℕ, inl, inr, Bool, false, List, [], ◌∷◌, ◌++◌, Some, length, sym, ◌∙◌, ap, subst, arith, slice_get}
 use Rattle.std.specs.Prelude.{unwrap_or, get_or}
 use Rattle.std.proofs.lemmas.Bool.{cases_lt}
@@ -34,7 +34,7 @@ answered axioms c version nodes (Observable graph) is =
 answered axioms c version nodes (Unobservable steps) is =
     λ h. is.1 h.0 h.1 (sym (closed_ground_tree_true c axioms h.0) ∙ h.2)
 
--- the same of what stands at each place, and of one more behind the others
+-- the same of what stands at each place, and of one more after the others
 pub answers_more : (P : ℕ → Bool → Type 0) (answers more : List Bool) (b : Bool) (n : ℕ) → more ≡ answers ++ b ∷ [] → length answers ≡ n → P n b
     → ((k : ℕ) (x : Bool) → slice_get answers k ≡ Some x → P k x) → (k : ℕ) (x : Bool) → slice_get more k ≡ Some x → P k x
 answers_more P answers more b n grown count here before k x at =

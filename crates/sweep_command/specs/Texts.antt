@@ -6,7 +6,7 @@ use Rattle.pc_common.specs.Case.{Value, number, entry}
 use Rattle.pattern_reader.specs.Rows.{Pattern, rows_of, values_in_row}
 use Rattle.sweep_command.specs.declared.command.Swept.{Swept}
 
--- behind a space: a number, or an entry's tag and its two marks
+-- after a space: a number, or an entry's tag and its two marks
 abbrev pub value_text : Value → List ℕ
 value_text (number n) = codes " " ++ decimal n
 value_text (entry e) =

@@ -20,7 +20,7 @@ pub struct Swept {
     pub answers: Vec<bool>,
 }
 
-/// Reads the model and the pattern and answers each row, or how the command ends before it.
+/// Reads the model and the pattern and returns the answer of each row, or how the command ends before it.
 pub fn sweep_files<F: Files>(
     alloc: Global,
     inputs: Inputs<'_>,

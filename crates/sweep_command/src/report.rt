@@ -57,7 +57,7 @@ fn put_value<K: Sink>(room: &mut Room<'_, K>, value: Value) -> Result<(), Failed
     }
 }
 
-/// Puts the values of a row, each behind a space.
+/// Puts the values of a row, each after a space.
 fn put_values<K: Sink>(room: &mut Room<'_, K>, pattern: &Pattern, row: u32) -> Result<(), Failed>
     requires { row < rows_of pattern.now }
     ensures { Puts K.view room.old room.new result (values_text pattern.now row) }

@@ -18,7 +18,7 @@ Microop 0 0 0 0 (Write Read (VA 0 0) (PA 0 0) (Data Any)).
 ",
         "refused test syntax at 2:53\n",
     ),
-    // so has one behind a read
+    // so has one after a read
     (
         "Litmus \"f\".
 Microop 0 0 0 0 (Read (VA 0 0) (PA 0 0) (Data Any)).
@@ -53,7 +53,7 @@ Microop 0 0 0 0 (Read (VA 0 0) (Entry 3) (Data Any)).
 ",
         "refused test syntax at 2:33\n",
     ),
-    // a fault behind an open value keeps its place
+    // a fault after an open value keeps its place
     (
         "Litmus \"f\".
 Microop 0 0 0 0 (Read (VA 0 0) (PA 0 0) (Data Any)). Permitted. Permitted.

@@ -92,13 +92,13 @@ fn open_reads_of_one_value_have_one_row(rt: HostRuntime) -> Result<(), Fail> {
     Ok(())
 }
 
-/// Writes, so many open reads at their address, what stands behind them, and the line that refuses it.
+/// Writes, so many open reads at their address, what stands after them, and the line that refuses it.
 const TOO_MANY: &[(&'static str, u32, &'static str, &'static str)] = &[
     (ONE_WRITE, 13, "", "refused test too-many-rows at 15:48\n"),
     // the place is that of the first open read by which there are too many
     (ONE_WRITE, 14, "", "refused test too-many-rows at 15:48\n"),
     (TWO_WRITES, 8, "", "refused test too-many-rows at 11:48\n"),
-    // a write behind them gives them a value too
+    // a write after them gives them a value too
     (
         ONE_WRITE,
         8,

@@ -24,7 +24,7 @@ Microop 0 0 0 0 (Read (VA 0 0) (PA 0 0) (Data Any)).
 ",
         "sweep 1\nrow 0 observable\nobservable 1\nunobservable 0\nend\n",
     ),
-    // two writes of one value: the value comes once, behind the initial one
+    // two writes of one value: the value comes once, after the initial one
     (
         "Litmus \"v\".
 Microop 0 0 0 0 (Write (VA 0 0) (PA 0 0) (Data 1)).
@@ -53,7 +53,7 @@ Init (PA 0 0) 1.
 ",
         "sweep 2\nrow 1 observable\nrow 2 observable\nobservable 2\nunobservable 0\nend\n",
     ),
-    // a write of another address, and one behind the read in the text
+    // a write of another address, and one after the read in the text
     (
         "Litmus \"v\".
 Microop 0 0 0 0 (Read (VA 0 0) (PA 0 0) (Data Any)).

@@ -28,7 +28,7 @@ pub record IsTrail (size : ℕ) (trail : List Change) (t : List ℕ) : Type 0 wh
   pub changing : IsChanging trail t
   pub cleared : back trail t ≡ replicate size 0
 
--- at most n words changed, each with its change behind the trail
+-- at most n words changed, each with its change after the trail
 pub record Grows (old : List Change) (t : List ℕ) (new : List Change) (u : List ℕ) (n : ℕ) : Type 0 where
   pub same_size : length u ≡ length t
   pub keeps : (size : ℕ) → IsTrail size old t → IsTrail size new u

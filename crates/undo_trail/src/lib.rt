@@ -10,7 +10,7 @@
 //! ```
 //!
 //! The table has rows of words, 64 columns to a word. Each word that changes is put on a trail first, with
-//! what it held. A mark is a length of the trail, and `undo` puts the words behind it back, the newest
+//! what it held. A mark is a length of the trail, and `undo` puts the words after it back, the newest
 //! first. The trail's room is taken before a word changes, so a refusal of memory changes nothing.
 //!
 //! `or_words` and `meets_words` are the two loops over words that a closure over bit rows needs, and `Steps`

@@ -97,7 +97,7 @@ impl UndoTable {
         Ok(())
     }
 
-    /// Sets the bit in row `r` and column `c`, where the trail has room for one word. Answers whether it was
+    /// Sets the bit in row `r` and column `c`, where the trail has room for one word. Returns whether it was
     /// clear. Takes no memory.
     pub fn set_bit_reserved(&mut self, r: usize, c: usize) -> bool
         requires row_in { r < self.old.rows }
@@ -113,7 +113,7 @@ impl UndoTable {
         put(&mut self.table, &mut self.trail, place, word)
     }
 
-    /// Sets the bit in row `r` and column `c`. Answers whether it was clear. `Memory` comes where the trail
+    /// Sets the bit in row `r` and column `c`. Returns whether it was clear. `Memory` comes where the trail
     /// has no room for one more word; then nothing has changed.
     pub fn set_bit(&mut self, r: usize, c: usize) -> Result<bool, Memory>
         requires row_in { r < self.old.rows }
@@ -127,7 +127,7 @@ impl UndoTable {
         Ok(self.set_bit_reserved(r, c))
     }
 
-    /// Puts the bits of row `src` into row `dst`, where the trail has room for the words of a row. Answers
+    /// Puts the bits of row `src` into row `dst`, where the trail has room for the words of a row. Returns
     /// whether a bit changed. Takes no memory.
     pub fn or_row_reserved(&mut self, dst: usize, src: usize) -> bool
         requires dst_in { dst < self.old.rows }
@@ -143,7 +143,7 @@ impl UndoTable {
         or_into(&mut self.table, &mut self.trail, to, from, self.words)
     }
 
-    /// Puts the bits of row `src` into row `dst`. Answers whether a bit changed. `Memory` comes where the
+    /// Puts the bits of row `src` into row `dst`. Returns whether a bit changed. `Memory` comes where the
     /// trail has no room for the words of a row; then nothing has changed.
     pub fn or_row(&mut self, dst: usize, src: usize) -> Result<bool, Memory>
         requires dst_in { dst < self.old.rows }

@@ -11,7 +11,7 @@ pub struct Change {
     pub old: u64,
 }
 
-/// Makes `word` stand at `place`, with the change behind the trail, which has room for it. Answers whether
+/// Makes `word` stand at `place`, with the change after the trail, which has room for it. Returns whether
 /// another word stood there.
 pub fn put(table: &mut [u64], trail: &mut Vec<Change>, place: usize, word: u64) -> bool
     requires inside { place < length table.old }
@@ -33,7 +33,7 @@ pub fn put(table: &mut [u64], trail: &mut Vec<Change>, place: usize, word: u64) 
 }
 
 /// Puts the bits of the `words` words at `from` into those at `to`. The trail has room for all of them.
-/// Answers whether a word changed.
+/// Returns whether a word changed.
 pub fn or_into(
     table: &mut [u64],
     trail: &mut Vec<Change>,

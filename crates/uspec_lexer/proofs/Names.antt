@@ -64,7 +64,7 @@ name_of (c ∷ cs) p =
 pub name_is_piece : (bytes : List ℕ) → IsTrue (is_name bytes) ↔ IsPiece bytes (token name) 0 (length bytes)
 name_is_piece bytes = (piece_of bytes, name_of bytes)
 
--- behind a letter the other bytes decide
+-- after a letter the other bytes decide
 pub name_rest : (bytes : List ℕ) (rest : Bool) → 1 ≤ length bytes → is_ascii_alphabetic (get_or bytes 0 0) ≡ true
     → rest ≡ list_all is_name_byte (take (length bytes - 1) (drop 1 bytes)) → rest ≡ is_name bytes
 unfolding is_name

@@ -9,7 +9,7 @@ use Rattle.uspec_lexer.specs.Spells.{Piece, Joined, tokens_of_piece, tokens_of, 
 use Rattle.uspec_lexer.specs.Laws.{IsTokenOf}
 use Rattle.uspec_lexer.proofs.Pieces.{piece-rises, piece-within}
 
--- tokens of the text, the first at a or behind it, each other behind the end of the one before
+-- tokens of the text, the first at a or after it, each other after the end of the one before
 abbrev pub AreTokensFrom : List ℕ → ℕ → List Token → Type 0
 AreTokensFrom bytes a [] = ⊤
 AreTokensFrom bytes a (t ∷ ts) = (a ≤ t.at) × IsTokenOf bytes t × AreTokensFrom bytes (t.at + length t.piece) ts

@@ -6,7 +6,7 @@ use Rattle.uspec_lexer.specs.Piece.{Form, IsPiece, NoPiece}
 use Rattle.uspec_lexer.specs.Spells.{Piece, Joined, tokens_of_piece, tokens_of, SpellsBetween, Spells, IsLexicalFault}
 use Rattle.uspec_lexer.proofs.Pieces.{piece-unique, piece-rises}
 
--- one more piece behind the others
+-- one more piece after the others
 pub joined-push : (bytes : List ℕ) (a b : ℕ) (ps : List Piece) (p : Piece) → Joined bytes a ps b → IsPiece bytes p.form b p.end → Joined bytes a (ps ++ p ∷ []) p.end
 joined-push bytes a b [] p e h = (subst (λ i. IsPiece bytes p.form i p.end) (sym e) h, refl)
 joined-push bytes a b (q ∷ qs) p j h = (j.0, joined-push bytes q.end b qs p j.1 h)

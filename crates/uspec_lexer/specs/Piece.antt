@@ -1,4 +1,4 @@
--- The pieces that a text is cut into, each from a place up to the place behind its last byte: of those that may begin
+-- The pieces that a text is cut into, each from a place up to the place after its last byte: of those that may begin
 -- at a place, the longest.
 use Rattle.std.specs.Prelude.{◌≡◌, ℕ, ◌+◌, ◌-◌, ◌<◌, ◌≤◌, ◌⊎◌, List, length, slice_index, slice_range}
 use Rattle.uspec_lexer.specs.Token.{Kind, name, number, text, symbol}
@@ -33,7 +33,7 @@ OpensBlock bytes i = (slice_index bytes i ≡ 0x28) × (slice_index bytes (i + 1
 abbrev pub ClosesBlock : List ℕ → ℕ → Type 0
 ClosesBlock bytes i = (slice_index bytes i ≡ 0x2A) × (slice_index bytes (i + 1) ≡ 0x29)
 
--- (* up to the first *) that begins behind these two bytes
+-- (* up to the first *) that begins after these two bytes
 pub record IsBlockComment (bytes : List ℕ) (a b : ℕ) : Type 0 where
   pub opens : OpensBlock bytes a
   pub room : a + 4 ≤ b

@@ -5,10 +5,10 @@ use Rattle.uspec_lexer.specs.Piece.{Form, blank, comment, token, IsPiece, NoPiec
 
 pub record Piece : Type 0 where
   pub form : Form
-  -- the place behind its last byte
+  -- the place after its last byte
   pub end : ℕ
 
--- the pieces stand one behind the other from a to z
+-- the pieces stand one after the other from a to z
 abbrev pub Joined : List ℕ → ℕ → List Piece → ℕ → Type 0
 Joined bytes a [] z = a ≡ z
 Joined bytes a (p ∷ ps) z = IsPiece bytes p.form a p.end × Joined bytes p.end ps z

@@ -13,7 +13,7 @@
 //! | piece | form |
 //! |---|---|
 //! | blank | space, tab, CR or LF |
-//! | comment | `%` or `//` up to the next LF or the end; `(*` up to the first `*)` behind these two bytes |
+//! | comment | `%` or `//` up to the next LF or the end; `(*` up to the first `*)` after these two bytes |
 //! | name | an ASCII letter, then letters, digits, `_` and `'` |
 //! | number | ASCII digits of a value up to 18446744073709551615, with any leading zeros |
 //! | text | `"`, bytes 0x20 to 0x7E other than `"`, `"` |

@@ -14,7 +14,7 @@ pub(crate) enum Form {
     Token(TokenKind),
 }
 
-/// A piece whose first byte is known, with the place behind its last one.
+/// A piece whose first byte is known, with the place after its last one.
 #[derive(Clone, Copy)]
 pub(crate) struct Piece {
     pub(crate) form: Form,
@@ -30,7 +30,7 @@ impl Piece {
     }
 }
 
-/// The byte at `k`, or NUL behind the end: no piece has a NUL where it is asked for.
+/// The byte at `k`, or NUL after the end: no piece has a NUL where it is asked for.
 fn byte_or_nul(bytes: &[u8], k: usize) -> u8
     ensures { result ≡ slice_index bytes.now k }
 {

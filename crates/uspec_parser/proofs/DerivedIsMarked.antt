@@ -214,7 +214,7 @@ argument_name w _ _ none = (word_arg w, refl, refl)
 argument_number : Keeps Argument Number []
 argument_number n _ _ none = (number_arg n.0 n.1, refl, refl)
 
--- a node and an edge with what stands behind them, lexeme by lexeme
+-- a node and an edge with what stands after them, lexeme by lexeme
 node_behind : {Y : Type 0} (o w k z : Y) (l r : List Y) → (o ∷ w ∷ k ∷ (l ++ z ∷ [])) ++ r ≡ o ∷ w ∷ k ∷ (l ++ z ∷ r)
 node_behind o w k z l r = simp append_assoc
 

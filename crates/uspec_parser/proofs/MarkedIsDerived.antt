@@ -24,7 +24,7 @@ use Rattle.uspec_parser.specs.declared.terminal.Terminal.TheVariants.{StageName,
 use Rattle.uspec_parser.specs.declared.phrase.Phrase.{Phrase}
 use Rattle.uspec_parser.specs.declared.phrase.Phrase.TheVariants.{Items, Parameters, Label as LabelPhrase, Operand, More, Arguments, Argument, Node, Location, Edge, Labels as LabelsPhrase, SecondLabel, SortWord, Nodes, MoreNodes, Edges, MoreEdges}
 
--- a node and an edge with what stands behind them, lexeme by lexeme
+-- a node and an edge with what stands after them, lexeme by lexeme
 node_lexemes : {Y : Type 0} (f : Lexeme → Y) (o w k z : Lexeme) (l r : List Lexeme)
     → map f ((o ∷ w ∷ k ∷ (l ++ z ∷ [])) ++ r) ≡ f o ∷ f w ∷ f k ∷ (map f l ++ f z ∷ map f r)
 node_lexemes f o w k z l r = simp (map-append, append_assoc)

@@ -1,4 +1,4 @@
--- A list with one element more, and others behind it, and a list that becomes a shared one.
+-- A list with one element more, and others after it, and a list that becomes a shared one.
 use Rattle.std.proofs.Common.{◌≡◌, List, [], ◌∷◌, ◌++◌, Result, IfOk, sym, ap, subst, ◌∙◌, append_assoc}
 use Rattle.std.proofs.lemmas.Result.{IfOk-weaker}
 

@@ -5,7 +5,7 @@ use Rattle.uspec_parser.specs.declared.operands.Connective.{Connective}
 use Rattle.uspec_parser.specs.declared.operands.Connective.TheVariants.{And as conjoins, Or as disjoins, Implies as implies}
 use Rattle.uspec_parser.specs.Operands.{Operands, only, chain, beside, Lacks, IsSplit, Grouped, or_now, implies_now, disjunction, whole, before, group, formula_of}
 
--- the list `l` is the list `c`, and behind it, if something is disjoined with it, a list that this is the split of
+-- the list `l` is the list `c`, and after it, if something is disjoined with it, a list that this is the split of
 abbrev Disjoined : Operands → Option Written → Operands → Type 0
 Disjoined c None l = l ≡ c
 Disjoined c (Some d) l = (r : Operands) × IsSplit r d × Lacks implies r × (l ≡ beside c disjoins r)

@@ -19,7 +19,7 @@ use Rattle.uspec_parser.specs.Syntax.{quantified}
 use Rattle.uspec_parser.specs.declared.terminal.Terminal.{Terminal}
 use Rattle.uspec_parser.specs.declared.terminal.Terminal.TheVariants.{StageName, Axiom, DefineMacro, ExpandMacro, Forall, Exists, Core, OneEdge, EdgeList, OneNode, NodeList, Name, Number, Quoted, Open, Comma, Semicolon, Not, And, Or, Implies, Arrow}
 
--- the first terminal; behind the end the one that no text has
+-- the first terminal; after the end the one that no text has
 abbrev pub next : List Lexeme → Terminal
 next [] = Arrow
 next (x ∷ xs) = terminal x
@@ -192,7 +192,7 @@ mutual
     row : {xs between rest : List Lexeme} {w : Written} {l : Operands} → Operand xs w between → Tail between w l rest
         → Row xs l rest
 
-  -- the list from its operand `w` on, behind which the lexemes begin
+  -- the list from its operand `w` on, after which the lexemes begin
   pub data Tail : List Lexeme → Written → Operands → List Lexeme → Type 0 where
     ends : {xs : List Lexeme} {w : Written} → connective (next xs) ≡ None → Tail xs w (only w) xs
     goes_on : {xs between rest : List Lexeme} {w v : Written} {l : Operands} (op : Connective)

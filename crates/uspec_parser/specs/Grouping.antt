@@ -6,7 +6,7 @@ use Rattle.uspec_parser.specs.Operands.{Operands, chain, Grouped, before}
 use Rattle.uspec_parser.specs.declared.operands.Link.{Link}
 use Rattle.uspec_parser.specs.declared.operands.Grouping.{Grouping}
 
--- operands with the connectives behind them, and a list
+-- operands with the connectives after them, and a list
 abbrev pub operands_before : List Link → Operands → Operands
 operands_before [] l = l
 operands_before (j ∷ js) l = chain (written j.operand) j.connective (operands_before js l)
@@ -19,7 +19,7 @@ abbrev pub written_grouping : Grouping → Grouped
 written_grouping g =
     record { now = written g.now; disjoined = written_option g.disjoined; implied = written_option g.implied }
 
--- operands with the connectives behind them, before a list that is grouped already
+-- operands with the connectives after them, before a list that is grouped already
 abbrev pub grouped_before : List Link → Grouped → Grouped
 grouped_before [] g = g
 grouped_before (j ∷ js) g = before (written j.operand) j.connective (grouped_before js g)

@@ -9,7 +9,7 @@ pub data Operands : Type 0 where
   only : Written → Operands
   chain : Written → Connective → Operands → Operands
 
--- one list, a connective, and another list behind it
+-- one list, a connective, and another list after it
 abbrev pub beside : Operands → Connective → Operands → Operands
 beside (only a) op r = chain a op r
 beside (chain a first l) op r = chain a first (beside l op r)
@@ -29,7 +29,7 @@ pub data IsSplit : Operands → Written → Type 0 where
       → Lacks disjoins (beside l conjoins r) → Lacks conjoins l
       → IsSplit l a → IsSplit r b → IsSplit (beside l conjoins r) (and_ a b)
 
--- What the split makes of a list, from its last operand on: the conjunction that goes on, the disjunction behind it,
+-- What the split makes of a list, from its last operand on: the conjunction that goes on, the disjunction after it,
 -- and what the `=>` before these implies.
 pub record Grouped : Type 0 where
   pub now : Written

@@ -1,4 +1,4 @@
--- The grammar of models as a table: what stands behind a token where a phrase begins with it.
+-- The grammar of models as a table: what stands after a token where a phrase begins with it.
 use Rattle.std.specs.Prelude.{◌≡◌, ℕ, ◌+◌, Bool, true, false, List, [], ◌∷◌, Option, Some, None, refl, slice_get}
 use Rattle.ll_grammar.specs.Rules.{Rules}
 use Rattle.ll_grammar.specs.Steps.{IsStep}
@@ -203,7 +203,7 @@ predictable_phrase MoreEdges = refl
 pub is_predictable : IsPredictable rules follow
 is_predictable = predictable_by rules follow terminals place terminal_at predictable_phrase
 
--- a terminal with which a text of the phrase begins, and a rank above those of the phrases behind it
+-- a terminal with which a text of the phrase begins, and a rank above those of the phrases after it
 abbrev first : Phrase → Terminal
 first Items = StageName
 first Parameters = Quoted

@@ -66,16 +66,16 @@ spelled_edge e =
 -- list = "[" "]" | "[" x (";" x)* [";"] "]"
 pub data Listing (X : Type 0) : Type 0 where
   empty : Listing X
-  -- the first, the others, and whether a ";" stands behind the last
+  -- the first, the others, and whether a ";" stands after the last
   some : X → List X → Bool → Listing X
 
--- what stands behind an element, up to the "]"
+-- what stands after an element, up to the "]"
 abbrev pub spelled_others : {X : Type 0} → (X → List Lexeme) → List X → Bool → List Lexeme
 spelled_others spelled [] false = plain CloseBracket ∷ []
 spelled_others spelled [] true = plain Semicolon ∷ plain CloseBracket ∷ []
 spelled_others spelled (x ∷ xs) trailing = plain Semicolon ∷ (spelled x ++ spelled_others spelled xs trailing)
 
--- what stands behind the "["
+-- what stands after the "["
 abbrev pub spelled_elements : {X : Type 0} → (X → List Lexeme) → Listing X → List Lexeme
 spelled_elements spelled empty = plain CloseBracket ∷ []
 spelled_elements spelled (some x xs trailing) = spelled x ++ spelled_others spelled xs trailing

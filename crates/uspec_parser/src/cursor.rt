@@ -41,7 +41,7 @@ impl<'a> Cursor<'a> {
         }
     }
 
-    /// The terminal that is read next, or behind the end one that no text has.
+    /// The terminal that is read next, or after the end one that no text has.
     pub(crate) fn next(&self) -> Terminal
         ensures { result ≡ next self.now }
     {
@@ -63,7 +63,7 @@ impl<'a> Cursor<'a> {
         }
     }
 
-    /// Goes on behind the next token.
+    /// Goes on after the next token.
     pub(crate) fn skip(&mut self)
         ensures { self.new ≡ behind self.old }
     {

@@ -30,7 +30,7 @@ pub(crate) fn connective_of(terminal: Terminal) -> Option<Connective>
     }
 }
 
-/// An operand with the connective behind it.
+/// An operand with the connective after it.
 #[derive(Drop)]
 pub(crate) struct Link {
     pub(crate) operand: Formula,
@@ -42,9 +42,9 @@ pub(crate) struct Link {
 struct Grouping {
     /// The conjunction with which it begins.
     now: Formula,
-    /// What stands behind the `\/` that follows.
+    /// What stands after the `\/` that follows.
     disjoined: Option<Formula>,
-    /// What stands behind the first `=>`.
+    /// What stands after the first `=>`.
     implied: Option<Formula>,
 }
 
@@ -56,7 +56,7 @@ impl Grouping {
         implication(alloc, disjunction, self.implied)
     }
 
-    /// The same behind an operand and a `/\`.
+    /// The same after an operand and a `/\`.
     fn behind_and(self, alloc: Global, operand: Formula) -> Result<Grouping, Memory>
         ensures { IfOk result (λ g. written_grouping g
             ≡ before_spec (written operand) conjoins (written_grouping self)) }
@@ -68,7 +68,7 @@ impl Grouping {
         })
     }
 
-    /// The same behind an operand and a `\/`.
+    /// The same after an operand and a `\/`.
     fn behind_or(self, alloc: Global, operand: Formula) -> Result<Grouping, Memory>
         ensures { IfOk result (λ g. written_grouping g
             ≡ before_spec (written operand) disjoins (written_grouping self)) }
@@ -80,7 +80,7 @@ impl Grouping {
         })
     }
 
-    /// The same behind an operand and a `=>`.
+    /// The same after an operand and a `=>`.
     fn behind_implies(self, alloc: Global, operand: Formula) -> Result<Grouping, Memory>
         ensures { IfOk result (λ g. written_grouping g
             ≡ before_spec (written operand) implies (written_grouping self)) }
@@ -92,7 +92,7 @@ impl Grouping {
         })
     }
 
-    /// The same behind an operand and its connective.
+    /// The same after an operand and its connective.
     fn before(self, alloc: Global, link: Link) -> Result<Grouping, Memory>
         ensures { IfOk result (λ g. written_grouping g
             ≡ before_spec (written link.operand) link.connective (written_grouping self)) }
@@ -105,7 +105,7 @@ impl Grouping {
     }
 }
 
-/// A conjunction with what stands behind its `\/`, if it has one.
+/// A conjunction with what stands after its `\/`, if it has one.
 fn disjunction(alloc: Global, now: Formula, disjoined: Option<Formula>) -> Result<Formula, Memory>
     ensures { IfOk result (λ f. written f ≡ or_now (written now) (written_option disjoined)) }
 {
@@ -115,7 +115,7 @@ fn disjunction(alloc: Global, now: Formula, disjoined: Option<Formula>) -> Resul
     }
 }
 
-/// A disjunction with what stands behind its `=>`, if it has one.
+/// A disjunction with what stands after its `=>`, if it has one.
 fn implication(alloc: Global, now: Formula, implied: Option<Formula>) -> Result<Formula, Memory>
     ensures { IfOk result (λ f. written f ≡ implies_now (written now) (written_option implied)) }
 {

@@ -138,7 +138,7 @@ pub(crate) trait Element: Drop {
     /// The element that begins the tokens.
     ghost one: { List Lexeme → Self };
 
-    /// The tokens behind it.
+    /// The tokens after it.
     ghost behind_one: { List Lexeme → List Lexeme };
 
     fn read(cursor: &mut Cursor<'_>, alloc: Global) -> Result<Self, Memory>

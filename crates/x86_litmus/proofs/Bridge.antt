@@ -88,11 +88,11 @@ is_named t c h same =
     let s : sort_of (terminal_of t) ≡ 0 = eqb-true (sort_of (terminal_of t)) 0 (sym (is_name-sort (terminal_of t)) ∙ is) in
     (name-of_kind t.kind t.piece (terminal_of t) s refl, refl, refl)
 
--- what stands behind a token of the front
+-- what stands after a token of the front
 behind_first : (t : Token) (ts : List Token) (c : Terminal) (cs : List Terminal) → map terminal_of (t ∷ ts) ≡ c ∷ (cs ++ []) → map terminal_of ts ≡ cs
 behind_first t ts c cs e = let rest : map terminal_of ts ≡ cs ++ [] = cc in rest ∙ append-nil cs
 
--- "=" NUMBER, and whatever stands behind
+-- "=" NUMBER, and whatever stands after it
 number_of : (ts : List Token) (cs : List Terminal) → map terminal_of ts ≡ Equals ∷ Number ∷ cs
     → (v : ℕ) × (rest : List Token) × (map terminal_of rest ≡ cs)
     × ((es : List Expected) → Spell es rest → Spell (a_symbol (codes "=") ∷ a_number v ∷ es) ts)
@@ -103,7 +103,7 @@ number_of (q ∷ d ∷ rest) cs e =
 number_of (q ∷ []) cs e = absurd (cc)
 number_of [] cs e = absurd (cc)
 
--- NAME "]" "=" NUMBER, and whatever stands behind
+-- NAME "]" "=" NUMBER, and whatever stands after it
 bracketed_of : (xs : List Terminal) → ((us : List Token) → map terminal_of us ≡ xs → Spelled AnyName us) → (ts : List Token) (cs : List Terminal)
     → map terminal_of ts ≡ xs ++ (CloseBracket ∷ Equals ∷ Number ∷ cs)
     → (n : Named) × (v : ℕ) × (rest : List Token) × (map terminal_of rest ≡ cs)
@@ -124,7 +124,7 @@ bracketed_of xs any ts cs e =
           subst (Spell (a_name n ∷ tail)) (sym same) (spell-append (a_name n ∷ []) tail us vs s behind_)),
     )
 
--- ":" NAME "=" NUMBER, and whatever stands behind
+-- ":" NAME "=" NUMBER, and whatever stands after it
 register_of : (xs : List Terminal) → ((us : List Token) → map terminal_of us ≡ xs → Spelled AnyName us) → (ts : List Token) (cs : List Terminal)
     → map terminal_of ts ≡ Colon ∷ (xs ++ (Equals ∷ Number ∷ cs))
     → (n : Named) × (v : ℕ) × (rest : List Token) × (map terminal_of rest ≡ cs)
@@ -198,7 +198,7 @@ columns_end _ _ none (t ∷ []) e = ([], (is_symbol t Semicolon refl (λ h. cc) 
 columns_end _ _ none (t ∷ u ∷ ts) e = absurd (cc)
 columns_end _ _ none [] e = absurd (cc)
 
--- behind MOV
+-- after MOV
 store_move : IsRule Move OpenBracket (Part AnyName ∷ Class CloseBracket ∷ Class Comma ∷ Class Dollar ∷ Class Number ∷ [])
 store_move _ _ (part {cs = xs} any (class (class (class (class none))))) (o ∷ ts) e =
     let (us, vs, same, here, behind) = map-part terminal_of ts xs (CloseBracket ∷ Comma ∷ Dollar ∷ Number ∷ []) cc in
@@ -236,7 +236,7 @@ load_move c h _ _ (class (class (part {cs = xs} any (class none)))) (r ∷ k ∷
     by n named comma opens us vs same s f = absurd (cc)
 load_move c h _ _ (class (class (part any (class none)))) ts e = absurd (cc)
 
--- a cell, and what stands behind it
+-- a cell, and what stands after it
 cells_move : IsRule Cells Mov (Part Move ∷ Part MoreCells ∷ [])
 cells_move _ _ (part {cs = xs} move (part {cs = cs} more none)) (m ∷ ts) e =
     let (us, vs, same, here, behind) = map-part terminal_of ts xs (cs ++ []) cc in
@@ -328,7 +328,7 @@ equation_named c h _ _ (class (class (part {cs = cs} more none))) (n ∷ ts) e =
     (of_location (record { location = bare (named_of n); value = v }), es, (named, spells (spelled_equations es) s))
 equation_named c h _ _ (class (class (part more none))) [] e = absurd (cc)
 
--- behind exists stand equations, in brackets or not
+-- after exists stand equations, in brackets or not
 asked_of : (body : List (Symbol Terminal Phrase)) (c : Terminal) → IsRule Equations c body → IsRule Asked c body
 asked_of body k equations cs marks each ts e = let (q, qs, s) = equations cs marks each ts e in (false, q, qs, s)
 
@@ -491,7 +491,7 @@ begin : (n : Phrase) (c : Terminal) (body : List (Symbol Terminal Phrase)) → b
     → {cs : List Terminal} {marks : List Bool} → Each (Derives rules) body cs marks → (ds : List Terminal) → ds ≡ c ∷ cs → Reads n ds
 begin n c body e {marks = marks} each ds same = (deep n c ∷ marks, derives-begin n c body e each same refl)
 
--- a token, and behind it one part
+-- a token, and after it one part
 lead : (n : Phrase) (c : Terminal) (m : Phrase) → behind n c ≡ Some (Part m ∷ []) → (cs : List Terminal) → Reads m cs → Reads n (c ∷ cs)
 lead n c m e cs (_, d) =
     begin n c (Part m ∷ []) e (part d none) (c ∷ cs) (ap (λ (ds : List Terminal). c ∷ ds) (sym (append-nil cs)))
@@ -544,7 +544,7 @@ any_names c h = absurd (cc)
 read_any : (w : List ℕ) → Reads AnyName (word_terminal w ∷ [])
 read_any w = begin AnyName (word_terminal w) [] (any_names (word_terminal w) (word_is_name w)) none (word_terminal w ∷ []) refl
 
--- loc "=" NUMBER, and what stands behind
+-- loc "=" NUMBER, and what stands after it
 read_stated : (n m : Phrase) → behind n OpenBracket ≡ Some (bracketed_and m) → TakesNames n (number_and m) → (s : Stated)
     → (es : List Expected) → Reads m (map terminal es) → Reads n (map terminal (spelled_stated s ++ es))
 unfolding symbol_terminal
@@ -597,14 +597,14 @@ read_load register location =
     (move_names (word_terminal register.word) (word_is_name register.word)) (class (class (part a (class none))))
     (word_terminal register.word ∷ Comma ∷ OpenBracket ∷ word_terminal location.word ∷ CloseBracket ∷ []) refl
 
--- MOV, what it moves, and what stands behind
+-- MOV, what it moves, and what stands after it
 read_move : (n : Phrase) → behind n Mov ≡ Some (Part Move ∷ Part MoreCells ∷ []) → (cs ds : List Terminal) → Reads Move cs → Reads MoreCells ds
     → Reads n (Mov ∷ (cs ++ ds))
 read_move n moves cs ds (_, a) (_, q) =
     begin n Mov (Part Move ∷ Part MoreCells ∷ []) moves (part a (part q none)) (Mov ∷ (cs ++ ds))
     (ap (λ (es : List Terminal). Mov ∷ (cs ++ es)) (sym (append-nil ds)))
 
--- a cell and what stands behind it, where that is read behind an instruction and where the cell is empty
+-- a cell and what stands after it, where that is read after an instruction and where the cell is empty
 read_cell : (n : Phrase) → behind n Mov ≡ Some (Part Move ∷ Part MoreCells ∷ []) → behind n Mfence ≡ Some (Part MoreCells ∷ [])
     → (c : Cell) (es : List Expected) → Reads MoreCells (map terminal es) → Reads n (map terminal es)
     → Reads n (map terminal (spelled_cell c ++ es))
@@ -632,7 +632,7 @@ read_row r es q =
     (read_cell Rows refl refl r.first (spelled_cells r.others r.end ++ es)
     (read_cells MoreCells refl refl r.others r.end es q) (read_cells Rows refl refl r.others r.end es q))
 
--- an equation, and what stands behind
+-- an equation, and what stands after it
 read_equation : (n : Phrase) → behind n Number ≡ Some (register_and MoreEquations) → behind n OpenBracket ≡ Some (bracketed_and MoreEquations)
     → TakesNames n (number_and MoreEquations) → (e : Equation) (es : List Expected) → Reads MoreEquations (map terminal es)
     → Reads n (map terminal (spelled_equation e ++ es))

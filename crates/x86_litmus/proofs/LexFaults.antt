@@ -1,4 +1,4 @@
--- A lexical fault behind the header is one of the listing.
+-- A lexical fault after the header is one of the listing.
 use Rattle.std.proofs.Common.{ℕ, List}
 use Rattle.x86_tokens.specs.Lines.{IsBodyAt}
 use Rattle.x86_tokens.specs.Fault.{IsRefusal}

@@ -66,7 +66,7 @@ module _ {X : Type 0} (plain : X → Instruction) (p : Instruction → Bool) (xs
       → filter p (map plain (take (i + 1) xs)) ≡ filter p (map plain (take i xs)) ++ plain (get_or xs i d) ∷ []
   is_among h = next_among ∙ ap (λ (b : Bool). filter p (map plain (take i xs)) ++ cond b (plain (get_or xs i d) ∷ []) []) h
 
--- one more instruction behind the numbered ones
+-- one more instruction after the numbered ones
 pub numbered_push : (words : List (List ℕ)) (asked : List Asked) (before front : List Instruction) (i : Instruction) (os : List MicroOp) (g : ℕ)
     → os ≡ numbered words asked 0 (before ++ front) → g ≡ length os
     → os ++ op_of words asked g i ∷ [] ≡ numbered words asked 0 (before ++ (front ++ i ∷ []))
@@ -76,7 +76,7 @@ numbered_push words asked before front i os g are is =
     ∙ sym (numbered_more words asked 0 (before ++ front) i)
     ∙ ap (numbered words asked 0) (append_assoc before front (i ∷ []))
 
--- what stands behind the last instruction
+-- what stands after the last instruction
 abbrev pub nobody : Placed
 nobody = record { thread = 0; at = record { offset = 0 }; action = Fence }
 

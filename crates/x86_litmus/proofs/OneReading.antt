@@ -22,7 +22,7 @@ one_body bytes {j} {k} e f = let same : body j ≡ body k = sym e ∙ f in cc
 pub no_body : (bytes : List ℕ) {j k : ℕ} → header_of bytes ≡ body j → header_of bytes ≡ fault k → ⊥
 no_body bytes {j} {k} e f = let same : body j ≡ fault k = sym e ∙ f in cc
 
--- a text has one list of tokens behind its header
+-- a text has one list of tokens after its header
 pub one_list : {bytes : List ℕ} {ts us : List Token} → IsBody bytes ts → IsBody bytes us → ts ≡ us
 one_list {bytes} {ts} {us} s t =
     spells-unique s.spelled (subst (λ (from : ℕ). Spells bytes from us) (one_body bytes t.header s.header) t.spelled)

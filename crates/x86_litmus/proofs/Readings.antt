@@ -9,11 +9,11 @@ use Rattle.x86_litmus.specs.Items.{Item, initial, column, instructed, denied, fi
 use Rattle.x86_litmus.specs.Spots.{Spot, block, valued, head, row, moving, storing, stored, loading, asking, thread, register, behind, Step, after_name, after_number, after_symbol, after_kind, with_item, items_from}
 use Rattle.x86_litmus.specs.Reading.{items_in}
 
--- what is said behind a step
+-- what is said after a step
 abbrev told : Step → List Token → List Item
 told s ts = with_item s.item (items_from s.next ts)
 
--- behind the first tokens stand others, and what is read is this
+-- after the first tokens stand others, and what is read is this
 record IsBehind (s : Spot) (ts : List Token) (es : List Expected) (next : Spot) (said : List Item) : Type 0 where
   pub rest : List Token
   pub spell : Spell es rest

@@ -3,7 +3,7 @@ use Rattle.std.proofs.Common.{◌≡◌, ℕ, zero, suc, List, [], ◌∷◌, �
 use Rattle.x86_tokens.specs.Token.{Token}
 use Rattle.x86_litmus.specs.Expected.{Expected, Is, Spell}
 
--- one row of tokens behind another
+-- one row of tokens after another
 pub spell-append : (es fs : List Expected) (ts us : List Token) → Spell es ts → Spell fs us → Spell (es ++ fs) (ts ++ us)
 spell-append [] fs [] us s r = r
 spell-append [] fs (t ∷ ts) us s r = absurd s

@@ -45,7 +45,7 @@ module _ (s : Spot) (said : Said) (ts : List Token) (k : ℕ) (t : Token) (at : 
   step_fault i f is here =
       reads_item i is ∙ ap (λ (o : Option Found). unless o (judged (add said i) (items_from next (drop (k + 1) ts)))) here
 
--- behind the last token
+-- after the last token
 pub step_end : (s : Spot) (said : Said) (ts : List Token) (k : ℕ) → length ts ≡ k → judged said (items_from s (drop k ts)) ≡ judged said []
 step_end s said ts k e = ap (λ (us : List Token). judged said (items_from s us)) (no_more ts k e)
 

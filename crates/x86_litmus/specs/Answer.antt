@@ -16,7 +16,7 @@ use Rattle.x86_litmus.specs.Cases.{case_of}
 use Rattle.x86_litmus.specs.declared.fault.X86Fault.{X86Fault}
 use Rattle.x86_litmus.specs.declared.fault.X86Fault.TheVariants.{Lexical, Syntax, Content, Memory}
 
--- behind their header the bytes spell these tokens
+-- after their header the bytes spell these tokens
 pub record IsBody (bytes : List ℕ) (tokens : List Token) : Type 0 where
   pub from : ℕ
   pub header : header_of bytes ≡ body from
@@ -34,7 +34,7 @@ pub record ComesTo (bytes : List ℕ) (outcome : Outcome) : Type 0 where
 abbrev pub CaseOf : List ℕ → Case → Type 0
 CaseOf bytes case = (s : Said) × ComesTo bytes (says s) × (case ≡ case_of s)
 
--- the bytes spell tokens behind their header, and no listing goes on at the one at this place
+-- the bytes spell tokens after their header, and no listing goes on at the one at this place
 pub record IsTokenFault (bytes : List ℕ) (place : Place) : Type 0 where
   pub tokens : List Token
   pub spelled : IsBody bytes tokens

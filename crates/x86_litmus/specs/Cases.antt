@@ -6,7 +6,7 @@ use Rattle.pc_common.specs.Case.{Address, page, Value, number, Touch, Kind, read
 use Rattle.x86_litmus.specs.Listing.{Action, fence, store, load}
 use Rattle.x86_litmus.specs.Said.{Instruction, Asked, Said, is_about}
 
--- the words with this one behind them, where it is not among them
+-- the words with this one after them, where it is not among them
 abbrev pub seen : List (List ℕ) → List ℕ → List (List ℕ)
 seen words w = if list_any (same_name w) words then words else words ++ w ∷ []
 

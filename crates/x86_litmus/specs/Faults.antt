@@ -1,4 +1,4 @@
--- The content faults of a listing. Each item is judged by those before it, and the loads once more behind the
+-- The content faults of a listing. Each item is judged by those before it, and the loads once more after the
 -- condition.
 use Rattle.std.specs.Prelude.{ℕ, ◌==◌, ◌++◌, List, [], ◌∷◌, Option, Some, None, length, nat_lt, codes, if◌then◌else◌}
 use Rattle.std.specs.Map.{lookup}
@@ -63,7 +63,7 @@ register_fault instructions asked thread at r =
     if loads instructions thread r.word then (if gives asked thread r.word then Some (found X86Again at) else None)
     else Some (found X86Unloaded at)
 
--- the fault of an item behind what was said
+-- the fault of an item after what was said
 abbrev pub fault_of : Said → Item → Option Found
 fault_of s (initial n v) = again AgainInitial s.initial n v
 fault_of s (column n) = column_fault s.columns n
@@ -97,7 +97,7 @@ abbrev pub unless : Option Found → Outcome → Outcome
 unless None outcome = outcome
 unless (Some f) outcome = faulty f
 
--- what it comes to where these items stand behind what was said
+-- what it comes to where these items stand after what was said
 abbrev pub judged : Said → List Item → Outcome
 judged s [] = unless (open_fault s.asked s.instructions) (says s)
 judged s (i ∷ is) = unless (fault_of s i) (judged (add s i) is)

@@ -15,7 +15,7 @@ pub data Item : Type 0 where
   denied : Item
   -- a thread, where its number stands, its register and the value
   register_is : ℕ → ℕ → Named → ℕ → Item
-  -- a location and its value behind the test
+  -- a location and its value after the test
   final : Named → ℕ → Item
 
 abbrev pub name_of : Location → Named
@@ -34,7 +34,7 @@ abbrev pub items_of_cell : ℕ → Cell → List Item
 items_of_cell k empty = []
 items_of_cell k (instruction at action) = instructed k at action ∷ []
 
--- the cells behind that of the column of this number, and the end of the line
+-- the cells after that of the column of this number, and the end of the line
 abbrev pub items_of_cells : ℕ → List Cell → ℕ → List Item
 items_of_cells k [] end = row_ended (k + 1) end ∷ []
 items_of_cells k (c ∷ cs) end = items_of_cell (k + 1) c ++ items_of_cells (k + 1) cs end

@@ -1,4 +1,4 @@
--- The parts of a listing behind its header.
+-- The parts of a listing after its header.
 use Rattle.std.specs.Prelude.{ℕ, Bool, List}
 
 -- a name, and where it stands

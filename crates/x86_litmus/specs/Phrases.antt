@@ -1,4 +1,4 @@
--- The grammar of listings as a table: what stands behind a token where a phrase begins with it.
+-- The grammar of listings as a table: what stands after a token where a phrase begins with it.
 use Rattle.std.specs.Prelude.{◌≡◌, ℕ, Bool, true, false, List, [], ◌∷◌, Option, Some, None, refl, slice_get, if◌then◌else◌}
 use Rattle.ll_grammar.specs.Rules.{Rules}
 use Rattle.ll_grammar.specs.Steps.{IsStep}
@@ -13,15 +13,15 @@ use Rattle.x86_litmus.specs.declared.terminal.Terminal.TheVariants.{Mov, Mfence,
 use Rattle.x86_litmus.specs.declared.phrase.Phrase.{Phrase}
 use Rattle.x86_litmus.specs.declared.phrase.Phrase.TheVariants.{Listing, Values, MoreValues, Columns, MoreColumns, Rows, Cells, MoreCells, Move, Asked, Equations, MoreEquations, AnyName}
 
--- "=" NUMBER, and what stands behind
+-- "=" NUMBER, and what stands after it
 abbrev pub number_and : Phrase → List (Symbol Terminal Phrase)
 number_and n = Class Equals ∷ Class Number ∷ Part n ∷ []
 
--- a location behind its bracket, "=" NUMBER, and what stands behind
+-- a location after its bracket, "=" NUMBER, and what stands after it
 abbrev pub bracketed_and : Phrase → List (Symbol Terminal Phrase)
 bracketed_and n = Part AnyName ∷ Class CloseBracket ∷ number_and n
 
--- a register behind its thread, "=" NUMBER, and what stands behind
+-- a register after its thread, "=" NUMBER, and what stands after it
 abbrev pub register_and : Phrase → List (Symbol Terminal Phrase)
 register_and n = Class Colon ∷ Part AnyName ∷ number_and n
 

@@ -24,7 +24,7 @@ pub record Said : Type 0 where
   pub columns : ℕ
   -- in the order of the text
   pub instructions : List Instruction
-  -- locations and their values behind the test
+  -- locations and their values after the test
   pub final : List (List ℕ × ℕ)
   pub asked : List Asked
   pub is_denied : Bool

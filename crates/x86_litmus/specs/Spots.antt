@@ -9,27 +9,27 @@ use Rattle.x86_litmus.specs.Items.{Item, initial, column, instructed, row_ended,
 pub data Spot : Type 0 where
   -- in the block, before a location
   block : Spot
-  -- behind a location of the block
+  -- after a location of the block
   valued : Named → Spot
   -- between the columns' names
   head : Spot
-  -- in the column of this number, before an instruction or behind it
+  -- in the column of this number, before an instruction or after it
   row : ℕ → Spot
-  -- behind MOV, which stands at this place
+  -- after MOV, which stands at this place
   moving : ℕ → ℕ → Spot
-  -- behind the bracket of a store
+  -- after the bracket of a store
   storing : ℕ → ℕ → Spot
-  -- behind its location
+  -- after its location
   stored : ℕ → ℕ → Named → Spot
-  -- behind the register of a load
+  -- after the register of a load
   loading : ℕ → ℕ → Named → Spot
   -- in the condition, before an equation
   asking : Spot
-  -- behind a thread's number
+  -- after a thread's number
   thread : ℕ → ℕ → Spot
-  -- behind its register
+  -- after its register
   register : ℕ → ℕ → Named → Spot
-  -- behind a location of the condition
+  -- after a location of the condition
   behind : Named → Spot
 
 pub record Step : Type 0 where
@@ -43,7 +43,7 @@ goes s = record { next = s; item = None }
 abbrev pub tells : Spot → Item → Step
 tells s i = record { next = s; item = Some i }
 
--- in a line stand the words of the instructions, and behind the lines exists
+-- in a line stand the words of the instructions, and after the lines exists
 abbrev pub after_word : ℕ → Named → Step
 after_word k n =
     if same_name n.word (codes "MOV") then goes (moving k n.at)

@@ -1,6 +1,6 @@
--- The grammar of listings behind their header, production by production: what is expected of the tokens, from the
+-- The grammar of listings after their header, production by production: what is expected of the tokens, from the
 -- first to the last. Its words are names by their spelling, and none is reserved: a cell that begins with MOV or MFENCE
--- is an instruction, and what stands behind the rows begins with exists or ~.
+-- is an instruction, and what stands after the rows begins with exists or ~.
 use Rattle.std.specs.Prelude.{ℕ, Bool, true, false, List, [], ◌∷◌, ◌++◌, codes}
 use Rattle.x86_tokens.specs.Token.{Token}
 use Rattle.x86_litmus.specs.Expected.{Expected, a_name, a_word, a_number, number_at, a_symbol, symbol_at, Spell}

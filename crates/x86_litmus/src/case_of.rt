@@ -106,7 +106,7 @@ fn op_of(
     })
 }
 
-/// Puts the instructions of a thread behind the others.
+/// Puts the instructions of a thread after the others.
 fn push_thread(
     alloc: Global,
     locations: &Locations<'_>,

@@ -136,7 +136,7 @@ fn reload(before: &[Instruction<'_>], instruction: Instruction<'_>) -> Option<Co
     }
 }
 
-/// The fault of an instruction behind these.
+/// The fault of an instruction after these.
 pub(crate) fn instruction_fault(
     before: &[Instruction<'_>],
     instruction: Instruction<'_>,

@@ -51,6 +51,6 @@ pub(crate) enum Item<'a> {
     Denied,
     /// The value that the condition gives a thread's register.
     RegisterIs(ThreadNumber, Named<'a>, u64),
-    /// A location and its value behind the test.
+    /// A location and its value after the test.
     Final(Named<'a>, u64),
 }

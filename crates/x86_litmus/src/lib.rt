@@ -10,8 +10,8 @@
 //! conj = eq ("/\" eq)*           eq = NUMBER ":" NAME "=" NUMBER | loc "=" NUMBER
 //! ```
 //!
-//! The body stands behind a header (`x86_tokens`). Words are names by their spelling and none is reserved: a
-//! cell that begins with `MOV` or `MFENCE` is an instruction, and what stands behind the lines begins with `exists` or
+//! The body stands after a header (`x86_tokens`). Words are names by their spelling and none is reserved: a
+//! cell that begins with `MOV` or `MFENCE` is an instruction, and what stands after the lines begins with `exists` or
 //! `~`.
 //!
 //! Column k is thread k on core k. Instructions are numbered column by column, from top to bottom; a load reads

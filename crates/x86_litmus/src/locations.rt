@@ -51,7 +51,7 @@ impl<'a> Locations<'a> {
         Ok(locations)
     }
 
-    /// Numbers a location behind the others, where it has no number.
+    /// Numbers a location after the others, where it has no number.
     fn see(&mut self, word: &'a [u8]) -> Result<(), Memory>
         ensures { OnOk result (self.new ≡ seen self.old word.now) }
     {

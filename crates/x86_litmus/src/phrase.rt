@@ -11,17 +11,17 @@ use std::alloc::AllocError;
 #[derive(Clone, Copy)]
 pub(crate) enum Phrase {
     Listing,
-    /// The block behind its brace or behind a `;`.
+    /// The block after its brace or after a `;`.
     Values,
     /// Behind a value of the block.
     MoreValues,
-    /// A column's name, and what stands behind it in the head.
+    /// A column's name, and what stands after it in the head.
     Columns,
     /// Behind a column's name.
     MoreColumns,
     /// The lines and the condition.
     Rows,
-    /// A cell behind a `|`, and what stands behind it.
+    /// A cell after a `|`, and what stands after it.
     Cells,
     /// Behind an instruction.
     MoreCells,

@@ -60,7 +60,7 @@ impl<'a> Said<'a> {
         }
     }
 
-    /// The fault of an item behind what was said.
+    /// The fault of an item after what was said.
     fn fault(&self, item: Item<'a>) -> Option<ContentFault>
         ensures { plain_fault result ≡ fault_of (plain_said self.now) (plain_item item.entry) }
     {

@@ -20,7 +20,7 @@ pub(crate) enum Spot<'a> {
     Valued(Named<'a>),
     /// Between the columns' names.
     Head,
-    /// In the column of this number, before an instruction or behind it.
+    /// In the column of this number, before an instruction or after it.
     Row(u64),
     /// Behind `MOV`, which stands at this place.
     Moving(u64, Place),
@@ -40,7 +40,7 @@ pub(crate) enum Spot<'a> {
     Behind(Named<'a>),
 }
 
-/// Where the reader stands behind a token, and what it says there.
+/// Where the reader stands after a token, and what it says there.
 pub(crate) type Next<'a> = (Spot<'a>, Option<Item<'a>>);
 
 fn is(piece: &[u8], bytes: &[u8]) -> bool
@@ -145,7 +145,7 @@ impl<'a> Spot<'a> {
         }
     }
 
-    /// The spot behind this token, and what the listing says there.
+    /// The spot after this token, and what the listing says there.
     pub(crate) fn after(self, token: Token<'a>) -> Next<'a>
         requires { column_of (plain_spot self) < 2 ^ 63 }
         ensures { IsStep (after (plain_spot self.entry) (plain token.entry)) result }

@@ -61,7 +61,7 @@ const HEADERS: &[Refused] = &[
     ("X86t\n{}\nP0;\nexists x=0\n", (1, 1)),
     ("X86 t u\n{}\nP0;\nexists x=0\n", (1, 1)),
     ("PPC t\n{}\nP0;\nexists x=0\n", (1, 1)),
-    // a line behind it
+    // a line after it
     ("X86 t\n \tword\n{}\nP0;\nexists x=0\n", (2, 3)),
     ("X86 t\n \"quoted\"\n{}\nP0;\nexists x=0\n", (2, 2)),
     (
@@ -271,7 +271,7 @@ const CONTENT: &[Faulty] = &[
         FaultKind::X86Open,
         (4, 14),
     ),
-    // they come behind the condition's own faults, which come in the order of the text
+    // they come after the condition's own faults, which come in the order of the text
     (
         "X86 t\n{}\nP0;\nMOV EAX,[x];\nexists (x=1 /\\ 0:EBX=0 /\\ x=1)\n",
         FaultKind::X86Unloaded,

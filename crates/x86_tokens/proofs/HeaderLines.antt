@@ -1,4 +1,4 @@
--- The line at a place, and those behind it.
+-- The line at a place, and those after it.
 use Rattle.std.proofs.Common.{◌≡◌, ℕ, zero, suc, ◌+◌, ◌<◌, ◌≤◌, Bool, true, false, not, List, [], ◌∷◌, length, take, drop, if◌then◌else◌, refl, sym, ap, ◌∙◌, arith, ⊎_elim, nat_lt}
 use Rattle.std.specs.List.{prefix_len, onto_first}
 use Rattle.std.proofs.str.Laws.{order}
@@ -7,7 +7,7 @@ use Rattle.std.proofs.lemmas.List.{drop-drop, length-drop}
 use Rattle.x86_tokens.specs.Header.{is_line_end, lines}
 use Rattle.x86_tokens.specs.Lines.{lines_from}
 
--- the lines behind this many bytes
+-- the lines after this many bytes
 abbrev rest : ℕ → List ℕ → List (List ℕ)
 rest n xs = if nat_lt (length xs) n then [] else lines (drop n xs)
 
@@ -59,7 +59,7 @@ line_from bytes at n within is =
     ∙ first_line (drop at bytes) n is
     ∙ ap (λ ls. take n (drop at bytes) ∷ ls) (same_rest bytes at (n + 1) within ∙ ap (lines_from bytes) here)
 
--- behind the end no line begins
+-- after the end no line begins
 pub no_lines : (bytes : List ℕ) (at : ℕ) → length bytes < at → lines_from bytes at ≡ []
 no_lines bytes at over = ap (λ b. if b then [] else lines (drop at bytes)) (lt-ltb (length bytes) at over)
 

@@ -12,7 +12,7 @@ is_space c = c == 0x20
 abbrev pub is_line_end : ℕ → Bool
 is_line_end c = c == 0x0A
 
--- the bytes up to each LF, and those behind the last one
+-- the bytes up to each LF, and those after the last one
 abbrev pub lines : List ℕ → List (List ℕ)
 lines bytes = slice_split is_line_end bytes
 

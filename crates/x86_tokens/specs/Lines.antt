@@ -12,7 +12,7 @@ is_among Spaces c = is_space c
 is_among Nonblanks c = not (is_blank c)
 is_among LineBytes c = not (is_line_end c)
 
--- the lines that begin at this place or behind it: none where the text has ended before
+-- the lines that begin at this place or after it: none where the text has ended before
 abbrev pub lines_from : List ℕ → ℕ → List (List ℕ)
 lines_from bytes at = if nat_lt (length bytes) at then [] else lines (drop at bytes)
 

@@ -1,4 +1,4 @@
--- The pieces that a listing is cut into behind its header, each from a place up to the place behind its last byte: of
+-- The pieces that a listing is cut into after its header, each from a place up to the place after its last byte: of
 -- those that may begin at a place, the longest.
 use Rattle.std.specs.Prelude.{◌≡◌, ℕ, ◌+◌, ◌⊎◌, List, slice_index}
 use Rattle.uspec_lexer.specs.Bytes.{IsBlank, IsLetter}

@@ -31,7 +31,7 @@ pub fn tokens<'a>(alloc: Global, bytes: &'a [u8], from: usize) -> Result<Tokens<
     Ok(Tokens::over(bytes, spans))
 }
 
-/// Puts the token that the piece at `at` is behind the earlier ones, if it is one.
+/// Puts the token that the piece at `at` is after the earlier ones, if it is one.
 fn keep(spans: &mut Vec<Span>, at: usize, piece: Piece) -> Result<(), Memory>
     requires rises { at ≤ piece.end }
     requires few { piece.end < 2 ^ 32 }

@@ -17,7 +17,7 @@
 //! | piece | form |
 //! |---|---|
 //! | blank | space, tab, CR or LF |
-//! | comment | `(*` up to the first `*)` behind these two bytes, with any bytes inside; comments don't nest |
+//! | comment | `(*` up to the first `*)` after these two bytes, with any bytes inside; comments don't nest |
 //! | name | an ASCII letter, then letters, digits and `_` |
 //! | number | ASCII digits of a value up to 18446744073709551615, with any leading zeros |
 //! | symbol | one of `{ } ; | [ ] , $ : = ( ) ~ /\` |

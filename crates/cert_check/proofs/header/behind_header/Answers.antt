@@ -7,7 +7,7 @@ use Rattle.pc_common.specs.Lines.{unobservable, second_text}
 use Rattle.pc_case.specs.Plain.{expectation}
 use Rattle.cert_check.proofs.header.behind_header.Goals as goal
 
--- what stands behind the second part of a text
+-- what stands after the second part of a text
 abbrev IsBehind : List ℕ → Option (Bor (List ℕ)) → List ℕ → List ℕ → Type 0
 IsBehind text r a b = MatchOption r ((left : List ℕ) → text ≡ (a ++ b) ++ left → ⊥) (λ x. text ≡ (a ++ b) ++ x.now)
 

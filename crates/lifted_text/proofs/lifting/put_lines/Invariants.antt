@@ -1,4 +1,4 @@
--- The lines of the steps before the next one stand behind the text.
+-- The lines of the steps before the next one stand after the text.
 use Rattle.std.proofs.Common.{◌≡◌, ◌++◌, take}
 use Rattle.std.specs.List.{flat_map}
 use Rattle.lifted_text.specs.WrittenLines.{line_text}

@@ -1,4 +1,4 @@
--- The numbers before the next one stand behind the text.
+-- The numbers before the next one stand after the text.
 use Rattle.std.proofs.Common.{◌≡◌, ◌++◌, map, take}
 use Rattle.std.specs.Fmt.{decimal}
 use Rattle.lifted_text.specs.WrittenLines.{spaced}

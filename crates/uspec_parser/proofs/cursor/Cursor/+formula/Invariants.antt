@@ -15,7 +15,7 @@ decreases-operand l = 3 * length l.self.now + 1
 abbrev pub decreases-quantified : goal.decreases-quantified
 decreases-quantified l = 3 * length l.self.now
 
--- the list to come from the last operand on, behind those that were read, is all
+-- the list to come from the last operand on, after those that were read, is all
 abbrev pub invariant-formula-loop-connective : goal.invariant-formula-loop-connective
 invariant-formula-loop-connective l =
     (length l.self ≤ length l.fn.self)

@@ -4,7 +4,7 @@ use Rattle.uspec_parser.specs.Terminals.{Lexeme}
 use Rattle.uspec_parser.specs.Descent.{Arguments}
 use Rattle.uspec_parser.proofs.cursor.Cursor.arguments.Given as goal
 
--- the arguments to come, behind those that were read, are all
+-- the arguments to come, after those that were read, are all
 abbrev pub invariant-loop-alloc : goal.invariant-loop-alloc
 invariant-loop-alloc l =
     (more : List Arg) (rest : List Lexeme) → Arguments l.self more rest → Arguments l.initial.self (l.args ++ more) rest

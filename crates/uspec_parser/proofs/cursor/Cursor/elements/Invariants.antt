@@ -3,7 +3,7 @@ use Rattle.uspec_parser.specs.Terminals.{Lexeme}
 use Rattle.uspec_parser.specs.Descent.{Elements}
 use Rattle.uspec_parser.proofs.cursor.Cursor.elements.Given as goal
 
--- the elements to come, behind those that were read, are all
+-- the elements to come, after those that were read, are all
 abbrev pub invariant-loop-alloc : goal.invariant-loop-alloc
 invariant-loop-alloc g l =
     (more : List _) (rest : List Lexeme) → Elements g.E.Element.one g.E.Element.behind_one l.self more rest

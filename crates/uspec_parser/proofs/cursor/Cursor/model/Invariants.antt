@@ -4,7 +4,7 @@ use Rattle.pc_syntax.specs.Written.{WrittenItem, written_item}
 use Rattle.uspec_parser.specs.Descent.{Items}
 use Rattle.uspec_parser.proofs.cursor.Cursor.model.Given as goal
 
--- the items to come, behind those that were read, are all
+-- the items to come, after those that were read, are all
 abbrev pub invariant-loop-alloc : goal.invariant-loop-alloc
 invariant-loop-alloc l =
     (ss : List StageItem) (is : List WrittenItem) → Items l.self ss is

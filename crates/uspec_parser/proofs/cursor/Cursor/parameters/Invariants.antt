@@ -4,7 +4,7 @@ use Rattle.uspec_parser.specs.Terminals.{Lexeme}
 use Rattle.uspec_parser.specs.Descent.{Parameters}
 use Rattle.uspec_parser.proofs.cursor.Cursor.parameters.Given as goal
 
--- the parameters to come, behind those that were read, are all
+-- the parameters to come, after those that were read, are all
 abbrev pub invariant-loop-alloc : goal.invariant-loop-alloc
 invariant-loop-alloc l =
     (more : List Word) (rest : List Lexeme) → Parameters l.self more rest → Parameters l.initial.self (l.words ++ more) rest
