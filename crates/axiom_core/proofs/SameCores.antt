@@ -1,6 +1,6 @@
 -- What the search finds of chosen axioms, as what the axioms allow or forbid; and one core by two choices that agree.
 use Rattle.std.proofs.Common.{◌≡◌, ℕ, ◌+◌, ◌<◌, Bool, ◌&&◌, not, eqb, List, [], ◌∷◌, ◌++◌, Result, Ok, Err, length, get_or, take, sym, ◌∙◌, ap, subst, arith}
-use Rattle.std.specs.Prelude.{IfOk, ◌↔◌}
+use Rattle.std.specs.Prelude.{IfOk, OnOk, ◌↔◌, is_ok, if◌then◌else◌}
 use Rattle.std.specs.Bool.{MatchBool}
 use Rattle.std.proofs.lemmas.List.{take_more, length-map}
 use Rattle.pc_common.specs.Case.{Case}
@@ -68,6 +68,12 @@ module _ (front : Front) (keep : Choice) where
       let P : List ℕ → Type 0 = λ ks. AreShownWithout front keep ks new in
       let Q : List (Front × Graph) → Type 0 = λ ss. AreShownWithout front keep (take k numbers ++ get_or numbers k 0 ∷ []) ss in
       subst P (sym (take_more numbers k 0 inside)) (subst Q (sym is) (shown_more (get_or numbers k 0) s (take k numbers) shown all next))
+
+-- what was pushed, where memory was not refused
+pub pushed : {E : Type 0} (front : Front) (keep : Choice) (s : Front × Graph) (old new : List (Front × Graph)) (r : Result Unit E) → IsShownWith front keep s
+    → new ≡ (if is_ok r then old ++ s ∷ [] else old) → OnOk r ((t : Front × Graph) × IsShownWith front keep t × (new ≡ old ++ t ∷ []))
+pushed front keep s old new (Ok u) is e = (s, is, e)
+pushed front keep s old new (Err x) is e = tt
 
 -- the front of copies of the chosen axioms
 pub part_is : {E : Type 0} (front : Front) (keep : Choice) (case : Case) (axioms : List Closed) (r : Result Front E) → case ≡ front.case

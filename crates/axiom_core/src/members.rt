@@ -9,7 +9,6 @@ ghost use Rattle.graph_text.specs.declared.graph.Graph.{Graph as AnyGraph};
 use super::answer::{AxiomNumbers, Shown};
 use super::chosen::part_of;
 use front_search::Search;
-use graph_text::Graph;
 use pc_common::Memory;
 use pc_ground::Front;
 use refutation::Refutation;
@@ -33,25 +32,8 @@ pub(crate) fn refuted_by<S: Search>(
     }
 }
 
-/// The front of the axioms whose flags are set but for the one at `at`, and the graph that the search finds of it.
-fn shown_without<S: Search>(
-    alloc: Global,
-    front: &Front,
-    flags: &[bool],
-    at: usize,
-) -> Result<(Front, Graph), Memory>
-    requires size { length flags.now ≡ length front.now.axioms }
-    requires allowed { Allow front.now.case (taken (less at (flagged flags.now)) (plain_axioms front.now.axioms)) }
-    ensures { IfOk result (IsShownWith front.now (less at (flagged flags.now))) }
-{
-    let part = part_of::<S>(alloc, front, flags, Some(at))?;
-    match S::found_of(alloc, &part)? {
-        Answer::Observable(graph) => Ok((part, graph)),
-        Answer::Unobservable(_) => unreachable!(),
-    }
-}
-
-/// Puts what shows the outcome without the axiom at `at` behind the others.
+/// Puts the front of the axioms whose flags are set but for the one at `at`, with the graph that the search finds of it,
+/// behind the others.
 fn add_shown<S: Search>(
     alloc: Global,
     front: &Front,
@@ -64,8 +46,11 @@ fn add_shown<S: Search>(
     ensures { OnOk result ((s : AnyFront × AnyGraph) × IsShownWith front.now (less at (flagged flags.now)) s
         × (shown.new ≡ shown.old ++ s ∷ [])) }
 {
-    shown.push(shown_without::<S>(alloc, front, flags, at)?)?;
-    Ok(())
+    let part = part_of::<S>(alloc, front, flags, Some(at))?;
+    match S::found_of(alloc, &part)? {
+        Answer::Observable(graph) => shown.push((part, graph)),
+        Answer::Unobservable(_) => unreachable!(),
+    }
 }
 
 /// For each of these numbers, in order, what shows the outcome on the axioms whose flags are set, but for that one.

@@ -11,3 +11,6 @@ minimal_core-requires g c = found_forbid c.args.front.now c.in-Unobservable.fiel
 
 pub returns-clause-none : goal.returns-clause-none
 returns-clause-none g c = core_none_ok c.args.front.now c.minimal_core.result c.minimal_core.ensures
+
+pub returns-clause-core : goal.returns-clause-core
+returns-clause-core g c = c.minimal_core.ensures
