@@ -6,7 +6,7 @@ use Rattle.std.specs.List.{list_any}
 abbrev pub Choice : Type 0
 Choice = ℕ → Bool
 
--- the choice as it goes on behind the first place
+-- the choice as it goes on after the first place
 abbrev pub behind : Choice → Choice
 behind keep k = keep (suc k)
 

@@ -22,7 +22,7 @@ fn is_chosen(flags: &[bool], left_out: Option<usize>, k: usize) -> bool
     }
 }
 
-/// Puts a copy of the axiom behind the copies, where it is chosen.
+/// Puts a copy of the axiom after the copies, where it is chosen.
 fn copy_chosen(
     alloc: Global,
     chosen: bool,

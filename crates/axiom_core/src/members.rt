@@ -33,7 +33,7 @@ pub(crate) fn refuted_by<S: Search>(
 }
 
 /// Puts the front of the axioms whose flags are set but for the one at `at`, with the graph that the search finds of it,
-/// behind the others.
+/// after the others.
 fn add_shown<S: Search>(
     alloc: Global,
     front: &Front,

@@ -56,7 +56,7 @@ fn write_without<K: Sink>(out: &mut K, number: usize, shown: &(Front, Graph)) ->
     write_shown(out, &shown.0, &shown.1)
 }
 
-/// Writes the certificates of the graphs, each behind the number of the axiom that it does without.
+/// Writes the certificates of the graphs, each after the number of the axiom that it does without.
 fn write_graphs<K: Sink>(out: &mut K, kept: &AxiomNumbers, without: &Shown) -> Result<(), Failed>
     requires writable { All (λ s. IsWritable (names_of s.0) (a_graph s.1)) without.now }
     requires beside { length kept.now ≡ length without.now }

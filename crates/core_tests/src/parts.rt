@@ -46,14 +46,14 @@ const PIECES: &[Piece] = &[
     ("without 2\n", &[(STAGES, 1), (ORDER, 1)]),
 ];
 
-/// Puts a line behind the text, and the certificate that check writes.
+/// Puts a line after the text, and the certificate that check writes.
 fn put_piece(text: &mut Vec<u8>, alloc: Global, (line, model): Piece) -> Result<(), Memory> {
     text.extend_from_slice(line.as_bytes())?;
     text.extend_from_slice(&written_of(alloc, "check model test", model)?)?;
     Ok(())
 }
 
-/// Lines, each with the certificate that check writes behind it.
+/// Lines, each with the certificate that check writes after it.
 fn lines_with_checks(alloc: Global) -> Result<Vec<u8>, Memory> {
     let mut text = Vec::new(alloc);
     for piece in PIECES {
