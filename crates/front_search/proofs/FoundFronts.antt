@@ -1,10 +1,11 @@
 -- A front's numbering is of its tree, in which a constant is the whole tree; and what is found of a front says of it.
-use Rattle.std.proofs.Common.{◌≡◌, List, sym, ◌∙◌, ap, subst}
-use Rattle.std.specs.Prelude.{IsTrue}
+use Rattle.std.proofs.Common.{◌≡◌, List, Result, Ok, Err, sym, ◌∙◌, ap, subst}
+use Rattle.std.specs.Prelude.{IfOk, IsTrue}
 use Rattle.pc_common.specs.Steps.{Step}
 use Rattle.pc_common.specs.World.{Node, World, IsWorld}
 use Rattle.pc_syntax.specs.Closed.{closed_satisfies}
 use Rattle.pc_ground.specs.declared.front.Front.{Front}
+use Rattle.pc_ground.specs.declared.version.Version.TheVariants.{One}
 use Rattle.pc_ground.specs.Tree.{Tree}
 use Rattle.pc_ground.specs.Rows.{rows_of}
 use Rattle.pc_ground.specs.Folded.{IsFolded}
@@ -15,6 +16,8 @@ use Rattle.pc_ground.proofs.FlatRows.{rows_injective}
 use Rattle.pc_ground.proofs.NormalForms.{normal_folded}
 use Rattle.pc_ground.proofs.UnfoldedTruth.{closed_ground_tree_true}
 use Rattle.graph_text.specs.declared.graph.Graph.{Graph}
+use Rattle.solver.specs.Answers.{IsAnswer}
+use Rattle.solver.specs.declared.answer.Answer.{Answer}
 use Rattle.solver.specs.declared.answer.Answer.TheVariants.{Observable, Unobservable}
 use Rattle.front_search.specs.Found.{tree_of, IsFound}
 
@@ -24,6 +27,12 @@ front_numbered front t is = front.counted ∙ ap numbered (rows_injective (tree_
 pub front_folded : (front : Front) (t : Tree Node) → front.tree ≡ rows_of t → IsFolded t
 front_folded front t is =
     subst IsFolded (rows_injective (tree_of front) t (sym front.grounded ∙ is)) (normal_folded (axioms_unfolded front.case (plain_axioms front.axioms)))
+
+-- what is found of each tree of these rows is found of the front
+pub found_front : {E : Type 0} (front : Front) (r : Result Answer E)
+    → IfOk r (λ found. (t : Tree Node) → front.tree ≡ rows_of t → IsAnswer One front.numbering t found) → IfOk r (IsFound front)
+found_front front (Ok found) is = is (tree_of front) front.grounded
+found_front front (Err e) is = tt
 
 -- a graph shows a world in which the front's axioms are true, and a refutation that there is none
 pub found_world : (front : Front) (graph : Graph) → IsFound front (Observable graph)

@@ -1,6 +1,17 @@
+use Rattle.std.proofs.Common.{◌∙◌}
+use Rattle.std.proofs.lemmas.List.{length-map}
 use Rattle.axiom_core.proofs.Numbered.{kept_flagged}
 use Rattle.axiom_core.proofs.SameCores.{core_of_flags}
 use Rattle.axiom_core.proofs.cores.core_of.Goals as goal
+
+pub refuted_by-requires-clause-size : goal.refuted_by-requires-clause-size
+refuted_by-requires-clause-size g c = c.requires.size ∙ length-map c.args.front.now.axioms _
+
+pub refuted_by-requires-clause-forbidden : goal.refuted_by-requires-clause-forbidden
+refuted_by-requires-clause-forbidden g c = c.requires.forbidden
+
+pub all_shown-requires-clause-tried : goal.all_shown-requires-clause-tried
+all_shown-requires-clause-tried g c = c.requires
 
 pub all_shown-requires-clause-flagged : goal.all_shown-requires-clause-flagged
 all_shown-requires-clause-flagged g c = kept_flagged c.args.flags.now c.in_ok-kept.kept c.in_ok-kept.ensures

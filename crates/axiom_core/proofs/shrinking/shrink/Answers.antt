@@ -1,5 +1,5 @@
 use Rattle.std.proofs.Common.{◌≡◌, ◌∙◌, Bool, true, List, length, replicate, sym, ap, subst}
-use Rattle.std.proofs.lemmas.List.{length-map}
+use Rattle.std.proofs.lemmas.List.{length-map, with_items_is}
 use Rattle.pc_ground.specs.Stages.{plain_axioms}
 use Rattle.axiom_core.specs.Choices.{IsTried}
 use Rattle.axiom_core.proofs.Tries.{tried_none}
@@ -15,3 +15,9 @@ try_all-requires g c =
     set ∙ ap (λ n. replicate n true) (c.len.ensures.value ∙ sym size) in
     let P : List Bool → Type 0 = λ flags. IsTried front.case ps flags 0 in
     rw c.deref_mut.ensures.value (subst P (sym all) (tried_none front.case ps c.requires))
+
+pub returns : goal.returns
+returns g c =
+    let new : List Bool = c.try_all.new.flags in
+    let size : length new ≡ c.in_ok-flags.flags.len = c.try_all.auto.flags ∙ c.deref_mut.ensures.len in
+    rw (with_items_is c.in_ok-flags.flags new size) c.in_ok-try_all.ensures

@@ -1,6 +1,11 @@
+use Rattle.std.proofs.Common.{◌∙◌}
+use Rattle.std.proofs.lemmas.List.{length-map}
 use Rattle.pc_ground.specs.Stages.{plain_axioms}
 use Rattle.axiom_core.proofs.Tries.{tried_dropped, tried_kept}
 use Rattle.axiom_core.proofs.shrinking.try_without.Goals as goal
+
+pub are_refuted-requires : goal.are_refuted-requires
+are_refuted-requires g c = c.requires.tried.size ∙ length-map c.args.front.now.axioms _
 
 pub returns-then-branch : goal.returns-then-branch
 returns-then-branch g c =
