@@ -182,8 +182,9 @@ fn a_text_has_its_first_fault_or_none(rt: HostRuntime) -> Result<(), Fail> {
     Ok(())
 }
 
+/// A law does nothing, and can be called by anyone who wants what it says.
 #[test]
-fn the_laws_can_be_called(_rt: HostRuntime) {
+fn each_law_can_be_called(_rt: HostRuntime) {
     viable_prefixes(Phrase::Items(0), &[Bracket::Open]);
     some_answer(Phrase::Items(0), &[Bracket::Open]);
     one_answer(Phrase::Items(0), &[Bracket::Open]);

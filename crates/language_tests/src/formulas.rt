@@ -58,6 +58,57 @@ const FORMULAS: &[(Pieces, Answer)] = &[
         &[("True /\\ ", 129), ("True", 1)],
         Refused(ParseFault::Depth(257)),
     ),
+    // a looser operator ends the tighter ones of its list, and is open itself
+    (
+        &[
+            ("True /\\ ", 127),
+            ("True \\/ ", 1),
+            ("True /\\ ", 127),
+            ("True", 1),
+        ],
+        Tree(&[
+            ("Or(", 1),
+            ("And(True, ", 127),
+            ("True", 1),
+            (")", 127),
+            (", ", 1),
+            ("And(True, ", 127),
+            ("True", 1),
+            (")", 127),
+            (")", 1),
+        ]),
+    ),
+    (
+        &[
+            ("True /\\ ", 127),
+            ("True \\/ ", 1),
+            ("True /\\ ", 128),
+            ("True", 1),
+        ],
+        Refused(ParseFault::Depth(511)),
+    ),
+    // a tighter operator ends none
+    (
+        &[("True => ", 128), ("True \\/ True", 1)],
+        Refused(ParseFault::Depth(257)),
+    ),
+    // `~` and brackets end with what they stand around, and the operators beside them don't
+    (
+        &[("~True /\\ ", 128), ("~True", 1)],
+        Refused(ParseFault::Depth(384)),
+    ),
+    (
+        &[("(True) /\\ ", 128), ("True", 1)],
+        Tree(&[("And(True, ", 128), ("True", 1), (")", 128)]),
+    ),
+    (
+        &[("forall microop \"i\", ", 128), ("True", 1)],
+        Tree(&[("Forall(microop i, ", 128), ("True", 1), (")", 128)]),
+    ),
+    (
+        &[("forall microop \"i\", ", 129), ("True", 1)],
+        Refused(ParseFault::Depth(512)),
+    ),
     // one edge or node is a list of one, and labels and colours are read and dropped
     (
         &[("AddEdge ((i, S), (j, (3, T)), \"po\", \"blue\")", 1)],
@@ -221,17 +272,45 @@ axiom: Forall(microop i, Exists(core c, Or(Expand before i 3, Nodes[i@c:Mem;])))
 ",
         ),
     ),
+    // a title may be any text
     ("Axiom \"forall\": True.", Ok("axiom: True\n")),
+    ("Axiom \"\": True.", Ok("axiom: True\n")),
+    ("Axiom \"1a\": True.", Ok("axiom: True\n")),
     // it ends at the first token of no item
     ("Axiom \"x\": True. True.", Err(ParseFault::Syntax(5))),
     ("Axiom \"x\": True", Err(ParseFault::Syntax(4))),
-    // a stage, a macro and a parameter have names that are not reserved
-    ("StageName 0 \"microop\".", Err(ParseFault::Syntax(2))),
     ("StageName \"S\" 0.", Err(ParseFault::Syntax(1))),
+    // a stage, a macro, a parameter and a variable have names, and these are not reserved
+    ("StageName 0 \"microop\".", Err(ParseFault::Syntax(2))),
+    ("StageName 0 \"\".", Err(ParseFault::Syntax(2))),
+    ("StageName 0 \"1a\".", Err(ParseFault::Syntax(2))),
     ("DefineMacro \"core\": True.", Err(ParseFault::Syntax(1))),
+    ("DefineMacro \"\": True.", Err(ParseFault::Syntax(1))),
+    ("DefineMacro \"1a\": True.", Err(ParseFault::Syntax(1))),
+    (
+        "DefineMacro \"m\" \"exists\": True.",
+        Err(ParseFault::Syntax(2)),
+    ),
     (
         "DefineMacro \"m\" \"a b\": True.",
         Err(ParseFault::Syntax(2)),
+    ),
+    ("DefineMacro \"m\" \"\": True.", Err(ParseFault::Syntax(2))),
+    (
+        "DefineMacro \"m\" \"a\" \"1a\": True.",
+        Err(ParseFault::Syntax(3)),
+    ),
+    (
+        "Axiom \"x\": forall microops \"forall\", True.",
+        Err(ParseFault::Syntax(5)),
+    ),
+    (
+        "Axiom \"x\": exists cores \"\", True.",
+        Err(ParseFault::Syntax(5)),
+    ),
+    (
+        "Axiom \"x\": forall microops \"1a\", True.",
+        Err(ParseFault::Syntax(5)),
     ),
 ];
 
@@ -324,8 +403,9 @@ fn a_model_has_its_items_in_their_order_or_the_fault_of_the_grammar(
     Ok(())
 }
 
+/// A law does nothing, and can be called by anyone who wants what it says.
 #[test]
-fn the_laws_can_be_called(rt: HostRuntime) -> Result<(), Fail> {
+fn each_law_can_be_called(rt: HostRuntime) -> Result<(), Fail> {
     let read = tokens(rt.alloc(), b"True")?;
     split_of_operands();
     one_model_tree(&read);

@@ -3,58 +3,63 @@ use super::texts::are_refused;
 use example_texts::EMPTY;
 use pc_common::{FaultKind, InputFault, Place, Which};
 
-/// A model and a test, and the file and the place of the first fault of both.
-const FAULTS: &[(&'static str, &'static str, Which, u32, FaultKind)] = &[
+/// Models, and the place and the kind of the first fault of each.
+const MODELS: &[(&'static str, u32, FaultKind)] = &[
+    ("Axiom \"a: True.", 6, FaultKind::Lexical),
+    ("Axiom \"a\": True", 15, FaultKind::Syntax),
     (
-        "Axiom \"a: True.",
-        EMPTY,
-        Which::Model,
-        6,
-        FaultKind::Lexical,
+        "StageName 64 \"S\".",
+        10,
+        FaultKind::StageNumber { number: 64 },
     ),
     (
-        "Axiom \"a\": True",
-        EMPTY,
-        Which::Model,
-        15,
-        FaultKind::Syntax,
+        "DefineMacro \"m\": ExpandMacro m.",
+        29,
+        FaultKind::MacroUnknown,
     ),
+    ("Axiom \"n\": NodeExists (i, S).", 23, FaultKind::Unbound),
+];
+
+/// The same of tests.
+const TESTS: &[(&'static str, u32, FaultKind)] = &[
+    ("Litmus \"d.", 7, FaultKind::Lexical),
+    ("Litmus", 6, FaultKind::Syntax),
     (
-        "Axiom \"n\": NodeExists (i, S).",
-        EMPTY,
-        Which::Model,
-        23,
-        FaultKind::Unbound,
-    ),
-    // the model's fault is named before the test's
-    (
-        "Axiom \"a\": True",
-        "Litmus",
-        Which::Model,
-        15,
-        FaultKind::Syntax,
-    ),
-    ("", "Litmus", Which::Test, 6, FaultKind::Syntax),
-    (
-        "",
         "Litmus \"d\".\nMicroop 0 64 0 0 (Fence).\n",
-        Which::Test,
         22,
         FaultKind::CoreNumber { number: 64 },
     ),
 ];
 
+fn fault_in(file: Which, offset: u32, kind: FaultKind) -> InputFault {
+    InputFault {
+        file,
+        place: Place { offset },
+        kind,
+    }
+}
+
+#[test]
+fn a_fault_is_told_with_its_file_and_its_place(rt: HostRuntime) {
+    for (model, offset, kind) in MODELS {
+        let fault = fault_in(Which::Model, *offset, *kind);
+        assert!(rt; are_refused(rt.alloc(), model, EMPTY, fault), "{model}");
+    }
+    for (test, offset, kind) in TESTS {
+        let fault = fault_in(Which::Test, *offset, *kind);
+        assert!(rt; are_refused(rt.alloc(), "", test, fault), "{test}");
+    }
+}
+
 #[test]
 fn a_fault_of_the_model_is_named_before_one_of_the_test(rt: HostRuntime) {
-    for (model, test, file, offset, kind) in FAULTS {
-        let fault = InputFault {
-            file: *file,
-            place: Place { offset: *offset },
-            kind: *kind,
-        };
-        assert!(rt;
-            are_refused(rt.alloc(), model, test, fault),
-            "{model} {test}"
-        );
+    for (model, offset, kind) in MODELS {
+        let fault = fault_in(Which::Model, *offset, *kind);
+        for (test, _, _) in TESTS {
+            assert!(rt;
+                are_refused(rt.alloc(), model, test, fault),
+                "{model} {test}"
+            );
+        }
     }
 }

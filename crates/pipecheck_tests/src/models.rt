@@ -149,6 +149,8 @@ const TOO_DEEP: FaultKind = FaultKind::TooDeep { limit: 512 };
 
 const TOO_BIG: FaultKind = FaultKind::TooBig { limit: 1_000_000 };
 
+const CORE_64: FaultKind = FaultKind::CoreNumber { number: 64 };
+
 /// What stands in front of the 997 nodes of the macro `k`, which is of the size 999.
 const NODES: &str = "StageName 0 \"S\".\nDefineMacro \"k\": forall microops \"i\", NodesExist [";
 
@@ -158,6 +160,36 @@ const LIMITS: &[(Pieces, Option<(u32, u32, FaultKind)>)] = &[
     (
         &[("Axiom \"d\": ", 1), ("~", 129), ("True.", 1)],
         Some((1, 140, DEEP)),
+    ),
+    // each body begins with none open
+    (
+        &[
+            ("DefineMacro \"m\": ", 1),
+            ("~", 128),
+            ("True.\nAxiom \"d\": ", 1),
+            ("~", 128),
+            ("True.", 1),
+        ],
+        None,
+    ),
+    (
+        &[("DefineMacro \"m\": ", 1), ("~", 129), ("True.", 1)],
+        Some((1, 146, DEEP)),
+    ),
+    // a core that a macro gets
+    (
+        &[(
+            "DefineMacro \"m\" \"c\": forall microops \"i\", OnCore c i.\nAxiom \"x\": ExpandMacro m 63.",
+            1,
+        )],
+        None,
+    ),
+    (
+        &[(
+            "DefineMacro \"m\" \"c\": forall microops \"i\", OnCore c i.\nAxiom \"x\": ExpandMacro m 64.",
+            1,
+        )],
+        Some((2, 26, CORE_64)),
     ),
     (
         &[
@@ -174,6 +206,23 @@ const LIMITS: &[(Pieces, Option<(u32, u32, FaultKind)>)] = &[
             ("True.", 1),
         ],
         Some((1, 684, VARIABLES)),
+    ),
+    // a parameter is a variable in scope too
+    (
+        &[
+            ("DefineMacro \"m\" \"a\": IsAnyRead a.\nAxiom \"x\": ", 1),
+            ("forall microops \"i\", ", 31),
+            ("ExpandMacro m i.", 1),
+        ],
+        None,
+    ),
+    (
+        &[
+            ("DefineMacro \"m\" \"a\": IsAnyRead a.\nAxiom \"x\": ", 1),
+            ("forall microops \"i\", ", 32),
+            ("ExpandMacro m i.", 1),
+        ],
+        Some((2, 684, VARIABLES)),
     ),
     (
         &[
@@ -194,10 +243,33 @@ const LIMITS: &[(Pieces, Option<(u32, u32, FaultKind)>)] = &[
         ],
         Some((1003, 1, TOO_BIG)),
     ),
+    // an empty list is of the size 1
+    (
+        &[
+            (NODES, 1),
+            ("(i, S);", 997),
+            ("].\n", 1),
+            ("Axiom \"a\": ExpandMacro k.\n", 999),
+            ("Axiom \"b\": NodesExist [].\n", 500),
+            ("Axiom \"c\": AddEdges [].\n", 500),
+        ],
+        None,
+    ),
+    (
+        &[
+            (NODES, 1),
+            ("(i, S);", 997),
+            ("].\n", 1),
+            ("Axiom \"a\": ExpandMacro k.\n", 999),
+            ("Axiom \"b\": NodesExist [].\n", 500),
+            ("Axiom \"c\": AddEdges [].\n", 501),
+        ],
+        Some((2002, 1, TOO_BIG)),
+    ),
 ];
 
 #[test]
-fn each_limit_is_met_exactly(rt: HostRuntime) -> Result<(), Fail> {
+fn a_model_may_reach_a_limit_and_not_pass_it(rt: HostRuntime) -> Result<(), Fail> {
     for (pieces, want) in LIMITS {
         let text = joined(rt.alloc(), pieces)?;
         assert!(rt; fault(rt.alloc(), &text)? == *want, "{pieces:?}");
@@ -210,14 +282,46 @@ const ONCE: &[&'static str] = &["~ExpandMacro m"];
 const TWICE: &[&'static str] = &["ExpandMacro m", " /\\ ExpandMacro m"];
 
 /// How many macros there are behind `m0`, what the body of each is, the number of the macro before it
-/// behind each piece, and the fault where the axiom that expands the last passes a limit.
-const CHAINS: &[(u64, &'static [&'static str], Option<(u32, u32, FaultKind)>)] = &[
-    // heights 511 and 513
-    (255, ONCE, None),
-    (256, ONCE, Some((258, 1, TOO_DEEP))),
+/// behind each piece, the axioms, and the fault where one of them passes a limit.
+const CHAINS: &[(
+    u64,
+    &'static [&'static str],
+    &'static str,
+    Option<(u32, u32, FaultKind)>,
+)] = &[
+    // heights 511, 512 and 513
+    (255, ONCE, "Axiom \"x\": ExpandMacro m255.", None),
+    (255, ONCE, "Axiom \"x\": ~ExpandMacro m255.", None),
+    (
+        256,
+        ONCE,
+        "Axiom \"x\": ExpandMacro m256.",
+        Some((258, 1, TOO_DEEP)),
+    ),
     // sizes 524,286 and 1,048,574
-    (17, TWICE, None),
-    (18, TWICE, Some((20, 1, TOO_BIG))),
+    (17, TWICE, "Axiom \"x\": ExpandMacro m17.", None),
+    (
+        18,
+        TWICE,
+        "Axiom \"x\": ExpandMacro m18.",
+        Some((20, 1, TOO_BIG)),
+    ),
+    // of one axiom the height is judged before the size
+    (
+        256,
+        TWICE,
+        "Axiom \"x\": ExpandMacro m256.",
+        Some((258, 1, TOO_DEEP)),
+    ),
+    // the axioms are judged in their order
+    (
+        256,
+        TWICE,
+        "Axiom \"x\": ExpandMacro m18.\nAxiom \"y\": ExpandMacro m256.",
+        Some((258, 1, TOO_BIG)),
+    ),
+    // a macro that no axiom reaches is not judged
+    (256, TWICE, "Axiom \"x\": ExpandMacro m0.", None),
 ];
 
 fn put_macro(text: &mut Vec<u8>, number: u64, body: &[&'static str]) -> Result<(), Memory> {
@@ -236,22 +340,27 @@ fn put_chain(text: &mut Vec<u8>, links: u64, body: &[&'static str]) -> Result<()
     for before in 0..links {
         put_macro(text, before + 1, body)?;
     }
-    put(text, b"Axiom \"x\": ExpandMacro m")?;
-    put_number(text, links)?;
-    put(text, b".\n")
+    Ok(())
 }
 
-fn chain(alloc: Global, links: u64, body: &[&'static str]) -> Result<Vec<u8>, Memory> {
+/// The chain, and the axioms behind it.
+fn chain(
+    alloc: Global,
+    links: u64,
+    body: &[&'static str],
+    axioms: &str,
+) -> Result<Vec<u8>, Memory> {
     let mut text = Vec::new(alloc);
     put_chain(&mut text, links, body)?;
+    put(&mut text, axioms.as_bytes())?;
     Ok(text)
 }
 
 #[test]
 fn an_expansion_is_judged_before_it_is_made(rt: HostRuntime) -> Result<(), Fail> {
-    for (links, body, want) in CHAINS {
-        let text = chain(rt.alloc(), *links, body)?;
-        assert!(rt; fault(rt.alloc(), &text)? == *want, "{links} macros");
+    for (links, body, axioms, want) in CHAINS {
+        let text = chain(rt.alloc(), *links, body, axioms)?;
+        assert!(rt; fault(rt.alloc(), &text)? == *want, "{axioms}");
     }
     Ok(())
 }

@@ -30,6 +30,7 @@ const CLOSED: &[(&'static str, &'static str)] = &[
         "Not(Implies(Or(And(True, False), True), False))",
     ),
     ("NodeExists (i, (c, F))", "Nodes[#0@#1:5;]"),
+    ("NodeExists (i, (63, F))", "Nodes[#0@63:5;]"),
     ("EdgesExist []", "Edges[]"),
     // a name stands for its innermost binding
     (
