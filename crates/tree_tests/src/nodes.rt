@@ -5,9 +5,9 @@ use pc_ground::{Front, LineFault, NodeText};
 use std::alloc::Global;
 use std::test::Fail;
 
-const STAGES: &str = "StageName 5 \"S\". StageName 63 \"T_1'\".";
+pub(crate) const STAGES: &str = "StageName 5 \"S\". StageName 63 \"T_1'\".";
 
-const OPS: &str = "Litmus \"n\".
+pub(crate) const OPS: &str = "Litmus \"n\".
 Microop 7 1 1 0 (Fence).
 Microop 10 0 0 3 (Fence).
 ";

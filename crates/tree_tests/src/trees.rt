@@ -53,7 +53,7 @@ const ROWS: &[(&'static str, &'static str, &'static str, &'static str)] = &[
     ),
 ];
 
-fn show_node(out: &mut Vec<u8>, node: NodeKey) -> Result<(), Memory> {
+pub(crate) fn show_node(out: &mut Vec<u8>, node: NodeKey) -> Result<(), Memory> {
     put_number(out, node.op as u64)?;
     put(out, b"@")?;
     put_number(out, node.core as u64)?;
@@ -61,7 +61,7 @@ fn show_node(out: &mut Vec<u8>, node: NodeKey) -> Result<(), Memory> {
     put_number(out, node.stage as u64)
 }
 
-fn show_edge(out: &mut Vec<u8>, from: NodeKey, to: NodeKey) -> Result<(), Memory> {
+pub(crate) fn show_edge(out: &mut Vec<u8>, from: NodeKey, to: NodeKey) -> Result<(), Memory> {
     show_node(out, from)?;
     put(out, b">")?;
     show_node(out, to)
