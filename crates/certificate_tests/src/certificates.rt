@@ -85,7 +85,7 @@ pub(crate) const JUDGED: &[Row] = &[
         "observable\ntest permitted: ok\nnode 0.0@0:S\nnode 1.0@0:S\nend\n",
         Checked::Refused(5),
     ),
-    // an end on no node line, a node line behind an edge line, and a cycle
+    // an end on no node line, a node line after an edge line, and a cycle
     (
         ORDERED,
         TWO,

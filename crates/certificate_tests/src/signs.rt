@@ -56,7 +56,7 @@ pub(crate) const SIGNED: &[Row] = &[
         "unobservable\ntest unstated\nversion  2\nsplit 1\nabsent 0.0@0:T\nsplit ~2\nabsent 0.0@0:U\nabsent 0.0@0:U\nend\n",
         Checked::Refused(3),
     ),
-    // no space stands behind the sign, and no zero leads
+    // no space stands after the sign, and no zero leads
     (
         BOTH_OR_ONE,
         ONE,

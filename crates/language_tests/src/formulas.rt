@@ -128,7 +128,7 @@ const FORMULAS: &[(Pieces, Answer)] = &[
         &[("True /\\ forall microop \"i\", True \\/ True", 1)],
         Tree(&[("And(True, Forall(microop i, Or(True, True)))", 1)]),
     ),
-    // nothing stands behind the formula
+    // nothing stands after the formula
     (&[("True.", 1)], Refused(ParseFault::Syntax(1))),
     // a reserved word is no name
     (&[("ExpandMacro forall", 1)], Refused(ParseFault::Syntax(1))),

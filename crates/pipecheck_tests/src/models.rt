@@ -281,8 +281,8 @@ const ONCE: &[&'static str] = &["~ExpandMacro m"];
 
 const TWICE: &[&'static str] = &["ExpandMacro m", " /\\ ExpandMacro m"];
 
-/// How many macros there are behind `m0`, what the body of each is, the number of the macro before it
-/// behind each piece, the axioms, and the fault where one of them passes a limit.
+/// How many macros there are after `m0`, what the body of each is, the number of the macro before it
+/// after each piece, the axioms, and the fault where one of them passes a limit.
 const CHAINS: &[(
     u64,
     &'static [&'static str],
@@ -343,7 +343,7 @@ fn put_chain(text: &mut Vec<u8>, links: u64, body: &[&'static str]) -> Result<()
     Ok(())
 }
 
-/// The chain, and the axioms behind it.
+/// The chain, and the axioms after it.
 fn chain(
     alloc: Global,
     links: u64,

@@ -37,7 +37,7 @@ const CLOSED: &[(&'static str, &'static str)] = &[
         "IsAnyRead i /\\ forall microop \"i\", IsAnyRead i",
         "And(IsAnyRead #0, Forall(microop, IsAnyRead #2))",
     ),
-    // a parameter has a slot behind those in scope, and free names of a body are looked up where it stands
+    // a parameter has a slot after those in scope, and free names of a body are looked up where it stands
     ("ExpandMacro late i", "Bind( #0: Edges[#2:5>#0@7:9;])"),
     // parameters are bound all at once
     (

@@ -68,7 +68,7 @@ const TEXTS: &[(&'static str, Result<&'static str, GraphFault>)] = &[
         "node 7.0@1:S\nedge 7.0@1:S 10.3@0:S\n",
         Err(GraphFault::Line(2)),
     ),
-    // a node line behind an edge line, of a new node and of a listed one
+    // a node line after an edge line, of a new node and of a listed one
     (
         "node 7.0@1:S\nedge 7.0@1:S 7.0@1:S\nnode 10.3@0:S\n",
         Err(GraphFault::Line(3)),
