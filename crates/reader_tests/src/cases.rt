@@ -1,7 +1,15 @@
 //! Test files to cases, and what a case answers.
+ghost use Rattle.std.specs.Prelude.{◌≡◌, IfOk, length, map};
+ghost use Rattle.pc_case.specs.MicroOps.{AreMicroOps};
+ghost use Rattle.pc_case.specs.Plain.{micro_op, dependency, stated_value};
+ghost use Rattle.pc_case.specs.Stated.{AreWithin, IsStatedOnce};
+
 use litmus_reader::{CaseFault, read_case};
-use pc_case::{Access, Address, Case, Expect, Memop, Op, OpId, Ops, Page, TypeNames};
-use pc_common::{FaultKind, Memory, Place, Value};
+use pc_case::{
+    Access, Address, Case, Dependencies, Dependency, Expect, Memop, Op, OpId, Ops, Page, Stated,
+    StatedValues, TypeNames,
+};
+use pc_common::{Bytes, FaultKind, Memory, Place, Value};
 use std::alloc::Global;
 use std::test::Fail;
 
@@ -277,6 +285,7 @@ Final (PA 1 2) 5.";
 /// An address, its initial value, and its final value where one is stated.
 type Values = (Address, Value, Option<Value>);
 
+/// Those of the mixed text.
 const VALUES: &[Values] = &[
     (Address::Page { tag: 7, index: 7 }, Value::Number(3), None),
     (
@@ -318,6 +327,7 @@ const VALUES: &[Values] = &[
 /// A kind and two places, and whether a dependency of that kind goes from the first to the second.
 type End = (&'static [u8], usize, usize, bool);
 
+/// Those of the mixed text.
 const ENDS: &[End] = &[
     (b"addr", 0, 2, true),
     (b"addr", 2, 0, false),
@@ -330,6 +340,7 @@ const ENDS: &[End] = &[
 /// A name, and the place of the micro-op of that name.
 type Named = (u64, u64, Option<usize>);
 
+/// Those of the mixed text.
 const NAMED: &[Named] = &[
     (0, 0, Some(0)),
     (0, 1, Some(1)),
@@ -422,7 +433,7 @@ Relationship data 1 0 -> 1 0.
 Relationship addr 0 0 -> 1 0.
 Relationship data 1 0 -> 1 0.";
 
-/// The same of the test in which they stand twice.
+/// Where they go, and where they do not.
 const ENDS_TWICE: &[End] = &[
     (b"addr", 0, 1, true),
     (b"addr", 1, 0, false),
@@ -487,8 +498,11 @@ const TOUCHED: Memop = Memop {
     value: Value::Number(6),
 };
 
-/// A write on core 5 and a fence on core 2, without a text.
-fn made(alloc: Global) -> Result<Case, Memory> {
+/// A write on core 5, and a fence on core 2.
+fn made_ops(alloc: Global) -> Result<Ops, Memory>
+    ensures kept { IfOk result (λ ops. AreMicroOps (map micro_op ops)) }
+    ensures two { IfOk result (λ ops. length ops ≡ 2) }
+{
     let mut ops = Ops::new(alloc);
     ops.push(Op {
         id: OpId { g: 7, n: 1 },
@@ -506,39 +520,42 @@ fn made(alloc: Global) -> Result<Case, Memory> {
         access: Access::Fence,
         memop: None,
     })?;
-    Ok(Case::new(ops, Expect::Forbidden))
+    Ok(ops)
 }
 
-const MADE_NAMED: &[Named] = &[
-    (7, 1, Some(0)),
-    (8, 1, Some(1)),
-    (7, 0, None),
-    (8, 0, None),
-    (9, 1, None),
-    (1, 7, None),
-];
+/// A dependency of the fence on the write.
+fn made_dependency(alloc: Global) -> Result<Dependency, Memory>
+    ensures source { IfOk result (λ line. line.source ≡ 0) }
+    ensures target { IfOk result (λ line. line.target ≡ 1) }
+{
+    Ok(Dependency {
+        kind: Bytes::from_vec(b"addr".to_vec(alloc)?),
+        source: 0,
+        target: 1,
+    })
+}
 
-const MADE_ENDS: &[End] = &[
-    (b"addr", 0, 1, false),
-    (b"addr", 0, 0, false),
-    (b"", 1, 1, false),
-    (b"addr", 2, 2, false),
-];
+/// That dependency, stated twice.
+fn made_dependencies(alloc: Global) -> Result<Dependencies, Memory>
+    ensures { IfOk result (λ lines. AreWithin 2 (map dependency lines)) }
+{
+    let mut lines = Dependencies::new(alloc);
+    lines.push(made_dependency(alloc)?)?;
+    lines.push(made_dependency(alloc)?)?;
+    Ok(lines)
+}
 
-/// No value is stated, also not where the write writes.
-const MADE_VALUES: &[Values] = &[
-    (Address::Page { tag: 3, index: 4 }, Value::Number(0), None),
-    (Address::Page { tag: 0, index: 0 }, Value::Number(0), None),
-    (
-        Address::Entry { tag: 3 },
-        Value::Entry {
-            tag: 3,
-            accessed: 0,
-            dirty: 0,
-        },
-        None,
-    ),
-];
+/// This value at the page that the write touches.
+fn made_values(alloc: Global, value: u64) -> Result<StatedValues, Memory>
+    ensures { IfOk result (λ lines. IsStatedOnce (map stated_value lines)) }
+{
+    let mut lines = StatedValues::new(alloc);
+    lines.push(Stated {
+        pa: TOUCHED.pa,
+        value: Value::Number(value),
+    })?;
+    Ok(lines)
+}
 
 fn touches(case: &Case, k: usize, memop: Option<Memop>) -> bool {
     k < case.ops() && case.op(k).memop == memop
@@ -553,18 +570,82 @@ fn are_made_ops(case: &Case) -> bool {
         && touches(case, 1, None)
 }
 
-fn is_made(case: &Case) -> bool {
+/// The two names, and names that differ from them in one number.
+const MADE_NAMED: &[Named] = &[
+    (7, 1, Some(0)),
+    (8, 1, Some(1)),
+    (7, 0, None),
+    (8, 0, None),
+    (9, 1, None),
+    (1, 7, None),
+];
+
+/// Whether the micro-ops are these two, of an outcome that is forbidden.
+fn is_of_made_ops(case: &Case) -> bool {
     let is_whole = case.ops() == 2 && case.cores() == 6 && case.expect() == Expect::Forbidden;
-    is_whole
-        && are_made_ops(case)
-        && are_values(case, MADE_VALUES)
-        && are_ends(case, MADE_ENDS)
-        && are_named(case, MADE_NAMED)
+    is_whole && are_made_ops(case) && are_named(case, MADE_NAMED)
 }
+
+/// No dependency is stated.
+const NO_ENDS: &[End] = &[
+    (b"addr", 0, 1, false),
+    (b"addr", 1, 0, false),
+    (b"", 1, 1, false),
+    (b"addr", 2, 2, false),
+];
+
+/// The one dependency, and what differs from it in one part.
+const MADE_ENDS: &[End] = &[
+    (b"addr", 0, 1, true),
+    (b"addr", 1, 0, false),
+    (b"data", 0, 1, false),
+    (b"addr", 0, 2, false),
+];
+
+/// No value is stated, also not where the write writes.
+const NO_VALUES: &[Values] = &[
+    (Address::Page { tag: 3, index: 4 }, Value::Number(0), None),
+    (Address::Page { tag: 1, index: 2 }, Value::Number(0), None),
+    (
+        Address::Entry { tag: 3 },
+        Value::Entry {
+            tag: 3,
+            accessed: 0,
+            dirty: 0,
+        },
+        None,
+    ),
+];
+
+/// Both values are stated of the page that the write touches.
+const MADE_VALUES: &[Values] = &[
+    (
+        Address::Page { tag: 3, index: 4 },
+        Value::Number(10),
+        Some(Value::Number(11)),
+    ),
+    (Address::Page { tag: 1, index: 2 }, Value::Number(0), None),
+];
 
 #[test]
 fn a_case_of_micro_ops_alone_has_nothing_else(rt: HostRuntime) -> Result<(), Fail> {
-    let case = made(rt.alloc())?;
-    assert!(rt; is_made(&case));
+    let case = Case::new(made_ops(rt.alloc())?, Expect::Forbidden);
+    assert!(rt; is_of_made_ops(&case) && are_ends(&case, NO_ENDS) && are_values(&case, NO_VALUES));
+    Ok(())
+}
+
+#[test]
+fn a_case_answers_what_it_is_made_of(rt: HostRuntime) -> Result<(), Fail> {
+    let case = Case::full(
+        rt.alloc(),
+        made_ops(rt.alloc())?,
+        made_dependencies(rt.alloc())?,
+        made_values(rt.alloc(), 10)?,
+        made_values(rt.alloc(), 11)?,
+        Expect::Forbidden,
+    )?;
+    assert!(rt;
+        is_of_made_ops(&case) && are_ends(&case, MADE_ENDS) && are_values(&case, MADE_VALUES)
+    );
     Ok(())
 }

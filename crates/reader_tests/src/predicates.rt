@@ -110,8 +110,7 @@ fn on_core(alloc: Global, case: &Case, core: u8, i: Letter) -> Result<bool, Memo
 
 /// The same of a variable that stands for this core.
 fn on_core_of_slot(alloc: Global, case: &Case, core: u8, i: Letter) -> Result<bool, Memory>
-    requires seven { length case.now.ops ≡ 7 }
-    requires core { core < 64 }
+    requires { length case.now.ops ≡ 7 }
 {
     let args = Listed::from_vec(vec![in alloc; ClosedArg::Slot(1), ClosedArg::Slot(0)]?);
     let slots = slots_with_core(i.place(), core);
@@ -307,7 +306,7 @@ fn each_predicate_says_what_the_case_says(rt: HostRuntime) -> Result<(), Fail> {
     Ok(())
 }
 
-/// Lines of the case once more.
+/// The case's dependency twice more.
 const AGAIN: &[u8] = b"Relationship addr 0 0 -> 1 0.
 Relationship addr 0 0 -> 1 0.
 ";
