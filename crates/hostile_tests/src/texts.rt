@@ -100,32 +100,50 @@ fn a_list_of_40000_edges_is_walked(rt: HostRuntime) -> Result<(), Fail> {
     Ok(())
 }
 
-/// A test of so many fences, a line each.
-fn put_fences(text: &mut String, alloc: Global, count: u64) -> Result<(), Memory> {
+/// A test of so many fences, a line each, and then this line.
+fn put_fences(text: &mut String, alloc: Global, count: u64, line: &str) -> Result<(), Memory> {
     text.push_str("Litmus \"m\".\n")?;
     for g in 0..count {
         text.push_str(&format!(in alloc; "Microop {g} 0 0 0 (Fence).\n")?)?;
     }
+    text.push_str(line)?;
     Ok(())
 }
 
-fn fences(alloc: Global, count: u64) -> Result<String, Memory> {
+fn fences(alloc: Global, count: u64, line: &str) -> Result<String, Memory> {
     let mut text = String::new(alloc);
-    put_fences(&mut text, alloc, count)?;
+    put_fences(&mut text, alloc, count, line)?;
     Ok(text)
 }
 
-/// How many micro-ops a test has, and how its check with the empty model ends.
-const COUNTS: &[(u64, End<'static>)] = &[
-    (64, (Status::Observable, "observable\ntest unstated\nend\n")),
-    (65, (Status::Refused, "refused test too-many-ops at 66:1\n")),
+/// How many fences a test has, the line behind them, and how its check with the empty model ends.
+const COUNTS: &[(u64, &'static str, End<'static>)] = &[
+    (
+        64,
+        "",
+        (Status::Observable, "observable\ntest unstated\nend\n"),
+    ),
+    (
+        65,
+        "",
+        (Status::Refused, "refused test too-many-ops at 66:1\n"),
+    ),
+    // its core is judged before the number of micro-ops
+    (
+        64,
+        "Microop 64 64 0 0 (Fence).\n",
+        (Status::Refused, "refused test core-number at 66:12\n"),
+    ),
 ];
 
 #[test]
 fn the_65th_micro_op_is_refused(rt: HostRuntime) -> Result<(), Fail> {
-    for (count, end) in COUNTS {
-        let test = fences(rt.alloc(), *count)?;
-        assert!(rt; is_end(rt.alloc(), "", &test, *end)?, "{count} micro-ops");
+    for (count, line, end) in COUNTS {
+        let test = fences(rt.alloc(), *count, line)?;
+        assert!(rt;
+            is_end(rt.alloc(), "", &test, *end)?,
+            "{count} fences and {line}"
+        );
     }
     Ok(())
 }

@@ -1,7 +1,15 @@
 //! Test files to cases, and what a case answers.
+ghost use Rattle.std.specs.Prelude.{◌≡◌, IfOk, length, map};
+ghost use Rattle.pc_case.specs.MicroOps.{AreMicroOps};
+ghost use Rattle.pc_case.specs.Plain.{micro_op, dependency, stated_value};
+ghost use Rattle.pc_case.specs.Stated.{AreWithin, IsStatedOnce};
+
 use litmus_reader::{CaseFault, read_case};
-use pc_case::{Access, Address, Case, Expect, OpId, Ops};
-use pc_common::{FaultKind, Place, Value};
+use pc_case::{
+    Access, Address, Case, Dependencies, Dependency, Expect, Memop, Op, OpId, Ops, Page, Stated,
+    StatedValues, TypeNames,
+};
+use pc_common::{Bytes, FaultKind, Memory, Place, Value};
 use std::alloc::Global;
 use std::test::Fail;
 
@@ -40,6 +48,14 @@ const FAULTS: &[Refused] = &[
         CaseFault::Content(
             FaultKind::SplitInstruction { first: 0, again: 5 },
             Place { offset: 49 },
+        ),
+    ),
+    // a second one of its name is judged after the core
+    (
+        b"Litmus \"d\".\nMicroop 0 0 0 0 (Fence).\nMicroop 0 1 0 0 (Fence).",
+        CaseFault::Content(
+            FaultKind::SplitInstruction { first: 0, again: 1 },
+            Place { offset: 47 },
         ),
     ),
     (
@@ -165,17 +181,94 @@ fn the_first_fault_is_named_with_its_place_and_values(rt: HostRuntime) {
     }
 }
 
+/// A test of 64 fences, a line each, and then this line.
+fn put_64_fences(text: &mut String, alloc: Global, line: &str) -> Result<(), Memory> {
+    text.push_str("Litmus \"m\".\n")?;
+    for g in 0..64u64 {
+        text.push_str(&format!(in alloc; "Microop {g} 0 0 0 (Fence).\n")?)?;
+    }
+    text.push_str(line)?;
+    Ok(())
+}
+
+/// A micro-op behind 64 others, and the fault of the test.
+const LINES_65: &[(&'static str, CaseFault)] = &[
+    (
+        "Microop 64 0 0 0 (Fence).",
+        CaseFault::Content(FaultKind::TooManyOps { limit: 64 }, Place { offset: 1666 }),
+    ),
+    // its core is judged before the number of micro-ops
+    (
+        "Microop 64 64 0 0 (Fence).",
+        CaseFault::Content(FaultKind::CoreNumber { number: 64 }, Place { offset: 1677 }),
+    ),
+    // what is judged by earlier micro-ops comes after it
+    (
+        "Microop 0 1 0 0 (Fence).",
+        CaseFault::Content(FaultKind::TooManyOps { limit: 64 }, Place { offset: 1666 }),
+    ),
+    (
+        "Microop 0 0 0 0 (Fence).",
+        CaseFault::Content(FaultKind::TooManyOps { limit: 64 }, Place { offset: 1666 }),
+    ),
+];
+
 #[test]
 fn the_65th_micro_op_is_one_too_many(rt: HostRuntime) -> Result<(), Fail> {
-    let mut text = String::new(rt.alloc());
-    text.push_str("Litmus \"m\".\n")?;
-    for g in 0..65u64 {
-        text.push_str(&format!(in rt.alloc(); "Microop {g} 0 0 0 (Fence).\n")?)?;
+    for (line, fault) in LINES_65 {
+        let mut text = String::new(rt.alloc());
+        put_64_fences(&mut text, rt.alloc(), line)?;
+        assert_eq!(rt;
+            fault_of(rt.alloc(), text.as_bytes()),
+            Some(*fault),
+            "{line}"
+        );
     }
-    let limit = FaultKind::TooManyOps { limit: 64 };
-    let fault = CaseFault::Content(limit, Place { offset: 1666 });
-    assert_eq!(rt; fault_of(rt.alloc(), text.as_bytes()), Some(fault));
     Ok(())
+}
+
+/// How many micro-ops and cores the text has, or None where it is too long here or has a fault.
+fn counts_of(alloc: Global, text: &[u8]) -> Option<(usize, usize)> {
+    if text.len() > 4000 {
+        return None;
+    }
+    match read_case(alloc, text) {
+        Ok(case) => Some((case.ops(), case.cores())),
+        Err(_) => None,
+    }
+}
+
+#[test]
+fn the_64th_micro_op_is_the_last(rt: HostRuntime) -> Result<(), Fail> {
+    let mut text = String::new(rt.alloc());
+    put_64_fences(&mut text, rt.alloc(), "Relationship addr 63 0 -> 0 0.")?;
+    assert_eq!(rt; counts_of(rt.alloc(), text.as_bytes()), Some((64, 1)));
+    Ok(())
+}
+
+/// A text, and how many micro-ops and cores it has.
+const COUNTS: &[(&'static [u8], usize, usize)] = &[
+    (b"Litmus \"e\".", 0, 0),
+    (b"Litmus2 \"e\".", 0, 0),
+    (b"Litmus \"c\".\nMicroop 0 0 0 0 (Fence).", 1, 1),
+    // the last core
+    (b"Litmus \"c\".\nMicroop 0 63 0 0 (Fence).", 1, 64),
+    (
+        b"Litmus \"c\".\nMicroop 0 63 0 0 (Fence).\nMicroop 1 0 0 0 (Fence).",
+        2,
+        64,
+    ),
+];
+
+#[test]
+fn micro_ops_and_cores_are_counted(rt: HostRuntime) {
+    for (text, ops, cores) in COUNTS {
+        assert_eq!(rt;
+            counts_of(rt.alloc(), text),
+            Some((*ops, *cores)),
+            "{text:?}"
+        );
+    }
 }
 
 const MIXED: &[u8] = b"Litmus2 \"h\".
@@ -190,7 +283,10 @@ Init (Entry 4) (Maps 9 1 0). Final (Entry 4) (Maps 9 1 1).
 Final (PA 1 2) 5.";
 
 /// An address, its initial value, and its final value where one is stated.
-const VALUES: &[(Address, Value, Option<Value>)] = &[
+type Values = (Address, Value, Option<Value>);
+
+/// Those of the mixed text.
+const VALUES: &[Values] = &[
     (Address::Page { tag: 7, index: 7 }, Value::Number(3), None),
     (
         Address::Page { tag: 1, index: 2 },
@@ -229,7 +325,10 @@ const VALUES: &[(Address, Value, Option<Value>)] = &[
 ];
 
 /// A kind and two places, and whether a dependency of that kind goes from the first to the second.
-const ENDS: &[(&'static [u8], usize, usize, bool)] = &[
+type End = (&'static [u8], usize, usize, bool);
+
+/// Those of the mixed text.
+const ENDS: &[End] = &[
     (b"addr", 0, 2, true),
     (b"addr", 2, 0, false),
     (b"addr", 0, 1, false),
@@ -239,15 +338,18 @@ const ENDS: &[(&'static [u8], usize, usize, bool)] = &[
 ];
 
 /// A name, and the place of the micro-op of that name.
-const NAMED: &[(u64, u64, Option<usize>)] = &[
+type Named = (u64, u64, Option<usize>);
+
+/// Those of the mixed text.
+const NAMED: &[Named] = &[
     (0, 0, Some(0)),
     (0, 1, Some(1)),
     (1, 0, Some(2)),
     (1, 1, None),
 ];
 
-fn are_values(case: &Case) -> bool {
-    for (page, start, end) in VALUES {
+fn are_values(case: &Case, values: &[Values]) -> bool {
+    for (page, start, end) in values {
         if case.initial(*page) != *start || case.final_of(*page) != *end {
             return false;
         }
@@ -255,8 +357,8 @@ fn are_values(case: &Case) -> bool {
     true
 }
 
-fn are_ends(case: &Case) -> bool {
-    for (kind, from, to, goes) in ENDS {
+fn are_ends(case: &Case, ends: &[End]) -> bool {
+    for (kind, from, to, goes) in ends {
         if case.depends(kind, *from, *to) != *goes {
             return false;
         }
@@ -264,8 +366,8 @@ fn are_ends(case: &Case) -> bool {
     true
 }
 
-fn are_named(case: &Case) -> bool {
-    for (g, n, place) in NAMED {
+fn are_named(case: &Case, names: &[Named]) -> bool {
+    for (g, n, place) in names {
         if case.find(OpId { g: *g, n: *n }) != *place {
             return false;
         }
@@ -300,7 +402,11 @@ fn are_ops(case: &Case) -> bool {
 
 fn is_mixed(case: &Case) -> bool {
     let is_whole = case.ops() == 3 && case.cores() == 3 && case.expect() == Expect::Forbidden;
-    is_whole && are_ops(case) && are_values(case) && are_ends(case) && are_named(case)
+    is_whole
+        && are_ops(case)
+        && are_values(case, VALUES)
+        && are_ends(case, ENDS)
+        && are_named(case, NAMED)
 }
 
 fn is_mixed_text(alloc: Global, text: &[u8]) -> bool {
@@ -316,6 +422,40 @@ fn is_mixed_text(alloc: Global, text: &[u8]) -> bool {
 #[test]
 fn lines_in_any_order_make_one_case(rt: HostRuntime) {
     assert!(rt; is_mixed_text(rt.alloc(), MIXED));
+}
+
+/// Two dependencies, each of which is stated twice. One goes from a micro-op to itself.
+const TWICE: &[u8] = b"Litmus \"d\".
+Microop 0 0 0 0 (Fence).
+Microop 1 0 0 0 (Fence).
+Relationship addr 0 0 -> 1 0.
+Relationship data 1 0 -> 1 0.
+Relationship addr 0 0 -> 1 0.
+Relationship data 1 0 -> 1 0.";
+
+/// Where they go, and where they do not.
+const ENDS_TWICE: &[End] = &[
+    (b"addr", 0, 1, true),
+    (b"addr", 1, 0, false),
+    (b"addr", 1, 1, false),
+    (b"data", 1, 1, true),
+    (b"data", 0, 1, false),
+    (b"data", 0, 0, false),
+];
+
+fn is_text_with_ends(alloc: Global, text: &[u8], ends: &[End]) -> bool {
+    if text.len() > 4000 {
+        return false;
+    }
+    match read_case(alloc, text) {
+        Ok(case) => are_ends(&case, ends),
+        Err(_) => false,
+    }
+}
+
+#[test]
+fn a_dependency_may_be_stated_twice(rt: HostRuntime) {
+    assert!(rt; is_text_with_ends(rt.alloc(), TWICE, ENDS_TWICE));
 }
 
 const WORDS: &[u8] =
@@ -349,4 +489,163 @@ fn has_no_core(case: &Case) -> bool {
 fn a_case_without_micro_ops_uses_no_core(rt: HostRuntime) {
     let case = Case::new(Ops::new(rt.alloc()), Expect::Permitted);
     assert!(rt; has_no_core(&case));
+}
+
+/// What the write of the case without a text touches.
+const TOUCHED: Memop = Memop {
+    va: Page { tag: 1, index: 2 },
+    pa: Address::Page { tag: 3, index: 4 },
+    value: Value::Number(6),
+};
+
+/// A write on core 5, and a fence on core 2.
+fn made_ops(alloc: Global) -> Result<Ops, Memory>
+    ensures kept { IfOk result (λ ops. AreMicroOps (map micro_op ops)) }
+    ensures two { IfOk result (λ ops. length ops ≡ 2) }
+{
+    let mut ops = Ops::new(alloc);
+    ops.push(Op {
+        id: OpId { g: 7, n: 1 },
+        core: 5,
+        thread: 9,
+        types: TypeNames::new(alloc),
+        access: Access::Write,
+        memop: Some(TOUCHED),
+    })?;
+    ops.push(Op {
+        id: OpId { g: 8, n: 1 },
+        core: 2,
+        thread: 8,
+        types: TypeNames::new(alloc),
+        access: Access::Fence,
+        memop: None,
+    })?;
+    Ok(ops)
+}
+
+/// A dependency of the fence on the write.
+fn made_dependency(alloc: Global) -> Result<Dependency, Memory>
+    ensures source { IfOk result (λ line. line.source ≡ 0) }
+    ensures target { IfOk result (λ line. line.target ≡ 1) }
+{
+    Ok(Dependency {
+        kind: Bytes::from_vec(b"addr".to_vec(alloc)?),
+        source: 0,
+        target: 1,
+    })
+}
+
+/// That dependency, stated twice.
+fn made_dependencies(alloc: Global) -> Result<Dependencies, Memory>
+    ensures { IfOk result (λ lines. AreWithin 2 (map dependency lines)) }
+{
+    let mut lines = Dependencies::new(alloc);
+    lines.push(made_dependency(alloc)?)?;
+    lines.push(made_dependency(alloc)?)?;
+    Ok(lines)
+}
+
+/// This value at the page that the write touches.
+fn made_values(alloc: Global, value: u64) -> Result<StatedValues, Memory>
+    ensures { IfOk result (λ lines. IsStatedOnce (map stated_value lines)) }
+{
+    let mut lines = StatedValues::new(alloc);
+    lines.push(Stated {
+        pa: TOUCHED.pa,
+        value: Value::Number(value),
+    })?;
+    Ok(lines)
+}
+
+fn touches(case: &Case, k: usize, memop: Option<Memop>) -> bool {
+    k < case.ops() && case.op(k).memop == memop
+}
+
+fn are_made_ops(case: &Case) -> bool {
+    is_kind(case, 0, Access::Write, 0)
+        && is_at(case, 0, 5, 9)
+        && touches(case, 0, Some(TOUCHED))
+        && is_kind(case, 1, Access::Fence, 0)
+        && is_at(case, 1, 2, 8)
+        && touches(case, 1, None)
+}
+
+/// The two names, and names that differ from them in one number.
+const MADE_NAMED: &[Named] = &[
+    (7, 1, Some(0)),
+    (8, 1, Some(1)),
+    (7, 0, None),
+    (8, 0, None),
+    (9, 1, None),
+    (1, 7, None),
+];
+
+/// Whether the micro-ops are these two, of an outcome that is forbidden.
+fn is_of_made_ops(case: &Case) -> bool {
+    let is_whole = case.ops() == 2 && case.cores() == 6 && case.expect() == Expect::Forbidden;
+    is_whole && are_made_ops(case) && are_named(case, MADE_NAMED)
+}
+
+/// No dependency is stated.
+const NO_ENDS: &[End] = &[
+    (b"addr", 0, 1, false),
+    (b"addr", 1, 0, false),
+    (b"", 1, 1, false),
+    (b"addr", 2, 2, false),
+];
+
+/// The one dependency, and what differs from it in one part.
+const MADE_ENDS: &[End] = &[
+    (b"addr", 0, 1, true),
+    (b"addr", 1, 0, false),
+    (b"data", 0, 1, false),
+    (b"addr", 0, 2, false),
+];
+
+/// No value is stated, also not where the write writes.
+const NO_VALUES: &[Values] = &[
+    (Address::Page { tag: 3, index: 4 }, Value::Number(0), None),
+    (Address::Page { tag: 1, index: 2 }, Value::Number(0), None),
+    (
+        Address::Entry { tag: 3 },
+        Value::Entry {
+            tag: 3,
+            accessed: 0,
+            dirty: 0,
+        },
+        None,
+    ),
+];
+
+/// Both values are stated of the page that the write touches.
+const MADE_VALUES: &[Values] = &[
+    (
+        Address::Page { tag: 3, index: 4 },
+        Value::Number(10),
+        Some(Value::Number(11)),
+    ),
+    (Address::Page { tag: 1, index: 2 }, Value::Number(0), None),
+];
+
+#[test]
+fn a_case_of_micro_ops_alone_has_nothing_else(rt: HostRuntime) -> Result<(), Fail> {
+    let case = Case::new(made_ops(rt.alloc())?, Expect::Forbidden);
+    assert!(rt; is_of_made_ops(&case) && are_ends(&case, NO_ENDS) && are_values(&case, NO_VALUES));
+    Ok(())
+}
+
+#[test]
+fn a_case_answers_what_it_is_made_of(rt: HostRuntime) -> Result<(), Fail> {
+    let case = Case::full(
+        rt.alloc(),
+        made_ops(rt.alloc())?,
+        made_dependencies(rt.alloc())?,
+        made_values(rt.alloc(), 10)?,
+        made_values(rt.alloc(), 11)?,
+        Expect::Forbidden,
+    )?;
+    assert!(rt;
+        is_of_made_ops(&case) && are_ends(&case, MADE_ENDS) && are_values(&case, MADE_VALUES)
+    );
+    Ok(())
 }

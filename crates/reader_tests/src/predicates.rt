@@ -1,6 +1,6 @@
 //! What a case makes of each predicate.
 ghost use Rattle.std.specs.Prelude.{◌≡◌, ◌<◌, [], ◌∷◌, length, replicate};
-ghost use Rattle.pc_syntax.specs.declared.bound.Bound.TheVariants.{Op as bound_op};
+ghost use Rattle.pc_syntax.specs.declared.bound.Bound.TheVariants.{Op as bound_op, Core as bound_core};
 ghost use Rattle.pc_syntax.specs.declared.pred.Takes.TheVariants.{Op as takes_op};
 ghost use Rattle.pc_syntax.specs.Predicates.{takes_of};
 
@@ -67,6 +67,15 @@ fn slots(i: u8, j: u8) -> Env
     Env::from_array_in((), bounds)
 }
 
+/// Slots for the micro-op `i` and, inside it, for a core.
+fn slots_with_core(i: u8, core: u8) -> Env
+    ensures { result.items ≡ bound_op i ∷ replicate 31 (bound_core core) }
+{
+    let mut bounds = [Bound::Core(core); 32];
+    bounds[0] = Bound::Op(i);
+    Env::from_array_in((), bounds)
+}
+
 fn of_one(alloc: Global, case: &Case, pred: Pred, i: Letter) -> Result<bool, Memory>
     requires seven { length case.now.ops ≡ 7 }
     requires takes { takes_of pred ≡ takes_op ∷ [] }
@@ -99,6 +108,15 @@ fn on_core(alloc: Global, case: &Case, core: u8, i: Letter) -> Result<bool, Memo
     Ok(holds(case, Pred::OnCore, &args, &slots(place, place)))
 }
 
+/// The same of a variable that stands for this core.
+fn on_core_of_slot(alloc: Global, case: &Case, core: u8, i: Letter) -> Result<bool, Memory>
+    requires { length case.now.ops ≡ 7 }
+{
+    let args = Listed::from_vec(vec![in alloc; ClosedArg::Slot(1), ClosedArg::Slot(0)]?);
+    let slots = slots_with_core(i.place(), core);
+    Ok(holds(case, Pred::OnCore, &args, &slots))
+}
+
 fn of_type(alloc: Global, case: &Case, name: &[u8], i: Letter) -> Result<bool, Memory>
     requires { length case.now.ops ≡ 7 }
 {
@@ -121,8 +139,9 @@ fn of_kind(alloc: Global, case: &Case, kind: &[u8], i: Letter, j: Letter) -> Res
     ))
 }
 
-/// What `holds` answers, with the plain name where the predicate takes one, and the core 0 or 1 where it
-/// takes a core. None where it takes another number of micro-ops.
+/// What `holds` answers, with the plain name where the predicate takes one. Where it takes a core, `0` and
+/// `1` are the number of one, and `c0` and `c1` a variable that stands for one. None where it takes another
+/// number of micro-ops.
 fn ask(
     alloc: Global,
     case: &Case,
@@ -135,7 +154,13 @@ fn ask(
     Ok(match (pred, ops) {
         (Pred::True | Pred::False, []) => Some(of_none(alloc, case, pred)),
         (Pred::AccessType, [i]) => Some(of_type(alloc, case, name, *i)?),
-        (Pred::OnCore, [i]) => Some(on_core(alloc, case, (name == b"1".as_slice()) as u8, *i)?),
+        (Pred::OnCore, [i]) => match name {
+            b"0" => Some(on_core(alloc, case, 0, *i)?),
+            b"1" => Some(on_core(alloc, case, 1, *i)?),
+            b"c0" => Some(on_core_of_slot(alloc, case, 0, *i)?),
+            b"c1" => Some(on_core_of_slot(alloc, case, 1, *i)?),
+            _ => None,
+        },
         (Pred::HasDependency, [i, j]) => Some(of_kind(alloc, case, name, *i, *j)?),
         (
             Pred::IsAnyRead
@@ -186,6 +211,10 @@ const ROWS: &[(Pred, &'static [u8], &'static [Letter], bool)] = &[
     (Pred::OnCore, b"1", &[A], false),
     (Pred::OnCore, b"1", &[D], true),
     (Pred::OnCore, b"0", &[D], false),
+    (Pred::OnCore, b"c0", &[A], true),
+    (Pred::OnCore, b"c1", &[A], false),
+    (Pred::OnCore, b"c1", &[D], true),
+    (Pred::OnCore, b"c0", &[D], false),
     (Pred::SameCore, b"", &[A, C], true),
     (Pred::SameCore, b"", &[A, E], true),
     (Pred::SameCore, b"", &[A, D], false),
@@ -271,6 +300,23 @@ fn first_wrong(alloc: Global, case: &Case) -> Result<Option<(Pred, Option<bool>)
 fn each_predicate_says_what_the_case_says(rt: HostRuntime) -> Result<(), Fail> {
     assert!(rt; CASE.len() < 1000);
     let case = read_case(rt.alloc(), CASE)?;
+    let wrong = first_wrong(rt.alloc(), &case);
+    drop(case);
+    assert_eq!(rt; wrong?, None);
+    Ok(())
+}
+
+/// The case's dependency twice more.
+const AGAIN: &[u8] = b"Relationship addr 0 0 -> 1 0.
+Relationship addr 0 0 -> 1 0.
+";
+
+#[test]
+fn a_dependency_that_is_stated_again_changes_no_answer(rt: HostRuntime) -> Result<(), Fail> {
+    assert!(rt; CASE.len() < 1000 && AGAIN.len() < 1000);
+    let mut text = CASE.to_vec(rt.alloc())?;
+    text.extend_from_slice(AGAIN)?;
+    let case = read_case(rt.alloc(), &text)?;
     let wrong = first_wrong(rt.alloc(), &case);
     drop(case);
     assert_eq!(rt; wrong?, None);
