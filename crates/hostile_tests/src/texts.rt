@@ -20,7 +20,7 @@ enum Link {
     Twice,
 }
 
-/// The macro behind the one of this number.
+/// The macro after the one of this number.
 fn macro_behind(alloc: Global, before: u64, kind: Link) -> Result<String, Memory> {
     let number = before.saturating_add(1);
     let text = match kind {
@@ -32,7 +32,7 @@ fn macro_behind(alloc: Global, before: u64, kind: Link) -> Result<String, Memory
     Ok(text)
 }
 
-/// A chain of so many macros behind `m0`, and an axiom that expands the last.
+/// A chain of so many macros after `m0`, and an axiom that expands the last.
 fn put_chain(text: &mut String, alloc: Global, count: u64, kind: Link) -> Result<(), Memory> {
     text.push_str("DefineMacro \"m0\": True.\n")?;
     for before in 0..count {
@@ -116,7 +116,7 @@ fn fences(alloc: Global, count: u64, line: &str) -> Result<String, Memory> {
     Ok(text)
 }
 
-/// How many fences a test has, the line behind them, and how its check with the empty model ends.
+/// How many fences a test has, the line after them, and how its check with the empty model ends.
 const COUNTS: &[(u64, &'static str, End<'static>)] = &[
     (
         64,

@@ -449,6 +449,10 @@ const PREDICATES: &[(&'static [u8], Pred, &'static [Takes])] = &[
         &[Op],
     ),
     (b"HasDependency", Pred::HasDependency, &[Plain, Op, Op]),
+    (b"EntryOf", Pred::EntryOf, &[Op, Op]),
+    (b"MapsTagOf", Pred::MapsTagOf, &[Op, Op]),
+    (b"MarkedAccessed", Pred::MarkedAccessed, &[Op]),
+    (b"MarkedDirty", Pred::MarkedDirty, &[Op]),
 ];
 
 fn is_named(name: &[u8], pred: Pred, takes: &[Takes]) -> bool {

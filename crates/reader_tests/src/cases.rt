@@ -191,7 +191,7 @@ fn put_64_fences(text: &mut String, alloc: Global, line: &str) -> Result<(), Mem
     Ok(())
 }
 
-/// A micro-op behind 64 others, and the fault of the test.
+/// A micro-op after 64 others, and the fault of the test.
 const LINES_65: &[(&'static str, CaseFault)] = &[
     (
         "Microop 64 0 0 0 (Fence).",

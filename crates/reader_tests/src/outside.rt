@@ -168,7 +168,7 @@ fn a_sink_takes_what_its_room_and_its_calls_let_through(rt: HostRuntime) -> Resu
 const ROOMS: &[(&'static [usize], u8, &'static [u64], usize, u64)] = &[
     // an empty room is flushed without a call
     (&[], 1, &[1], 0, 0),
-    // pieces that fill the room wait, also with an empty one behind them, and one byte more hands them on
+    // pieces that fill the room wait, also with an empty one after them, and one byte more hands them on
     (&[4000, 96], 0, &[1], 0, 0),
     (&[4096, 0], 0, &[1], 0, 0),
     (&[4000, 96, 1], 0, &[2], 4096, 0),
