@@ -6,3 +6,4 @@ pub mod AnsweredFiles
 pub mod ThirdFile
 pub mod AskedAlike
 pub mod CertificateTruth
+pub mod PieceByPiece

@@ -9,3 +9,4 @@ pub mod VerdictStatus
 pub mod Questions
 pub mod CheckedTexts
 pub mod Laws
+pub mod Feeding

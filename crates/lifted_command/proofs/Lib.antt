@@ -1,3 +1,2 @@
-pub mod PieceByPiece
 pub mod OneAnswer
 pub mod LiftedOutcomes

@@ -25,8 +25,8 @@ use Rattle.command_base.specs.Outcomes.{HasFront, IsThirdOutcome}
 use Rattle.command_base.proofs.OneCase.{one_held}
 use Rattle.command_base.proofs.AnsweredFiles.{found_of, due_of_files}
 use Rattle.command_base.proofs.ThirdFile.{third_found, third_fault, third_memory}
-use Rattle.lifted_command.specs.declared.reading.FeedEnd.{FeedEnd}
-use Rattle.lifted_command.specs.declared.reading.FeedEnd.TheVariants.{ReadFault as a_fault, Memory as no_memory}
+use Rattle.command_base.specs.declared.feed_end.FeedEnd.{FeedEnd}
+use Rattle.command_base.specs.declared.feed_end.FeedEnd.TheVariants.{ReadFault as a_fault, Memory as no_memory}
 use Rattle.lifted_command.specs.LiftedTexts.{lifted_status, lifted_text}
 use Rattle.command_base.specs.Questions.{lifted_question}
 use Rattle.lifted_command.specs.Reading.{returned}

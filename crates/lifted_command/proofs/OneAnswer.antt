@@ -1,6 +1,7 @@
 -- A text is one thing to a model and a case, and what it is says whether the outcome is observable.
 use Rattle.std.proofs.Common.{◌≡◌, ◌⊎◌, inl, inr, ℕ, ◌≤◌, ◌<◌, ◌+◌, List, [], ◌++◌, Option, Some, None, length, refl, sym, ◌∙◌, ap, subst, arith, length-append}
 use Rattle.std.proofs.lemmas.Bool.{cases_order}
+use Rattle.std.proofs.lemmas.List.{append-nil}
 use Rattle.pc_common.specs.Case.{Case}
 use Rattle.pc_common.specs.declared.limits.TheConstants.{MAX_CERTIFICATE}
 use Rattle.pc_common.specs.declared.status.Status.TheVariants.{Observable as is_observable, Unobservable as is_unobservable, CertRefused as is_cert_refused}
@@ -20,7 +21,6 @@ use Rattle.command_base.specs.VerdictStatus.{IsTrueStatus}
 use Rattle.lifted_command.specs.LiftedTexts.{lifted_status}
 use Rattle.command_base.specs.Questions.{lifted_question}
 use Rattle.lifted_command.specs.Reading.{TookFile}
-use Rattle.lifted_command.proofs.PieceByPiece.{append_nil}
 
 one_verdict : is_unobservable ≡ is_observable → ⊥
 one_verdict e = cc
@@ -87,5 +87,5 @@ file_found {q = q} {after = after} found fed file finish = (file.whole, file.hel
     P t = IsFound q t found
 
     go : (after ≡ []) ⊎ (length bytes ≡ MAX_CERTIFICATE + 1) → IsFound q file.whole found
-    go (inl none) = subst P (sym (file.first.are_first ∙ ap (λ (xs : List ℕ). bytes ++ xs) none ∙ append_nil bytes)) here
+    go (inl none) = subst P (sym (file.first.are_first ∙ ap (λ (xs : List ℕ). bytes ++ xs) none ∙ append-nil bytes)) here
     go (inr long) = subst P (sym file.first.are_first) (found_past q bytes after found (omega (arith, long)) here)

@@ -3,9 +3,10 @@ ghost use Rattle.pc_common.specs.Faults.{Rose};
 ghost use Rattle.pc_common.specs.Reads.{Reads};
 ghost use Rattle.lifted_check.specs.LiftedTexts.{asked};
 ghost use Rattle.lifted_check.specs.Fed.{IsFound};
-ghost use Rattle.lifted_command.specs.declared.reading.FeedEnd.TheVariants.{ReadFault as a_read_fault, Memory as no_memory};
+ghost use Rattle.command_base.specs.declared.feed_end.FeedEnd.TheVariants.{ReadFault as a_read_fault};
 
-use super::reading::{FeedEnd, feed_file};
+use super::reading::feed_file;
+use command_base::FeedEnd;
 use lifted_check::{Lifted, LiftedChecker};
 use pc_common::Files;
 use pc_ground::Parts;

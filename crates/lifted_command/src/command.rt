@@ -7,8 +7,7 @@ ghost use Rattle.lifted_command.specs.Reading.{returned};
 ghost use Rattle.lifted_command.specs.LiftedAnswers.{IsJudged};
 
 use super::checking::check_file;
-use super::reading::FeedEnd;
-use command_base::{Ending, Inputs, SecondFile, read_parts};
+use command_base::{Ending, FeedEnd, Inputs, SecondFile, read_parts};
 use lifted_check::Lifted;
 use pc_common::Files;
 use std::alloc::Global;

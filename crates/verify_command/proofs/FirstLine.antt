@@ -1,7 +1,7 @@
 -- What the first bytes of a file tell of its first line, and that a front asks what its parts ask.
 use Rattle.std.proofs.Common.{◌≡◌, inl, inr, ℕ, List, ◌++◌, take, drop, sym, ◌∙◌, ap, append_assoc}
 use Rattle.std.specs.Prelude.{codes, map}
-use Rattle.std.proofs.lemmas.List.{take-append-le, take-append-drop}
+use Rattle.std.proofs.lemmas.List.{append-nil, take-append-le, take-append-drop}
 use Rattle.std.proofs.Math.Seq.{take-append_seam}
 use Rattle.pc_common.specs.Case.{Case}
 use Rattle.pc_ground.specs.declared.front.Front.{Front}
@@ -16,7 +16,6 @@ use Rattle.cert_check.specs.Certificates.{Question}
 use Rattle.cert_check.specs.GraphLaws.{SaysUnobservable}
 use Rattle.cert_check.specs.Questions.{question_of, question_of_parts}
 use Rattle.verify_command.specs.Reading.{IsEnough}
-use Rattle.verify_command.proofs.PieceByPiece.{append_nil}
 
 -- where enough first bytes do not say unobservable, the file does not
 pub none_says : (first left : List ℕ) → IsEnough first left → (SaysUnobservable first → ⊥) → SaysUnobservable (first ++ left) → ⊥
@@ -27,7 +26,7 @@ none_says first left (inl long) none says =
           ∙ ap (λ (xs : List ℕ). xs ++ drop 13 first) (sym (take-append-le 13 first left long) ∙ ap (take 13) says.1 ∙ take-append_seam (codes "unobservable\n") says.0),
     )
 none_says first left (inr gone) none says =
-    none (says.0, sym (append_nil first) ∙ ap (λ (xs : List ℕ). first ++ xs) (sym gone) ∙ says.1)
+    none (says.0, sym (append-nil first) ∙ ap (λ (xs : List ℕ). first ++ xs) (sym gone) ∙ says.1)
 
 -- what first bytes of a file say, the file says
 pub all_says : (file text rest : List ℕ) → file ≡ text ++ rest → (SaysUnobservable file → ⊥) → SaysUnobservable text → ⊥

@@ -1,6 +1,7 @@
 -- A text is one thing to a model and a case, and what it is says whether the outcome is observable.
 use Rattle.std.proofs.Common.{◌≡◌, ◌⊎◌, inl, inr, ℕ, ◌≤◌, ◌<◌, ◌+◌, List, [], ◌++◌, length, refl, sym, ◌∙◌, ap, subst, arith, length-append}
 use Rattle.std.proofs.lemmas.Bool.{cases_order}
+use Rattle.std.proofs.lemmas.List.{append-nil}
 use Rattle.pc_common.specs.Case.{Case}
 use Rattle.pc_common.specs.declared.status.Status.TheVariants.{Observable as is_observable, Unobservable as is_unobservable, CertRefused as is_cert_refused}
 use Rattle.pc_common.specs.Lines.{observable, unobservable}
@@ -14,8 +15,7 @@ use Rattle.cert_check.specs.declared.checked.Checked.{Checked}
 use Rattle.cert_check.specs.declared.checked.Checked.TheVariants.{Refused}
 use Rattle.command_base.specs.Questions.{question_by}
 use Rattle.command_base.specs.CheckedTexts.{checked_status}
-use Rattle.verify_command.specs.Reading.{TookFirst}
-use Rattle.verify_command.proofs.PieceByPiece.{append_nil}
+use Rattle.command_base.specs.Feeding.{TookFirst}
 use Rattle.command_base.specs.VerdictStatus.{IsTrueStatus}
 use Rattle.command_base.proofs.CertificateTruth.{graph_observable, tree_unobservable}
 
@@ -89,5 +89,5 @@ file_verified is_fed {q = q} {file = file} {after = after} found fed first finis
     P t = Verified q t found
 
     go : (after ≡ []) ⊎ (length bytes ≡ MAX_CERTIFICATE + 1) → Verified q file found
-    go (inl none) = subst P (sym (first.are_first ∙ ap (λ (xs : List ℕ). bytes ++ xs) none ∙ append_nil bytes)) here
+    go (inl none) = subst P (sym (first.are_first ∙ ap (λ (xs : List ℕ). bytes ++ xs) none ∙ append-nil bytes)) here
     go (inr long) = subst P (sym first.are_first) (verified_past q bytes after found (omega (arith, long)) here)

@@ -25,8 +25,8 @@ use Rattle.command_base.proofs.OneCase.{one_held}
 use Rattle.command_base.proofs.AskedAlike.{asks_alike}
 use Rattle.command_base.proofs.AnsweredFiles.{found_of, due_of_files}
 use Rattle.command_base.proofs.ThirdFile.{third_found, third_fault, third_memory}
-use Rattle.verify_command.specs.declared.feed_end.FeedEnd.{FeedEnd}
-use Rattle.verify_command.specs.declared.feed_end.FeedEnd.TheVariants.{ReadFault as a_fault, Memory as no_memory}
+use Rattle.command_base.specs.declared.feed_end.FeedEnd.{FeedEnd}
+use Rattle.command_base.specs.declared.feed_end.FeedEnd.TheVariants.{ReadFault as a_fault, Memory as no_memory}
 use Rattle.command_base.specs.CheckedTexts.{checked_status, checked_text}
 use Rattle.verify_command.specs.Reading.{returned}
 use Rattle.verify_command.specs.VerifyAnswers.{AnswersVerify, IsVerifyDue, IsJudged, judged, IsDueCheck}

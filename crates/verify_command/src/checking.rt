@@ -6,11 +6,11 @@ ghost use Rattle.cert_check.specs.Questions.{question_of, question_of_parts};
 ghost use Rattle.cert_check.specs.GraphLaws.{SaysUnobservable};
 ghost use Rattle.cert_check.specs.Verified.{Verified};
 ghost use Rattle.verify_command.specs.Reading.{IsEnough};
-ghost use Rattle.verify_command.specs.declared.feed_end.FeedEnd.TheVariants.{ReadFault as a_read_fault};
+ghost use Rattle.command_base.specs.declared.feed_end.FeedEnd.TheVariants.{ReadFault as a_read_fault};
 
-use super::feed_end::FeedEnd;
 use super::reading::{feed_file, first_bytes};
 use cert_check::{Checked, Checker, GraphChecker};
+use command_base::FeedEnd;
 use front_parts::front_of;
 use pc_common::Files;
 use pc_ground::{Front, Parts};

@@ -7,9 +7,8 @@ ghost use Rattle.verify_command.specs.Reading.{returned};
 ghost use Rattle.verify_command.specs.VerifyAnswers.{IsJudged};
 
 use super::checking::check_file;
-use super::feed_end::FeedEnd;
 use cert_check::Checked;
-use command_base::{Ending, Inputs, SecondFile, read_parts};
+use command_base::{Ending, FeedEnd, Inputs, SecondFile, read_parts};
 use pc_common::Files;
 use std::alloc::Global;
 

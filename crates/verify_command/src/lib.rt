@@ -17,8 +17,6 @@
 
 mod checking;
 mod command;
-mod feed_end;
 mod reading;
-mod text_check;
 
 pub use command::verify;

@@ -2,19 +2,13 @@ ghost use Rattle.std.specs.Prelude.{◌≡◌, ◌≢◌, ◌<◌, ◌≤◌, �
 ghost use Rattle.pc_common.specs.Faults.{Rose};
 ghost use Rattle.pc_common.specs.Reads.{Reads};
 ghost use Rattle.pc_common.specs.declared.limits.TheConstants.{MAX_CERTIFICATE};
-ghost use Rattle.verify_command.specs.declared.feed_end.FeedEnd.TheVariants.{ReadFault as a_read_fault};
-ghost use Rattle.verify_command.specs.Reading.{TookFirst, IsEnough};
+ghost use Rattle.command_base.specs.declared.feed_end.FeedEnd.TheVariants.{ReadFault as a_read_fault};
+ghost use Rattle.command_base.specs.Feeding.{TookFirst};
+ghost use Rattle.verify_command.specs.Reading.{IsEnough};
 
-use super::feed_end::FeedEnd;
-use super::text_check::TextCheck;
+use command_base::{FeedEnd, MOST, PIECE, TextCheck, feed_rest};
 use pc_common::Files;
 use std::alloc::Global;
-
-/// How many bytes are asked for in one call. Each certificate pays for the room, and most are shorter.
-const PIECE: usize = 2048;
-
-/// How many bytes of a file are read at most: one more than a certificate may have.
-const MOST: usize = 67_108_865;
 
 /// How many bytes tell whether the first line is `unobservable`: its own, with the LF.
 const ENOUGH: usize = 13;
@@ -93,33 +87,4 @@ pub(crate) fn feed_file<C: TextCheck, F: Files>(
     }
     let mut piece = [0; PIECE];
     feed_rest(files, &mut piece, MOST - first.len(), checker)
-}
-
-/// Feeds the checker what is left of the file that was started, to its end or to `limit` bytes, by pieces of the
-/// length of `buf`.
-fn feed_rest<C: TextCheck, F: Files>(
-    files: &mut F,
-    buf: &mut [u8],
-    limit: usize,
-    mut checker: C,
-) -> Result<C, FeedEnd>
-    requires room { 0 < length buf.old }
-    requires started { IsTrue (F.view files.old).started }
-    ensures keeps { Reads F.view files.old files.new }
-    ensures took { IfOk result (λ c. IsTrue (F.view files.old).modelled
-        → TookFirst C.is_fed checker c limit (F.view files.old).left (F.view files.new).left) }
-    ensures cause { result ≡ Err a_read_fault → Rose (F.view files.old).faults (F.view files.new).faults }
-    ensures sure { IsTrue (F.view files.old).only_missing_fail → result ≢ Err a_read_fault }
-{
-    let mut left = limit;
-    while left > 0 {
-        let most = buf.len().min(left);
-        let n = files.read(&mut buf[..most])?;
-        if n == 0 {
-            return Ok(checker);
-        }
-        checker = checker.take_piece(&buf[..n])?;
-        left -= n;
-    }
-    Ok(checker)
 }

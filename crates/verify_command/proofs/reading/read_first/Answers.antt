@@ -1,5 +1,5 @@
 use Rattle.std.proofs.Common.{rules, inl, inr, take}
-use Rattle.verify_command.proofs.PieceByPiece.{none_left, same_left}
+use Rattle.command_base.proofs.PieceByPiece.{none_left, same_left}
 use Rattle.verify_command.proofs.reading.read_first.Goals as goal
 
 pub returns-then-n-eq0-clause-bytes : goal.returns-then-n-eq0-clause-bytes

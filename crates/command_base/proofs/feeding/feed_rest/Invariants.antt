@@ -1,7 +1,7 @@
 -- The checker took what was left at first, without what is left now.
 use Rattle.std.proofs.Common.{◌≡◌, ◌≤◌, ◌<◌, length, IsTrue}
-use Rattle.lifted_command.proofs.PieceByPiece.{TookSome}
-use Rattle.lifted_command.proofs.reading.feed_rest.Given as goal
+use Rattle.command_base.proofs.PieceByPiece.{TookSome}
+use Rattle.command_base.proofs.feeding.feed_rest.Given as goal
 
 abbrev pub invariant-loop-left : goal.invariant-loop-left
 invariant-loop-left g l = record {
@@ -11,8 +11,9 @@ invariant-loop-left g l = record {
   same_held : (g.F.Files.view l.files).holds ≡ (g.F.Files.view l.initial.files).holds;
   same_failing : (g.F.Files.view l.files).only_missing_fail ≡ (g.F.Files.view l.initial.files).only_missing_fail;
   count : (g.F.Files.view l.initial.files).faults ≤ (g.F.Files.view l.files).faults;
-  most : l.left ≤ 67108865;
-  took : IsTrue (g.F.Files.view l.initial.files).modelled → TookSome l.initial.checker l.checker (g.F.Files.view l.initial.files).left (g.F.Files.view l.files).left l.left;
+  most : l.left ≤ l.limit;
+  took : IsTrue (g.F.Files.view l.initial.files).modelled →
+      TookSome g.C.TextCheck.is_fed l.initial.checker l.checker l.limit (g.F.Files.view l.initial.files).left (g.F.Files.view l.files).left l.left;
 }
 
 abbrev pub decreases-loop-left : goal.decreases-loop-left

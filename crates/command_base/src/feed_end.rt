@@ -1,12 +1,12 @@
 ghost use Rattle.std.specs.Prelude.{◌≡◌};
-ghost use Rattle.verify_command.specs.declared.feed_end.FeedEnd.TheVariants.{ReadFault as a_read_fault, Memory as no_memory};
+ghost use Rattle.command_base.specs.declared.feed_end.FeedEnd.TheVariants.{ReadFault as a_read_fault, Memory as no_memory};
 
 use pc_common::{Failed, Memory};
 use std::alloc::AllocError;
 
 /// Why a file could not be checked.
 #[derive(Clone, Copy)]
-pub(crate) enum FeedEnd {
+pub enum FeedEnd {
     /// A call of the files failed.
     ReadFault,
     /// Memory was refused.

@@ -1,6 +1,6 @@
 use Rattle.std.proofs.Common.{rules, arith, drop, take}
-use Rattle.verify_command.proofs.PieceByPiece.{took_none, took_read, took_all, took_most}
-use Rattle.verify_command.proofs.reading.feed_rest.Goals as goal
+use Rattle.command_base.proofs.PieceByPiece.{took_none, took_read, took_all, took_most}
+use Rattle.command_base.proofs.feeding.feed_rest.Goals as goal
 
 pub loop-left-init : goal.loop-left-init
 loop-left-init g c = record {
