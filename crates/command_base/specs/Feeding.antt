@@ -1,7 +1,7 @@
 -- What a checker is fed of a file.
 use Rattle.std.specs.Prelude.{◌≡◌, ◌⊎◌, ◌≤◌, ◌++◌, ℕ, List, [], length}
 
--- whatever the old checker was fed, the new one was fed with these bytes behind it
+-- whatever the old checker was fed, the new one was fed with these bytes after it
 abbrev pub Took : {C Q : Type 0} → (C → Q → List ℕ → Type 0) → C → C → List ℕ → Type 0
 Took {Q = Q} is_fed old new bytes = (q : Q) (text : List ℕ) → is_fed old q text → is_fed new q (text ++ bytes)
 

@@ -6,7 +6,7 @@ use arrayvec::ArrayVec;
 /// No line that is written as one piece has more bytes.
 pub const LINE: usize = 96;
 
-/// Puts the piece behind the line.
+/// Puts the piece after the line.
 fn extend(line: &mut ArrayVec<u8, LINE>, piece: &[u8])
     requires { length line.old.items + length piece.now ≤ 96 }
     ensures { line.new.items ≡ line.old.items ++ piece.now }
@@ -14,7 +14,7 @@ fn extend(line: &mut ArrayVec<u8, LINE>, piece: &[u8])
     line.try_extend_from_slice(piece).unwrap();
 }
 
-/// Puts the pieces behind the line, one behind another.
+/// Puts the pieces after the line, one after another.
 pub fn join(line: &mut ArrayVec<u8, LINE>, pieces: &[&[u8]])
     requires { length line.old.items + length (flat_map (λ p. p.now) pieces.now) ≤ 96 }
     ensures { line.new.items ≡ line.old.items ++ flat_map (λ p. p.now) pieces.now }
