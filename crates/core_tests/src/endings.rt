@@ -88,7 +88,9 @@ const FAILS: &[(
 ];
 
 #[test]
-fn a_failed_call_is_told_by_the_status(rt: HostRuntime) -> Result<(), Fail> {
+fn words_of_no_command_and_failed_calls_are_told_by_the_status(
+    rt: HostRuntime,
+) -> Result<(), Fail> {
     for (command, read_fails, write_fails, status, text) in FAILS {
         let contents = &[("model", BOTH_ORDERS), ("test", TWO_FORBIDDEN)];
         let end = (*status, *text);

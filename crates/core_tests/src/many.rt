@@ -1,7 +1,6 @@
 //! Two hundred axioms, of which two matter.
-use super::rows::joined;
 use example_texts::TWO_FORBIDDEN;
-use memory_runs::ends_over;
+use memory_runs::{ends_over, joined};
 use pc_common::Status;
 use std::test::Fail;
 

@@ -1,7 +1,6 @@
 //! The certificates of a core are those that check writes for the models of just those axioms.
-use super::rows::joined;
 use example_texts::STORE_BUFFERING;
-use memory_runs::written;
+use memory_runs::{joined, written};
 use pc_common::Memory;
 use std::alloc::Global;
 use std::test::Fail;

@@ -1,4 +1,4 @@
-//! Rows of tables, and whether the command ends as they say; and models in pieces.
+//! Rows of tables, and whether the command ends as they say.
 use memory_runs::ends_over;
 use pc_common::{Memory, Status};
 use std::alloc::Global;
@@ -30,15 +30,4 @@ pub(crate) fn first_wrong(
         }
     }
     Ok(None)
-}
-
-/// Texts in this order, each as often as it says.
-pub(crate) fn joined(alloc: Global, pieces: &[(&str, usize)]) -> Result<String, Memory> {
-    let mut text = String::new(alloc);
-    for (piece, times) in pieces {
-        for _ in 0..*times {
-            text.push_str(piece)?;
-        }
-    }
-    Ok(text)
 }

@@ -1,6 +1,6 @@
 //! Models that `check` refuses, and models at a limit, by the written line.
 use example_texts::EMPTY;
-use memory_runs::{End, ends_over};
+use memory_runs::{End, ends_over, joined};
 use pc_common::{Memory, Status};
 use std::alloc::Global;
 use std::test::Fail;
@@ -72,16 +72,6 @@ const MODELS: &[(Pieces, End<'static>)] = &[
         (Status::Refused, "refused model too-big at 1003:1\n"),
     ),
 ];
-
-pub(crate) fn joined(alloc: Global, pieces: &[(&'static str, usize)]) -> Result<String, Memory> {
-    let mut text = String::new(alloc);
-    for (piece, times) in pieces {
-        for _ in 0..*times {
-            text.push_str(piece)?;
-        }
-    }
-    Ok(text)
-}
 
 /// Whether the check of the model with the empty test ends so.
 fn ends_with_the_empty_test(

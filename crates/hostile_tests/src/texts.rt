@@ -1,8 +1,7 @@
 //! Models and tests that are made to break their readers: long chains of macros, 40,000 edges of one axiom, and one
 //! micro-op too many.
-use super::limits::joined;
 use example_texts::{EMPTY, ONE};
-use memory_runs::{End, ends_over};
+use memory_runs::{End, ends_over, joined};
 use pc_common::{Memory, Status};
 use std::alloc::Global;
 use std::test::Fail;

@@ -6,7 +6,9 @@
 mod failing;
 mod outside;
 mod runs;
+mod texts;
 
 pub use failing::{Plan, are_failures_reported};
 pub use outside::{calls, files, held, sink};
 pub use runs::{End, ends_in, ends_over, words, written};
+pub use texts::joined;
