@@ -270,7 +270,7 @@ class CaseReader(Reader):
         return g, self.number(), at
 
     def page(self, word: str) -> Page:
-        """A page behind its word, in brackets."""
+        """A page after its word, in brackets."""
         self.expect("(")
         self.expect(word)
         tag = self.number()
@@ -288,7 +288,7 @@ class CaseReader(Reader):
         return address
 
     def entry(self) -> tuple[Entry, tuple[MarkAt, ...]]:
-        """An entry behind its word, up to its bracket, and its marks with their places."""
+        """An entry after its word, up to its bracket, and its marks with their places."""
         tag = self.number()
         marks = []
         for _ in range(2):
@@ -306,7 +306,7 @@ class CaseReader(Reader):
         return tuple(found)
 
     def microop(self, first: Token) -> OpItem:
-        """A micro-op, behind its first word."""
+        """A micro-op, after its first word."""
         g_at = self.next.at
         g = self.number()
         core_at = self.next.at

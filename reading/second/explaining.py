@@ -122,7 +122,7 @@ class Refutation:
                 waiting += [row.right, row.left]
 
     def take_back(self, mark: int) -> None:
-        """Forgets what came behind a mark."""
+        """Forgets what came after a mark."""
         for fact in self.trail[mark:]:
             del self.facts[fact]
         del self.trail[mark:]
@@ -262,7 +262,7 @@ class Run:
         return found
 
     def truth(self) -> list[bool]:
-        """Whether each position is true in this run; members stand behind what they are members of."""
+        """Whether each position is true in this run; members stand after what they are members of."""
         later: dict[Node, set[Node]] = {}
         for node in reversed(self.order()):
             ends = [end for start, end in self.edges if start == node]

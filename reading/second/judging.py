@@ -48,7 +48,7 @@ def judge(model: Model, case: Case, second_lines: dict[bool, str], data: bytes, 
 
 
 def lines_of(data: bytes) -> tuple[list[str], str]:
-    """The lines that have their LF, and what stands behind the last LF, which is no line. Refused past the limit."""
+    """The lines that have their LF, and what stands after the last LF, which is no line. Refused past the limit."""
     if len(data) > LIMIT:
         raise Refused(0)
     lines = data.decode("latin-1").split("\n")
@@ -56,7 +56,7 @@ def lines_of(data: bytes) -> tuple[list[str], str]:
 
 
 def judge_body(whole: list[str], rest: str, header: int, accepts: Callable[[str], bool]) -> None:
-    """Refused where a line behind the header is not accepted, or `end` is not the last one, or does not come."""
+    """Refused where a line after the header is not accepted, or `end` is not the last one, or does not come."""
     for number, line in enumerate(whole[header:], header + 1):
         if not accepts(line):
             raise Refused(number)

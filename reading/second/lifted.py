@@ -17,7 +17,7 @@ from .models import Binary, Edges, Expand, Formula, Model, Nodes, Not, Quantifie
 from .positions import is_decimal
 
 LIFTED = "lifted"
-# how many words stand behind the first one, of the lines that add a fact
+# how many words stand after the first one, of the lines that add a fact
 ADDING = {"left": 1, "right": 1, "not": 1, "bind": 1, "inst": 2, "member": 2}
 
 

@@ -14,7 +14,7 @@ from .lifted import LIFTED, Fact, LiftedJudge, Said
 from .models import Binary, Edges, Expand, Model, Nodes, Not, Quantified, Static
 from .positions import Inner, NodeNames, Positions
 
-# the word of a line that adds a part, with what stands behind the fact's number
+# the word of a line that adds a part, with what stands after the fact's number
 Way = tuple[str, ...]
 
 

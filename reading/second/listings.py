@@ -33,7 +33,7 @@ class Instruction:
 
 @dataclass(frozen=True)
 class Row:
-    """The cells of a line, and the `;` behind them."""
+    """The cells of a line, and the `;` after them."""
 
     cells: tuple[Instruction | None, ...]
     end: Token
@@ -50,7 +50,7 @@ class Equation:
 
 @dataclass(frozen=True)
 class Listing:
-    """A listing as it is written, behind its header."""
+    """A listing as it is written, after its header."""
 
     inits: tuple[Equation, ...]
     head: tuple[Token, ...]
@@ -103,7 +103,7 @@ def behind_header(data: bytes) -> tuple[str, int]:
 
 
 class ListingReader(Reader):
-    """Reads what stands behind the header. No word is reserved: its place says what it is."""
+    """Reads what stands after the header. No word is reserved: its place says what it is."""
 
     def listing(self) -> Listing:
         """The whole of it."""

@@ -190,14 +190,14 @@ class ModelReader(Reader):
         return Model(tuple(stages), tuple(items))
 
     def stage(self) -> Stage:
-        """A stage, behind its first word."""
+        """A stage, after its first word."""
         number = self.expect_kind("number")
         name = self.quoted_name()
         self.expect(".")
         return Stage(Number(int(number.piece), number.at), name)
 
     def macro(self) -> Macro:
-        """A macro, behind its first word."""
+        """A macro, after its first word."""
         name = self.quoted_name()
         parameters = []
         while self.next.kind == "text":
@@ -302,7 +302,7 @@ class ModelReader(Reader):
         return Nodes(tuple(self.members(self.node)), first.at)
 
     def members(self, member: Callable[[], Member]) -> list[Member]:
-        """A list in square brackets, where one semicolon may stand behind the last member."""
+        """A list in square brackets, where one semicolon may stand after the last member."""
         self.expect("[")
         found = []
         while not self.sees("]"):
@@ -344,7 +344,7 @@ class ModelReader(Reader):
         return NodeTerm(op, core, stage)
 
     def edge(self) -> EdgeTerm:
-        """Two nodes, perhaps a label, perhaps a colour behind it."""
+        """Two nodes, perhaps a label, perhaps a colour after it."""
         self.expect("(")
         start = self.node()
         self.expect(",")

@@ -11,7 +11,7 @@ class InModel(Fault):
 
 
 def with_axiom(model: Model, formula: Formula) -> Model:
-    """The model with one axiom more, behind its last item."""
+    """The model with one axiom more, after its last item."""
     return replace(model, items=(*model.items, Axiom(0, "", formula)))
 
 

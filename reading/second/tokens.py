@@ -28,7 +28,7 @@ class Fault(Exception):
 
 @dataclass(frozen=True)
 class Token:
-    """A piece that counts. `kind` is name, number, text, symbol, or end behind the last one."""
+    """A piece that counts. `kind` is name, number, text, symbol, or end after the last one."""
 
     kind: str
     piece: str
@@ -67,7 +67,7 @@ class Reader:
         return self.all_tokens[self.next_index]
 
     def take(self) -> Token:
-        """The next token, which is left behind."""
+        """The next token, which is left after it."""
         token = self.next
         self.next_index += 1
         return token

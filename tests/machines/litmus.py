@@ -50,7 +50,7 @@ class Op:
 
     @property
     def is_full_fence(self) -> bool:
-        """Whether it orders all of its core before it and behind it."""
+        """Whether it orders all of its core before it and after it."""
         return self.kind == "Fence" and not FULL.isdisjoint(self.types)
 
     @property

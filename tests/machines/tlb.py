@@ -1,6 +1,6 @@
 """Page tables, a TLB for each core, and total store order.
 
-Each core translates its instructions in program order, and does their accesses in program order behind that; translation
+Each core translates its instructions in program order, and does their accesses in program order after that; translation
 may run ahead of the accesses. There is one memory, which has pages and page-table entries, and each core has a first-in
 first-out store buffer as in tso.py.
 
@@ -16,7 +16,7 @@ translation stays in the TLB until another one of the tag takes its place or an 
 though it could hit.
 
 A plain read or write of an entry is not translated. A full fence waits until its core's buffer is empty. An invalidation
-(`Fence Invalidate`) waits so, too, and empties the TLB of its core; what stands behind it is translated behind it.
+(`Fence Invalidate`) waits so, too, and empties the TLB of its core; what stands after it is translated after it.
 
 A test says how each access is translated: an instruction that walks has a read of type `Walk`, and a write of type `Mark`
 where it sets a mark. A run that translates otherwise, or goes to another page, is not of the test.

@@ -4,11 +4,11 @@ Each core runs its micro-ops in any order that keeps these rules. A micro-op *ex
 write has its address and its data and can be forwarded, a fence is done. A write is *performed* once, later: it goes to
 memory, where all cores see it at the same moment.
 
-  1. What has an address or data dependency on a read executes behind it.
-  2. A write that has a control dependency on a read is performed behind it.
+  1. What has an address or data dependency on a read executes after it.
+  2. A write that has a control dependency on a read is performed after it.
   3. A full fence executes when the earlier reads of its core have executed and the earlier writes are performed. What
-     is behind it executes behind it.
-  4. Of one address and one core: reads execute in order; a write is performed behind earlier reads; writes are
+     is after it executes after it.
+  4. Of one address and one core: reads execute in order; a write is performed after earlier reads; writes are
      performed in order.
   5. A read whose youngest earlier write of its address on its own core is not performed takes the value of that write,
      which has to have executed. Otherwise it takes the value in memory.
