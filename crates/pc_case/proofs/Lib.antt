@@ -1,5 +1,7 @@
 pub mod Cores
 pub mod Values
+pub mod MapKeys
 pub mod Lookups
+pub mod ShortNames
 pub mod Names
 pub mod Pieces

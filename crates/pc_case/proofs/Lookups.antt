@@ -1,5 +1,6 @@
 -- Sets of names by their length, and kinds by their ends: what one more name changes.
 use Rattle.std.proofs.Common.{◌≡◌, ℕ, Bool, true, false, List, [], ◌∷◌, ◌++◌, ◌==◌, ◌<◌, ◌≤◌, get_or, ◌&&◌, ◌||◌, Option, Some, None, length, refl, sym, ap, ◌∙◌, true≢false, arith, Vec}
+use Rattle.std.specs.Prelude.{⊤}
 use Rattle.std.specs.List.{list_any}
 use Rattle.std.specs.Map.{lookup, set_value}
 use Rattle.std.specs.Cmp.Lexicographic.{bytes_decides}
@@ -7,7 +8,7 @@ use Rattle.std.proofs.lemmas.Bool.{eqb-true, eq-eqb}
 use Rattle.std.proofs.lemmas.Bool.Decides.{nat_tests}
 use Rattle.std.specs.declared.alloc.Global.{Global}
 use Rattle.indexmap.specs.IndexMap.{IndexMap, get_by, insert_entry}
-use Rattle.indexmap.specs.IndexSet.{IndexSet, insert_key}
+use Rattle.indexmap.specs.IndexSet.{insert_key}
 use Rattle.indexmap.proofs.CallerLemmas.{insert_entry-new}
 use Rattle.pc_common.specs.Names.{same_name}
 use Rattle.pc_case.specs.declared.dependency.Ends.{Ends}
@@ -22,7 +23,7 @@ pub or_false : (s : Bool) → s ≡ (s || false)
 or_false true = refl
 or_false false = refl
 
-not_so : (b : Bool) → (b ≡ true → ⊥) → b ≡ false
+pub not_so : (b : Bool) → (b ≡ true → ⊥) → b ≡ false
 not_so false f = refl
 not_so true f = absurd (f refl)
 
@@ -159,24 +160,24 @@ ends_turned e i j b = rw (eqb_flip e.source i, eqb_flip e.target j) (and_turned 
     and_turned false true = refl
     and_turned false false = refl
 
--- one more name in a set of names of one length
-module _ (q : List ℕ) where
-  abbrev has : List (Vec ℕ Global) → Bool
-  has ks = list_any (λ k. same_name q k.items) ks
+-- one more key in a set of keys that are names
+module _ {K : Type 0} (items : K → List ℕ) (q : List ℕ) where
+  abbrev has : List K → Bool
+  has ks = list_any (λ k. same_name q (items k)) ks
 
-  abbrev same_item : Vec ℕ Global → Vec ℕ Global → Bool
-  same_item x y = same_name x.items y.items
+  abbrev same_item : K → K → Bool
+  same_item x y = same_name (items x) (items y)
 
-  last : (ks : List (Vec ℕ Global)) (v : Vec ℕ Global) → has (ks ++ v ∷ []) ≡ (has ks || same_name q v.items)
-  last [] v = or_first (same_name q v.items)
+  last : (ks : List K) (v : K) → has (ks ++ v ∷ []) ≡ (has ks || same_name q (items v))
+  last [] v = or_first (same_name q (items v))
     where
       or_first : (b : Bool) → (b || false) ≡ b
       or_first true = refl
       or_first false = refl
-  last (k ∷ ks) v = more (same_name q k.items) refl (last ks v)
+  last (k ∷ ks) v = more (same_name q (items k)) refl (last ks v)
     where
-      more : (b : Bool) → same_name q k.items ≡ b → has (ks ++ v ∷ []) ≡ (has ks || same_name q v.items)
-          → has (k ∷ ks ++ v ∷ []) ≡ (has (k ∷ ks) || same_name q v.items)
+      more : (b : Bool) → same_name q (items k) ≡ b → has (ks ++ v ∷ []) ≡ (has ks || same_name q (items v))
+          → has (k ∷ ks ++ v ∷ []) ≡ (has (k ∷ ks) || same_name q (items v))
       more true e rest = rw e refl
       more false e rest = rw e rest
 
@@ -187,24 +188,24 @@ module _ (q : List ℕ) where
       by true e = (bytes_decides q p).1 (sym ((bytes_decides p q).0 e)) ∙ sym e
       by false e = not_so (same_name q p) (λ h. true≢false (sym ((bytes_decides p q).1 (sym ((bytes_decides q p).0 h))) ∙ e)) ∙ sym e
 
-  put_in : (ks new : List (Vec ℕ Global)) (v : Vec ℕ Global) → new ≡ insert_key same_item ks v → has new ≡ (has ks || same_name v.items q)
-  put_in ks new v is = by (list_any (same_item v) ks) (same_name v.items q) refl refl
+  put_in : (ks new : List K) (v : K) → new ≡ insert_key same_item ks v → has new ≡ (has ks || same_name (items v) q)
+  put_in ks new v is = by (list_any (same_item v) ks) (same_name (items v) q) refl refl
     where
-      by : (b a : Bool) → list_any (same_item v) ks ≡ b → same_name v.items q ≡ a → has new ≡ (has ks || same_name v.items q)
+      by : (b a : Bool) → list_any (same_item v) ks ≡ b → same_name (items v) q ≡ a → has new ≡ (has ks || same_name (items v) q)
       by true true e g =
-          let h : has ks ≡ true = ap (λ r. list_any (λ k. same_name r k.items) ks) (sym ((bytes_decides v.items q).0 g)) ∙ e in
+          let h : has ks ≡ true = ap (λ r. list_any (λ k. same_name r (items k)) ks) (sym ((bytes_decides (items v) q).0 g)) ∙ e in
           rw (is, e, h) refl
       by true false e g = rw (is, e, g) (or_false (has ks))
-      by false a e g = rw (is, e) (last ks v ∙ ap (λ b. has ks || b) (turned v.items))
+      by false a e g = rw (is, e) (last ks v ∙ ap (λ b. has ks || b) (turned (items v)))
 
   -- a set after `insert` of a name
-  pub key_put : (ks new : List (Vec ℕ Global)) (v : Vec ℕ Global) (p : List ℕ) → v.items ≡ p → new ≡ insert_key same_item ks v
+  pub key_put : (ks new : List K) (v : K) (p : List ℕ) → items v ≡ p → new ≡ insert_key same_item ks v
       → has new ≡ (has ks || same_name p q)
   key_put ks new v p at is = put_in ks new v is ∙ ap (λ r. has ks || same_name r q) at
 
 -- sets of names, each with the length of its names
 abbrev Sets : Type 0 → Type 0
-Sets S = List (ℕ × IndexSet (Vec ℕ Global) S)
+Sets S = List (ℕ × IndexMap (Vec ℕ Global) ⊤ S)
 
 -- one more name in the sets by length
 module _ {S : Type 0} where
@@ -212,7 +213,7 @@ module _ {S : Type 0} where
   has_among es name = elim (lookup (λ n. length name == n) es) [ None ↦ false | Some known ↦ is_known known name ]
 
   -- the set of its length becomes another, which has the name too where b is true
-  pub name_written : (es new : Sets S) (p q : List ℕ) (old set : IndexSet (Vec ℕ Global) S) (b : Bool)
+  pub name_written : (es new : Sets S) (p q : List ℕ) (old set : IndexMap (Vec ℕ Global) ⊤ S) (b : Bool)
       → new ≡ set_value (λ n. length p == n) es set
       → lookup (λ n. length p == n) es ≡ Some old → is_known set q ≡ (is_known old q || (b && same_name p q))
       → has_among new q ≡ (has_among es q || (b && same_name p q))
@@ -222,8 +223,8 @@ module _ {S : Type 0} where
       ∙ ap (λ t. has_among es q || t) (with_length p q b)
 
   -- the first name of its length
-  pub name_first : {T : Type 0} (m : IndexMap ℕ (IndexSet (Vec ℕ Global) S) T) (new : Sets S) (p q : List ℕ)
-      (set : IndexSet (Vec ℕ Global) S) → get_by (λ n. length p == n) m ≡ None
+  pub name_first : {T : Type 0} (m : IndexMap ℕ (IndexMap (Vec ℕ Global) ⊤ S) T) (new : Sets S) (p q : List ℕ)
+      (set : IndexMap (Vec ℕ Global) ⊤ S) → get_by (λ n. length p == n) m ≡ None
       → new ≡ insert_entry (λ a b. a == b) m.entries (length p) set → is_known set q ≡ same_name p q
       → has_among new q ≡ (has_among m.entries q || same_name p q)
   name_first m new p q set none put has =

@@ -1,21 +1,40 @@
-ghost use Rattle.std.specs.Prelude.{◌≡◌, ◌||◌, ◌&&◌, false, List, ℕ, is_ok};
+ghost use Rattle.std.specs.Prelude.{◌≡◌, ◌||◌, ◌&&◌, false, List, ℕ, Some, None, is_ok, length, nat_le, if◌then◌else◌};
 ghost use Rattle.pc_common.specs.Names.{same_name};
-ghost use Rattle.pc_case.specs.NameSets.{is_known, has_name};
+ghost use Rattle.pc_case.specs.NameSets.{padded, has_name};
 
-use indexmap::{IndexMap, IndexSet};
+use super::long_names::LongNames;
+use indexmap::IndexMap;
 use pc_common::Memory;
 use std::alloc::Global;
 
-/// Names, looked up by their length and only then by their bytes. A name may have many thousands of
-/// bytes, so that it costs its length where it is put in, and where a name of its length is asked for.
+/// A name of at most 15 bytes, as nearly all are: its bytes, zeros after them, and its length last.
+type ShortName = [u8; 16];
+
+/// The key of a name, or None where it has more than 15 bytes.
+fn short_name(name: &[u8]) -> Option<ShortName>
+    ensures { result ≡ (if nat_le (length name.now) 15 then Some (padded name.now) else None) }
+{
+    let length = name.len();
+    if length > 15 {
+        return None;
+    }
+    let mut key = [0; 16];
+    key[..length].copy_from_slice(name);
+    key[15] = length as u8;
+    Some(key)
+}
+
+/// Names. A short one lies in the set itself, so that it takes no block of memory of its own.
 pub(crate) struct NameSet {
-    by_length: IndexMap<usize, IndexSet<Vec<u8>>>,
+    // A map without values, as in `LongNames`.
+    short: IndexMap<ShortName, ()>,
+    long: LongNames,
 }
 
 // Written out, so that a proof of what drops the value meets one call and no field.
 impl Drop for NameSet {
     fn drop(self) {
-        let NameSet { by_length: _ } = self;
+        let NameSet { short: _, long: _ } = self;
     }
 }
 
@@ -25,7 +44,8 @@ impl NameSet {
         ensures { (name : List ℕ) → has_name result name ≡ false }
     {
         NameSet {
-            by_length: IndexMap::new(alloc),
+            short: IndexMap::new(alloc),
+            long: LongNames::new(alloc),
         }
     }
 
@@ -34,39 +54,23 @@ impl NameSet {
         ensures { (other : List ℕ) → has_name self.new other
             ≡ (has_name self.old other || (is_ok result && same_name name.now other)) }
     {
-        let length = name.len();
-        let name = Vec::from_slice(alloc, name)?;
-        match self.by_length.get_mut(&length) {
-            Some(known) => {
-                known.insert(name)?;
+        match short_name(name) {
+            Some(key) => {
+                self.short.insert(key, ())?;
+                Ok(())
             }
-            None => {
-                let mut known = IndexSet::new(alloc);
-                known.insert(name)?;
-                self.by_length.insert(length, known)?;
-            }
+            None => self.long.add(alloc, name),
         }
-        Ok(())
     }
 
-    /// Whether this is one of the names: one look-up of a number, and where names of its length are
-    /// there, one of the name. Takes no memory.
+    /// Whether this is one of the names: one look-up of a short one; of another one its length is looked up,
+    /// and where names of that length are there, the name. Takes no memory.
     pub(crate) fn has(&self, name: &[u8]) -> bool
         ensures { result ≡ has_name self.now name.now }
     {
-        match self.by_length.get(&name.len()) {
-            None => false,
-            Some(known) => is_among(known, name),
+        match short_name(name) {
+            Some(key) => self.short.contains_key(&key),
+            None => self.long.has(name),
         }
-    }
-}
-
-/// Whether this is one of the names. A single one is compared, since that costs less than a hash.
-fn is_among(known: &IndexSet<Vec<u8>>, name: &[u8]) -> bool
-    ensures { result ≡ is_known known.now name.now }
-{
-    match known.as_slice() {
-        [only] => name == only.as_slice(),
-        _ => known.contains(name),
     }
 }

@@ -68,8 +68,8 @@ impl TypeNames {
         &self.bytes[begin_of(self.ends.as_slice(), k)..self.ends[k]]
     }
 
-    /// Whether this is one of the names: one look-up of a number, and one of the name where names of
-    /// its length are there. Takes no memory.
+    /// Whether this is one of the names: one look-up of a name of at most 15 bytes; of a longer one its
+    /// length is looked up, and where names of that length are there, the name. Takes no memory.
     pub fn has(&self, name: &[u8]) -> bool
         ensures { result ≡ list_any (λ known. same_name known name.now) self.now }
     {

@@ -10,3 +10,5 @@ mod cases;
 mod outside;
 #[cfg(test)]
 mod predicates;
+#[cfg(test)]
+mod type_names;

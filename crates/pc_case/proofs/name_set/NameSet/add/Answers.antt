@@ -1,38 +1,9 @@
-use Rattle.std.proofs.Common.{rules, ◌≡◌, ◌==◌, ◌&&◌, ◌||◌, true, false, [], length, sym, ap, ◌∙◌, Bool, nat_eq}
-use Rattle.std.specs.Prelude.{is_ok}
-use Rattle.std.specs.List.{list_any}
-use Rattle.std.specs.Cmp.Lexicographic.{pointwise}
-use Rattle.indexmap.specs.IndexMap.{insert_entry}
-use Rattle.indexmap.specs.IndexSet.{insert_key}
-use Rattle.pc_common.specs.Names.{same_name}
-use Rattle.pc_case.specs.NameSets.{is_known}
-use Rattle.pc_case.proofs.Lookups.{name_written, name_first, key_put, or_false}
+use Rattle.std.proofs.Common.{◌∙◌, sym, refl}
+use Rattle.pc_case.proofs.ShortNames.{keyed, short_added}
 use Rattle.pc_case.proofs.name_set.NameSet.add.Goals as goal
 
-pub returns-in_err-insert-in-Some : goal.returns-in_err-insert-in-Some
-returns-in_err-insert-in-Some c = λ other.
-    let done : Bool = is_ok c.from_residual-in_err-insert-in-Some.result in
-    let failed : done ≡ false = search rules in
-    let name = c.args.name.now in
-    let old = c.in-Some.known.now in
-    name_written c.args.self.now.by_length.entries _ name other old c.insert.new.self done (c.get_mut.follows.holds c.insert.new.self).0
-    (sym c.in-Some.ensures.value)
-    (ap (λ ks. list_any (λ k. same_name other k.items) ks) c.in_err-insert-in-Some.ensures.err
-    ∙ or_false (is_known old other) ∙ ap (λ b. is_known old other || (b && same_name name other)) (sym failed))
-
 pub returns-in_ok-insert-in-Some : goal.returns-in_ok-insert-in-Some
-returns-in_ok-insert-in-Some c = λ other.
+returns-in_ok-insert-in-Some c =
     let name = c.args.name.now in
-    let old = c.in-Some.known.now in
-    name_written c.args.self.now.by_length.entries _ name other old c.insert.new.self true (c.get_mut.follows.holds c.insert.new.self).0
-    (sym c.in-Some.ensures.value)
-    (key_put other old.keys c.insert.new.self.keys c.in_ok-name.name name c.in_ok-name.ensures.items c.in_ok-insert-in-Some.ensures.keys)
-
-pub returns-in_ok-insert-in-None-2 : goal.returns-in_ok-insert-in-None-2
-returns-in_ok-insert-in-None-2 c = λ other.
-    let name = c.args.name.now in
-    let set = c.insert-in-None.new.self in
-    name_first c.args.self.now.by_length c.insert-in-None-2.new.self.entries name other set (sym c.in-None.ensures.value)
-    (c.in_ok-insert-in-None-2.ensures.entries ∙ ap (λ m. insert_entry (λ a b. a == b) m.entries (length name) set) c.get_mut.follows.holds-at-none)
-    (key_put other [] set.keys c.in_ok-name.name name c.in_ok-name.ensures.items
-    (c.in_ok-insert-in-None.ensures.keys ∙ ap (λ ks. insert_key (λ x y. pointwise nat_eq x.items y.items) ks c.in_ok-name.name) c.new-known.ensures.empty))
+    let is = keyed name c.in-Some.key (sym c.in-Some.is ∙ c.short_name.ensures) in
+    short_added c.args.self.now (record { short = c.insert.new.self; long = c.args.self.now.long }) name c.in-Some.key is.0 is.1 refl c.in_ok-insert-in-Some.ensures.entries
