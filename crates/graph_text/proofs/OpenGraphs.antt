@@ -1,8 +1,10 @@
 -- Which nodes are listed, and what a line more makes of a graph.
-use Rattle.std.proofs.Common.{◌≡◌, ◌⊎◌, inl, inr, true, false, List, [], ◌∷◌, ◌++◌, map, refl, sym, ◌∙◌, ap, subst, append_assoc}
-use Rattle.std.specs.Prelude.{Contains}
+use Rattle.std.proofs.Common.{◌≡◌, ◌⊎◌, inl, inr, true, false, is_some, List, [], ◌∷◌, ◌++◌, map, refl, sym, ◌∙◌, ap, subst, append_assoc}
+use Rattle.std.specs.Prelude.{⊤, Contains}
 use Rattle.std.specs.List.{list_any}
+use Rattle.std.specs.Map.{keys_of, lookup}
 use Rattle.std.proofs.lemmas.List.{map_push}
+use Rattle.std.proofs.lemmas.Map.Made.{is_some-lookup}
 use Rattle.std.proofs.lemmas.List.Elements.{Contains-push, Contains-push_cases, Contains-append_left}
 use Rattle.indexmap.specs.IndexSet.{insert_key}
 use Rattle.pc_common.specs.World.{Node, Edge, same_node}
@@ -27,16 +29,20 @@ among a ns h =
 from_among : (a : Node) (ns : List Node) → Contains ns a → list_any (same_node a) ns ≡ true
 from_among a ns h = holds_any (same_node a) a ns (in_from_contains a ns h) (same_node-self a)
 
--- a key of the set is a node listed
-pub is_listed : (keys : List NodeKey) (nodes : List Node) (edges : List Edge) (k : NodeKey) → IsOpen keys nodes edges
-    → list_any (key_eq k) keys ≡ true → Contains nodes (key_node k)
-is_listed keys nodes edges k h e = (h.listed (key_node k)).0 (among (key_node k) (map key_node keys) (sym (any_key k keys) ∙ e))
+-- a key of the map is a node listed
+pub is_listed : (es : List (NodeKey × ⊤)) (nodes : List Node) (edges : List Edge) (k : NodeKey) → IsOpen (keys_of es) nodes edges
+    → is_some (lookup (key_eq k) es) ≡ true → Contains nodes (key_node k)
+is_listed es nodes edges k h e =
+    (h.listed (key_node k)).0
+    (among (key_node k) (map key_node (keys_of es)) (sym (any_key k (keys_of es)) ∙ sym (is_some-lookup (key_eq k) es) ∙ e))
 
 -- any other key is none
-pub not_listed : (keys : List NodeKey) (nodes : List Node) (edges : List Edge) (k : NodeKey) → IsOpen keys nodes edges
-    → list_any (key_eq k) keys ≡ false → Contains nodes (key_node k) → ⊥
-not_listed keys nodes edges k h e inside =
-    not_both (list_any (key_eq k) keys) (any_key k keys ∙ from_among (key_node k) (map key_node keys) ((h.listed (key_node k)).1 inside)) e
+pub not_listed : (es : List (NodeKey × ⊤)) (nodes : List Node) (edges : List Edge) (k : NodeKey) → IsOpen (keys_of es) nodes edges
+    → is_some (lookup (key_eq k) es) ≡ false → Contains nodes (key_node k) → ⊥
+not_listed es nodes edges k h e inside =
+    not_both (list_any (key_eq k) (keys_of es))
+    (any_key k (keys_of es) ∙ from_among (key_node k) (map key_node (keys_of es)) ((h.listed (key_node k)).1 inside))
+    (sym (is_some-lookup (key_eq k) es) ∙ e)
 
 was_there : (ns : List Node) (b : Node) → list_any (same_node b) ns ≡ true → seen ns b ≡ ns
 was_there ns b e = rw e refl

@@ -9,7 +9,7 @@ ghost use Rattle.graph_text.specs.OpenGraphs.{empty_graph, Follows, IsWithLine, 
 use super::graph::{Edges, Graph, Nodes};
 use super::graph_line::GraphLine;
 use super::reading::read_graph_line;
-use indexmap::IndexSet;
+use indexmap::IndexMap;
 use pc_common::Memory;
 use pc_ground::{NodeKey, NodeText};
 use std::alloc::Global;
@@ -20,11 +20,13 @@ use std::marker::Model;
 pub struct OpenGraph {
     graph: Graph,
     /// Each node of a node line, once.
-    listed: IndexSet<NodeKey>,
+    // A map without values: above an `IndexSet` in a public type every library carries the contracts of maps and sets.
+    listed: IndexMap<NodeKey, ()>,
 }
 
 impl Model for OpenGraph {
     ghost use Rattle.std.specs.Prelude.{map};
+    ghost use Rattle.indexmap.specs.IndexMap.{keys};
     ghost use Rattle.graph_text.specs.Graphs.{graph_nodes, graph_edges};
     ghost use Rattle.graph_text.specs.OpenGraphs.{PlainGraph, IsOpen};
 
@@ -32,7 +34,7 @@ impl Model for OpenGraph {
 
     ghost view = { λ s. record { nodes = graph_nodes s.graph; edges = graph_edges s.graph } };
 
-    ghost invariant = { λ s. IsOpen s.listed.keys (graph_nodes s.graph) (graph_edges s.graph) };
+    ghost invariant = { λ s. IsOpen (keys s.listed) (graph_nodes s.graph) (graph_edges s.graph) };
 }
 
 impl OpenGraph {
@@ -45,7 +47,7 @@ impl OpenGraph {
                 nodes: Nodes::new(alloc),
                 edges: Edges::new(alloc),
             },
-            listed: IndexSet::new(alloc),
+            listed: IndexMap::new(alloc),
         }
     }
 
@@ -66,7 +68,7 @@ impl OpenGraph {
         }
     }
 
-    /// Puts a node line last where there is no edge yet. The room of the set is taken first.
+    /// Puts a node line last where there is no edge yet. The room of the map is taken first.
     fn take_node(&mut self, key: NodeKey) -> Result<bool, Memory>
         ensures taken { IfOk result (λ taken. MatchBool taken (IsWithLine self.old self.new (node (key_node key)))
             ((Follows self.old (node (key_node key)) → ⊥) × (self.new ≡ self.old))) }
@@ -77,7 +79,7 @@ impl OpenGraph {
         }
         self.listed.reserve(1)?;
         self.graph.nodes.push(key)?;
-        self.listed.insert(key)?;
+        self.listed.insert(key, ())?;
         Ok(true)
     }
 
@@ -88,7 +90,7 @@ impl OpenGraph {
             ((Follows self.old (edge (key_node from) (key_node to)) → ⊥) × (self.new ≡ self.old))) }
         ensures kept { OnErr result (self.new ≡ self.old) }
     {
-        if !self.listed.contains(&from) || !self.listed.contains(&to) {
+        if !self.listed.contains_key(&from) || !self.listed.contains_key(&to) {
             return Ok(false);
         }
         self.graph.edges.push((from, to))?;

@@ -1,5 +1,6 @@
 pub mod Bools
 pub mod Nodes
+pub mod MapKeys
 pub mod KeyNumbers
 pub mod Decimals
 pub mod Cuts

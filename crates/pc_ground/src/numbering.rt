@@ -4,14 +4,15 @@ ghost use Rattle.pc_ground.specs.Keys.{key_node};
 ghost use Rattle.pc_ground.specs.Numbers.{seen, IsNumberOf, AreDistinct};
 
 use super::node_key::NodeKey;
-use indexmap::IndexSet;
+use indexmap::IndexMap;
 use pc_common::Memory;
 use std::alloc::Global;
 use std::marker::Model;
 
 /// Nodes with their numbers: each once, numbered from 0. There are 262,144 keys, so it has no more.
 pub struct Numbering {
-    keys: IndexSet<NodeKey>,
+    // A map without values: libraries above an `IndexSet` carry the contracts of maps and of sets.
+    keys: IndexMap<NodeKey, ()>,
 }
 
 // Written out, so that a proof of what drops the value meets one call and no field.
@@ -23,15 +24,16 @@ impl Drop for Numbering {
 
 impl Model for Numbering {
     ghost use Rattle.std.specs.Prelude.{List, map, length, ◌≤◌};
+    ghost use Rattle.std.specs.Map.{keys_of};
     ghost use Rattle.pc_common.specs.World.{Node};
     ghost use Rattle.pc_common.specs.declared.limits.TheConstants.{MAX_NODES};
     ghost use Rattle.pc_ground.specs.Keys.{key_node};
 
     ghost Value = { List Node };
 
-    ghost view = { λ s. map key_node s.keys.keys };
+    ghost view = { λ s. map key_node (keys_of s.keys.entries) };
 
-    ghost invariant = { λ s. length s.keys.keys ≤ MAX_NODES };
+    ghost invariant = { λ s. length (keys_of s.keys.entries) ≤ MAX_NODES };
 }
 
 impl Numbering {
@@ -40,7 +42,7 @@ impl Numbering {
         ensures { result ≡ [] }
     {
         Numbering {
-            keys: IndexSet::new(alloc),
+            keys: IndexMap::new(alloc),
         }
     }
 
@@ -48,7 +50,7 @@ impl Numbering {
     pub fn see(&mut self, key: NodeKey) -> Result<(), Memory>
         ensures { self.new ≡ (if is_ok result then seen self.old (key_node key) else self.old) }
     {
-        self.keys.insert(key)?;
+        self.keys.insert(key, ())?;
         Ok(())
     }
 
@@ -75,6 +77,6 @@ impl Numbering {
         requires { k < length self.now }
         ensures { slice_get self.now k ≡ Some (key_node result) }
     {
-        self.keys.as_slice()[k as usize]
+        self.keys.keys()[k as usize]
     }
 }

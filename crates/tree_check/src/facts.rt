@@ -2,7 +2,7 @@ ghost use Rattle.std.specs.Prelude.{◌≡◌, ◌↔◌, [], ◌∷◌, IsTrue,
 ghost use Rattle.tree_check.specs.Facts.{plain_fact, HasAdded};
 
 use super::fact::Fact;
-use indexmap::IndexSet;
+use indexmap::IndexMap;
 use pc_common::Memory;
 use std::alloc::Global;
 use std::marker::Model;
@@ -10,7 +10,8 @@ use std::marker::Model;
 /// A set of facts, in the order in which they came, that is cut back like a stack. No step asks at which position a
 /// literal was asserted, so only what it says is kept.
 pub(crate) struct Facts {
-    set: IndexSet<Fact>,
+    // A map without values: above an `IndexSet` in a public type every library carries the contracts of maps and sets.
+    set: IndexMap<Fact, ()>,
 }
 
 // Written out, so that a proof of what drops the value meets one call and no field.
@@ -22,11 +23,12 @@ impl Drop for Facts {
 
 impl Model for Facts {
     ghost use Rattle.std.specs.Prelude.{List, map};
+    ghost use Rattle.indexmap.specs.IndexMap.{keys};
     ghost use Rattle.tree_check.specs.Facts.{PlainFact, plain_fact};
 
     ghost Value = { List PlainFact };
 
-    ghost view = { λ s. map plain_fact s.set.keys };
+    ghost view = { λ s. map plain_fact (keys s.set) };
 }
 
 impl Facts {
@@ -35,7 +37,7 @@ impl Facts {
         ensures { result ≡ [] }
     {
         Facts {
-            set: IndexSet::new(alloc),
+            set: IndexMap::new(alloc),
         }
     }
 
@@ -50,14 +52,14 @@ impl Facts {
     pub(crate) fn has(&self, fact: Fact) -> bool
         ensures { IsTrue result ↔ Contains self.now (plain_fact fact) }
     {
-        self.set.contains(&fact)
+        self.set.contains_key(&fact)
     }
 
     /// Adds a fact after the others, if it is none of them.
     pub(crate) fn add(&mut self, fact: Fact) -> Result<(), Memory>
         ensures { OnOk result (HasAdded self.old (plain_fact fact ∷ []) self.new) }
     {
-        self.set.insert(fact)?;
+        self.set.insert(fact, ())?;
         Ok(())
     }
 

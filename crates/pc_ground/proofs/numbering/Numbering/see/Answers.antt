@@ -1,11 +1,15 @@
 use Rattle.std.proofs.Common.{◌∙◌, ap}
 use Rattle.pc_ground.specs.Keys.{key_node}
 use Rattle.pc_ground.specs.Numbers.{seen}
+use Rattle.pc_ground.proofs.Nodes.{key_eq}
+use Rattle.pc_ground.proofs.MapKeys.{keys_put}
 use Rattle.pc_ground.proofs.KeyNumbers.{seen_key, few_keys}
 use Rattle.pc_ground.proofs.numbering.Numbering.see.Goals as goal
 
 pub returns : goal.returns
-returns c = rw c.in_ok-insert.ensures.keys (seen_key c.self.inside.keys.keys c.args.key ∙ ap (λ ns. seen ns (key_node c.args.key)) c.self.view_is)
+returns c =
+    let put = keys_put key_eq c.args.key tt c.self.inside.keys.entries in
+    rw (c.in_ok-insert.ensures.entries, put) (seen_key _ c.args.key ∙ ap (λ ns. seen ns (key_node c.args.key)) c.self.view_is)
 
 pub invariant_of-self-2 : goal.invariant_of-self-2
-invariant_of-self-2 c = few_keys c.insert.new.self.keys c.in_ok-insert.ensures.unique
+invariant_of-self-2 c = few_keys _ c.in_ok-insert.ensures.unique

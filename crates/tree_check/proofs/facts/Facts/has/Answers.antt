@@ -1,6 +1,10 @@
 use Rattle.std.proofs.Common.{sym}
-use Rattle.tree_check.proofs.FactSet.{found}
+use Rattle.std.specs.Map.{keys_of}
+use Rattle.std.proofs.lemmas.Map.Made.{is_some-lookup}
+use Rattle.tree_check.proofs.FactSet.{fact_eq, found}
 use Rattle.tree_check.proofs.facts.Facts.has.Goals as goal
 
 pub returns : goal.returns
-returns c = rw (c.contains.ensures, sym c.self.view_is) (found c.args.fact c.self.inside.set.keys)
+returns c =
+    let es = c.self.inside.set.entries in
+    rw (c.contains_key.ensures, is_some-lookup (fact_eq c.args.fact) es, sym c.self.view_is) (found c.args.fact (keys_of es))

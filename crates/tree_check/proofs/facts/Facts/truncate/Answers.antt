@@ -1,7 +1,13 @@
 use Rattle.std.proofs.Common.{sym, ap, ◌∙◌, map, take}
 use Rattle.std.proofs.lemmas.List.{take-map}
+use Rattle.std.specs.Map.{keys_of}
 use Rattle.tree_check.specs.Facts.{plain_fact}
 use Rattle.tree_check.proofs.facts.Facts.truncate.Goals as goal
 
 pub returns : goal.returns
-returns c = ap (map plain_fact) c.truncate.ensures.keys ∙ sym (take-map plain_fact c.args.count c.self.inside.set.keys) ∙ ap (take c.args.count) c.self.view_is
+returns c =
+    let es = c.self.inside.set.entries in
+    ap (λ xs. map plain_fact (keys_of xs)) c.truncate.ensures.entries
+    ∙ ap (map plain_fact) (sym (take-map (λ e. e.0) c.args.count es))
+    ∙ sym (take-map plain_fact c.args.count (keys_of es))
+    ∙ ap (take c.args.count) c.self.view_is
