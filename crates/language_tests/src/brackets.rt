@@ -15,7 +15,7 @@ use ll_grammar::{
     Fault, Grammar, Step, Symbol, TokenClass, first_fault, one_answer, push_body, some_answer,
     viable_prefixes,
 };
-use std::alloc::AllocError;
+use pc_common::Memory;
 use std::test::Fail;
 
 #[derive(Clone, Copy, PartialEq, Eq)]
@@ -91,7 +91,7 @@ impl Grammar<Bracket> for Phrase {
         self,
         class: Bracket,
         stack: &mut Vec<Symbol<Bracket, Phrase>>,
-    ) -> Result<Step, AllocError> {
+    ) -> Result<Step, Memory> {
         match self {
             Phrase::Items(open) => match class {
                 Bracket::Open => {
@@ -140,7 +140,7 @@ impl Grammar<Bracket> for Phrase {
     }
 }
 
-fn fault(rt: &HostRuntime, text: &[u8]) -> Result<Option<Fault>, AllocError> {
+fn fault(rt: &HostRuntime, text: &[u8]) -> Result<Option<Fault>, Memory> {
     let mut classes = Vec::new(rt.alloc());
     for byte in text {
         classes.push(match *byte {

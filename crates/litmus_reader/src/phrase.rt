@@ -6,7 +6,7 @@ use self::Phrase::*;
 use super::format::Format;
 use super::terminal::Terminal::{self, *};
 use ll_grammar::{Grammar, Step, Symbol, push};
-use std::alloc::AllocError;
+use pc_common::Memory;
 
 /// The parts of a test. What one format has and the other has not is a part of each format.
 #[derive(Clone, Copy)]
@@ -62,7 +62,7 @@ impl Grammar<Terminal> for Phrase {
         self,
         class: Terminal,
         stack: &mut Vec<Symbol<Terminal, Phrase>>,
-    ) -> Result<Step, AllocError> {
+    ) -> Result<Step, Memory> {
         match self {
             Test => push_test(class, stack),
             Items(format) => push_items(format, class, stack),
@@ -80,7 +80,7 @@ impl Grammar<Terminal> for Phrase {
     }
 }
 
-fn push_test(class: Terminal, stack: &mut Vec<Waiting>) -> Result<Step, AllocError>
+fn push_test(class: Terminal, stack: &mut Vec<Waiting>) -> Result<Step, Memory>
     ensures { IfOk result (IsPush Phrase.Test class stack.old.items stack.new.items) }
 {
     match class {
@@ -90,7 +90,7 @@ fn push_test(class: Terminal, stack: &mut Vec<Waiting>) -> Result<Step, AllocErr
     }
 }
 
-fn push_items(format: Format, class: Terminal, stack: &mut Vec<Waiting>) -> Result<Step, AllocError>
+fn push_items(format: Format, class: Terminal, stack: &mut Vec<Waiting>) -> Result<Step, Memory>
     ensures { IfOk result (IsPush (Phrase.Items format) class stack.old.items stack.new.items) }
 {
     match class {
@@ -104,11 +104,7 @@ fn push_items(format: Format, class: Terminal, stack: &mut Vec<Waiting>) -> Resu
     }
 }
 
-fn push_access(
-    format: Format,
-    class: Terminal,
-    stack: &mut Vec<Waiting>,
-) -> Result<Step, AllocError>
+fn push_access(format: Format, class: Terminal, stack: &mut Vec<Waiting>) -> Result<Step, Memory>
     ensures { IfOk result (IsPush (Phrase.Access format) class stack.old.items stack.new.items) }
 {
     match class {
@@ -119,7 +115,7 @@ fn push_access(
     }
 }
 
-fn push_types(class: Terminal, stack: &mut Vec<Waiting>) -> Result<Step, AllocError>
+fn push_types(class: Terminal, stack: &mut Vec<Waiting>) -> Result<Step, Memory>
     ensures { IfOk result (IsPush Phrase.Types class stack.old.items stack.new.items) }
 {
     match class {
@@ -128,7 +124,7 @@ fn push_types(class: Terminal, stack: &mut Vec<Waiting>) -> Result<Step, AllocEr
     }
 }
 
-fn push_any_name(class: Terminal, stack: &mut Vec<Waiting>) -> Result<Step, AllocError>
+fn push_any_name(class: Terminal, stack: &mut Vec<Waiting>) -> Result<Step, Memory>
     ensures { IfOk result (IsPush Phrase.AnyName class stack.old.items stack.new.items) }
 {
     match class {
@@ -137,7 +133,7 @@ fn push_any_name(class: Terminal, stack: &mut Vec<Waiting>) -> Result<Step, Allo
     }
 }
 
-fn push_virtual_page(class: Terminal, stack: &mut Vec<Waiting>) -> Result<Step, AllocError>
+fn push_virtual_page(class: Terminal, stack: &mut Vec<Waiting>) -> Result<Step, Memory>
     ensures { IfOk result (IsPush Phrase.VirtualPage class stack.old.items stack.new.items) }
 {
     match class {
@@ -146,11 +142,7 @@ fn push_virtual_page(class: Terminal, stack: &mut Vec<Waiting>) -> Result<Step, 
     }
 }
 
-fn push_address(
-    format: Format,
-    class: Terminal,
-    stack: &mut Vec<Waiting>,
-) -> Result<Step, AllocError>
+fn push_address(format: Format, class: Terminal, stack: &mut Vec<Waiting>) -> Result<Step, Memory>
     ensures { IfOk result (IsPush (Phrase.Address format) class stack.old.items stack.new.items) }
 {
     match class {
@@ -163,7 +155,7 @@ fn push_address_inside(
     format: Format,
     class: Terminal,
     stack: &mut Vec<Waiting>,
-) -> Result<Step, AllocError>
+) -> Result<Step, Memory>
     ensures { IfOk result (IsPush (Phrase.AddressInside format) class stack.old.items stack.new.items) }
 {
     match (format, class) {
@@ -177,7 +169,7 @@ fn push_read_value(
     format: Format,
     class: Terminal,
     stack: &mut Vec<Waiting>,
-) -> Result<Step, AllocError>
+) -> Result<Step, Memory>
     ensures { IfOk result (IsPush (Phrase.ReadValue format) class stack.old.items stack.new.items) }
 {
     match class {
@@ -190,7 +182,7 @@ fn push_write_value(
     format: Format,
     class: Terminal,
     stack: &mut Vec<Waiting>,
-) -> Result<Step, AllocError>
+) -> Result<Step, Memory>
     ensures { IfOk result (IsPush (Phrase.WriteValue format) class stack.old.items stack.new.items) }
 {
     match class {
@@ -203,7 +195,7 @@ fn push_value_inside(
     format: Format,
     class: Terminal,
     stack: &mut Vec<Waiting>,
-) -> Result<Step, AllocError>
+) -> Result<Step, Memory>
     ensures { IfOk result (IsPush (Phrase.ValueInside format) class stack.old.items stack.new.items) }
 {
     match (format, class) {
@@ -217,7 +209,7 @@ fn push_stated_value(
     format: Format,
     class: Terminal,
     stack: &mut Vec<Waiting>,
-) -> Result<Step, AllocError>
+) -> Result<Step, Memory>
     ensures { IfOk result (IsPush (Phrase.StatedValue format) class stack.old.items stack.new.items) }
 {
     match (format, class) {

@@ -6,7 +6,8 @@ ghost use Rattle.ll_grammar.specs.Steps.{IsRead};
 ghost use Rattle.ll_grammar.specs.FirstFault.{IsAnswer};
 
 use crate::grammar::{Grammar, Step, Symbol, TokenClass};
-use std::alloc::{AllocError, Global};
+use pc_common::Memory;
+use std::alloc::Global;
 
 /// A fault of a list of tokens, at a token's place from 0.
 #[derive(Clone, Copy, Debug, PartialEq, Eq)]
@@ -27,7 +28,7 @@ pub fn first_fault<C: TokenClass, N: Grammar<C>>(
     alloc: Global,
     start: N,
     classes: &[C],
-) -> Result<Option<Fault>, AllocError>
+) -> Result<Option<Fault>, Memory>
     ensures { IfOk result (IsAnswer (Derives N.rules start) classes.now) }
 {
     let mut stack = Vec::new(alloc);
@@ -52,7 +53,7 @@ pub fn first_fault<C: TokenClass, N: Grammar<C>>(
 fn read<C: TokenClass, N: Grammar<C>>(
     stack: &mut Vec<Symbol<C, N>>,
     class: C,
-) -> Result<Step, AllocError>
+) -> Result<Step, Memory>
     requires { IsReady N.rules N.follow (reverse stack.old.items) }
     ensures { IfOk result (λ step.
         IsRead N.rules N.follow (reverse stack.old.items) class step (reverse stack.new.items)) }

@@ -3,7 +3,7 @@ ghost use Rattle.ll_grammar.specs.Rules.{Rules};
 ghost use Rattle.ll_grammar.specs.Predictable.{IsPredictable, HasTexts};
 ghost use Rattle.ll_grammar.specs.Steps.{IsStep};
 
-use std::alloc::AllocError;
+use pc_common::Memory;
 
 /// The class of a token: a terminal of the grammar. Two tokens of one class are alike to it.
 pub trait TokenClass: Copy + 'static {
@@ -44,7 +44,7 @@ pub trait Grammar<C: TokenClass>: Copy + 'static {
     /// stack, the next symbol on top; [`push!`] does so for a body in the order of reading.
     /// Where it does not, leaves the stack as it was. `Deep` is for a token with which the part
     /// begins: any other is `Absent` at every depth. `Err` is for want of memory alone.
-    fn push(self, class: C, stack: &mut Vec<Symbol<C, Self>>) -> Result<Step, AllocError>
+    fn push(self, class: C, stack: &mut Vec<Symbol<C, Self>>) -> Result<Step, Memory>
         ensures { IfOk result (λ step.
             IsStep (rules.behind self class) (rules.deep self class) stack.old.items step stack.new.items) };
 
@@ -64,7 +64,7 @@ pub trait Grammar<C: TokenClass>: Copy + 'static {
 pub fn push_body<C: Copy, N: Copy>(
     stack: &mut Vec<Symbol<C, N>>,
     body: &[Symbol<C, N>],
-) -> Result<Step, AllocError>
+) -> Result<Step, Memory>
     ensures pushed { IfOk result (λ step. step ≡ Step.Pushed) }
     ensures items { OnOk result (stack.new.items ≡ stack.old.items ++ reverse body.now) }
 {

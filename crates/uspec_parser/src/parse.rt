@@ -11,17 +11,18 @@ use super::level::Level;
 use super::phrase::Phrase;
 use super::terminal::Terminal;
 use ll_grammar::{Fault, first_fault};
+use pc_common::Memory;
 use pc_syntax::{Formula, ModelFile};
-use std::alloc::{AllocError, Global};
+use std::alloc::Global;
 use uspec_lexer::Tokens;
 
-fn formula_fault(alloc: Global, terminals: &[Terminal]) -> Result<Option<Fault>, AllocError>
+fn formula_fault(alloc: Global, terminals: &[Terminal]) -> Result<Option<Fault>, Memory>
     ensures { IfOk result (IsAnswer IsMarkedFormula terminals.now) }
 {
     first_fault(alloc, Phrase::Operand(Level::new(0), 0), terminals)
 }
 
-fn model_fault(alloc: Global, terminals: &[Terminal]) -> Result<Option<Fault>, AllocError>
+fn model_fault(alloc: Global, terminals: &[Terminal]) -> Result<Option<Fault>, Memory>
     ensures { IfOk result (IsAnswer IsMarkedModel terminals.now) }
 {
     first_fault(alloc, Phrase::Items, terminals)

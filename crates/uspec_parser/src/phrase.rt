@@ -6,7 +6,7 @@ use self::Phrase::*;
 use super::level::{Level, MAX_OPENERS};
 use super::terminal::Terminal::{self, *};
 use ll_grammar::{Grammar, Step, Symbol, push};
-use std::alloc::AllocError;
+use pc_common::Memory;
 
 /// The phrases of the model language: the parts of its grammar.
 #[derive(Clone, Copy)]
@@ -60,7 +60,7 @@ impl Grammar<Terminal> for Phrase {
         self,
         class: Terminal,
         stack: &mut Vec<Symbol<Terminal, Phrase>>,
-    ) -> Result<Step, AllocError> {
+    ) -> Result<Step, Memory> {
         match self {
             Items => push_items(class, stack),
             Parameters => push_parameters(class, stack),
@@ -90,7 +90,7 @@ fn within(opened: u8) -> Phrase
     Operand(Level::new(opened), opened)
 }
 
-fn push_items(class: Terminal, stack: &mut Vec<Waiting>) -> Result<Step, AllocError>
+fn push_items(class: Terminal, stack: &mut Vec<Waiting>) -> Result<Step, Memory>
     ensures { IfOk result (IsPush Phrase.Items class stack.old.items stack.new.items) }
 {
     match class {
@@ -101,7 +101,7 @@ fn push_items(class: Terminal, stack: &mut Vec<Waiting>) -> Result<Step, AllocEr
     }
 }
 
-fn push_parameters(class: Terminal, stack: &mut Vec<Waiting>) -> Result<Step, AllocError>
+fn push_parameters(class: Terminal, stack: &mut Vec<Waiting>) -> Result<Step, Memory>
     ensures { IfOk result (IsPush Phrase.Parameters class stack.old.items stack.new.items) }
 {
     match class {
@@ -110,7 +110,7 @@ fn push_parameters(class: Terminal, stack: &mut Vec<Waiting>) -> Result<Step, Al
     }
 }
 
-fn push_label(class: Terminal, stack: &mut Vec<Waiting>) -> Result<Step, AllocError>
+fn push_label(class: Terminal, stack: &mut Vec<Waiting>) -> Result<Step, Memory>
     ensures { IfOk result (IsPush Phrase.Label class stack.old.items stack.new.items) }
 {
     match class {
@@ -124,7 +124,7 @@ fn push_operand(
     opened: u8,
     class: Terminal,
     stack: &mut Vec<Waiting>,
-) -> Result<Step, AllocError>
+) -> Result<Step, Memory>
     ensures { IfOk result (IsPush (Phrase.Operand level opened) class stack.old.items stack.new.items) }
 {
     match class {
@@ -142,7 +142,7 @@ fn push_operand(
     }
 }
 
-fn push_more(level: Level, class: Terminal, stack: &mut Vec<Waiting>) -> Result<Step, AllocError>
+fn push_more(level: Level, class: Terminal, stack: &mut Vec<Waiting>) -> Result<Step, Memory>
     ensures { IfOk result (IsPush (Phrase.More level) class stack.old.items stack.new.items) }
 {
     match class {
@@ -156,7 +156,7 @@ fn push_more(level: Level, class: Terminal, stack: &mut Vec<Waiting>) -> Result<
     }
 }
 
-fn push_arguments(class: Terminal, stack: &mut Vec<Waiting>) -> Result<Step, AllocError>
+fn push_arguments(class: Terminal, stack: &mut Vec<Waiting>) -> Result<Step, Memory>
     ensures { IfOk result (IsPush Phrase.Arguments class stack.old.items stack.new.items) }
 {
     match class {
@@ -165,7 +165,7 @@ fn push_arguments(class: Terminal, stack: &mut Vec<Waiting>) -> Result<Step, All
     }
 }
 
-fn push_argument(class: Terminal, stack: &mut Vec<Waiting>) -> Result<Step, AllocError>
+fn push_argument(class: Terminal, stack: &mut Vec<Waiting>) -> Result<Step, Memory>
     ensures { IfOk result (IsPush Phrase.Argument class stack.old.items stack.new.items) }
 {
     match class {
@@ -174,7 +174,7 @@ fn push_argument(class: Terminal, stack: &mut Vec<Waiting>) -> Result<Step, Allo
     }
 }
 
-fn push_node(class: Terminal, stack: &mut Vec<Waiting>) -> Result<Step, AllocError>
+fn push_node(class: Terminal, stack: &mut Vec<Waiting>) -> Result<Step, Memory>
     ensures { IfOk result (IsPush Phrase.Node class stack.old.items stack.new.items) }
 {
     match class {
@@ -183,7 +183,7 @@ fn push_node(class: Terminal, stack: &mut Vec<Waiting>) -> Result<Step, AllocErr
     }
 }
 
-fn push_location(class: Terminal, stack: &mut Vec<Waiting>) -> Result<Step, AllocError>
+fn push_location(class: Terminal, stack: &mut Vec<Waiting>) -> Result<Step, Memory>
     ensures { IfOk result (IsPush Phrase.Location class stack.old.items stack.new.items) }
 {
     match class {
@@ -193,7 +193,7 @@ fn push_location(class: Terminal, stack: &mut Vec<Waiting>) -> Result<Step, Allo
     }
 }
 
-fn push_edge(class: Terminal, stack: &mut Vec<Waiting>) -> Result<Step, AllocError>
+fn push_edge(class: Terminal, stack: &mut Vec<Waiting>) -> Result<Step, Memory>
     ensures { IfOk result (IsPush Phrase.Edge class stack.old.items stack.new.items) }
 {
     match class {
@@ -202,7 +202,7 @@ fn push_edge(class: Terminal, stack: &mut Vec<Waiting>) -> Result<Step, AllocErr
     }
 }
 
-fn push_labels(class: Terminal, stack: &mut Vec<Waiting>) -> Result<Step, AllocError>
+fn push_labels(class: Terminal, stack: &mut Vec<Waiting>) -> Result<Step, Memory>
     ensures { IfOk result (IsPush Phrase.Labels class stack.old.items stack.new.items) }
 {
     match class {
@@ -211,7 +211,7 @@ fn push_labels(class: Terminal, stack: &mut Vec<Waiting>) -> Result<Step, AllocE
     }
 }
 
-fn push_second_label(class: Terminal, stack: &mut Vec<Waiting>) -> Result<Step, AllocError>
+fn push_second_label(class: Terminal, stack: &mut Vec<Waiting>) -> Result<Step, Memory>
     ensures { IfOk result (IsPush Phrase.SecondLabel class stack.old.items stack.new.items) }
 {
     match class {
@@ -220,7 +220,7 @@ fn push_second_label(class: Terminal, stack: &mut Vec<Waiting>) -> Result<Step, 
     }
 }
 
-fn push_sort_word(class: Terminal, stack: &mut Vec<Waiting>) -> Result<Step, AllocError>
+fn push_sort_word(class: Terminal, stack: &mut Vec<Waiting>) -> Result<Step, Memory>
     ensures { IfOk result (IsPush Phrase.SortWord class stack.old.items stack.new.items) }
 {
     match class {
@@ -229,7 +229,7 @@ fn push_sort_word(class: Terminal, stack: &mut Vec<Waiting>) -> Result<Step, All
     }
 }
 
-fn push_nodes(class: Terminal, stack: &mut Vec<Waiting>) -> Result<Step, AllocError>
+fn push_nodes(class: Terminal, stack: &mut Vec<Waiting>) -> Result<Step, Memory>
     ensures { IfOk result (IsPush Phrase.Nodes class stack.old.items stack.new.items) }
 {
     match class {
@@ -239,7 +239,7 @@ fn push_nodes(class: Terminal, stack: &mut Vec<Waiting>) -> Result<Step, AllocEr
     }
 }
 
-fn push_more_nodes(class: Terminal, stack: &mut Vec<Waiting>) -> Result<Step, AllocError>
+fn push_more_nodes(class: Terminal, stack: &mut Vec<Waiting>) -> Result<Step, Memory>
     ensures { IfOk result (IsPush Phrase.MoreNodes class stack.old.items stack.new.items) }
 {
     match class {
@@ -249,7 +249,7 @@ fn push_more_nodes(class: Terminal, stack: &mut Vec<Waiting>) -> Result<Step, Al
     }
 }
 
-fn push_edges(class: Terminal, stack: &mut Vec<Waiting>) -> Result<Step, AllocError>
+fn push_edges(class: Terminal, stack: &mut Vec<Waiting>) -> Result<Step, Memory>
     ensures { IfOk result (IsPush Phrase.Edges class stack.old.items stack.new.items) }
 {
     match class {
@@ -259,7 +259,7 @@ fn push_edges(class: Terminal, stack: &mut Vec<Waiting>) -> Result<Step, AllocEr
     }
 }
 
-fn push_more_edges(class: Terminal, stack: &mut Vec<Waiting>) -> Result<Step, AllocError>
+fn push_more_edges(class: Terminal, stack: &mut Vec<Waiting>) -> Result<Step, Memory>
     ensures { IfOk result (IsPush Phrase.MoreEdges class stack.old.items stack.new.items) }
 {
     match class {

@@ -5,7 +5,7 @@ ghost use Rattle.x86_litmus.specs.Phrases.{rules, follow, rules_predictable, rul
 use self::Phrase::*;
 use super::terminal::Terminal::{self, *};
 use ll_grammar::{Grammar, Step, Symbol, push};
-use std::alloc::AllocError;
+use pc_common::Memory;
 
 /// The parts of a listing. Each goes on to the end of what it begins: the block to its brace, a line to the condition.
 #[derive(Clone, Copy)]
@@ -63,7 +63,7 @@ impl Grammar<Terminal> for Phrase {
         self,
         class: Terminal,
         stack: &mut Vec<Symbol<Terminal, Phrase>>,
-    ) -> Result<Step, AllocError> {
+    ) -> Result<Step, Memory> {
         match self {
             Listing => push_listing(class, stack),
             Values => push_values(class, stack),
@@ -82,7 +82,7 @@ impl Grammar<Terminal> for Phrase {
     }
 }
 
-fn push_listing(class: Terminal, stack: &mut Vec<Waiting>) -> Result<Step, AllocError>
+fn push_listing(class: Terminal, stack: &mut Vec<Waiting>) -> Result<Step, Memory>
     ensures { IfOk result (IsPush Phrase.Listing class stack.old.items stack.new.items) }
 {
     match class {
@@ -91,7 +91,7 @@ fn push_listing(class: Terminal, stack: &mut Vec<Waiting>) -> Result<Step, Alloc
     }
 }
 
-fn push_values(class: Terminal, stack: &mut Vec<Waiting>) -> Result<Step, AllocError>
+fn push_values(class: Terminal, stack: &mut Vec<Waiting>) -> Result<Step, Memory>
     ensures { IfOk result (IsPush Phrase.Values class stack.old.items stack.new.items) }
 {
     match class {
@@ -102,7 +102,7 @@ fn push_values(class: Terminal, stack: &mut Vec<Waiting>) -> Result<Step, AllocE
     }
 }
 
-fn push_more_values(class: Terminal, stack: &mut Vec<Waiting>) -> Result<Step, AllocError>
+fn push_more_values(class: Terminal, stack: &mut Vec<Waiting>) -> Result<Step, Memory>
     ensures { IfOk result (IsPush Phrase.MoreValues class stack.old.items stack.new.items) }
 {
     match class {
@@ -112,7 +112,7 @@ fn push_more_values(class: Terminal, stack: &mut Vec<Waiting>) -> Result<Step, A
     }
 }
 
-fn push_columns(class: Terminal, stack: &mut Vec<Waiting>) -> Result<Step, AllocError>
+fn push_columns(class: Terminal, stack: &mut Vec<Waiting>) -> Result<Step, Memory>
     ensures { IfOk result (IsPush Phrase.Columns class stack.old.items stack.new.items) }
 {
     match class {
@@ -121,7 +121,7 @@ fn push_columns(class: Terminal, stack: &mut Vec<Waiting>) -> Result<Step, Alloc
     }
 }
 
-fn push_more_columns(class: Terminal, stack: &mut Vec<Waiting>) -> Result<Step, AllocError>
+fn push_more_columns(class: Terminal, stack: &mut Vec<Waiting>) -> Result<Step, Memory>
     ensures { IfOk result (IsPush Phrase.MoreColumns class stack.old.items stack.new.items) }
 {
     match class {
@@ -131,7 +131,7 @@ fn push_more_columns(class: Terminal, stack: &mut Vec<Waiting>) -> Result<Step, 
     }
 }
 
-fn push_rows(class: Terminal, stack: &mut Vec<Waiting>) -> Result<Step, AllocError>
+fn push_rows(class: Terminal, stack: &mut Vec<Waiting>) -> Result<Step, Memory>
     ensures { IfOk result (IsPush Phrase.Rows class stack.old.items stack.new.items) }
 {
     match class {
@@ -145,7 +145,7 @@ fn push_rows(class: Terminal, stack: &mut Vec<Waiting>) -> Result<Step, AllocErr
     }
 }
 
-fn push_cells(class: Terminal, stack: &mut Vec<Waiting>) -> Result<Step, AllocError>
+fn push_cells(class: Terminal, stack: &mut Vec<Waiting>) -> Result<Step, Memory>
     ensures { IfOk result (IsPush Phrase.Cells class stack.old.items stack.new.items) }
 {
     match class {
@@ -157,7 +157,7 @@ fn push_cells(class: Terminal, stack: &mut Vec<Waiting>) -> Result<Step, AllocEr
     }
 }
 
-fn push_more_cells(class: Terminal, stack: &mut Vec<Waiting>) -> Result<Step, AllocError>
+fn push_more_cells(class: Terminal, stack: &mut Vec<Waiting>) -> Result<Step, Memory>
     ensures { IfOk result (IsPush Phrase.MoreCells class stack.old.items stack.new.items) }
 {
     match class {
@@ -167,7 +167,7 @@ fn push_more_cells(class: Terminal, stack: &mut Vec<Waiting>) -> Result<Step, Al
     }
 }
 
-fn push_move(class: Terminal, stack: &mut Vec<Waiting>) -> Result<Step, AllocError>
+fn push_move(class: Terminal, stack: &mut Vec<Waiting>) -> Result<Step, Memory>
     ensures { IfOk result (IsPush Phrase.Move class stack.old.items stack.new.items) }
 {
     match class {
@@ -177,7 +177,7 @@ fn push_move(class: Terminal, stack: &mut Vec<Waiting>) -> Result<Step, AllocErr
     }
 }
 
-fn push_asked(class: Terminal, stack: &mut Vec<Waiting>) -> Result<Step, AllocError>
+fn push_asked(class: Terminal, stack: &mut Vec<Waiting>) -> Result<Step, Memory>
     ensures { IfOk result (IsPush Phrase.Asked class stack.old.items stack.new.items) }
 {
     match class {
@@ -189,7 +189,7 @@ fn push_asked(class: Terminal, stack: &mut Vec<Waiting>) -> Result<Step, AllocEr
     }
 }
 
-fn push_equations(class: Terminal, stack: &mut Vec<Waiting>) -> Result<Step, AllocError>
+fn push_equations(class: Terminal, stack: &mut Vec<Waiting>) -> Result<Step, Memory>
     ensures { IfOk result (IsPush Phrase.Equations class stack.old.items stack.new.items) }
 {
     match class {
@@ -200,7 +200,7 @@ fn push_equations(class: Terminal, stack: &mut Vec<Waiting>) -> Result<Step, All
     }
 }
 
-fn push_more_equations(class: Terminal, stack: &mut Vec<Waiting>) -> Result<Step, AllocError>
+fn push_more_equations(class: Terminal, stack: &mut Vec<Waiting>) -> Result<Step, Memory>
     ensures { IfOk result (IsPush Phrase.MoreEquations class stack.old.items stack.new.items) }
 {
     match class {
@@ -209,7 +209,7 @@ fn push_more_equations(class: Terminal, stack: &mut Vec<Waiting>) -> Result<Step
     }
 }
 
-fn push_any_name(class: Terminal, stack: &mut Vec<Waiting>) -> Result<Step, AllocError>
+fn push_any_name(class: Terminal, stack: &mut Vec<Waiting>) -> Result<Step, Memory>
     ensures { IfOk result (IsPush Phrase.AnyName class stack.old.items stack.new.items) }
 {
     match class {
