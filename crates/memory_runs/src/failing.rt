@@ -3,8 +3,8 @@ ghost use Rattle.std.specs.Prelude.{◌<◌};
 
 use super::outside::{files, sink};
 use super::runs::{End, words};
+use command_line::run;
 use pc_common::{MemFiles, MemSink, Memory, Status};
-use pipecheck_run::run;
 use std::alloc::Global;
 
 /// A command; what the files hold that its words name, in their order; how it ends where no call fails; and in how

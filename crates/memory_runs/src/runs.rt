@@ -1,7 +1,7 @@
 //! How a command ends over files and a sink in memory.
 use super::outside::{files, sink};
+use command_line::run;
 use pc_common::{MemFiles, MemSink, Memory, Status};
-use pipecheck_run::run;
 use std::alloc::Global;
 
 /// How a run ends: its status, and what the sink holds.

@@ -5,7 +5,7 @@
 //! where memory for them was refused, as for any want of memory, and 8 for any other cause.
 #![tactic(auto)]
 
-use pipecheck_run::run;
+use command_line::run;
 use real_outside::{RealFiles, RealSink, number_without};
 use std::process::ExitCode;
 use std::{env, io};

@@ -1,7 +1,7 @@
 //! Many open reads: how many rows they have, and when these are too many.
+use command_line::run;
 use memory_runs::{calls, ends_over, files, words};
 use pc_common::{MemFiles, MemSink, Memory, Status};
-use pipecheck_run::run;
 use std::alloc::Global;
 use std::test::Fail;
 
