@@ -1,4 +1,4 @@
-use Rattle.std.proofs.Common.{◌+◌, true, false, List, drop, refl, subst, arith}
+use Rattle.std.proofs.Common.{◌+◌, List, drop, refl, subst, arith}
 use Rattle.std.proofs.lemmas.List.{drop_all}
 use Rattle.static_preds.proofs.Walked.{drop_at}
 use Rattle.pc_common.specs.World.{Node}
