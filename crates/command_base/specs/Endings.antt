@@ -13,6 +13,8 @@ use Rattle.pc_common.specs.declared.reading.ReadEnd.TheVariants.{ReadFault as an
 use Rattle.command_base.specs.declared.refusal.Refusal.{Refusal}
 use Rattle.command_base.specs.declared.ending.Ending.{Ending}
 use Rattle.command_base.specs.declared.ending.Ending.TheVariants.{ReadFault as a_read_fault, Memory as a_memory, Refused as a_refusal}
+use Rattle.command_base.specs.declared.feed_end.FeedEnd.{FeedEnd}
+use Rattle.command_base.specs.declared.feed_end.FeedEnd.TheVariants.{ReadFault as a_failed_call, Memory as refused_memory}
 use Rattle.command_base.specs.Words.{fault_word, file_word}
 use Rattle.command_base.specs.Inputs.{too_large}
 use Rattle.command_base.specs.SecondFiles.{SaysNone, IsOfTwo}
@@ -21,6 +23,11 @@ abbrev pub refusal_text : Refusal → List ℕ
 refusal_text r =
     codes "refused " ++ file_word r.fault.file ++ codes " " ++ fault_word r.fault.kind ++ codes " at "
     ++ decimal r.line ++ codes ":" ++ decimal r.column ++ codes "\n"
+
+-- how a command ends whose third file could not be checked
+abbrev pub ending_of : FeedEnd → Ending
+ending_of a_failed_call = a_read_fault
+ending_of refused_memory = a_memory
 
 -- nothing is written of the two that have no text
 abbrev pub ending_text : Ending → List ℕ

@@ -1,7 +1,8 @@
 ghost use Rattle.std.specs.Prelude.{◌≡◌};
 ghost use Rattle.pc_common.specs.Writes.{Writes};
-ghost use Rattle.command_base.specs.Endings.{ending_status as ending_status_of, ending_text};
+ghost use Rattle.command_base.specs.Endings.{ending_of, ending_status as ending_status_of, ending_text};
 
+use super::feed_end::FeedEnd;
 use super::refusal::{Refusal, write_refusal};
 use pc_common::{Failed, Sink, Status, write_all};
 
@@ -14,6 +15,18 @@ pub enum Ending {
     Memory,
     /// A file has a fault, the first of the two.
     Refused(Refusal),
+}
+
+/// A third file that could not be checked ends the command for the same cause.
+impl From<FeedEnd> for Ending {
+    ghost from_gives = { λ end ending. ending ≡ ending_of end };
+
+    fn from(end: FeedEnd) -> Self {
+        match end {
+            FeedEnd::ReadFault => Ending::ReadFault,
+            FeedEnd::Memory => Ending::Memory,
+        }
+    }
 }
 
 /// Writes the line of a refusal, and nothing of the two others. Takes no memory.

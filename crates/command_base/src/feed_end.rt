@@ -4,7 +4,7 @@ ghost use Rattle.command_base.specs.declared.feed_end.FeedEnd.TheVariants.{ReadF
 use pc_common::{Failed, Memory};
 use std::alloc::AllocError;
 
-/// Why a file could not be checked.
+/// Why a third file could not be checked or lifted.
 #[derive(Clone, Copy)]
 pub enum FeedEnd {
     /// A call of the files failed.

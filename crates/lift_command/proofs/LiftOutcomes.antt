@@ -1,9 +1,8 @@
 -- The outcome of `lift`: what its answer says, and that it is due.
-use Rattle.std.proofs.Common.{◌≡◌, ℕ, List, Some, None, Ok, Err, refl, ◌∙◌, ap, subst}
-use Rattle.std.specs.Prelude.{IsTrue, IfOk, Result}
+use Rattle.std.proofs.Common.{◌≡◌, ℕ, List, Some, ◌∙◌, ap, subst}
+use Rattle.std.specs.Prelude.{IsTrue}
 use Rattle.pc_common.specs.Outside.{FilesView}
 use Rattle.pc_common.specs.Case.{Case}
-use Rattle.pc_common.specs.Faults.{Rose}
 use Rattle.pc_common.specs.Reads.{Reads}
 use Rattle.pc_common.specs.declared.fault.InputFault.{InputFault}
 use Rattle.pc_common.specs.declared.status.Status.{Status}
@@ -20,20 +19,16 @@ use Rattle.command_base.specs.Inputs.{Inputs, Contents, Says}
 use Rattle.command_base.specs.SecondFiles.{IsForm}
 use Rattle.command_base.specs.Questions.{question_by}
 use Rattle.command_base.specs.VerdictStatus.{IsTrueStatus}
-use Rattle.command_base.specs.Endings.{returned_status, returned_text}
 use Rattle.command_base.specs.Outcomes.{HasFront, IsThirdOutcome}
 use Rattle.command_base.proofs.OneCase.{one_held}
 use Rattle.command_base.proofs.AskedAlike.{asks_alike}
 use Rattle.command_base.proofs.AnsweredFiles.{found_of, due_of_files}
-use Rattle.command_base.proofs.ThirdFile.{third_found, third_fault, third_memory}
+use Rattle.command_base.proofs.ThirdFile.{third_found}
 use Rattle.command_base.specs.Questions.{lifted_question}
 use Rattle.lift_command.specs.declared.lifting.FoundLift.{FoundLift}
 use Rattle.lift_command.specs.declared.lifting.FoundLift.TheVariants.{Observable, Text, Refused}
-use Rattle.lift_command.specs.declared.lifting.LiftEnd.{LiftEnd}
-use Rattle.lift_command.specs.declared.lifting.LiftEnd.TheVariants.{ReadFault as a_fault, Memory as no_memory}
 use Rattle.lift_command.specs.Lifts.{IsLiftOf}
 use Rattle.lift_command.specs.LiftTexts.{lift_status, lift_text}
-use Rattle.lift_command.specs.Returned.{returned}
 use Rattle.lift_command.specs.LiftAnswers.{AnswersLift, IsLiftDue, IsLifted, lifted, IsDueLift}
 use Rattle.lift_command.proofs.OneStatus.{status_of, lift_true_status}
 
@@ -64,22 +59,18 @@ module _ {F : Type 0} {view : F → FilesView} {old mid new : F}
     (failing_modelled : IsTrue (view old).only_missing_fail → IsTrue (view old).modelled)
     {case_of : List ℕ → Case → Type 0} {first_fault : List ℕ → List ℕ → InputFault → Type 0} {i : Inputs} (certificate : List ℕ) {front : Front}
     (f : HasFront view case_of i old mid front) (keeps : Reads view mid new) where
-  -- the third file was lifted, or could not be
-  pub file_outcome : (r : Result FoundLift LiftEnd)
-      → IfOk r (λ found. IsTrue (view mid).modelled → (bytes : List ℕ) × ((view mid).holds certificate ≡ Some bytes)
+  -- the third file was lifted
+  pub found_outcome : (found : FoundLift)
+      → (IsTrue (view mid).modelled → (bytes : List ℕ) × ((view mid).holds certificate ≡ Some bytes)
       × IsLiftOf (question_of front) (asked front.case front.axioms) bytes found)
-      → (r ≡ Err a_fault → Rose (view mid).faults (view new).faults) → (IsTrue (view mid).only_missing_fail → r ≡ Err a_fault → (view mid).holds certificate ≡ None)
-      → IsThirdOutcome view case_of first_fault i certificate (IsLifted (view old).holds certificate) old new
-      (returned_status lift_status (returned r)) (returned_text lift_text (returned r))
-  file_outcome (Ok found) is rose none =
+      → IsThirdOutcome view case_of first_fault i certificate (IsLifted (view old).holds certificate) old new (lift_status found) (lift_text found)
+  found_outcome found is =
       third_found failing_modelled certificate (IsLifted (view old).holds certificate) f keeps (lift_status found) (lift_text found) (no_usage found) (no_read_fault found)
       (λ t. let third = is t in (
         third.0,
         third.1,
         λ held. lifted found held (lift_alike f.m f.c front f.front_of third.0 found third.2),
       ))
-  file_outcome (Err a_fault) is rose none = third_fault failing_modelled certificate (IsLifted (view old).holds certificate) f keeps (rose refl) (λ c. none c refl)
-  file_outcome (Err no_memory) is rose none = third_memory failing_modelled certificate (IsLifted (view old).holds certificate) f keeps
 
 judged_true : {holds : Contents} {certificate : List ℕ} {m : WrittenModel} {c : Case} {status : Status} {text : List ℕ}
     → IsLifted holds certificate m c status text → IsTrueStatus m c status

@@ -1,4 +1,3 @@
 pub mod Lifts
 pub mod LiftTexts
-pub mod Returned
 pub mod LiftAnswers

@@ -3,24 +3,12 @@ ghost use Rattle.command_base.specs.Inputs.{plain_inputs};
 ghost use Rattle.command_base.specs.Endings.{returned_status, returned_text};
 ghost use Rattle.command_base.specs.Outcomes.{IsThirdOutcome};
 ghost use Rattle.lift_command.specs.LiftTexts.{lift_status, lift_text};
-ghost use Rattle.lift_command.specs.Returned.{returned};
 ghost use Rattle.lift_command.specs.LiftAnswers.{IsLifted};
 
-use super::lifting::{FoundLift, LiftEnd, lift_file};
+use super::lifting::{FoundLift, lift_file};
 use command_base::{Ending, Inputs, SecondFile, read_inputs};
 use pc_common::Files;
 use std::alloc::Global;
-
-/// What the command returns where the third file was lifted, or could not be.
-fn returned_of(found: Result<FoundLift, LiftEnd>) -> Result<FoundLift, Ending>
-    ensures { result ≡ returned found }
-{
-    match found {
-        Ok(found) => Ok(found),
-        Err(LiftEnd::ReadFault) => Err(Ending::ReadFault),
-        Err(LiftEnd::Memory) => Err(Ending::Memory),
-    }
-}
 
 /// Reads the two files, and where they have no fault the third: what it is made into, or how the command ends before.
 pub fn lift_files<S: SecondFile, F: Files>(
@@ -39,5 +27,5 @@ pub fn lift_files<S: SecondFile, F: Files>(
     };
     let found = lift_file(alloc, &front, certificate, files);
     drop(front);
-    returned_of(found)
+    Ok(found?)
 }

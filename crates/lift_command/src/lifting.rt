@@ -4,9 +4,10 @@ ghost use Rattle.pc_common.specs.Reads.{Reads};
 ghost use Rattle.cert_check.specs.Questions.{question_of};
 ghost use Rattle.lifted_check.specs.LiftedTexts.{asked};
 ghost use Rattle.lift_command.specs.Lifts.{IsLiftOf};
-ghost use Rattle.lift_command.specs.declared.lifting.LiftEnd.TheVariants.{ReadFault as a_read_fault, Memory as no_memory};
+ghost use Rattle.command_base.specs.declared.feed_end.FeedEnd.TheVariants.{ReadFault as a_read_fault};
 
 use cert_check::{One, check_one};
+use command_base::FeedEnd;
 use lifted_text::lift;
 use pc_common::{Files, MAX_CERTIFICATE, Memory, ReadEnd, read_all};
 use pc_ground::Front;
@@ -21,23 +22,6 @@ pub enum FoundLift {
     Text(Vec<u8>),
     /// The first line that is refused, from 1; 0 where it is longer than 67,108,864 bytes.
     Refused(u64),
-}
-
-/// Why a file could not be lifted.
-#[derive(Clone, Copy)]
-pub(crate) enum LiftEnd {
-    /// A call of the files failed.
-    ReadFault,
-    /// Memory was refused.
-    Memory,
-}
-
-impl From<Memory> for LiftEnd {
-    ghost from_gives = { λ _ e. e ≡ no_memory };
-
-    fn from(_: Memory) -> Self {
-        LiftEnd::Memory
-    }
 }
 
 /// What the text of a certificate is made into.
@@ -57,7 +41,7 @@ pub(crate) fn lift_file<F: Files>(
     front: &Front,
     name: &str,
     files: &mut F,
-) -> Result<FoundLift, LiftEnd>
+) -> Result<FoundLift, FeedEnd>
     ensures keeps { Reads F.view files.old files.new }
     ensures found { IfOk result (λ found. IsTrue (F.view files.old).modelled →
         (bytes : List ℕ) × ((F.view files.old).holds name.now ≡ Some bytes)
@@ -69,7 +53,7 @@ pub(crate) fn lift_file<F: Files>(
     match read_all(alloc, files, name, MAX_CERTIFICATE) {
         Ok(bytes) => Ok(lift_bytes(alloc, front, &bytes)?),
         Err(ReadEnd::TooLarge) => Ok(FoundLift::Refused(0)),
-        Err(ReadEnd::ReadFault) => Err(LiftEnd::ReadFault),
-        Err(ReadEnd::Memory) => Err(LiftEnd::Memory),
+        Err(ReadEnd::ReadFault) => Err(FeedEnd::ReadFault),
+        Err(ReadEnd::Memory) => Err(FeedEnd::Memory),
     }
 }

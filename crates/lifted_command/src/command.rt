@@ -3,25 +3,13 @@ ghost use Rattle.command_base.specs.Inputs.{plain_inputs};
 ghost use Rattle.command_base.specs.Endings.{returned_status, returned_text};
 ghost use Rattle.command_base.specs.Outcomes.{IsThirdOutcome};
 ghost use Rattle.lifted_command.specs.LiftedTexts.{lifted_status, lifted_text};
-ghost use Rattle.lifted_command.specs.Reading.{returned};
 ghost use Rattle.lifted_command.specs.LiftedAnswers.{IsJudged};
 
 use super::checking::check_file;
-use command_base::{Ending, FeedEnd, Inputs, SecondFile, read_parts};
+use command_base::{Ending, Inputs, SecondFile, read_parts};
 use lifted_check::Lifted;
 use pc_common::Files;
 use std::alloc::Global;
-
-/// What the command returns where the third file was checked, or could not be.
-fn returned_of(checked: Result<Lifted, FeedEnd>) -> Result<Lifted, Ending>
-    ensures { result ≡ returned checked }
-{
-    match checked {
-        Ok(checked) => Ok(checked),
-        Err(FeedEnd::ReadFault) => Err(Ending::ReadFault),
-        Err(FeedEnd::Memory) => Err(Ending::Memory),
-    }
-}
 
 /// Reads the two files, and where they have no fault the third: what it is to them, or how the command ends before.
 pub fn verify_lifted<S: SecondFile, F: Files>(
@@ -40,5 +28,5 @@ pub fn verify_lifted<S: SecondFile, F: Files>(
     };
     let checked = check_file(alloc, &parts, certificate, files);
     drop(parts);
-    returned_of(checked)
+    Ok(checked?)
 }

@@ -3,25 +3,13 @@ ghost use Rattle.command_base.specs.Inputs.{plain_inputs};
 ghost use Rattle.command_base.specs.Endings.{returned_status, returned_text};
 ghost use Rattle.command_base.specs.Outcomes.{IsThirdOutcome};
 ghost use Rattle.command_base.specs.CheckedTexts.{checked_status, checked_text};
-ghost use Rattle.verify_command.specs.Reading.{returned};
 ghost use Rattle.verify_command.specs.VerifyAnswers.{IsJudged};
 
 use super::checking::check_file;
 use cert_check::Checked;
-use command_base::{Ending, FeedEnd, Inputs, SecondFile, read_parts};
+use command_base::{Ending, Inputs, SecondFile, read_parts};
 use pc_common::Files;
 use std::alloc::Global;
-
-/// What the command returns where the third file was checked, or could not be.
-fn returned_of(checked: Result<Checked, FeedEnd>) -> Result<Checked, Ending>
-    ensures { result ≡ returned checked }
-{
-    match checked {
-        Ok(checked) => Ok(checked),
-        Err(FeedEnd::ReadFault) => Err(Ending::ReadFault),
-        Err(FeedEnd::Memory) => Err(Ending::Memory),
-    }
-}
 
 /// Reads the two files, and where they have no fault the third: what it is to them, or how the command ends before.
 /// The ground tree is built where the third file's first line is `unobservable`, and else never.
@@ -39,6 +27,5 @@ pub fn verify<S: SecondFile, F: Files>(
         Ok(parts) => parts,
         Err(ending) => return Err(ending),
     };
-    let checked = check_file(alloc, parts, certificate, files);
-    returned_of(checked)
+    Ok(check_file(alloc, parts, certificate, files)?)
 }

@@ -1,6 +1,6 @@
 use Rattle.command_base.proofs.ThirdFile.{third_ending}
 use Rattle.lift_command.specs.LiftAnswers.{IsLifted}
-use Rattle.lift_command.proofs.LiftOutcomes.{file_outcome}
+use Rattle.lift_command.proofs.LiftOutcomes.{found_outcome}
 use Rattle.lift_command.proofs.command.lift_files.Goals as goal
 
 pub returns-in-Err : goal.returns-in-Err
@@ -10,6 +10,5 @@ returns-in-Err g c =
 
 pub returns : goal.returns
 returns g c =
-    rw (← c.returned_of.ensures) at
-    (file_outcome (g.met.F.Files.failing_modelled c.args.files.now) {first_fault = g.S.SecondFile.first_fault} c.args.certificate.now c.in-Ok.ensures c.lift_file-found.ensures.keeps
-    c.lift_file-found.result c.lift_file-found.ensures.found c.lift_file-found.ensures.cause c.lift_file-found.ensures.missing)
+    found_outcome (g.met.F.Files.failing_modelled c.args.files.now) {first_fault = g.S.SecondFile.first_fault} c.args.certificate.now c.in-Ok.ensures c.lift_file-found.ensures.keeps
+    c.in_ok-found.field-0 c.in_ok-found.ensures.found

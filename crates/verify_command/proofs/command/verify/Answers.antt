@@ -1,6 +1,6 @@
 use Rattle.command_base.proofs.ThirdFile.{third_ending}
 use Rattle.verify_command.specs.VerifyAnswers.{IsJudged}
-use Rattle.verify_command.proofs.VerifyOutcomes.{file_outcome}
+use Rattle.verify_command.proofs.VerifyOutcomes.{found_outcome}
 use Rattle.verify_command.proofs.command.verify.Goals as goal
 
 pub returns-in-Err : goal.returns-in-Err
@@ -10,6 +10,5 @@ returns-in-Err g c =
 
 pub returns : goal.returns
 returns g c =
-    rw (← c.returned_of.ensures) at
-    (file_outcome (g.met.F.Files.failing_modelled c.args.files.now) {first_fault = g.S.SecondFile.first_fault} c.args.certificate.now c.in-Ok.ensures c.check_file-checked.ensures.keeps
-    c.check_file-checked.result c.check_file-checked.ensures.verified c.check_file-checked.ensures.cause c.check_file-checked.ensures.missing)
+    found_outcome (g.met.F.Files.failing_modelled c.args.files.now) {first_fault = g.S.SecondFile.first_fault} c.args.certificate.now c.in-Ok.ensures c.check_file.ensures.keeps
+    c.in_ok-check_file.field-0 c.in_ok-check_file.ensures.verified
