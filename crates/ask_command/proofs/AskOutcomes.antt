@@ -11,8 +11,8 @@ use Rattle.pc_front.specs.Front.{IsFrontOf}
 use Rattle.query_front.specs.Queries.{with_axiom, with_denial}
 use Rattle.query_front.specs.declared.inquiry.Inquiry.{Inquiry}
 use Rattle.query_front.proofs.FaultlessQueries.{denial_faultless, axiom_faultless}
-use Rattle.ask_words.specs.declared.outcome.Asked.{Asked}
-use Rattle.ask_words.specs.Asking.{IsFrontMore, IsAsked, word_of}
+use Rattle.ask_command.specs.declared.outcome.Asked.{Asked}
+use Rattle.ask_command.specs.Asking.{IsFrontMore, IsAsked, word_of}
 use Rattle.command_base.specs.declared.ending.Ending.{Ending}
 use Rattle.command_base.specs.Inputs.{Inputs, Contents}
 use Rattle.command_base.specs.Endings.{ending_status, ending_text}

@@ -12,9 +12,9 @@ use Rattle.query_front.specs.Queries.{with_axiom, with_denial}
 use Rattle.query_front.proofs.WithAxiom.{satisfies_more}
 use Rattle.solver.specs.declared.answer.Answer.{Answer}
 use Rattle.solver.specs.declared.answer.Answer.TheVariants.{Observable as a_graph, Unobservable as a_refutation}
-use Rattle.ask_words.specs.Asking.{word_of}
-use Rattle.ask_words.specs.Words.{Somewhere}
-use Rattle.ask_words.proofs.TrueWords.{Told, word_is, not_true, true_not}
+use Rattle.ask_command.specs.Asking.{word_of}
+use Rattle.ask_command.specs.Words.{Somewhere}
+use Rattle.ask_command.proofs.TrueWords.{Told, word_is, not_true, true_not}
 use Rattle.verdicts.specs.Verdicts.{status_of}
 use Rattle.verdicts.specs.Certified.{IsCertified}
 use Rattle.verdicts.proofs.CertifiedTruth.{certified_true}

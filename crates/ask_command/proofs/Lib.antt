@@ -1,3 +1,5 @@
+pub mod MoreParts
+pub mod TrueWords
 pub mod ThreeFiles
 pub mod MoreFronts
 pub mod AskWords

@@ -36,7 +36,7 @@ use Rattle.query_front.proofs.FaultlessQueries.{denial_names}
 use Rattle.solver.specs.Answers.{IsAnswer}
 use Rattle.solver.specs.declared.answer.Answer.{Answer}
 use Rattle.front_search.specs.Found.{IsFound}
-use Rattle.ask_words.specs.Asking.{IsFrontMore}
+use Rattle.ask_command.specs.Asking.{IsFrontMore}
 use Rattle.command_base.proofs.AskedAlike.{numbers_same, same_tree}
 use Rattle.verdicts.specs.Verdicts.{IsVerdict, IsWritable, status_of, verdict_text}
 use Rattle.verdicts.specs.Certified.{IsCertified}

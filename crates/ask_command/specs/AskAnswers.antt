@@ -11,8 +11,8 @@ use Rattle.pc_syntax.specs.Observable.{macros_of, setting, satisfies, IsWorldOf}
 use Rattle.pc_syntax.specs.Truth.{is_true}
 use Rattle.pc_ground.specs.declared.version.Version.TheVariants.{One}
 use Rattle.query_front.specs.Queries.{with_axiom, with_denial}
-use Rattle.ask_words.specs.declared.outcome.AskWord.{AskWord}
-use Rattle.ask_words.specs.Words.{IsWord}
+use Rattle.ask_command.specs.declared.outcome.AskWord.{AskWord}
+use Rattle.ask_command.specs.Words.{IsWord}
 use Rattle.verdicts.specs.Certified.{IsCertified}
 use Rattle.command_base.specs.Inputs.{Inputs, Contents}
 use Rattle.command_base.specs.Outcomes.{IsOutcome}

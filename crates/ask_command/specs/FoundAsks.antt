@@ -4,8 +4,8 @@ use Rattle.pc_ground.specs.declared.front.Front.{Front}
 use Rattle.pc_ground.specs.declared.version.Version.TheVariants.{One}
 use Rattle.pc_ground.specs.NodeForm.{names_of}
 use Rattle.solver.specs.declared.answer.Answer.{Answer}
-use Rattle.ask_words.specs.declared.outcome.Asked.{Asked}
-use Rattle.ask_words.specs.Asking.{word_of}
+use Rattle.ask_command.specs.declared.outcome.Asked.{Asked}
+use Rattle.ask_command.specs.Asking.{word_of}
 use Rattle.verdicts.specs.declared.verdict.Verdict.{Verdict}
 use Rattle.verdicts.specs.Verdicts.{verdict_text, IsWritable}
 use Rattle.ask_command.specs.declared.command.FoundAsk.{FoundAsk}

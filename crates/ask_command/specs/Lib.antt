@@ -1,3 +1,5 @@
+pub mod Asking
+pub mod Words
 pub mod AskTexts
 pub mod AskFiles
 pub mod AskAnswers

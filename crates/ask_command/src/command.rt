@@ -5,8 +5,9 @@ ghost use Rattle.command_base.specs.Endings.{returned_status, returned_text};
 ghost use Rattle.ask_command.specs.AskAnswers.{IsAskOutcome};
 ghost use Rattle.ask_command.specs.FoundAsks.{verdict_of as verdict_in, verdicts_of as verdicts_in, found_text, IsAskWritable};
 
+use super::asking::ask_parts;
 use super::files::read_three;
-use ask_words::{Asked, ask_parts};
+use super::outcome::Asked;
 use command_base::{Ending, Inputs};
 use front_search::Search;
 use pc_common::{Files, Memory};

@@ -10,11 +10,27 @@
 //! It reads the three files, at most 1,048,576 bytes each, and judges them in this order. It returns a `FoundAsk`, whose
 //! status is `Done`; or an `Ending`, which is a failed call, refused memory or the first fault of the three. Its text is
 //! the word, and two certificates: one where the formula is the model's last axiom, and one where its denial is.
+//!
+//! `ask` searches these two fronts. A graph of the first is a world where the formula holds, a graph of the second one
+//! where it does not, and a refutation says that there is no such world. So the two answers tell the word: `always`,
+//! `never`, `sometimes`, or `vacuous`, where there is no world at all. What grounds and searches is a `Search`, such as
+//! `front_search::Solver`. `specs/Asking.antt` says what the two fronts and answers are, and `specs/Words.antt` what each
+//! word says of the worlds.
 #![tactic(auto)]
 
+mod asking;
 mod command;
+mod copies;
 mod files;
+mod fronts;
+mod laws;
+mod outcome;
 mod report;
+mod telling;
 
+pub use asking::{ask, ask_parts};
 pub use command::{FoundAsk, ask_files};
+pub use laws::words_are_true;
+pub use outcome::{AskWord, Asked};
 pub use report::write_ask;
+pub use telling::word;

@@ -4,7 +4,8 @@ ghost use Rattle.ask_command.specs.AskTexts.{head_text};
 ghost use Rattle.ask_command.specs.FoundAsks.{found_text, IsAskWritable};
 
 use super::command::FoundAsk;
-use ask_words::{AskWord, word};
+use super::outcome::AskWord;
+use super::telling::word;
 use pc_common::{Failed, Sink, write_all};
 use verdicts::write_verdict;
 

@@ -1,5 +1,5 @@
 //! The laws of queries and of their words.
-use ask_words::words_are_true;
+use ask_command::words_are_true;
 use query_front::{no_query_fault, one_query, one_query_fault, query_or_fault};
 use scope_check::query_faults_are_name_faults;
 

@@ -7,8 +7,9 @@
 //! ```
 //!
 //! `Search` says what grounds the parts of a model and a test, and what is found of a front; `Solver` does it, by
-//! `front_parts` and `solver`. A crate that asks for many fronts and answers, as `axiom_core` and `ask_words` do, is generic
-//! over `Search`. So it is proved by these contracts alone, and the prover need not load the grounder and the search for it.
+//! `front_parts` and `solver`. A crate that asks for many fronts and answers, as `axiom_core` and `ask_command` do, is
+//! generic over `Search`. So it is proved by these contracts alone, and the prover need not load the grounder and the
+//! search for it.
 //!
 //! `specs/Found.antt` says what the search finds of a front.
 #![tactic(auto)]

@@ -9,7 +9,7 @@ use Rattle.pc_syntax.specs.Written.{WrittenModel}
 use Rattle.litmus_reader.specs.Answer.{CaseOf}
 use Rattle.pc_front.specs.Front.{IsFirstFault as IsTestFault}
 use Rattle.cert_check.specs.Verdicts.{plain_verdict}
-use Rattle.gen_texts.specs.Ring.{ring_model, ring_test}
+use Rattle.gen_command.specs.Ring.{ring_model, ring_test}
 use Rattle.command_base.specs.declared.ending.Ending.{Ending}
 use Rattle.command_base.specs.declared.ending.Ending.TheVariants.{ReadFault as a_read_fault, Memory as a_memory, Refused as a_refusal}
 use Rattle.command_base.specs.Endings.{ending_status, ending_text, bytes_of, IsBytesEnding}

@@ -1,3 +1,4 @@
+pub mod Lines
 pub mod TextSizes
 pub mod StepCounts
 pub mod SixLines

@@ -20,7 +20,7 @@ use Rattle.solver.specs.declared.answer.Answer.{Answer as Found}
 use Rattle.solver.specs.declared.answer.Answer.TheVariants.{Observable as a_graph, Unobservable as a_refutation}
 use Rattle.cert_check.specs.Certificates.{certificate_lines, tree_lines}
 use Rattle.cert_check.specs.Verdicts.{plain_verdict}
-use Rattle.gen_texts.specs.Ring.{ring_model, ring_test}
+use Rattle.gen_command.specs.Ring.{ring_model, ring_test}
 use Rattle.command_base.specs.declared.ending.Ending.{Ending}
 use Rattle.command_base.specs.SecondFiles.{SaysFront}
 use Rattle.command_base.specs.Endings.{IsBytesEnding}

@@ -7,7 +7,7 @@ use Rattle.std.specs.Prelude.{codes}
 use Rattle.std.specs.Fmt.{decimal}
 use Rattle.std.specs.List.{flat_map, range_with_len}
 use Rattle.pc_front.specs.declared.limits.TheConstants.{MAX_FILE}
-use Rattle.gen_texts.specs.Ring.{op_line, core_lines, ring_test}
+use Rattle.gen_command.specs.Ring.{op_line, core_lines, ring_test}
 
 lengths : (a b c d e f g h i j k : List ℕ)
     → length (a ++ b ++ c ++ d ++ e ++ f ++ g ++ h ++ i ++ j ++ k)

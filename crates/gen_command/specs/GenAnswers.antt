@@ -7,7 +7,7 @@ use Rattle.pc_common.specs.declared.status.Status.{Status}
 use Rattle.pc_common.specs.declared.status.Status.TheVariants.{Done, Usage, Refused, ReadFault, Memory}
 use Rattle.pc_syntax.specs.Written.{WrittenModel}
 use Rattle.cert_check.specs.Verdicts.{plain_verdict}
-use Rattle.gen_texts.specs.Ring.{ring_model, ring_test}
+use Rattle.gen_command.specs.Ring.{ring_model, ring_test}
 use Rattle.command_base.specs.Refusals.{refused_text}
 use Rattle.command_base.specs.Endings.{bytes_of}
 use Rattle.gen_command.specs.declared.report.Report.{Report}

@@ -1,3 +1,4 @@
+pub mod Ring
 pub mod Texts
 pub mod Summaries
 pub mod Reports

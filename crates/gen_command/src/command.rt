@@ -2,15 +2,15 @@ ghost use Rattle.std.specs.Prelude.{◌≤◌, MatchResult};
 ghost use Rattle.pc_common.specs.declared.status.Status.TheVariants.{Done};
 ghost use Rattle.litmus_reader.specs.Answer.{CaseOf};
 ghost use Rattle.pc_front.specs.Front.{IsFirstFault as IsTestFault};
-ghost use Rattle.gen_texts.specs.Ring.{ring_model, ring_test};
+ghost use Rattle.gen_command.specs.Ring.{ring_model, ring_test};
 ghost use Rattle.command_base.specs.SecondFiles.{SaysFront};
 ghost use Rattle.command_base.specs.Endings.{IsBytesEnding, returned_status, returned_text};
 ghost use Rattle.gen_command.specs.Reports.{report_text};
 ghost use Rattle.gen_command.specs.GenAnswers.{IsGenOutcome};
 
+use super::pair::gen_texts;
 use super::report::{Report, report_of};
 use command_base::{Ending, TestFile, front_of};
-use gen_texts::gen_texts;
 use pc_common::Memory;
 use pc_ground::{Front, Version};
 use std::alloc::Global;

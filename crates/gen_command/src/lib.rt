@@ -6,13 +6,22 @@
 //! assert!(rt; report.nodes == 4 && report.splits == 2 && report.leaves == 3);
 //! ```
 //!
-//! It reads no file. It makes the two texts of the ring, and searches as `check` does. It returns a `Report`, whose
-//! text has six lines and whose status is `Done`; or the refusal of the first fault of the two texts, or `Memory`.
+//! In the ring of n cores each core writes one address, and then reads the value that the next core writes; the last
+//! core reads the value of the first. The outcome is forbidden, and no execution shows it: each write would be before
+//! the next one in a cycle. The model is the same for every n.
+//!
+//! The command reads no file. It makes the two texts of the ring by `gen_texts`, and searches as `check` does. It returns
+//! a `Report`, whose text has six lines and whose status is `Done`; or the refusal of the first fault of the two texts, or
+//! `Memory`.
 #![tactic(auto)]
 
 mod command;
+mod litmus;
+mod model;
+mod pair;
+mod putting;
 mod report;
 
 pub use command::generate;
-pub use gen_texts::gen_texts;
+pub use pair::gen_texts;
 pub use report::{Report, write_report};

@@ -1,3 +1,4 @@
+pub mod WrittenLines
 pub mod Lifts
 pub mod LiftTexts
 pub mod LiftAnswers

@@ -8,7 +8,7 @@ ghost use Rattle.command_base.specs.declared.feed_end.FeedEnd.TheVariants.{ReadF
 
 use cert_check::{One, check_one};
 use command_base::FeedEnd;
-use lifted_text::lift;
+use super::lifted_text::lift;
 use pc_common::{Files, MAX_CERTIFICATE, Memory, ReadEnd, read_all};
 use pc_ground::Front;
 use std::alloc::Global;

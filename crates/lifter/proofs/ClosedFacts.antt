@@ -7,13 +7,13 @@ use Rattle.lifted_facts.specs.declared.fact.Fact.TheVariants.{Said, Node as Node
 use Rattle.lifted_facts.specs.PlainFacts.{PlainFact, plain_fact, plain_part}
 use Rattle.lifted_facts.specs.Parts.{part_of, sides, is_false}
 use Rattle.lifted_facts.specs.Lifted.{LiftedStep, derive, split, close, falsity}
-use Rattle.lifted_kinds.specs.Trees.{fact_tree, joined_trees}
-use Rattle.lifted_kinds.specs.PartLists.{parts}
-use Rattle.lifted_kinds.specs.declared.kind.Kind.{Kind}
-use Rattle.lifted_kinds.specs.declared.kind.Kind.TheVariants.{True, False, Open}
-use Rattle.lifted_kinds.specs.Kinds.{kind_of, joined_kind}
-use Rattle.lifted_kinds.proofs.KindLaws.{kind_joined}
-use Rattle.lifted_kinds.proofs.SideLaws.{sides_tree, parts_tree}
+use Rattle.lifter.specs.Trees.{fact_tree, joined_trees}
+use Rattle.lifter.specs.PartLists.{parts}
+use Rattle.lifter.specs.declared.kind.Kind.{Kind}
+use Rattle.lifter.specs.declared.kind.Kind.TheVariants.{True, False, Open}
+use Rattle.lifter.specs.Kinds.{kind_of, joined_kind}
+use Rattle.lifter.proofs.KindLaws.{kind_joined}
+use Rattle.lifter.proofs.SideLaws.{sides_tree, parts_tree}
 use Rattle.lifter.specs.Closings.{HasClosed}
 use Rattle.lifter.proofs.RunsMore.{last_fact, one_longer, ran_derive, ran_split, ran_close}
 

@@ -10,7 +10,7 @@ use Rattle.pc_ground.specs.Refutes.{asserted, Branch as TreeBranch}
 use Rattle.lifted_facts.specs.declared.fact.Fact.{Fact}
 use Rattle.lifted_facts.specs.PlainFacts.{Branch, plain_fact, IsProper}
 use Rattle.lifted_facts.specs.Lifted.{LiftedStep, HasFact, Runs}
-use Rattle.lifted_kinds.specs.Trees.{fact_tree}
+use Rattle.lifter.specs.Trees.{fact_tree}
 use Rattle.lifter.specs.declared.state.Task.TheVariants.{Close, Side}
 use Rattle.lifter.specs.declared.state.Later.{Later}
 use Rattle.lifter.specs.declared.state.State.{State}

@@ -1,3 +1,9 @@
+pub mod TreeLaws
+pub mod KindLaws
+pub mod AtomTrees
+pub mod RangeBodies
+pub mod SideLaws
+pub mod PartWays
 pub mod RunsMore
 pub mod ClosedFacts
 pub mod KnownLaws

@@ -9,7 +9,7 @@ use Rattle.pc_syntax.specs.Closed.{plain_closed}
 use Rattle.pc_ground.specs.Tree.{always}
 use Rattle.pc_ground.specs.Stages.{plain_axioms}
 use Rattle.lifted_facts.specs.PlainFacts.{PlainFact, said, root}
-use Rattle.lifted_kinds.specs.Trees.{fact_tree, joined_trees}
+use Rattle.lifter.specs.Trees.{fact_tree, joined_trees}
 use Rattle.lifter.specs.Unfoldings.{facts_from}
 use Rattle.lifter.proofs.RootTrees.{axiom_there}
 

@@ -24,10 +24,10 @@ use Rattle.pc_ground.specs.Refutes.{asserted, all_signed, IsRefutation}
 use Rattle.pc_ground.proofs.FlatRows.{root_of, part_whole, part_row}
 use Rattle.pc_ground.proofs.Refuted.{refutation_sound}
 use Rattle.lifted_facts.specs.PlainFacts.{said, Branch, root}
-use Rattle.lifted_kinds.specs.Trees.{fact_tree, said_tree, joined_trees}
-use Rattle.lifted_kinds.specs.declared.kind.Kind.TheVariants.{False as NeverKind, Open}
-use Rattle.lifted_kinds.specs.Kinds.{kind_of}
-use Rattle.lifted_kinds.proofs.TreeLaws.{over_all, start_tree}
+use Rattle.lifter.specs.Trees.{fact_tree, said_tree, joined_trees}
+use Rattle.lifter.specs.declared.kind.Kind.TheVariants.{False as NeverKind, Open}
+use Rattle.lifter.specs.Kinds.{kind_of}
+use Rattle.lifter.proofs.TreeLaws.{over_all, start_tree}
 use Rattle.lifter.specs.declared.state.State.{State}
 use Rattle.lifter.specs.KnownFacts.{IsPart, TellsAll}
 use Rattle.lifter.specs.States.{branch_of, IsGood, IsGoodState, no_more, IsMatchedState}

@@ -17,9 +17,9 @@ use Rattle.lifted_facts.specs.declared.fact.Fact.{Fact}
 use Rattle.lifted_facts.specs.PlainFacts.{PlainFact, Branch, plain_fact, IsProper}
 use Rattle.lifted_facts.specs.Lifted.{HasFact}
 use Rattle.lifted_facts.specs.Parts.{sides}
-use Rattle.lifted_kinds.specs.Trees.{fact_tree}
-use Rattle.lifted_kinds.specs.declared.kind.Kind.TheVariants.{Open}
-use Rattle.lifted_kinds.specs.Kinds.{kind_of}
+use Rattle.lifter.specs.Trees.{fact_tree}
+use Rattle.lifter.specs.declared.kind.Kind.TheVariants.{Open}
+use Rattle.lifter.specs.Kinds.{kind_of}
 use Rattle.lifter.specs.declared.state.Task.TheVariants.{Side}
 use Rattle.lifter.specs.declared.state.Later.{Later}
 use Rattle.lifter.specs.declared.state.State.{State}

@@ -11,9 +11,9 @@ use Rattle.lifted_facts.specs.declared.fact.Fact.{Fact}
 use Rattle.lifted_facts.specs.declared.way.Way.{Way}
 use Rattle.lifted_facts.specs.PlainFacts.{PlainFact, Branch, plain_fact, IsProper}
 use Rattle.lifted_facts.specs.Lifted.{LiftedStep, derive, split, HasFact, HasPart, HasSides, Runs}
-use Rattle.lifted_kinds.specs.Trees.{fact_tree}
-use Rattle.lifted_kinds.specs.declared.kind.Kind.TheVariants.{False}
-use Rattle.lifted_kinds.specs.Kinds.{kind_of}
+use Rattle.lifter.specs.Trees.{fact_tree}
+use Rattle.lifter.specs.declared.kind.Kind.TheVariants.{False}
+use Rattle.lifter.specs.Kinds.{kind_of}
 use Rattle.lifter.specs.declared.state.Task.{Task}
 use Rattle.lifter.specs.declared.state.Task.TheVariants.{Close}
 use Rattle.lifter.specs.declared.state.Later.{Later}

@@ -13,7 +13,7 @@ use Rattle.pc_ground.specs.Rows.{rows_of}
 use Rattle.pc_ground.specs.Refutes.{Branch as TreeBranch, Runs as TreeRuns, Closes as TreeCloses, literals_of, left_branch, right_branch}
 use Rattle.lifted_facts.specs.PlainFacts.{Branch}
 use Rattle.lifted_facts.specs.Lifted.{Runs}
-use Rattle.lifted_kinds.proofs.PartWays.{there_at}
+use Rattle.lifter.proofs.PartWays.{there_at}
 use Rattle.lifter.specs.declared.state.State.{State}
 use Rattle.lifter.specs.KnownFacts.{at_position, no_node, present, HasKey, IsCycleKnown, IsPathKnown}
 use Rattle.lifter.specs.States.{IsGoodState, IsCovered}

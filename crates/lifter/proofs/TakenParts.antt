@@ -9,10 +9,10 @@ use Rattle.pc_ground.specs.PlainGround.{conjoined, disjoined}
 use Rattle.pc_ground.specs.Refutes.{asserted}
 use Rattle.pc_ground.proofs.FlatRows.{parts_both}
 use Rattle.lifted_facts.specs.PlainFacts.{PlainFact}
-use Rattle.lifted_kinds.specs.Trees.{fact_tree}
-use Rattle.lifted_kinds.specs.declared.kind.Kind.TheVariants.{Open}
-use Rattle.lifted_kinds.specs.Kinds.{kind_of}
-use Rattle.lifted_kinds.proofs.PartWays.{rest_next, kind_rest, is_always, only_true, both_open}
+use Rattle.lifter.specs.Trees.{fact_tree}
+use Rattle.lifter.specs.declared.kind.Kind.TheVariants.{Open}
+use Rattle.lifter.specs.Kinds.{kind_of}
+use Rattle.lifter.proofs.PartWays.{rest_next, kind_rest, is_always, only_true, both_open}
 use Rattle.lifter.specs.declared.state.State.{State}
 use Rattle.lifter.specs.KnownFacts.{IsPart, TellsAll}
 use Rattle.lifter.specs.States.{Moves}

@@ -11,14 +11,14 @@ use Rattle.pc_ground.specs.PlainGround.{disjoined}
 use Rattle.pc_ground.specs.Refutes.{asserted}
 use Rattle.lifted_facts.specs.PlainFacts.{PlainFact}
 use Rattle.lifted_facts.specs.Parts.{sides, is_false}
-use Rattle.lifted_kinds.specs.Trees.{fact_tree}
-use Rattle.lifted_kinds.specs.declared.kind.Kind.{Kind}
-use Rattle.lifted_kinds.specs.declared.kind.Kind.TheVariants.{True, False, Open}
-use Rattle.lifted_kinds.specs.Kinds.{kind_of, joined_kind}
-use Rattle.lifted_kinds.specs.PartLists.{IsSaid}
-use Rattle.lifted_kinds.proofs.KindLaws.{kind_joined}
-use Rattle.lifted_kinds.proofs.SideLaws.{sides_tree, parts_tree, false_tree}
-use Rattle.lifted_kinds.proofs.PartWays.{is_never}
+use Rattle.lifter.specs.Trees.{fact_tree}
+use Rattle.lifter.specs.declared.kind.Kind.{Kind}
+use Rattle.lifter.specs.declared.kind.Kind.TheVariants.{True, False, Open}
+use Rattle.lifter.specs.Kinds.{kind_of, joined_kind}
+use Rattle.lifter.specs.PartLists.{IsSaid}
+use Rattle.lifter.proofs.KindLaws.{kind_joined}
+use Rattle.lifter.proofs.SideLaws.{sides_tree, parts_tree, false_tree}
+use Rattle.lifter.proofs.PartWays.{is_never}
 use Rattle.lifter.specs.declared.state.State.{State}
 use Rattle.lifter.specs.KnownFacts.{at_position, HasKey, IsPart, IsOr, TellsLiteral, TellsAll}
 use Rattle.lifter.specs.States.{Moves}

@@ -12,9 +12,9 @@ use Rattle.pc_ground.specs.Rows.{rows_of}
 use Rattle.lifted_facts.specs.PlainFacts.{PlainFact, one_node, Branch}
 use Rattle.lifted_facts.specs.Parts.{sides}
 use Rattle.lifted_facts.specs.Lifted.{HasFact, IsEdge, Asserts}
-use Rattle.lifted_kinds.specs.Trees.{fact_tree}
-use Rattle.lifted_kinds.specs.declared.kind.Kind.TheVariants.{Open}
-use Rattle.lifted_kinds.specs.Kinds.{kind_of}
+use Rattle.lifter.specs.Trees.{fact_tree}
+use Rattle.lifter.specs.declared.kind.Kind.TheVariants.{Open}
+use Rattle.lifter.specs.Kinds.{kind_of}
 use Rattle.lifter.specs.declared.key.Key.{Key}
 use Rattle.lifter.specs.declared.key.Key.TheVariants.{At, Edge, NoEdge, NoNode, Present}
 

@@ -1,3 +1,8 @@
+pub mod Trees
+pub mod Kinds
+pub mod PartLists
+pub mod Ranks
+pub mod WayTable
 pub mod WrittenSteps
 pub mod Closings
 pub mod KnownFacts

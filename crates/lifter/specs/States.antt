@@ -7,9 +7,9 @@ use Rattle.pc_ground.specs.declared.row.Row.{Row}
 use Rattle.pc_ground.specs.Refutes.{asserted, Signed, all_signed, Branch as TreeBranch}
 use Rattle.lifted_facts.specs.PlainFacts.{PlainFact, Branch, plain_fact, IsProper}
 use Rattle.lifted_facts.specs.Lifted.{LiftedStep, Runs}
-use Rattle.lifted_kinds.specs.Trees.{fact_tree}
-use Rattle.lifted_kinds.specs.declared.kind.Kind.TheVariants.{False, Open}
-use Rattle.lifted_kinds.specs.Kinds.{kind_of}
+use Rattle.lifter.specs.Trees.{fact_tree}
+use Rattle.lifter.specs.declared.kind.Kind.TheVariants.{False, Open}
+use Rattle.lifter.specs.Kinds.{kind_of}
 use Rattle.lifter.specs.declared.state.Task.{Task}
 use Rattle.lifter.specs.declared.state.Task.TheVariants.{Close, Side}
 use Rattle.lifter.specs.declared.state.Later.{Later}

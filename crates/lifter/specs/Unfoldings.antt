@@ -8,8 +8,8 @@ use Rattle.pc_ground.specs.declared.literal.Literal.TheVariants.{Node as a_node,
 use Rattle.pc_ground.specs.Tree.{Tree}
 use Rattle.pc_ground.specs.Refutes.{asserted}
 use Rattle.lifted_facts.specs.PlainFacts.{PlainFact, one_node, one_edge}
-use Rattle.lifted_kinds.specs.Trees.{fact_tree, joined_trees}
-use Rattle.lifted_kinds.specs.PartLists.{parts}
+use Rattle.lifter.specs.Trees.{fact_tree, joined_trees}
+use Rattle.lifter.specs.PartLists.{parts}
 use Rattle.lifter.specs.declared.state.State.{State}
 use Rattle.lifter.specs.KnownFacts.{Entry, IsPart, TellsAll, HaveMore}
 use Rattle.lifter.specs.States.{Moves}

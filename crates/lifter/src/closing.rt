@@ -1,14 +1,14 @@
 ghost use Rattle.std.specs.Prelude.{◌≡◌, ◌+◌, IfOk, OnOk};
 ghost use Rattle.lifted_facts.specs.PlainFacts.{plain_fact, IsProper};
-ghost use Rattle.lifted_kinds.specs.Trees.{fact_tree};
-ghost use Rattle.lifted_kinds.specs.Kinds.{kind_of};
-ghost use Rattle.lifted_kinds.specs.declared.kind.Kind.TheVariants.{False};
+ghost use Rattle.lifter.specs.Trees.{fact_tree};
+ghost use Rattle.lifter.specs.Kinds.{kind_of};
+ghost use Rattle.lifter.specs.declared.kind.Kind.TheVariants.{False};
 ghost use Rattle.lifter.specs.Closings.{HasClosed};
 
+use super::fact_kind::false_part;
 use super::line::{Line, Steps};
 use super::state::Later;
 use lifted_facts::{Fact, is_false, sides};
-use lifted_kinds::false_part;
 use pc_case::Case;
 use pc_common::Memory;
 

@@ -4,9 +4,9 @@ ghost use Rattle.pc_common.specs.World.{Node};
 ghost use Rattle.pc_ground.specs.declared.row.Row.{Row as PlainRow};
 ghost use Rattle.lifted_facts.specs.PlainFacts.{plain_fact, IsProper};
 ghost use Rattle.lifted_facts.specs.Lifted.{HasFact, HasPart, HasSides};
-ghost use Rattle.lifted_kinds.specs.Trees.{fact_tree};
-ghost use Rattle.lifted_kinds.specs.Kinds.{kind_of};
-ghost use Rattle.lifted_kinds.specs.declared.kind.Kind.TheVariants.{False};
+ghost use Rattle.lifter.specs.Trees.{fact_tree};
+ghost use Rattle.lifter.specs.Kinds.{kind_of};
+ghost use Rattle.lifter.specs.declared.kind.Kind.TheVariants.{False};
 ghost use Rattle.lifter.specs.KnownFacts.{plain_key, HasKey, IsKnown};
 ghost use Rattle.lifter.specs.States.{branch_of, Moves, HasGained};
 

@@ -5,7 +5,7 @@ use Rattle.pc_ground.proofs.FlatRows.{parts_either}
 use Rattle.lifted_facts.specs.PlainFacts.{Branch, plain_fact}
 use Rattle.lifted_facts.specs.Parts.{sides}
 use Rattle.lifted_facts.specs.Lifted.{HasFact}
-use Rattle.lifted_kinds.specs.Trees.{fact_tree}
+use Rattle.lifter.specs.Trees.{fact_tree}
 use Rattle.lifter.specs.declared.state.Task.TheVariants.{Side}
 use Rattle.lifter.specs.declared.state.Later.{Later}
 use Rattle.lifter.specs.declared.state.State.{State}

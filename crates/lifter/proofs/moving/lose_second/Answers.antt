@@ -1,8 +1,8 @@
 use Rattle.std.proofs.Common.{◌≡◌, length, refl, sym, subst, ◌∙◌, ap, arith}
 use Rattle.lifted_facts.specs.PlainFacts.{PlainFact, plain_fact}
 use Rattle.lifted_facts.specs.Lifted.{HasSides}
-use Rattle.lifted_kinds.specs.Trees.{fact_tree}
-use Rattle.lifted_kinds.specs.Kinds.{kind_of}
+use Rattle.lifter.specs.Trees.{fact_tree}
+use Rattle.lifter.specs.Kinds.{kind_of}
 use Rattle.lifter.specs.declared.state.State.{State}
 use Rattle.lifter.specs.declared.state.Later.{Later}
 use Rattle.lifter.specs.declared.state.Task.TheVariants.{Close}

@@ -2,8 +2,8 @@
 use Rattle.std.proofs.Common.{◌≡◌}
 use Rattle.pc_ground.specs.Stages.{plain_axioms}
 use Rattle.lifted_facts.specs.PlainFacts.{root}
-use Rattle.lifted_kinds.specs.declared.kind.Kind.TheVariants.{False}
-use Rattle.lifted_kinds.specs.Kinds.{kind_of}
+use Rattle.lifter.specs.declared.kind.Kind.TheVariants.{False}
+use Rattle.lifter.specs.Kinds.{kind_of}
 use Rattle.lifter.specs.Unfoldings.{facts_from}
 use Rattle.lifter.proofs.roots.false_axiom.Given as goal
 

@@ -5,7 +5,7 @@ use Rattle.pc_ground.specs.Tree.{Tree}
 use Rattle.pc_common.specs.World.{Node}
 use Rattle.lifted_facts.specs.PlainFacts.{Branch, plain_fact, root}
 use Rattle.lifted_facts.specs.Lifted.{HasFact}
-use Rattle.lifted_kinds.specs.Kinds.{kind_of}
+use Rattle.lifter.specs.Kinds.{kind_of}
 use Rattle.lifter.specs.KnownFacts.{IsPart}
 use Rattle.lifter.specs.Unfoldings.{facts_from, HasUnfolded, IsTakenTo}
 use Rattle.lifter.proofs.StateMoves.{moved_fact}

@@ -5,10 +5,10 @@ use Rattle.pc_common.specs.World.{Node}
 use Rattle.pc_ground.specs.Keys.{literal_node}
 use Rattle.lifted_facts.specs.PlainFacts.{PlainFact, plain_fact}
 use Rattle.lifted_facts.specs.Lifted.{HasFact}
-use Rattle.lifted_kinds.specs.Trees.{fact_tree}
-use Rattle.lifted_kinds.specs.Kinds.{kind_of}
-use Rattle.lifted_kinds.specs.PartLists.{parts}
-use Rattle.lifted_kinds.proofs.SideLaws.{sides_rank, part_rank}
+use Rattle.lifter.specs.Trees.{fact_tree}
+use Rattle.lifter.specs.Kinds.{kind_of}
+use Rattle.lifter.specs.PartLists.{parts}
+use Rattle.lifter.proofs.SideLaws.{sides_rank, part_rank}
 use Rattle.lifter.specs.KnownFacts.{IsPart}
 use Rattle.lifter.specs.States.{branch_of}
 use Rattle.lifter.specs.Unfoldings.{IsTakenTo, facts_from, parts_from}

@@ -1,2 +1,0 @@
-pub mod MoreParts
-pub mod TrueWords

@@ -1,5 +1,0 @@
-use Rattle.ask_words.proofs.TrueWords.{words_true}
-use Rattle.ask_words.proofs.laws.words_are_true.Goals as goal
-
-pub returns : goal.returns
-returns c = λ d stages ps p a is. words_true d stages ps p a is

@@ -1,0 +1,6 @@
+use Rattle.std.proofs.Common.{sym}
+use Rattle.std.proofs.lemmas.List.{append-nil}
+use Rattle.lift_command.proofs.words.put_numbers.Goals as goal
+
+pub loop-number-init : goal.loop-number-init
+loop-number-init c = sym (append-nil c.args.text.now.items)

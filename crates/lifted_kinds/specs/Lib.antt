@@ -1,5 +1,0 @@
-pub mod Trees
-pub mod Kinds
-pub mod PartLists
-pub mod Ranks
-pub mod WayTable

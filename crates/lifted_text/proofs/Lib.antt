@@ -1,4 +1,0 @@
-pub mod StepRuns
-pub mod SpacedLines
-pub mod WholeTexts
-pub mod PutLines

@@ -1,8 +1,0 @@
--- The lines of the steps before the next one stand after the text.
-use Rattle.std.proofs.Common.{◌≡◌, ◌++◌, take}
-use Rattle.std.specs.List.{flat_map}
-use Rattle.lifted_text.specs.WrittenLines.{line_text}
-use Rattle.lifted_text.proofs.lifting.put_lines.Given as goal
-
-abbrev pub invariant-loop-k : goal.invariant-loop-k
-invariant-loop-k l = l.text.items ≡ l.initial.text.items ++ flat_map (line_text l.case.ops) (take l.k l.steps)

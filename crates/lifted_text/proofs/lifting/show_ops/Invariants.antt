@@ -1,6 +1,0 @@
--- The numbers of the micro-ops before the next one have at most 64 bits.
-use Rattle.pc_ground.proofs.OpWalks.{SmallBelow}
-use Rattle.lifted_text.proofs.lifting.show_ops.Given as goal
-
-abbrev pub invariant-loop-k : goal.invariant-loop-k
-invariant-loop-k l = SmallBelow l.case.ops l.k

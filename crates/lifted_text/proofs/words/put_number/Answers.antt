@@ -1,8 +1,0 @@
-use Rattle.std.specs.Prelude.{codes}
-use Rattle.std.specs.Fmt.{decimal}
-use Rattle.lifted_text.proofs.PutLines.{put_then}
-use Rattle.lifted_text.proofs.words.put_number.Goals as goal
-
-pub returns : goal.returns
-returns c =
-    put_then c.put_decimal.result c.args.text.now.items c.put.new.text.items c.put_decimal.new.text.items (codes " ") (decimal c.args.number) c.in_ok-put.ensures c.put_decimal.ensures
