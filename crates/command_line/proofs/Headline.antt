@@ -13,10 +13,10 @@ use Rattle.lifted_command.proofs.LiftedOutcomes.{lifted_true, lifted_due}
 use Rattle.ask_command.proofs.AskOutcomes.{ask_due}
 use Rattle.lift_command.proofs.LiftOutcomes.{lift_true, lift_due}
 use Rattle.gen_command.proofs.GenOutcomes.{gen_due}
-use Rattle.command_line.specs.Command.{Command, check, verify, find_core, check_listing, verify_listing, sweep_rows, verify_lifted, ask_query, lift_tree, gen, IsCommand}
+use Rattle.command_words.specs.Command.{Command, check, verify, find_core, check_listing, verify_listing, sweep_rows, verify_lifted, ask_query, lift_tree, gen, IsCommand}
 use Rattle.command_line.specs.Answers.{Answers, usage, answered, AnswersCommand}
 use Rattle.command_line.specs.Headline.{IsTrueTo, IsTrueOf, IsDueTo, IsDue}
-use Rattle.command_line.proofs.OneCommand.{one_command}
+use Rattle.command_words.proofs.OneCommand.{one_command}
 
 -- the answer to words is one to the command that they are
 pub answer_to_command : {words : List (List ℕ)} {holds : Contents} {status : Status} {text : List ℕ} → Answers words holds status text

@@ -24,7 +24,7 @@ use Rattle.check_command.specs.CheckAnswers.{AnswersCheck}
 use Rattle.command_base.specs.CheckedTexts.{checked_status}
 use Rattle.verify_command.specs.VerifyAnswers.{AnswersVerify, IsJudged, judged}
 use Rattle.verify_command.proofs.OneVerdict.{one_found}
-use Rattle.command_line.specs.Command.{check, verify, check_listing, verify_listing}
+use Rattle.command_words.specs.Command.{check, verify, check_listing, verify_listing}
 use Rattle.command_line.specs.Laws.{HasOneStatus, of_a_test, of_a_listing}
 use Rattle.command_line.proofs.Headline.{answer_to_command}
 

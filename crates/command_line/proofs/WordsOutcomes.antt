@@ -6,10 +6,10 @@ use Rattle.pc_common.specs.declared.status.Status.{Status}
 use Rattle.pc_common.specs.declared.status.Status.TheVariants.{Usage, ReadFault}
 use Rattle.command_base.specs.Outcomes.{IsOutcome}
 use Rattle.command_base.proofs.InputsRead.{reads_none}
-use Rattle.command_line.specs.Command.{Command, IsCommand, IsNoCommand}
+use Rattle.command_words.specs.Command.{Command, IsCommand, IsNoCommand}
 use Rattle.command_line.specs.Answers.{usage_text, usage, answered, Lacks}
 use Rattle.command_line.specs.Decides.{IsCommandOutcome, IsWordsOutcome}
-use Rattle.command_line.proofs.OneCommand.{one_command}
+use Rattle.command_words.proofs.OneCommand.{one_command}
 
 no_fault_of_usage : Usage ≡ ReadFault → ⊥
 no_fault_of_usage e = cc

@@ -18,7 +18,7 @@ use Rattle.ask_command.specs.AskFiles.{LacksOne}
 use Rattle.ask_command.specs.AskAnswers.{AnswersAsk}
 use Rattle.lift_command.specs.LiftAnswers.{AnswersLift}
 use Rattle.gen_command.specs.GenAnswers.{AnswersGen}
-use Rattle.command_line.specs.Command.{Command, check, verify, find_core, check_listing, verify_listing, sweep_rows, verify_lifted, ask_query, lift_tree, gen, IsCommand, IsNoCommand}
+use Rattle.command_words.specs.Command.{Command, check, verify, find_core, check_listing, verify_listing, sweep_rows, verify_lifted, ask_query, lift_tree, gen, IsCommand, IsNoCommand}
 
 abbrev pub usage_text : List ℕ
 usage_text = codes "pipecheck: bad command line\n"

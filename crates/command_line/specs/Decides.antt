@@ -3,7 +3,7 @@ use Rattle.std.specs.Prelude.{◌≡◌, ℕ, List}
 use Rattle.pc_common.specs.Outside.{FilesView}
 use Rattle.pc_common.specs.declared.status.Status.{Status}
 use Rattle.command_base.specs.Outcomes.{IsOutcome}
-use Rattle.command_line.specs.Command.{Command, IsNoCommand, IsKnownTo, IsKnown}
+use Rattle.command_words.specs.Command.{Command, IsNoCommand, IsKnownTo, IsKnown}
 use Rattle.command_line.specs.Answers.{usage_text, AnswersCommand, Answers, Lacks, WordsLack}
 
 module _ {F : Type 0} (view : F → FilesView) where

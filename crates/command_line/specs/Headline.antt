@@ -17,7 +17,7 @@ use Rattle.lifted_command.specs.LiftedAnswers.{IsLiftedDue}
 use Rattle.ask_command.specs.AskAnswers.{IsAskDue}
 use Rattle.lift_command.specs.LiftAnswers.{IsLiftDue}
 use Rattle.gen_command.specs.GenAnswers.{IsGenDue}
-use Rattle.command_line.specs.Command.{Command, check, verify, find_core, check_listing, verify_listing, sweep_rows, verify_lifted, ask_query, lift_tree, gen, IsCommand}
+use Rattle.command_words.specs.Command.{Command, check, verify, find_core, check_listing, verify_listing, sweep_rows, verify_lifted, ask_query, lift_tree, gen, IsCommand}
 
 -- what the statuses of a verdict say to a command: observable only where some choice of nodes with some strict order
 -- makes every axiom true of the case, and unobservable only where none does; whatever a third file holds. `core`, `sweep`

@@ -1,15 +1,11 @@
--- What holds of all words, and of every two runs.
+-- What holds of every two runs.
 use Rattle.std.specs.Prelude.{◌≡◌, ◌≤◌, List, ℕ, Some, length}
 use Rattle.pc_common.specs.declared.status.Status.{Status}
 use Rattle.pc_common.specs.declared.limits.TheConstants.{MAX_CERTIFICATE}
 use Rattle.pc_ground.specs.declared.version.Version.{Version}
 use Rattle.command_base.specs.Inputs.{Inputs, Contents}
-use Rattle.command_line.specs.Command.{Command, check, verify, check_listing, verify_listing, IsCommand}
+use Rattle.command_words.specs.Command.{Command, check, verify, check_listing, verify_listing, IsCommand}
 use Rattle.command_line.specs.Answers.{Answers}
-
--- the words are one command at most
-abbrev pub IsOneCommand : List (List ℕ) → Type 0
-IsOneCommand words = (c d : Command) → IsCommand words c → IsCommand words d → c ≡ d
 
 -- what the first command writes to two files, the second one judges
 pub data Judges (i : Inputs) (certificate : List ℕ) : Command → Command → Type 0 where

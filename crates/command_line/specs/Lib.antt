@@ -1,4 +1,3 @@
-pub mod Command
 pub mod Answers
 pub mod Headline
 pub mod AnswerTexts

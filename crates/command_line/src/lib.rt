@@ -7,18 +7,17 @@
 //! assert!(rt; sink.taken() == text.as_slice());
 //! ```
 //!
-//! `parse` takes the words, `answer_to` hands a command to the crate of its own, and `tell` writes the text of what
-//! that returned. A command's crate says what it reads and what it returns; here are the words, and a line for each
+//! `parse` of `command_words` takes the words, `answer_to` hands a command to the crate of its own, and `tell` writes
+//! the text of what that returned. A command's crate says what it reads and what it returns; here is a line for each
 //! command in each table. `pipecheck_run` hands `run` on, beside the other public calls of the top: a crate that
 //! hands on `front` carries all that is said of what it returns, and the program, which waits for this one, needs
 //! nothing of that.
 #![tactic(auto)]
 
 mod answer;
-mod command;
-mod cores;
 mod laws;
 mod top;
 
-pub use laws::{one_command, written_is_verified};
+pub use command_words::one_command;
+pub use laws::written_is_verified;
 pub use top::run;

@@ -1,4 +1,4 @@
-use Rattle.command_line.specs.Command.{IsKnownTo, gen}
+use Rattle.command_words.specs.Command.{IsKnownTo, gen}
 use Rattle.command_line.specs.AnswerTexts.{answer_status, answer_text}
 use Rattle.gen_command.proofs.GenOutcomes.{gen_outcome}
 use Rattle.command_line.proofs.top.answer_to.Goals as goal

@@ -1,6 +1,6 @@
 use Rattle.std.specs.Prelude.{map}
 use Rattle.std.specs.String.{string_bytes}
-use Rattle.command_line.specs.Command.{plain_command}
+use Rattle.command_words.specs.Command.{plain_command}
 use Rattle.command_line.specs.AnswerTexts.{answer_status, answer_text}
 use Rattle.command_line.proofs.WordsOutcomes.{usage_outcome, command_outcome}
 use Rattle.command_line.proofs.top.decide.Goals as goal

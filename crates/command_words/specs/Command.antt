@@ -4,8 +4,8 @@ use Rattle.std.specs.Fmt.{decimal}
 use Rattle.pc_ground.specs.declared.version.Version.{Version}
 use Rattle.pc_ground.specs.declared.version.Version.TheVariants.{One, Two}
 use Rattle.command_base.specs.Inputs.{Inputs, plain_inputs}
-use Rattle.command_line.specs.declared.command.Command.{Command as CodeCommand}
-use Rattle.command_line.specs.declared.command.Command.TheVariants.{Check, Verify, Core, CheckListing, VerifyListing, Sweep, VerifyLifted, Ask, Lift, Gen}
+use Rattle.command_words.specs.declared.command.Command.{Command as CodeCommand}
+use Rattle.command_words.specs.declared.command.Command.TheVariants.{Check, Verify, Core, CheckListing, VerifyListing, Sweep, VerifyLifted, Ask, Lift, Gen}
 
 pub data Command : Type 0 where
   -- with refutations of this version

@@ -1,8 +1,8 @@
 use Rattle.std.proofs.Common.{◌∙◌, sym, ap, ◌∷◌, []}
 use Rattle.std.specs.String.{string_bytes}
-use Rattle.command_line.proofs.FourWords.{four}
-use Rattle.command_line.proofs.ThreeWords.{same_if_not_other, other_text, first_word}
-use Rattle.command_line.proofs.command.three_behind.Goals as goal
+use Rattle.command_words.proofs.FourWords.{four}
+use Rattle.command_words.proofs.ThreeWords.{same_if_not_other, other_text, first_word}
+use Rattle.command_words.proofs.command.three_behind.Goals as goal
 
 pub returns-then-ne : goal.returns-then-ne
 returns-then-ne c = λ i third e.

@@ -1,49 +1,50 @@
 ghost use Rattle.std.specs.Prelude.{◌≡◌, ◌∷◌, [], ℕ, List, map, MatchOption, codes};
 ghost use Rattle.std.specs.String.{string_bytes};
 ghost use Rattle.command_base.specs.Inputs.{Inputs as Names};
-ghost use Rattle.command_line.specs.Command.{plain_command, IsCommand, IsNoCommand};
+ghost use Rattle.command_words.specs.Command.{plain_command, IsCommand, IsNoCommand};
 
 use super::cores::cores_behind;
 use command_base::Inputs;
 use pc_ground::Version;
 
-/// A command by its words, without options.
+/// A command, as the words after the program's name spell it. There are no options. Each part of a command is the name
+/// of a file, but for the version of `Check` and the number of `Gen`.
 #[derive(Clone, Copy)]
-pub(crate) enum Command<'a> {
-    /// `check MODEL TEST`, or `check2 MODEL TEST` for refutations of version 2
+pub enum Command<'a> {
+    /// The words are `check MODEL TEST`, or `check2 MODEL TEST` for refutations of version 2.
     Check(Version, Inputs<'a>),
-    /// `verify MODEL TEST CERT`
+    /// The words are `verify MODEL TEST CERT`.
     Verify {
         inputs: Inputs<'a>,
         certificate: &'a str,
     },
-    /// `core MODEL TEST`
+    /// The words are `core MODEL TEST`.
     Core(Inputs<'a>),
-    /// `check86 MODEL FILE`
+    /// The words are `check86 MODEL FILE`.
     CheckListing(Inputs<'a>),
-    /// `verify86 MODEL FILE CERT`
+    /// The words are `verify86 MODEL FILE CERT`.
     VerifyListing {
         inputs: Inputs<'a>,
         certificate: &'a str,
     },
-    /// `sweep MODEL PATTERN`
+    /// The words are `sweep MODEL PATTERN`.
     Sweep(Inputs<'a>),
-    /// `verify-lifted MODEL TEST CERT`
+    /// The words are `verify-lifted MODEL TEST CERT`.
     VerifyLifted {
         inputs: Inputs<'a>,
         certificate: &'a str,
     },
-    /// `ask MODEL TEST QUERY`
+    /// The words are `ask MODEL TEST QUERY`.
     Ask {
         inputs: Inputs<'a>,
         query: &'a str,
     },
-    /// `lift MODEL TEST CERT`
+    /// The words are `lift MODEL TEST CERT`.
     Lift {
         inputs: Inputs<'a>,
         certificate: &'a str,
     },
-    /// `gen N`, with N from 2 to 16
+    /// The words are `gen N`, with N from 2 to 16 in decimal.
     Gen(u8),
 }
 
@@ -84,8 +85,8 @@ fn three_behind<'a>(word: &str, words: &'a [String]) -> Option<(Inputs<'a>, &'a 
     Some((inputs, third.as_str()))
 }
 
-/// The command that the words are, if they are one.
-pub(crate) fn parse<'a>(words: &'a [String]) -> Option<Command<'a>>
+/// The command that the words are, if they are one. They are those after the program's name.
+pub fn parse<'a>(words: &'a [String]) -> Option<Command<'a>>
     ensures { MatchOption result (IsNoCommand (map string_bytes words.now))
         (λ c. IsCommand (map string_bytes words.now) (plain_command c)) }
 {

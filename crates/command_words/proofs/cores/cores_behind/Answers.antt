@@ -1,9 +1,9 @@
 use Rattle.std.proofs.Common.{◌∙◌, sym, ap, ◌∷◌, []}
 use Rattle.std.specs.Prelude.{codes}
 use Rattle.std.specs.String.{string_bytes}
-use Rattle.command_line.proofs.ThreeWords.{two, same_if_not_other}
-use Rattle.command_line.proofs.GenWords.{gen_words}
-use Rattle.command_line.proofs.cores.cores_behind.Goals as goal
+use Rattle.command_words.proofs.ThreeWords.{two, same_if_not_other}
+use Rattle.command_words.proofs.GenWords.{gen_words}
+use Rattle.command_words.proofs.cores.cores_behind.Goals as goal
 
 pub returns : goal.returns
 returns c =

@@ -1,7 +1,7 @@
 use Rattle.std.proofs.Common.{◌∙◌, sym, ap, ◌∷◌, []}
 use Rattle.std.specs.String.{string_bytes}
-use Rattle.command_line.proofs.ThreeWords.{three, same_if_not_other, other_text, first_word}
-use Rattle.command_line.proofs.command.inputs_behind.Goals as goal
+use Rattle.command_words.proofs.ThreeWords.{three, same_if_not_other, other_text, first_word}
+use Rattle.command_words.proofs.command.inputs_behind.Goals as goal
 
 pub returns-then-ne : goal.returns-then-ne
 returns-then-ne c = λ i e.

@@ -1,5 +1,5 @@
-use Rattle.command_line.proofs.OneCommand.{no_form}
-use Rattle.command_line.proofs.command.parse.Goals as goal
+use Rattle.command_words.proofs.OneCommand.{no_form}
+use Rattle.command_words.proofs.command.parse.Goals as goal
 
 -- none of the calls found its form, in their order
 pub returns-in_err-n : goal.returns-in_err-n

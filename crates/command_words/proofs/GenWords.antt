@@ -2,7 +2,7 @@
 use Rattle.std.proofs.Common.{◌≡◌, ℕ, ◌≤◌, List, [], ◌∷◌, Option, Some, None, sym, ◌∙◌, ap}
 use Rattle.std.specs.Prelude.{codes, MatchOption}
 use Rattle.std.specs.Fmt.{decimal}
-use Rattle.command_line.specs.Command.{gen, IsCommand}
+use Rattle.command_words.specs.Command.{gen, IsCommand}
 
 second : List (List ℕ) → List ℕ
 second [] = []

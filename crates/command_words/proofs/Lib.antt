@@ -1,0 +1,4 @@
+pub mod ThreeWords
+pub mod FourWords
+pub mod GenWords
+pub mod OneCommand
