@@ -104,6 +104,10 @@ module _ (nodes : List Node) (es : List Edge) (v : Arcs) (s : AreArcsOf nodes es
   pub starts_within : (i j : ℕ) → Joins v i j → i < length v.heads
   starts_within i j joins = (let w = (joins_within i j joins).0 in let same = s.sized in omega (arith, w, same))
 
+  -- a number is below the number of heads
+  pub number_within : (i : ℕ) (a : Node) → IsNumberOf nodes i a → i < length v.heads
+  number_within i a ia = (let low = slice_get_within nodes i a ia in let same = s.sized in omega (arith, low, same))
+
   node_at : (i : ℕ) → i < length nodes → (a : Node) × IsNumberOf nodes i a
   node_at i low = (let nothing : Node = record { op = 0; core = 0; stage = 0 } in (_, slice_get-get_or nodes i nothing low))
 

@@ -1,7 +1,7 @@
 -- What a search along edges keeps, step by step.
-use Rattle.std.proofs.Common.{◌≡◌, ℕ, ◌+◌, ◌<◌, ◌≤◌, ◌⊎◌, inl, inr, List, [], ◌∷◌, ◌++◌, Some, length, set, take, get_or, slice_get, refl, sym, ◌∙◌, ap, subst, arith}
+use Rattle.std.proofs.Common.{◌≡◌, ℕ, ◌+◌, ◌<◌, ◌≤◌, ◌⊎◌, inl, inr, List, [], ◌∷◌, ◌++◌, Some, length, set, take, replicate, get_or, slice_get, refl, sym, ◌∙◌, ap, subst, arith}
 use Rattle.std.proofs.lemmas.Bool.{cases_eq, cases_lt}
-use Rattle.std.proofs.lemmas.List.{map-append, get_or-set_same, get_or-set_other, length-set, length-append, take-append-le, take_all}
+use Rattle.std.proofs.lemmas.List.{map-append, get_or-set_same, get_or-set_other, length-set, length-append, length-replicate, get_or-replicate, get_or_past, take-append-le, take_all}
 use Rattle.std.proofs.lemmas.List.Sums.{sum_by_push, sum_by-set}
 use Rattle.std.proofs.lemmas.Option.{slice_get_within, slice_get_read, get_or_from_slice_get}
 use Rattle.pc_common.specs.Chain.{Chain, Acyclic}
@@ -42,6 +42,14 @@ further ms k m low other b was is = elim (cases_eq b k) [
 
 pub marked : (ms : List Mark) (k : ℕ) (m : Mark) → k < length ms → (m ≡ New → ⊥) → mark_of (set ms k m) k ≡ New → ⊥
 marked ms k m low other is = other (sym (mark_same ms k m low) ∙ is)
+
+-- the first nodes are not new, and the next one is not
+pub marked_next : (old new : List Mark) (k : ℕ) → IsFurther old new → ((b : ℕ) → b < k → mark_of old b ≡ New → ⊥) → (mark_of new k ≡ New → ⊥)
+    → (b : ℕ) → b < k + 1 → mark_of new b ≡ New → ⊥
+marked_next old new k goes_on before here b low is = elim (cases_eq b k) [
+  | inl same ↦ here (ap (mark_of new) (sym same) ∙ is)
+  | inr apart ↦ goes_on b (before b (omega (arith, low, apart))) is
+]
 
 -- the nodes of a path, and one more
 nodes_more : (path : List Visit) (x : Visit) → nodes_of (path ++ x ∷ []) ≡ nodes_of path ++ x.node ∷ []
@@ -277,3 +285,16 @@ clear v marks sized new = record {
   where
     none : (k a : ℕ) → slice_get {X = ℕ} [] k ≡ Some a → ⊥
     none k a at = cc
+
+pub begun : (v : Arcs) (marks : List Mark) (path : List Visit) (order : List ℕ) → marks ≡ replicate (length v.heads) New → path ≡ [] → order ≡ []
+    → IsSearching v (record { marks = marks; path = path; order = order })
+begun v marks path order all_new no_path no_order = rw (no_path, no_order) (clear v marks (ap length all_new ∙ length-replicate (length v.heads) New) (λ b. ap (λ ms. mark_of ms b) all_new ∙ is_new b))
+  where
+    is_new : (b : ℕ) → mark_of (replicate (length v.heads) New) b ≡ New
+    is_new b = elim (cases_lt b (length v.heads)) [
+      | inl below ↦ get_or-replicate (length v.heads) b New New below
+      | inr past ↦ get_or_past all b New (let l : length all ≡ length v.heads = length-replicate (length v.heads) New in omega (arith, l, past))
+    ]
+      where
+        all : List Mark
+        all = replicate (length v.heads) New

@@ -1,7 +1,7 @@
 use Rattle.std.proofs.Common.{◌-◌, ◌∷◌, [], length, set, ap, refl, arith}
 use Rattle.std.proofs.lemmas.List.{length-append}
 use Rattle.std.proofs.lemmas.Option.{slice_get_within}
-use Rattle.graph_check.proofs.ColumnFlags.{column_at, column_found, columns_more, columns_same, flag_leads, flag_read}
+use Rattle.graph_check.proofs.ColumnFlags.{column_at, column_found, columns_more, columns_same, flag_leads, flag_read, joins_leads}
 use Rattle.graph_check.proofs.columns.Columns.leads.Goals as goal
 
 pub index-requires : goal.index-requires
@@ -33,3 +33,18 @@ returns-clause-columns c =
     columns_more c.args.adjacency.now c.args.self.now _ c.args.b c.in_ok-column.column c.requires.columns c.requires.b_in c.in_ok-column.ensures
     (ap (set c.args.self.now.slots.items c.args.b) (let n = ap length c.in_ok-push.ensures.items in let m = length-append c.args.self.now.columns.items (c.in_ok-column.column ∷ []) in omega (arith, c.len.ensures, n, m)))
     c.in_ok-push.ensures.items
+
+pub returns-then-joins-clause-leads : goal.returns-then-joins-clause-leads
+returns-then-joins-clause-leads c = joins_leads c.args.adjacency.now c.args.a c.args.b (c.joins.ensures.0 c.if-joins.true)
+
+pub index-leads-requires : goal.index-leads-requires
+index-leads-requires c = (let sized = c.in_ok-column.ensures.sized in omega (arith, sized, c.requires.a_in, c.in_ok-column.column.ok))
+
+pub index_mut-requires : goal.index_mut-requires
+index_mut-requires c = (let sized = c.requires.columns.sized in omega (arith, sized, c.requires.b_in, c.args.self.now.slots.ok))
+
+pub returns-clause-leads : goal.returns-clause-leads
+returns-clause-leads c =
+    let is = c.in_ok-column.ensures in
+    flag_leads c.args.adjacency.now c.args.b c.args.a c.in_ok-column.column.items c.index-leads.result.now is c.requires.a_in
+    (let sized = is.sized in flag_read c.in_ok-column.column.items c.args.a c.index-leads.result.now (omega (arith, sized, c.requires.a_in)) c.index-leads.ensures)
