@@ -103,29 +103,3 @@ fn read_from<F: Read>(file: &mut Option<F>, buf: &mut [u8]) -> Option<usize>
 {
     file.as_mut()?.read(buf).ok()
 }
-
-#[cfg(test)]
-mod tests {
-    use super::*;
-
-    #[test]
-    fn reads_what_is_there_and_counts_what_fails(rt: HostRuntime) {
-        let mut files = RealFiles::new(rt);
-        let mut buf = [7; 3];
-
-        assert!(rt; files.start("/dev/zero").is_ok());
-        assert!(rt; files.read(&mut buf) == Ok(3));
-        assert!(rt; buf == [0; 3]);
-        assert!(rt; files.start("/dev/null").is_ok());
-        assert!(rt; files.read(&mut buf) == Ok(0));
-        assert_eq!(rt; files.faults, 0);
-
-        assert!(rt; files.start("/dev/null/none").is_err());
-        assert_eq!(rt; files.faults, 1);
-
-        // a directory can be opened, but not read
-        assert!(rt; files.start("/").is_ok());
-        assert!(rt; files.read(&mut buf).is_err());
-        assert_eq!(rt; files.faults, 2);
-    }
-}
