@@ -1,6 +1,5 @@
 pub mod Cores
 pub mod Values
-pub mod MapKeys
 pub mod Lookups
 pub mod ShortNames
 pub mod Names

@@ -1,15 +1,14 @@
 -- Sets of names by their length, and kinds by their ends: what one more name changes.
-use Rattle.std.proofs.Common.{◌≡◌, ℕ, Bool, true, false, List, [], ◌∷◌, ◌++◌, ◌==◌, ◌<◌, ◌≤◌, get_or, ◌&&◌, ◌||◌, Option, Some, None, length, refl, sym, ap, ◌∙◌, true≢false, arith, Vec}
-use Rattle.std.specs.Prelude.{⊤}
+use Rattle.std.proofs.Common.{◌≡◌, ℕ, Bool, true, false, List, [], ◌∷◌, ◌==◌, ◌&&◌, ◌||◌, Option, Some, None, length, refl, sym, ap, ◌∙◌, true≢false, arith, Vec}
+use Rattle.std.specs.Prelude.{⊤, is_some, cond}
 use Rattle.std.specs.List.{list_any}
-use Rattle.std.specs.Map.{lookup, set_value}
+use Rattle.std.specs.Map.{lookup, set_value, IsKeyTest, AreApart, KeepsOthers}
 use Rattle.std.specs.Cmp.Lexicographic.{bytes_decides}
 use Rattle.std.proofs.lemmas.Bool.{eqb-true, eq-eqb}
 use Rattle.std.proofs.lemmas.Bool.Decides.{nat_tests}
+use Rattle.std.proofs.lemmas.Map.Made.{is_some-lookup}
 use Rattle.std.specs.declared.alloc.Global.{Global}
-use Rattle.indexmap.specs.IndexMap.{IndexMap, get_by, insert_entry}
-use Rattle.indexmap.specs.IndexSet.{insert_key}
-use Rattle.indexmap.proofs.CallerLemmas.{insert_entry-new}
+use Rattle.std.specs.HashMap.{HashMap, keys, get_by, Updates}
 use Rattle.pc_common.specs.Names.{same_name}
 use Rattle.pc_case.specs.declared.dependency.Ends.{Ends}
 use Rattle.pc_case.specs.declared.name_set.NameSet.{NameSet}
@@ -22,6 +21,10 @@ none_some e = cc
 pub or_false : (s : Bool) → s ≡ (s || false)
 or_false true = refl
 or_false false = refl
+
+or_true : (s : Bool) → (s || true) ≡ true
+or_true true = refl
+or_true false = refl
 
 pub not_so : (b : Bool) → (b ≡ true → ⊥) → b ≡ false
 not_so false f = refl
@@ -55,9 +58,6 @@ module _ {K V : Type 0} (same : K → K → Bool) (tests : Tests same) (f : V �
   apart_else : (p q x : K) → same p x ≡ false → same q x ≡ true → same p q ≡ false
   apart_else p q x e g = not_so (same p q) (λ h. true≢false (sym g ∙ sym (ap (λ r. same r x) ((tests p q).0 h)) ∙ e))
 
-  flipped : (p q : K) → same q p ≡ false → same p q ≡ false
-  flipped p q g = not_so (same p q) (λ h. true≢false (sym ((tests q p).1 (sym ((tests p q).0 h))) ∙ g))
-
   -- one entry and those after it, where the value at p becomes w
   written_more : (p q : K) (x : K × V) (es : List (K × V)) (s w : V) (b : Bool) → f w ≡ (f s || b) → at p (x ∷ es) ≡ Some s
       → (at p es ≡ Some s → found (at q (with_at p es w)) ≡ (found (at q es) || (same p q && b)))
@@ -81,35 +81,15 @@ module _ {K V : Type 0} (same : K → K → Bool) (tests : Tests same) (f : V �
   written p q [] s w b is here = absurd (none_some here)
   written p q (x ∷ es) s w b is here = written_more p q x es s w b is here (written p q es s w b is)
 
-  -- one entry and those after it, where w is put last at p
-  added_more : (p q : K) (x : K × V) (es : List (K × V)) (w : V) → at p (x ∷ es) ≡ None
-      → (at p es ≡ None → found (at q (es ++ (p, w) ∷ [])) ≡ (found (at q es) || (same p q && f w)))
-      → found (at q (x ∷ es ++ (p, w) ∷ [])) ≡ (found (at q (x ∷ es)) || (same p q && f w))
-  added_more p q x es w none rest = by (same p x.0) (same q x.0) refl refl
+  -- nothing was at p, where w is put
+  first_put : {S : Type 0} (m new : HashMap K V S) (p q : K) (w : V) → get_by (same p) m ≡ None
+      → Updates same m new p (Some w) → found (at q new.entries) ≡ (found (at q m.entries) || (same p q && f w))
+  first_put m new p q w none put = ap found (put.0 q) ∙ by (same p q) refl
     where
-      by : (a c : Bool) → same p x.0 ≡ a → same q x.0 ≡ c
-          → found (at q (x ∷ es ++ (p, w) ∷ [])) ≡ (found (at q (x ∷ es)) || (same p q && f w))
-      by true c e g = absurd (none_some (sym (rw e at none)))
-      by false true e g = let k : same p q ≡ false = apart_else p q x.0 e g in rw (g, k) (or_false (f x.1))
-      by false false e g = rw g (rest (rw e at none))
-
-  added_alone : (p q : K) (w : V) → found (at q ((p, w) ∷ [])) ≡ (same p q && f w)
-  added_alone p q w = by (same q p) refl
-    where
-      by : (b : Bool) → same q p ≡ b → found (at q ((p, w) ∷ [])) ≡ (same p q && f w)
-      by true e = let h : same p q ≡ true = met p q p ((tests p p).1 refl) e in rw (e, h) refl
-      by false e = rw (e, flipped p q e) refl
-
-  -- nothing was at p, where w is put last
-  added : (p q : K) (es : List (K × V)) (w : V) → at p es ≡ None
-      → found (at q (es ++ (p, w) ∷ [])) ≡ (found (at q es) || (same p q && f w))
-  added p q [] w none = added_alone p q w
-  added p q (x ∷ es) w none = added_more p q x es w none (added p q es w)
-
-  -- the entries after `insert` of a new key
-  first_put : {S : Type 0} (m : IndexMap K V S) (new : List (K × V)) (p q : K) (w : V) → get_by (same p) m ≡ None
-      → new ≡ insert_entry same m.entries p w → found (at q new) ≡ (found (at q m.entries) || (same p q && f w))
-  first_put m new p q w none put = ap (λ es. found (at q es)) (put ∙ insert_entry-new same m p w none) ∙ added p q m.entries w none
+      by : (b : Bool) → same p q ≡ b
+          → found (cond b (Some w) (at q m.entries)) ≡ (found (at q m.entries) || (b && f w))
+      by true e = sym (ap (λ o. found o || f w) (ap (λ r. at r m.entries) (sym ((tests p q).0 e)) ∙ none))
+      by false e = or_false (found (at q m.entries))
 
 -- `==` tests lengths
 length_tests : Tests {K = ℕ} (λ a b. a == b)
@@ -160,6 +140,12 @@ ends_turned e i j b = rw (eqb_flip e.source i, eqb_flip e.target j) (and_turned 
     and_turned false true = refl
     and_turned false false = refl
 
+-- what a change at one key leaves of another
+kept_apart : {K X : Type 0} (eq : K → K → Bool) (test : K → Bool) (old new : List (K × X)) → KeepsOthers eq test old new
+    → (other : K → Bool) → IsKeyTest eq other → AreApart test other → lookup other new ≡ lookup other old
+unfolding KeepsOthers
+kept_apart eq test old new kept = kept
+
 -- one more key in a set of keys that are names
 module _ {K : Type 0} (items : K → List ℕ) (q : List ℕ) where
   abbrev has : List K → Bool
@@ -168,19 +154,6 @@ module _ {K : Type 0} (items : K → List ℕ) (q : List ℕ) where
   abbrev same_item : K → K → Bool
   same_item x y = same_name (items x) (items y)
 
-  last : (ks : List K) (v : K) → has (ks ++ v ∷ []) ≡ (has ks || same_name q (items v))
-  last [] v = or_first (same_name q (items v))
-    where
-      or_first : (b : Bool) → (b || false) ≡ b
-      or_first true = refl
-      or_first false = refl
-  last (k ∷ ks) v = more (same_name q (items k)) refl (last ks v)
-    where
-      more : (b : Bool) → same_name q (items k) ≡ b → has (ks ++ v ∷ []) ≡ (has ks || same_name q (items v))
-          → has (k ∷ ks ++ v ∷ []) ≡ (has (k ∷ ks) || same_name q (items v))
-      more true e rest = rw e refl
-      more false e rest = rw e rest
-
   turned : (p : List ℕ) → same_name q p ≡ same_name p q
   turned p = by (same_name p q) refl
     where
@@ -188,24 +161,31 @@ module _ {K : Type 0} (items : K → List ℕ) (q : List ℕ) where
       by true e = (bytes_decides q p).1 (sym ((bytes_decides p q).0 e)) ∙ sym e
       by false e = not_so (same_name q p) (λ h. true≢false (sym ((bytes_decides p q).1 (sym ((bytes_decides q p).0 h))) ∙ e)) ∙ sym e
 
-  put_in : (ks new : List K) (v : K) → new ≡ insert_key same_item ks v → has new ≡ (has ks || same_name (items v) q)
-  put_in ks new v is = by (list_any (same_item v) ks) (same_name (items v) q) refl refl
-    where
-      by : (b a : Bool) → list_any (same_item v) ks ≡ b → same_name (items v) q ≡ a → has new ≡ (has ks || same_name (items v) q)
-      by true true e g =
-          let h : has ks ≡ true = ap (λ r. list_any (λ k. same_name r (items k)) ks) (sym ((bytes_decides (items v) q).0 g)) ∙ e in
-          rw (is, e, h) refl
-      by true false e g = rw (is, e, g) (or_false (has ks))
-      by false a e g = rw (is, e) (last ks v ∙ ap (λ b. has ks || b) (turned (items v)))
+  -- a look-up of q asks for one key and those equal to it
+  asks : IsKeyTest same_item (λ k. same_name q (items k))
+  asks x y e = ap (λ r. same_name r (items y)) ((bytes_decides q (items x)).0 e)
+
+  abbrev has_key : List (K × ⊤) → Bool
+  has_key es = is_some (lookup (λ k. same_name q (items k)) es)
 
   -- a set after `insert` of a name
-  pub key_put : (ks new : List K) (v : K) (p : List ℕ) → items v ≡ p → new ≡ insert_key same_item ks v
-      → has new ≡ (has ks || same_name p q)
-  key_put ks new v p at is = put_in ks new v is ∙ ap (λ r. has ks || same_name r q) at
+  pub key_put : {S : Type 0} (m new : HashMap K ⊤ S) (v : K) (p : List ℕ) → items v ≡ p → Updates same_item m new v (Some tt)
+      → has (keys new) ≡ (has (keys m) || same_name p q)
+  key_put m new v p is put = sym (is_some-lookup (λ k. same_name q (items k)) new.entries) ∙ by (same_name p q) refl
+    where
+      by : (b : Bool) → same_name p q ≡ b → has_key new.entries ≡ (has (keys m) || b)
+      by true e =
+          let here : items v ≡ q = is ∙ (bytes_decides p q).0 e in
+          ap (λ r. is_some (lookup (λ k. same_name r (items k)) new.entries)) (sym here) ∙ ap is_some put.1 ∙ sym (or_true (has (keys m)))
+      by false e =
+          let apart : AreApart (same_item v) (λ k. same_name q (items k)) =
+          λ k h. turned (items k) ∙ ap (λ r. same_name r q) (sym ((bytes_decides (items v) (items k)).0 h) ∙ is) ∙ e in
+          ap is_some (kept_apart same_item (same_item v) m.entries new.entries put.3 (λ k. same_name q (items k)) asks apart) ∙ is_some-lookup (λ k. same_name q (items k)) m.entries
+          ∙ or_false (has (keys m))
 
 -- sets of names, each with the length of its names
 abbrev Sets : Type 0 → Type 0
-Sets S = List (ℕ × IndexMap (Vec ℕ Global) ⊤ S)
+Sets S = List (ℕ × HashMap (Vec ℕ Global) ⊤ S)
 
 -- one more name in the sets by length
 module _ {S : Type 0} where
@@ -213,7 +193,7 @@ module _ {S : Type 0} where
   has_among es name = elim (lookup (λ n. length name == n) es) [ None ↦ false | Some known ↦ is_known known name ]
 
   -- the set of its length becomes another, which has the name too where b is true
-  pub name_written : (es new : Sets S) (p q : List ℕ) (old set : IndexMap (Vec ℕ Global) ⊤ S) (b : Bool)
+  pub name_written : (es new : Sets S) (p q : List ℕ) (old set : HashMap (Vec ℕ Global) ⊤ S) (b : Bool)
       → new ≡ set_value (λ n. length p == n) es set
       → lookup (λ n. length p == n) es ≡ Some old → is_known set q ≡ (is_known old q || (b && same_name p q))
       → has_among new q ≡ (has_among es q || (b && same_name p q))
@@ -223,10 +203,10 @@ module _ {S : Type 0} where
       ∙ ap (λ t. has_among es q || t) (with_length p q b)
 
   -- the first name of its length
-  pub name_first : {T : Type 0} (m : IndexMap ℕ (IndexMap (Vec ℕ Global) ⊤ S) T) (new : Sets S) (p q : List ℕ)
-      (set : IndexMap (Vec ℕ Global) ⊤ S) → get_by (λ n. length p == n) m ≡ None
-      → new ≡ insert_entry (λ a b. a == b) m.entries (length p) set → is_known set q ≡ same_name p q
-      → has_among new q ≡ (has_among m.entries q || same_name p q)
+  pub name_first : {T : Type 0} (m new : HashMap ℕ (HashMap (Vec ℕ Global) ⊤ S) T) (p q : List ℕ)
+      (set : HashMap (Vec ℕ Global) ⊤ S) → get_by (λ n. length p == n) m ≡ None
+      → Updates (λ a b. a == b) m new (length p) (Some set) → is_known set q ≡ same_name p q
+      → has_among new.entries q ≡ (has_among m.entries q || same_name p q)
   name_first m new p q set none put has =
       first_put (λ a b. a == b) length_tests (λ s. is_known s q) m new (length p) (length q) set none put
       ∙ ap (λ t. has_among m.entries q || ((length p == length q) && t)) has
@@ -246,17 +226,10 @@ kind_written es new e p q i j old set is here more =
     ∙ ap (λ t. has_kind es q i j || t) (ends_turned e i j (same_name p q))
 
 -- the first kind between two places
-pub kind_first : {S : Type 0} (m : IndexMap Ends NameSet S) (new : List (Ends × NameSet)) (e : Ends) (p q : List ℕ) (i j : ℕ)
-    (set : NameSet) → get_by (same_ends e) m ≡ None → new ≡ insert_entry same_ends m.entries e set → has_name set q ≡ same_name p q
-    → has_kind new q i j ≡ (has_kind m.entries q i j || goes_between p e q i j)
+pub kind_first : {S : Type 0} (m new : HashMap Ends NameSet S) (e : Ends) (p q : List ℕ) (i j : ℕ) (set : NameSet)
+    → get_by (same_ends e) m ≡ None → Updates same_ends m new e (Some set) → has_name set q ≡ same_name p q
+    → has_kind new.entries q i j ≡ (has_kind m.entries q i j || goes_between p e q i j)
 kind_first m new e p q i j set none put has =
     first_put same_ends ends_tests (λ s. has_name s q) m new e (to i j) set none put
     ∙ ap (λ t. has_kind m.entries q i j || (same_ends e (to i j) && t)) has
     ∙ ap (λ t. has_kind m.entries q i j || t) (ends_turned e i j (same_name p q))
-
--- what a list of one name has
-pub among_one : (ks : List (Vec ℕ Global)) (k : Vec ℕ Global) (name : List ℕ) → 1 ≤ length ks → length ks < 2 → k ≡ get_or ks 0 k
-    → same_name name k.items ≡ list_any (λ known. same_name name known.items) ks
-among_one [] k name some few is = absurd (omega (arith, some))
-among_one (x ∷ []) k name some few is = ap (λ x. same_name name x.items) is ∙ or_false (same_name name x.items)
-among_one (x ∷ y ∷ ys) k name some few is = absurd (omega (arith, few))

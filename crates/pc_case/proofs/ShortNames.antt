@@ -1,17 +1,15 @@
 -- Short names as keys of one length, and what one more name changes in a set of short and long ones.
 use Rattle.std.proofs.Common.{◌≡◌, ℕ, ◌+◌, ◌-◌, ◌≤◌, nat_le, ◌&&◌, ◌||◌, Bool, true, false, List, [], ◌∷◌, ◌++◌, Some, None, length, set, take, drop, replicate, get_or, refl, sym, ap, ◌∙◌, true≢false, arith, if◌then◌else◌}
 use Rattle.std.specs.Prelude.{is_some}
-use Rattle.std.specs.Map.{keys_of, lookup}
+use Rattle.std.specs.Map.{lookup}
 use Rattle.std.specs.Cmp.Lexicographic.{bytes_decides}
 use Rattle.std.proofs.lemmas.Bool.{leb-true}
 use Rattle.std.proofs.lemmas.List.{take-append-le, take_all, length-append, length-replicate, drop-replicate, replicate_more, append_assoc}
 use Rattle.std.proofs.lemmas.Map.Made.{is_some-lookup}
-use Rattle.indexmap.specs.IndexMap.{insert_entry}
-use Rattle.indexmap.specs.IndexSet.{insert_key}
+use Rattle.std.specs.HashMap.{Updates}
 use Rattle.pc_common.specs.Names.{same_name}
 use Rattle.pc_case.specs.declared.name_set.NameSet.{NameSet}
 use Rattle.pc_case.specs.NameSets.{padded, is_short, has_long, has_name}
-use Rattle.pc_case.proofs.MapKeys.{keys_put}
 use Rattle.pc_case.proofs.Lookups.{not_so, or_false, key_put}
 
 -- the last of a list is written
@@ -23,10 +21,10 @@ get_last : (xs : List ℕ) (x : ℕ) → get_or (xs ++ x ∷ []) (length xs) 0 �
 get_last [] x = refl
 get_last (z ∷ xs) x = get_last xs x
 
--- a short name with its zeros has 15 bytes
 abbrev zeros : ℕ → List ℕ
 zeros n = replicate n 0
 
+-- a short name with its zeros has 15 bytes
 abbrev filled : List ℕ → List ℕ
 filled name = name ++ zeros (15 - length name)
 
@@ -80,13 +78,6 @@ keyed name key e = by (nat_le (length name) 15) refl
     by true h = let is : Some key ≡ Some (padded name) = rw h at e in (h, cc)
     by false h = let is : Some key ≡ None = rw h at e in cc
 
-pub unkeyed : (name : List ℕ) → None ≡ (if nat_le (length name) 15 then Some (padded name) else None) → nat_le (length name) 15 ≡ false
-unkeyed name e = by (nat_le (length name) 15) refl
-  where
-    by : (b : Bool) → nat_le (length name) 15 ≡ b → nat_le (length name) 15 ≡ false
-    by true h = let is : None ≡ Some (padded name) = rw h at e in cc
-    by false h = h
-
 -- a short name is looked up by its key
 pub short_known : (names : NameSet) (name key : List ℕ) → nat_le (length name) 15 ≡ true → key ≡ padded name
     → is_some (lookup (same_name key) names.short.entries) ≡ has_name names name
@@ -100,10 +91,6 @@ short_or_long : (p q : List ℕ) → nat_le (length p) 15 ≡ true → nat_le (l
 short_or_long p q e f =
     not_so (same_name p q) (λ h. true≢false (sym e ∙ ap (λ n. nat_le (length n) 15) ((bytes_decides p q).0 h) ∙ f))
 
-long_or_short : (p q : List ℕ) → nat_le (length p) 15 ≡ false → nat_le (length q) 15 ≡ true → same_name p q ≡ false
-long_or_short p q e f =
-    not_so (same_name p q) (λ h. true≢false (sym f ∙ ap (λ n. nat_le (length n) 15) (sym ((bytes_decides p q).0 h)) ∙ e))
-
 nothing_more : (a b s : Bool) → s ≡ false → a ≡ (a || (b && s))
 nothing_more a true s e = or_false a ∙ ap (λ t. a || t) (sym e)
 nothing_more a false s e = or_false a
@@ -111,24 +98,12 @@ nothing_more a false s e = or_false a
 -- one more name, where it is a short one and where it is a long one
 module _ (old new : NameSet) (p : List ℕ) where
   pub short_added : (key : List ℕ) → nat_le (length p) 15 ≡ true → key ≡ padded p → new.long ≡ old.long
-      → new.short.entries ≡ insert_entry same_name old.short.entries key tt
+      → Updates same_name old.short new.short key (Some tt)
       → (q : List ℕ) → has_name new q ≡ (has_name old q || same_name p q)
   short_added key fits is same put q = by (nat_le (length q) 15) refl
     where
-      keys : keys_of new.short.entries ≡ insert_key same_name (keys_of old.short.entries) key
-      keys = ap keys_of put ∙ keys_put same_name key tt old.short.entries
-
       by : (b : Bool) → nat_le (length q) 15 ≡ b → has_name new q ≡ (has_name old q || same_name p q)
       by true e = rw e
-          (key_put (λ k. k) (padded q) (keys_of old.short.entries) (keys_of new.short.entries) key (padded p) is keys
+          (key_put (λ k. k) (padded q) old.short new.short key (padded p) is put
           ∙ ap (λ b. is_short old.short q || b) (same_key p q (leb-true (length p) 15 fits) (leb-true (length q) 15 e)))
       by false e = rw e (ap (λ l. has_long l q) same ∙ nothing_more (has_long old.long q) true (same_name p q) (short_or_long p q fits e))
-
-  pub long_added : (done : Bool) → nat_le (length p) 15 ≡ false → new.short ≡ old.short
-      → ((q : List ℕ) → has_long new.long q ≡ (has_long old.long q || (done && same_name p q)))
-      → (q : List ℕ) → has_name new q ≡ (has_name old q || (done && same_name p q))
-  long_added done passes same more q = by (nat_le (length q) 15) refl
-    where
-      by : (b : Bool) → nat_le (length q) 15 ≡ b → has_name new q ≡ (has_name old q || (done && same_name p q))
-      by false e = rw e (more q)
-      by true e = rw e (ap (λ s. is_short s q) same ∙ nothing_more (is_short old.short q) done (same_name p q) (long_or_short p q passes e))

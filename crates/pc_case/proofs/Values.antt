@@ -7,8 +7,7 @@ use Rattle.std.proofs.lemmas.Bool.Decides.{nat_tests}
 use Rattle.std.proofs.lemmas.Option.{slice_get-map, slice_get-get_or}
 use Rattle.std.specs.Option.{option_map}
 use Rattle.std.specs.Map.{lookup}
-use Rattle.indexmap.specs.IndexMap.{IndexMap, get, insert_entry}
-use Rattle.indexmap.proofs.CallerLemmas.{insert_entry-new}
+use Rattle.std.specs.HashMap.{HashMap, Updates}
 use Rattle.pc_common.specs.Case.{PageAt, Address as PlainAddress, page, entry_of, Value as PlainValue}
 use Rattle.pc_common.specs.declared.value.Value.{Value}
 use Rattle.pc_case.specs.declared.address.Address.{Address}
@@ -18,14 +17,7 @@ use Rattle.pc_case.specs.contracts.address.AddressPartialEq.TheImpl.{eq-value as
 use Rattle.pc_case.specs.Plain.{address_at, plain_value, stated_value}
 use Rattle.pc_common.specs.Addresses.{same_page, same_address, stated_at}
 use Rattle.pc_case.specs.Stated.{IsStatedOnce}
-use Rattle.pc_case.specs.Tables.{pairs_of}
-
-one_of : (b c : Bool) (x : Value) (r : Option Value) (s : Option PlainValue) → b ≡ c → option_map plain_value r ≡ s
-    → option_map plain_value (cond b (Some x) r) ≡ (if c then Some (plain_value x) else s)
-one_of true true x r s e h = refl
-one_of false false x r s e h = h
-one_of true false x r s e h = absurd (true≢false e)
-one_of false true x r s e h = absurd (true≢false (sym e))
+use Rattle.pc_case.specs.Tables.{AreValuesOf}
 
 eqb_flip : (a b : ℕ) → (a == b) ≡ (b == a)
 eqb_flip a b = grind (arith, nat_tests)
@@ -40,12 +32,10 @@ address_eq_flips (Page a b) (Entry t) = refl
 address_eq_flips (Entry a) (Page s t) = refl
 address_eq_flips (Entry a) (Entry t) = eqb_flip a t
 
--- a look-up by the key finds what the first line states
-pub lookup_stated : (eq : Address → Address → Bool) → Same eq
-    → (pa : Address) (es : List (Address × Value)) → option_map plain_value (lookup (eq pa) es) ≡ stated_at (pairs_of es) (address_at pa)
-lookup_stated eq same pa [] = refl
-lookup_stated eq same pa (e ∷ es) =
-    one_of (eq pa e.0) _ e.1 (lookup (eq pa) es) (stated_at (pairs_of es) (address_at pa)) (same pa e.0) (lookup_stated eq same pa es)
+-- a look-up by the key finds what the list states
+pub lookup_stated : (eq : Address → Address → Bool) → Same eq → (pa : Address) (es : List (Address × Value))
+    (ss : List (PlainAddress × PlainValue)) → AreValuesOf es ss → option_map plain_value (lookup (eq pa) es) ≡ stated_at ss (address_at pa)
+lookup_stated eq same pa es ss are = ap (option_map plain_value) (λ i. lookup (λ k. same pa k i) es) ∙ are pa
 
 none_some : {X : Type 0} {x : X} → None ≡ Some x → ⊥
 none_some e = cc
@@ -85,9 +75,30 @@ absent : (ss : List (PlainAddress × PlainValue)) (a : PlainAddress) → ((k : �
 absent [] a none = refl
 absent (s ∷ ss) a none = absent_here s ss a (none zero s refl) (absent ss a (λ k. none (suc k)))
 
-option_none : (o : Option Value) → option_map plain_value o ≡ None → o ≡ None
-option_none None e = refl
-option_none (Some x) e = absurd (none_some (sym e))
+same_flip : (a b : PlainAddress) → same_address a b ≡ same_address b a
+same_flip (page p) (page q) = rw (eqb_flip p.tag q.tag, eqb_flip p.index q.index) refl
+same_flip (page p) (entry_of t) = refl
+same_flip (entry_of s) (page q) = refl
+same_flip (entry_of s) (entry_of t) = eqb_flip s t
+
+-- what one line states where the others state nothing
+abbrev or_last : Option PlainValue → PlainAddress × PlainValue → PlainAddress → Option PlainValue
+or_last o s a = elim o [ None ↦ if same_address s.0 a then Some s.1 else None | Some v ↦ Some v ]
+
+or_other : (o : Option PlainValue) (s : PlainAddress × PlainValue) (a : PlainAddress) → same_address s.0 a ≡ false → or_last o s a ≡ o
+or_other None s a e = rw e refl
+or_other (Some v) s a e = refl
+
+-- one more line, after the others
+stated_last : (ss : List (PlainAddress × PlainValue)) (s : PlainAddress × PlainValue) (a : PlainAddress)
+    → stated_at (ss ++ s ∷ []) a ≡ or_last (stated_at ss a) s a
+stated_last [] s a = refl
+stated_last (t ∷ ss) s a = by (same_address t.0 a) refl (stated_last ss s a)
+  where
+    by : (b : Bool) → same_address t.0 a ≡ b → stated_at (ss ++ s ∷ []) a ≡ or_last (stated_at ss a) s a
+        → stated_at (t ∷ ss ++ s ∷ []) a ≡ or_last (stated_at (t ∷ ss) a) s a
+    by true e rest = rw e refl
+    by false e rest = rw e rest
 
 -- no line before place i states a value at the address of the line there
 not_before : (items : List Stated) (i : ℕ) (d : Stated) → IsStatedOnce (map stated_value items) → i < length items
@@ -102,17 +113,31 @@ not_before items i d once within k s at here =
     omega arith
 
 -- one more line, at an address that no line before is for
-pub values_step : {S : Type 0} (eq : Address → Address → Bool) → Same eq
-    → (m : IndexMap Address Value S) (new : List (Address × Value)) (items : List Stated) (i : ℕ) (d : Stated)
-    → IsStatedOnce (map stated_value items) → i < length items → pairs_of m.entries ≡ map stated_value (take i items)
-    → new ≡ insert_entry eq m.entries (get_or items i d).pa (get_or items i d).value
-    → pairs_of new ≡ map stated_value (take (i + 1) items)
-values_step eq same m new items i d once within was is =
-    let x : Stated = get_or items i d in
-    let none : stated_at (map stated_value (take i items)) (address_at x.pa) ≡ None = absent (map stated_value (take i items)) (address_at x.pa) (not_before items i d once within) in
-    let fresh : get eq m x.pa ≡ None = option_none _ (lookup_stated eq same x.pa m.entries ∙ ap (λ ss. stated_at ss (address_at x.pa)) was ∙ none) in
-    ap pairs_of (is ∙ insert_entry-new eq m x.pa x.value fresh)
-    ∙ map-append _ m.entries _
-    ∙ ap (λ ss. ss ++ stated_value x ∷ []) was
-    ∙ sym (map-append stated_value (take i items) (x ∷ []))
-    ∙ sym (ap (map stated_value) (take_more items i d within))
+module _ {S : Type 0} (eq : Address → Address → Bool) (same : Same eq) (m new : HashMap Address Value S) (items : List Stated) (i : ℕ) (d : Stated) where
+  abbrev line : Stated
+  line = get_or items i d
+
+  abbrev so_far : List (PlainAddress × PlainValue)
+  so_far = map stated_value (take i items)
+
+  pub values_step : IsStatedOnce (map stated_value items) → i < length items → AreValuesOf m.entries (map stated_value (take i items))
+      → Updates eq m new (get_or items i d).pa (Some (get_or items i d).value)
+      → AreValuesOf new.entries (map stated_value (take (i + 1) items))
+  values_step once within was put pa =
+      ap (option_map plain_value) (λ j. lookup (λ k. sym (same pa k) j) new.entries)
+      ∙ ap (option_map plain_value) (put.0 pa)
+      ∙ by (eq line.pa pa) refl
+      ∙ sym (ap (λ ss. stated_at ss (address_at pa)) (ap (map stated_value) (take_more items i d within) ∙ map-append stated_value (take i items) (line ∷ [])))
+    where
+      by : (b : Bool) → eq line.pa pa ≡ b
+          → option_map plain_value (cond b (Some line.value) (lookup (eq pa) m.entries)) ≡ stated_at (so_far ++ stated_value line ∷ []) (address_at pa)
+      by true e =
+          let same_as : same_address (address_at pa) (address_at line.pa) ≡ true = sym (same line.pa pa) ∙ e in
+          let there : address_at pa ≡ address_at line.pa = same_is (address_at pa) (address_at line.pa) same_as in
+          let here : same_address (address_at line.pa) (address_at line.pa) ≡ true = ap (λ a. same_address a (address_at line.pa)) (sym there) ∙ same_as in
+          let none : stated_at so_far (address_at line.pa) ≡ None = absent so_far (address_at line.pa) (not_before items i d once within) in
+          sym (ap (stated_at (so_far ++ stated_value line ∷ [])) there ∙ stated_last so_far (stated_value line) (address_at line.pa) ∙ rw (none, here) refl)
+      by false e =
+          let other : same_address (address_at line.pa) (address_at pa) ≡ false = same_flip (address_at line.pa) (address_at pa) ∙ sym (same line.pa pa) ∙ e in
+          lookup_stated eq same pa m.entries so_far was
+          ∙ sym (stated_last so_far (stated_value line) (address_at pa) ∙ or_other (stated_at so_far (address_at pa)) (stated_value line) (address_at pa) other)

@@ -3,13 +3,13 @@ use Rattle.std.specs.Prelude.{ℕ, ◌≡◌, ⊤, Bool, false, List, [], ◌∷
 use Rattle.std.specs.List.{list_any}
 use Rattle.std.specs.Map.{lookup}
 use Rattle.std.specs.declared.alloc.Global.{Global}
-use Rattle.indexmap.specs.IndexMap.{IndexMap, keys}
+use Rattle.std.specs.HashMap.{HashMap, keys}
 use Rattle.pc_common.specs.Names.{same_name}
 use Rattle.pc_case.specs.declared.long_names.LongNames.{LongNames}
 use Rattle.pc_case.specs.declared.name_set.NameSet.{NameSet}
 
 -- one of these names is this one
-abbrev pub is_known : {S : Type 0} → IndexMap (Vec ℕ Global) ⊤ S → List ℕ → Bool
+abbrev pub is_known : {S : Type 0} → HashMap (Vec ℕ Global) ⊤ S → List ℕ → Bool
 is_known known name = list_any (λ k. same_name name k.items) (keys known)
 
 -- a name of at most 15 bytes with zeros up to place 15, and its length there
@@ -17,7 +17,7 @@ abbrev pub padded : List ℕ → List ℕ
 padded name = name ++ replicate (15 - length name) 0 ++ length name ∷ []
 
 -- one of these short names is this one
-abbrev pub is_short : {S : Type 0} → IndexMap (List ℕ) ⊤ S → List ℕ → Bool
+abbrev pub is_short : {S : Type 0} → HashMap (List ℕ) ⊤ S → List ℕ → Bool
 is_short known name = list_any (same_name (padded name)) (keys known)
 
 -- one of the names of this name's length is this one

@@ -1,9 +1,11 @@
 -- What the tables of a case hold, as plain data.
-use Rattle.std.specs.Prelude.{ℕ, ◌≡◌, Bool, false, List, map, Some, None, ◌==◌, ◌&&◌}
+use Rattle.std.specs.Prelude.{ℕ, ◌≡◌, Bool, false, List, Some, None, ◌==◌, ◌&&◌}
+use Rattle.std.specs.Option.{option_map}
 use Rattle.std.specs.Map.{lookup}
 use Rattle.pc_common.specs.declared.value.Value.{Value}
 use Rattle.pc_common.specs.Case.{Address as PlainAddress, Value as PlainValue, Dependency}
 use Rattle.pc_common.specs.Names.{same_name}
+use Rattle.pc_common.specs.Addresses.{same_address, stated_at}
 use Rattle.pc_common.specs.Dependencies.{depends_by}
 use Rattle.pc_case.specs.declared.address.Address.{Address}
 use Rattle.pc_case.specs.declared.dependency.Ends.{Ends}
@@ -11,9 +13,10 @@ use Rattle.pc_case.specs.declared.name_set.NameSet.{NameSet}
 use Rattle.pc_case.specs.NameSets.{has_name}
 use Rattle.pc_case.specs.Plain.{address_at, plain_value}
 
--- each address with its value
-abbrev pub pairs_of : List (Address × Value) → List (PlainAddress × PlainValue)
-pairs_of es = map (λ e. (address_at e.0, plain_value e.1)) es
+-- the value at an address is the one that the list states for it
+abbrev pub AreValuesOf : List (Address × Value) → List (PlainAddress × PlainValue) → Type 0
+AreValuesOf es ss =
+    (pa : Address) → option_map plain_value (lookup (λ k. same_address (address_at k) (address_at pa)) es) ≡ stated_at ss (address_at pa)
 
 -- these are the places i and j
 abbrev pub are_ends : ℕ → ℕ → Ends → Bool

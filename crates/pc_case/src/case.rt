@@ -144,8 +144,8 @@ impl Case {
             ops,
             cores,
             dependencies: DependencyTable::of(alloc, dependencies)?,
-            initial: ValueTable::of(alloc, &initial)?,
-            final_values: ValueTable::of(alloc, &final_values)?,
+            initial: ValueTable::of(alloc, initial)?,
+            final_values: ValueTable::of(alloc, final_values)?,
             expect,
         })
     }
@@ -156,8 +156,8 @@ impl Case {
     {
         let ops = copy_ops(alloc, &self.ops)?;
         let dependencies = self.dependencies.copy(alloc)?;
-        let initial = self.initial.copy()?;
-        let final_values = self.final_values.copy()?;
+        let initial = self.initial.copy(alloc)?;
+        let final_values = self.final_values.copy(alloc)?;
         Ok(Case {
             ops,
             cores: self.cores,

@@ -4,9 +4,9 @@ ghost use Rattle.pc_common.specs.Dependencies.{depends_by};
 ghost use Rattle.pc_case.specs.Tables.{has_kind, goes_between};
 
 use super::name_set::NameSet;
-use indexmap::IndexMap;
 use pc_common::{Listed, Memory};
 use std::alloc::Global;
+use std::collections::HashMap;
 use std::marker::Model;
 
 /// A dependency of a kind, between two micro-ops by their places in test order.
@@ -53,7 +53,7 @@ pub(crate) struct Ends {
 
 /// The kinds of the dependencies between two places. A test may have many thousands of kinds, and a
 /// kind as many bytes, so that the ends are looked up first and the kind last.
-type KindsByEnds = IndexMap<Ends, NameSet>;
+type KindsByEnds = HashMap<Ends, NameSet>;
 
 /// Dependencies in test order, looked up by ends and then by kind.
 pub(crate) struct DependencyTable {
@@ -119,7 +119,7 @@ impl DependencyTable {
     {
         DependencyTable {
             listed: Listed::new(alloc),
-            kinds: IndexMap::new(alloc),
+            kinds: HashMap::new(alloc),
         }
     }
 
@@ -127,7 +127,7 @@ impl DependencyTable {
     pub(crate) fn of(alloc: Global, listed: Dependencies) -> Result<DependencyTable, Memory>
         ensures { IfOk result (λ t. t ≡ map dependency listed) }
     {
-        let mut kinds = IndexMap::new(alloc);
+        let mut kinds = HashMap::new(alloc);
         for line in listed.as_slice() {
             let ends = Ends {
                 source: line.source as usize,

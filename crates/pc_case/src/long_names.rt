@@ -2,16 +2,15 @@ ghost use Rattle.std.specs.Prelude.{◌≡◌, ◌||◌, ◌&&◌, false, List, 
 ghost use Rattle.pc_common.specs.Names.{same_name};
 ghost use Rattle.pc_case.specs.NameSets.{is_known, has_long};
 
-use indexmap::IndexMap;
 use pc_common::Memory;
 use std::alloc::Global;
+use std::collections::HashMap;
 
 /// Names, looked up by their length and only then by their bytes. A name may have many thousands of
 /// bytes, so that it costs its length where it is put in, and where a name of its length is asked for.
 pub(crate) struct LongNames {
-    // A map without values: above an `IndexSet` in a public type every library carries the contracts of
-    // maps and of sets.
-    by_length: IndexMap<usize, IndexMap<Vec<u8>, ()>>,
+    // Sets are maps without values here, so that the libraries above carry what is said of maps alone.
+    by_length: HashMap<usize, HashMap<Vec<u8>, ()>>,
 }
 
 // Written out, so that a proof of what drops the value meets one call and no field.
@@ -27,7 +26,7 @@ impl LongNames {
         ensures { (name : List ℕ) → has_long result name ≡ false }
     {
         LongNames {
-            by_length: IndexMap::new(alloc),
+            by_length: HashMap::new(alloc),
         }
     }
 
@@ -43,7 +42,7 @@ impl LongNames {
                 known.insert(name, ())?;
             }
             None => {
-                let mut known = IndexMap::new(alloc);
+                let mut known = HashMap::new(alloc);
                 known.insert(name, ())?;
                 self.by_length.insert(length, known)?;
             }
@@ -64,11 +63,12 @@ impl LongNames {
 }
 
 /// Whether this is one of the names. A single one is compared, since that costs less than a hash.
-fn is_among(known: &IndexMap<Vec<u8>, ()>, name: &[u8]) -> bool
+fn is_among(known: &HashMap<Vec<u8>, ()>, name: &[u8]) -> bool
     ensures { result ≡ is_known known.now name.now }
 {
-    match known.keys().as_slice() {
-        [only] => name == only.as_slice(),
+    let mut keys = known.keys();
+    match (keys.next(), keys.next()) {
+        (Some(only), None) => name == only.as_slice(),
         _ => known.contains_key(name),
     }
 }

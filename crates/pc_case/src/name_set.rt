@@ -3,9 +3,9 @@ ghost use Rattle.pc_common.specs.Names.{same_name};
 ghost use Rattle.pc_case.specs.NameSets.{padded, has_name};
 
 use super::long_names::LongNames;
-use indexmap::IndexMap;
 use pc_common::Memory;
 use std::alloc::Global;
+use std::collections::HashMap;
 
 /// A name of at most 15 bytes, as nearly all are: its bytes, zeros after them, and its length last.
 type ShortName = [u8; 16];
@@ -27,7 +27,7 @@ fn short_name(name: &[u8]) -> Option<ShortName>
 /// Names. A short one lies in the set itself, so that it takes no block of memory of its own.
 pub(crate) struct NameSet {
     // A map without values, as in `LongNames`.
-    short: IndexMap<ShortName, ()>,
+    short: HashMap<ShortName, ()>,
     long: LongNames,
 }
 
@@ -44,7 +44,7 @@ impl NameSet {
         ensures { (name : List ℕ) → has_name result name ≡ false }
     {
         NameSet {
-            short: IndexMap::new(alloc),
+            short: HashMap::new(alloc),
             long: LongNames::new(alloc),
         }
     }

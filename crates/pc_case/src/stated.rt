@@ -3,12 +3,11 @@ ghost use Rattle.std.specs.Option.{option_map};
 ghost use Rattle.pc_case.specs.Plain.{address_at, plain_value, stated_value};
 ghost use Rattle.pc_common.specs.Addresses.{stated_at};
 ghost use Rattle.pc_case.specs.Stated.{IsStatedOnce};
-ghost use Rattle.pc_case.specs.Tables.{pairs_of};
 
 use super::address::Address;
-use indexmap::IndexMap;
 use pc_common::{Listed, Memory, Value};
 use std::alloc::Global;
+use std::collections::HashMap;
 use std::marker::Model;
 
 /// What a line states: the value at a physical address.
@@ -23,24 +22,31 @@ pub type StatedValues = Listed<Stated>;
 
 /// Stated values in test order, looked up by address.
 pub(crate) struct ValueTable {
-    values: IndexMap<Address, Value>,
+    listed: StatedValues,
+    by_address: HashMap<Address, Value>,
 }
 
 // Written out, so that a proof of what drops the value meets one call and no field.
 impl Drop for ValueTable {
     fn drop(self) {
-        let ValueTable { values: _ } = self;
+        let ValueTable {
+            listed: _,
+            by_address: _,
+        } = self;
     }
 }
 
 impl Model for ValueTable {
-    ghost use Rattle.std.specs.Prelude.{List};
+    ghost use Rattle.std.specs.Prelude.{List, map};
     ghost use Rattle.pc_common.specs.Case.{Address as PlainAddress, Value as PlainValue};
-    ghost use Rattle.pc_case.specs.Tables.{pairs_of};
+    ghost use Rattle.pc_case.specs.Plain.{stated_value};
+    ghost use Rattle.pc_case.specs.Tables.{AreValuesOf};
 
     ghost Value = { List (PlainAddress × PlainValue) };
 
-    ghost view = { λ t. pairs_of t.values.entries };
+    ghost view = { λ t. map stated_value t.listed };
+
+    ghost invariant = { λ t. AreValuesOf t.by_address.entries (map stated_value t.listed) };
 }
 
 impl ValueTable {
@@ -49,35 +55,38 @@ impl ValueTable {
         ensures { result ≡ [] }
     {
         ValueTable {
-            values: IndexMap::new(alloc),
+            listed: Listed::new(alloc),
+            by_address: HashMap::new(alloc),
         }
     }
 
     /// The table of these values.
-    pub(crate) fn of(alloc: Global, stated: &StatedValues) -> Result<ValueTable, Memory>
-        requires { IsStatedOnce (map stated_value stated.now) }
-        ensures { IfOk result (λ t. t ≡ map stated_value stated.now) }
+    pub(crate) fn of(alloc: Global, listed: StatedValues) -> Result<ValueTable, Memory>
+        requires { IsStatedOnce (map stated_value listed) }
+        ensures { IfOk result (λ t. t ≡ map stated_value listed) }
     {
-        let mut values = IndexMap::with_capacity(alloc, stated.len())?;
-        for line in stated.as_slice() {
-            values.insert(line.pa, line.value)?;
+        let mut by_address = HashMap::with_capacity(alloc, listed.len())?;
+        for line in listed.as_slice() {
+            by_address.insert(line.pa, line.value)?;
         }
-        Ok(ValueTable { values })
+        Ok(ValueTable { listed, by_address })
     }
 
     /// The value that is stated at this address. Takes no memory.
     pub(crate) fn get(&self, pa: Address) -> Option<Value>
         ensures { option_map plain_value result ≡ stated_at self.now (address_at pa) }
     {
-        self.values.get(&pa).copied()
+        self.by_address.get(&pa).copied()
     }
 
     /// The same table once more.
-    pub(crate) fn copy(&self) -> Result<ValueTable, Memory>
+    pub(crate) fn copy(&self, alloc: Global) -> Result<ValueTable, Memory>
         ensures { IfOk result (λ c. c ≡ self.now) }
     {
+        let listed = Vec::from_slice(alloc, self.listed.as_slice())?;
         Ok(ValueTable {
-            values: self.values.clone()?,
+            listed: Listed::from_vec(listed),
+            by_address: self.by_address.clone()?,
         })
     }
 }

@@ -1,7 +1,6 @@
 use Rattle.std.proofs.Common.{◌||◌, sym, ap, ◌∙◌}
-use Rattle.indexmap.specs.IndexMap.{insert_entry}
 use Rattle.pc_common.specs.Names.{same_name}
-use Rattle.pc_case.proofs.Lookups.{kind_written, kind_first, same_ends}
+use Rattle.pc_case.proofs.Lookups.{kind_written, kind_first}
 use Rattle.pc_case.proofs.dependency.add.Goals as goal
 
 pub returns-in_ok-add-in-Some : goal.returns-in_ok-add-in-Some
@@ -12,6 +11,6 @@ returns-in_ok-add-in-Some c = λ k i j.
 pub returns-in_ok-insert-in-None : goal.returns-in_ok-insert-in-None
 returns-in_ok-insert-in-None c = λ k i j.
     let set = c.add-in-None.new.self in
-    kind_first c.args.table.now c.insert.new.self.entries c.args.ends c.args.kind.now k i j set (sym c.in-None.ensures.value)
-    (c.in_ok-insert-in-None.ensures.entries ∙ ap (λ m. insert_entry same_ends m.entries c.args.ends set) c.get_mut.follows.holds-at-none)
+    kind_first c.args.table.now c.insert.new.self c.args.ends c.args.kind.now k i j set (sym c.in-None.ensures.value)
+    (rw (sym c.get_mut.follows.holds-at-none) c.in_ok-insert-in-None.ensures.updates)
     (c.in_ok-add-in-None.ensures k ∙ ap (λ b. b || same_name c.args.kind.now k) (c.new-kinds.ensures k))

@@ -1,11 +1,9 @@
-use Rattle.std.proofs.Common.{rules, ◌≡◌, ◌==◌, ◌&&◌, ◌||◌, true, false, [], length, sym, ap, ◌∙◌, Bool}
+use Rattle.std.proofs.Common.{rules, ◌≡◌, ◌&&◌, ◌||◌, true, false, sym, ap, ◌∙◌, Bool}
 use Rattle.std.specs.Prelude.{is_ok}
 use Rattle.std.specs.List.{list_any}
 use Rattle.std.specs.Map.{keys_of}
-use Rattle.indexmap.specs.IndexMap.{insert_entry}
 use Rattle.pc_common.specs.Names.{same_name}
 use Rattle.pc_case.specs.NameSets.{is_known}
-use Rattle.pc_case.proofs.MapKeys.{keys_put}
 use Rattle.pc_case.proofs.Lookups.{name_written, name_first, key_put, or_false}
 use Rattle.pc_case.proofs.long_names.LongNames.add.Goals as goal
 
@@ -26,15 +24,13 @@ returns-in_ok-insert-in-Some c = λ other.
     let old = c.in-Some.known.now in
     name_written c.args.self.now.by_length.entries _ name other old c.insert.new.self true (c.get_mut.follows.holds c.insert.new.self).0
     (sym c.in-Some.ensures.value)
-    (key_put (λ k. k.items) other (keys_of old.entries) (keys_of c.insert.new.self.entries) c.in_ok-name.name name c.in_ok-name.ensures.items
-    (ap keys_of c.in_ok-insert-in-Some.ensures.entries ∙ keys_put (λ x y. same_name x.items y.items) c.in_ok-name.name tt old.entries))
+    (key_put (λ k. k.items) other old c.insert.new.self c.in_ok-name.name name c.in_ok-name.ensures.items c.in_ok-insert-in-Some.ensures.updates)
 
 pub returns-in_ok-insert-in-None-2 : goal.returns-in_ok-insert-in-None-2
 returns-in_ok-insert-in-None-2 c = λ other.
     let name = c.args.name.now in
     let set = c.insert-in-None.new.self in
-    name_first c.args.self.now.by_length c.insert-in-None-2.new.self.entries name other set (sym c.in-None.ensures.value)
-    (c.in_ok-insert-in-None-2.ensures.entries ∙ ap (λ m. insert_entry (λ a b. a == b) m.entries (length name) set) c.get_mut.follows.holds-at-none)
-    (key_put (λ k. k.items) other [] (keys_of set.entries) c.in_ok-name.name name c.in_ok-name.ensures.items
-    (ap keys_of c.in_ok-insert-in-None.ensures.entries
-    ∙ ap (λ es. keys_of (insert_entry (λ x y. same_name x.items y.items) es c.in_ok-name.name tt)) c.new-known.ensures.empty))
+    name_first c.args.self.now.by_length c.insert-in-None-2.new.self name other set (sym c.in-None.ensures.value)
+    (rw (sym c.get_mut.follows.holds-at-none) c.in_ok-insert-in-None-2.ensures.updates)
+    (key_put (λ k. k.items) other c.new-known.result set c.in_ok-name.name name c.in_ok-name.ensures.items c.in_ok-insert-in-None.ensures.updates
+    ∙ ap (λ es. list_any (λ k. same_name other k.items) (keys_of es) || same_name name other) c.new-known.ensures.empty)
