@@ -6,9 +6,9 @@ ghost use Rattle.lifted_check.specs.LiftedTexts.{asked};
 ghost use Rattle.lift_command.specs.Lifts.{IsLiftOf};
 ghost use Rattle.command_base.specs.declared.feed_end.FeedEnd.TheVariants.{ReadFault as a_read_fault};
 
+use super::lifted_text::lift;
 use cert_check::{One, check_one};
 use command_base::FeedEnd;
-use super::lifted_text::lift;
 use pc_common::{Files, MAX_CERTIFICATE, Memory, ReadEnd, read_all};
 use pc_ground::Front;
 use std::alloc::Global;

@@ -12,9 +12,9 @@ ghost use Rattle.lifter.specs.KnownFacts.{IsPart};
 ghost use Rattle.lifter.specs.States.{branch_of, AreKept};
 ghost use Rattle.lifter.specs.Unfoldings.{facts_from, HasUnfolded, HasTaken};
 
+use super::closing::close;
 use super::fact_kind::kind_of_fact;
 use super::kind::Kind;
-use super::closing::close;
 use super::known::Known;
 use super::line::Steps;
 use super::rows::right_of;

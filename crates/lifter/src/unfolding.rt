@@ -14,9 +14,9 @@ ghost use Rattle.lifter.specs.States.{branch_of};
 ghost use Rattle.lifter.specs.Unfoldings.{fact_of, HasUnfolded, HasTaken, parts_from};
 
 use super::fact_kind::{kind_of_fact, last_open};
+use super::key::Key;
 use super::kind::Kind;
 use super::listed_parts::part_at;
-use super::key::Key;
 use super::moving::{derive, lose_first, lose_second, mark};
 use super::rows::right_of;
 use super::state::State;
