@@ -1,8 +1,9 @@
 """What scripts of this folder count of the program: instructions, turns of the search, and peak memory.
 
-Instructions are counted by `valgrind --tool=callgrind`, and so are the turns, as calls of `Search::turn`: both are the
-same in each run, whatever else the machine does. A turn makes one split. The splits of a text are fewer, since a
-refutation is written without those that it does not need, and a graph has none.
+Instructions are counted by `valgrind --tool=callgrind`, and so are the turns, as calls of what hands out the result of a
+turn, less one for the start of each search: both are the same in each run, whatever else the machine does. A turn makes one
+split. The splits of a text are fewer, since a refutation is written without those that it does not need, and a graph has
+none.
 """
 import os
 import re
@@ -18,7 +19,8 @@ PROGRAM = os.path.join(TOP, "crates/pipecheck_cli/out/pipecheck_cli")
 # a function's name stands whole where it comes first, and after that its number alone
 NAMED = re.compile(r"^(?:c?fn)=\((\d+)\)(?: (.*))?$")
 CALLS = re.compile(r"^calls=(\d+) ")
-TURN = re.compile(r"\bsolver\b.*\bturn\b")
+# what hands out the result of a turn, and what each search calls once
+HANDED_OUT, BEGUN = "solver::search::settle", "solver::gains::Gains::new"
 
 
 @dataclass(frozen=True)
@@ -48,19 +50,27 @@ def saved(folder: str, name: str, text: str) -> str:
     return path
 
 
-def turns_in(profile: str) -> int:
-    """How many calls of `Search::turn` a profile of callgrind has."""
+def calls_of(profile: str, functions: tuple[str, ...]) -> list[int]:
+    """How often a profile of callgrind has each of these functions called."""
     names: dict[str, str] = {}
-    called, turns = "", 0
+    calls = dict.fromkeys(functions, 0)
+    called = ""
     with open(profile, encoding="utf-8", errors="replace") as file:
         for line in file:
             if named := NAMED.match(line):
-                names.setdefault(named[1], named[2] or "")
-                if line.startswith("c"):
-                    called = names[named[1]]
-            elif (calls := CALLS.match(line)) and TURN.search(called):
-                turns += int(calls[1])
-    return turns
+                names.setdefault(named[1], (named[2] or "").strip())
+                called = names[named[1]] if line.startswith("c") else ""
+            elif (count := CALLS.match(line)) and called in calls:
+                calls[called] += int(count[1])
+    return [calls[function] for function in functions]
+
+
+def turns_in(profile: str) -> int:
+    """How many turns of searches a profile has."""
+    handed_out, begun = calls_of(profile, (HANDED_OUT, BEGUN))
+    if begun and not handed_out:
+        raise SystemExit(f"not counted: the program has no function {HANDED_OUT} any more")
+    return handed_out - begun
 
 
 def counted(*words: str) -> Counted:
