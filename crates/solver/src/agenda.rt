@@ -2,6 +2,7 @@ ghost use Rattle.std.specs.Prelude.{◌≡◌, All, length};
 ghost use Rattle.solver.specs.Below.{IsRowBelow};
 
 use super::bits::Bits;
+use super::failures::Failures;
 use super::gains::{Gained, Gains};
 use super::hints::{Truth, or_truth};
 use super::numbered_tree::NumberedTree;
@@ -11,9 +12,9 @@ use super::rows::skip_at;
 use super::side::Side;
 use super::standing::Standing;
 use super::watch::{Watch, Watched};
-use order_graph::OrderGraph;
+use order_graph::{Clash, OrderGraph};
 use pc_common::Memory;
-use pc_ground::{Row, Version};
+use pc_ground::Row;
 use std::alloc::Global;
 
 /// What stood at a position before a change.
@@ -43,9 +44,8 @@ pub(crate) struct Agenda {
     marks: Vec<usize>,
     /// How many asserted positions were looked at.
     seen: usize,
-    /// For each Or how many leaves have closed a side of it, on all branches so far. Version 1 does not ask,
-    /// and keeps none.
-    closings: Vec<u32>,
+    /// Which splits took part in what failed so far.
+    failures: Failures,
     gains: Gains,
 }
 
@@ -64,7 +64,7 @@ impl Drop for Agenda {
             trail: _,
             marks: _,
             seen: _,
-            closings: _,
+            failures: _,
             gains: _,
         } = self;
     }
@@ -72,18 +72,9 @@ impl Drop for Agenda {
 
 impl Agenda {
     /// That of a search over these rows and so many nodes, before the tree is asserted.
-    pub(crate) fn new(
-        alloc: Global,
-        rows: &[Row<u32>],
-        nodes: u32,
-        version: Version,
-    ) -> Result<Agenda, Memory> {
+    pub(crate) fn new(alloc: Global, rows: &[Row<u32>], nodes: u32) -> Result<Agenda, Memory> {
         let watch = Watch::new(alloc, rows, nodes)?;
         let count = watch.end();
-        let counted = match version {
-            Version::One => 0,
-            Version::Two => count,
-        };
         Ok(Agenda {
             watch,
             standings: vec![in alloc; Standing::none(); count]?,
@@ -96,7 +87,7 @@ impl Agenda {
             trail: Vec::new(alloc),
             marks: Vec::new(alloc),
             seen: 0,
-            closings: vec![in alloc; 0; counted]?,
+            failures: Failures::new(alloc, nodes, count)?,
             gains: Gains::new(alloc, nodes)?,
         })
     }
@@ -154,8 +145,9 @@ impl Agenda {
     }
 
     /// The Or is split, and its right side waits.
-    pub(crate) fn split(&mut self, position: usize) -> Result<(), Memory> {
-        self.change(position, Standing::none())?;
+    pub(crate) fn split(&mut self, place: Place, graph: &OrderGraph) -> Result<(), Memory> {
+        self.change(place.position, Standing::none())?;
+        self.failures.split(place, graph)?;
         self.marks.push(self.trail.len())?;
         self.moment = self.moment.wrapping_add(1);
         Ok(())
@@ -180,6 +172,7 @@ impl Agenda {
         for k in self.seen..asserted.len() {
             let place = asserted[k];
             if is_or(tree, place) {
+                self.failures.note_or(place.position)?;
                 self.change(place.position, Standing::fresh(place.negated))?;
             }
         }
@@ -311,30 +304,19 @@ impl Agenda {
         Ok(None)
     }
 
-    /// A leaf closed the side of a split, which counts in version 2. The Or stands right before its left side,
-    /// which a right side names as what it denies.
-    pub(crate) fn count_closed(&mut self, version: Version, side: Side) {
-        let Version::Two = version else {
-            return;
-        };
-        let left = side.denied.unwrap_or(side.root);
-        let position = left.saturating_sub(1);
-        if position < self.closings.len() {
-            self.closings[position] = self.closings[position].saturating_add(1);
-        }
+    /// A leaf closes the side that was entered last by this clash.
+    pub(crate) fn learn(&mut self, clash: &Clash, graph: &OrderGraph) -> Result<(), Memory> {
+        self.failures.learn(clash, graph)
     }
 
-    /// How many leaves have closed a side of the Or.
-    fn closed_so_far(&self, position: usize) -> u32 {
-        if position < self.closings.len() {
-            self.closings[position]
-        } else {
-            0
-        }
+    /// The choice by which a part of the search failed that is to fail again, if there is one.
+    pub(crate) fn guide(&self) -> Option<Place> {
+        self.failures.guide()
     }
 
-    /// The choice whose sides were closed most often so far, and of several the first; `first` is the first.
-    pub(crate) fn most_closed(
+    /// The choice whose splits took part in the newest failures, of several the one with the most, and of several
+    /// the first; `first` is the first, and the one where none took part in a failure.
+    pub(crate) fn newest(
         &mut self,
         rows: &[Row<u32>],
         graph: &OrderGraph,
@@ -342,21 +324,26 @@ impl Agenda {
     ) -> Result<Place, Memory>
         requires { All (IsRowBelow graph.now.nodes) rows.now }
     {
+        if self.failures.is_empty() {
+            return Ok(first);
+        }
         let mut chosen = first;
-        let mut most = self.closed_so_far(first.position);
+        let mut newest = self.failures.record(first.position);
         let mut from = first.position.saturating_add(1);
         for _ in 0..rows.len() {
-            let Some(position) = self.open.first_from(from) else {
+            let Some(position) = self.open.first_common(self.failures.recorded(), from) else {
                 return Ok(chosen);
             };
-            let standing = self.refresh(rows, graph, position)?;
-            let closed = self.closed_so_far(position);
-            if standing.is_open() && closed > most {
-                most = closed;
-                chosen = Place {
-                    negated: standing.is_negated(),
-                    position,
-                };
+            let record = self.failures.record(position);
+            if record.is_newer(newest) {
+                let standing = self.refresh(rows, graph, position)?;
+                if standing.is_open() {
+                    newest = record;
+                    chosen = Place {
+                        negated: standing.is_negated(),
+                        position,
+                    };
+                }
             }
             from = position.saturating_add(1);
         }

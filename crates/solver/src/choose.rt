@@ -213,25 +213,8 @@ fn first_closed<L: Ledger>(
     Ok(one_sided)
 }
 
-/// The choice to split where none has a closed side: the first, and in version 2 the one whose sides were
-/// closed most often so far.
-fn open_choice(
-    tree: &NumberedTree,
-    version: Version,
-    first: Place,
-    graph: &OrderGraph,
-    agenda: &mut Agenda,
-) -> Result<Place, Memory>
-    requires { graph.now.nodes ≡ length tree.now.nodes }
-{
-    match version {
-        Version::One => Ok(first),
-        Version::Two => agenda.most_closed(tree.rows(), graph, first),
-    }
-}
-
 /// The choice that the agenda proposes to split: the first with enough sides closed at once or with one, and
-/// where none has one, as `open_choice` says.
+/// where none has one, the one whose split took part in the newest failure.
 fn propose<L: Ledger>(
     tree: &NumberedTree,
     version: Version,
@@ -248,13 +231,13 @@ fn propose<L: Ledger>(
     if let Some(place) = first_closed(tree, version, mark, graph, agenda, steps)? {
         return Ok(place);
     }
-    open_choice(tree, version, first, graph, agenda)
+    agenda.newest(tree.rows(), graph, first)
 }
 
-/// The candidate to split. In version 1 it is the first with a side that is closed at once, and where none
-/// has one the first, which is given. In version 2 it is the first with both sides closed at once; otherwise
-/// the first with one; otherwise the one whose sides were closed most often so far. What the agenda proposes
-/// is tested.
+/// The candidate to split. Where what failed on the left is to fail again, it is the one that was split there.
+/// Otherwise in version 1 it is the first with a side that is closed at once; in version 2 the
+/// first with both, and otherwise the first with one. Where none has one, it is the one whose split took part in
+/// the newest failure, or the first, which is given. What the agenda proposes is tested.
 pub(crate) fn choose<L: Ledger>(
     alloc: Global,
     tree: &NumberedTree,
@@ -277,6 +260,11 @@ pub(crate) fn choose<L: Ledger>(
     ensures asserted { branch.new.asserted ≡ branch.old.asserted }
     ensures rest { HasSameRest branch.old branch.new }
 {
+    if let Some(guide) = branch.agenda.guide() {
+        if is_candidate_now(alloc, tree, &branch.graph, &branch.asserted, guide)? {
+            return Ok(guide);
+        }
+    }
     let place = propose(
         tree,
         version,

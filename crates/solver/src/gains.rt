@@ -35,7 +35,7 @@ pub(crate) struct Gains {
 }
 
 /// The literal at `k` of the graph.
-fn literal_of(graph: &OrderGraph, k: usize) -> Literal<u32>
+pub(crate) fn literal_of(graph: &OrderGraph, k: usize) -> Literal<u32>
     requires { k < length graph.now.literals }
     ensures { IsBelow graph.now.nodes result }
 {
