@@ -1,6 +1,7 @@
-ghost use Rattle.std.specs.Prelude.{◌≡◌, ◌<◌, ◌≤◌, IfOk, length, map};
-ghost use Rattle.pc_ground.specs.Keys.{key_node};
+ghost use Rattle.std.specs.Prelude.{◌≡◌, ◌<◌, ◌≤◌, ◌⊎◌, ◌++◌, ◌∷◌, [], IfOk, OnOk};
+ghost use Rattle.pc_common.specs.Steps.{split};
 ghost use Rattle.refutation.specs.Steps.{plain_step, IsLeaf, open_branches};
+ghost use Rattle.shorten.specs.Subsequences.{IsSubsequence};
 
 use super::cuts::Cuts;
 use pc_common::Memory;
@@ -29,6 +30,7 @@ fn copy_split(
     requires some { 0 < branches }
     requires open { branches ≤ open_branches short.old }
     ensures open { IfOk result (λ more. more ≤ open_branches short.new) }
+    ensures copied { OnOk result (short.new ≡ short.old ++ split negated position ∷ []) }
 {
     short.push_split(negated, position)?;
     Ok(branches.saturating_add(1))
@@ -40,6 +42,7 @@ fn put_leaf(short: &mut Refutation, leaf: Step, branches: usize) -> Result<usize
     requires open { branches ≤ open_branches short.old }
     requires leaf { IsLeaf (plain_step leaf) }
     ensures open { IfOk result (λ less. less ≤ open_branches short.new) }
+    ensures copied { OnOk result (short.new ≡ short.old ++ plain_step leaf ∷ []) }
 {
     short.close_leaf(leaf)?;
     Ok(branches - 1)
@@ -55,6 +58,8 @@ fn put_copy(
 ) -> Result<usize, Memory>
     requires open { branches ≤ open_branches short.old }
     ensures open { IfOk result (λ now. now ≤ open_branches short.new) }
+    ensures copied { OnOk result (
+        (short.new ≡ short.old ++ plain_step step.now ∷ []) ⊎ (short.new ≡ short.old)) }
 {
     if branches == 0 {
         return Ok(branches);
@@ -86,14 +91,17 @@ pub(crate) fn copy_without(
     alloc: Global,
     refutation: &Refutation,
     cuts: &Cuts,
-) -> Result<Refutation, Memory> {
+) -> Result<Refutation, Memory>
+    ensures { IfOk result (λ short. IsSubsequence short refutation.now) }
+{
     let mut short = Refutation::new(alloc);
     let mut branches = 1;
     let mut next = 0;
     for k in 0..refutation.len() {
+        let step = refutation.step(k);
         next = next.max(cuts.end(k));
         if k >= next {
-            branches = put_copy(alloc, refutation.step(k), &mut short, branches)?;
+            branches = put_copy(alloc, step, &mut short, branches)?;
         }
     }
     Ok(short)

@@ -3,6 +3,7 @@ ghost use Rattle.pc_common.specs.World.{Node};
 ghost use Rattle.pc_ground.specs.Tree.{Tree};
 ghost use Rattle.pc_ground.specs.Rows.{rows_of};
 ghost use Rattle.pc_ground.specs.Refutes.{IsRefutation};
+ghost use Rattle.shorten.specs.Subsequences.{IsSubsequence};
 
 use super::conflicts::unneeded_steps;
 use super::copies::copy_without;
@@ -24,7 +25,7 @@ fn shorter(
 ) -> Result<Option<Refutation>, Memory>
     ensures refutes { IfOk result (λ found. IfSome found (λ short. (t : Tree Node) → tree.now ≡ rows_of t
         → IsRefutation version t short)) }
-    ensures count { IfOk result (λ found. IfSome found (λ short. length short ≤ length refutation.now)) }
+    ensures steps { IfOk result (λ found. IfSome found (λ short. IsSubsequence short refutation.now)) }
 {
     if refutation.len() < ONE_SPLIT {
         return Ok(None);
@@ -34,7 +35,7 @@ fn shorter(
         return Ok(None);
     }
     let short = copy_without(alloc, refutation, &cuts)?;
-    if short.len() <= refutation.len() && is_refutation(alloc, tree, version, &short)? {
+    if is_refutation(alloc, tree, version, &short)? {
         Ok(Some(short))
     } else {
         Ok(None)
@@ -42,7 +43,7 @@ fn shorter(
 }
 
 /// A refutation of the tree in this version, from the one that is given: it leaves out each split one of whose sides is
-/// closed without it, with the other side. So it has at most as many steps, in the same order.
+/// closed without it, with the other side.
 ///
 /// Returns `Memory` where memory is refused. Where nothing is left out, the answer is the refutation as it was given.
 pub fn shorten(
@@ -53,6 +54,7 @@ pub fn shorten(
 ) -> Result<Refutation, Memory>
     requires { (t : Tree Node) → tree.now ≡ rows_of t → IsRefutation version t refutation }
     ensures refutes { IfOk result (λ short. (t : Tree Node) → tree.now ≡ rows_of t → IsRefutation version t short) }
+    ensures steps { IfOk result (λ short. IsSubsequence short refutation) }
     ensures count { IfOk result (λ short. length short ≤ length refutation) }
 {
     match shorter(alloc, tree, version, &refutation)? {
