@@ -11,10 +11,10 @@ use super::place::Place;
 use super::rows::skip_at;
 use super::side::Side;
 use super::standing::Standing;
-use super::watch::{Watch, Watched};
+use super::watch::{Watch, Watched, end_of_ors};
 use order_graph::{Clash, OrderGraph};
 use pc_common::Memory;
-use pc_ground::Row;
+use pc_ground::{Row, Version};
 use std::alloc::Global;
 
 /// What stood at a position before a change.
@@ -34,7 +34,10 @@ pub(crate) struct Agenda {
     stamps: Vec<u64>,
     /// How often the search split or went back: what the trail has of a moment, it takes back together.
     moment: u64,
-    pending: Bits,
+    /// The pending Ors of which it is known whether they are true, or whether enough sides are closed; and those of which
+    /// the latter is known.
+    known_truths: Bits,
+    known_sides: Bits,
     open: Bits,
     ready: Bits,
     /// Room for the truth of a part's positions.
@@ -57,7 +60,8 @@ impl Drop for Agenda {
             standings: _,
             stamps: _,
             moment: _,
-            pending: _,
+            known_truths: _,
+            known_sides: _,
             open: _,
             ready: _,
             truths: _,
@@ -73,14 +77,14 @@ impl Drop for Agenda {
 impl Agenda {
     /// That of a search over these rows and so many nodes, before the tree is asserted.
     pub(crate) fn new(alloc: Global, rows: &[Row<u32>], nodes: u32) -> Result<Agenda, Memory> {
-        let watch = Watch::new(alloc, rows, nodes)?;
-        let count = watch.end();
+        let count = end_of_ors(rows);
         Ok(Agenda {
-            watch,
+            watch: Watch::empty(alloc),
             standings: vec![in alloc; Standing::none(); count]?,
             stamps: vec![in alloc; 0; count]?,
             moment: 0,
-            pending: Bits::new(alloc, count)?,
+            known_truths: Bits::new(alloc, count)?,
+            known_sides: Bits::new(alloc, count)?,
             open: Bits::new(alloc, count)?,
             ready: Bits::new(alloc, count)?,
             truths: vec![in alloc; false; count]?,
@@ -88,7 +92,7 @@ impl Agenda {
             marks: Vec::new(alloc),
             seen: 0,
             failures: Failures::new(alloc, nodes, count)?,
-            gains: Gains::new(alloc, nodes)?,
+            gains: Gains::empty(alloc),
         })
     }
 
@@ -108,8 +112,11 @@ impl Agenda {
         }
         let before = self.standings[position];
         self.standings[position] = standing;
-        if before.is_pending() != standing.is_pending() {
-            self.pending.put(position, standing.is_pending());
+        if before.can_stale(true) != standing.can_stale(true) {
+            self.known_truths.put(position, standing.can_stale(true));
+        }
+        if before.can_stale(false) != standing.can_stale(false) {
+            self.known_sides.put(position, standing.can_stale(false));
         }
         if before.is_open() != standing.is_open() {
             self.open.put(position, standing.is_open());
@@ -144,8 +151,32 @@ impl Agenda {
         Ok(())
     }
 
+    /// Makes what is needed to know what a literal changes, where there is nothing yet: before the first split nothing is
+    /// known that could.
+    fn begin_watch(
+        &mut self,
+        alloc: Global,
+        tree: &NumberedTree,
+        version: Version,
+        graph: &OrderGraph,
+    ) -> Result<(), Memory> {
+        if self.watch.is_empty() {
+            self.watch = Watch::new(alloc, tree.rows(), tree.count(), version)?;
+            self.gains = Gains::new(alloc, tree.count(), graph)?;
+        }
+        Ok(())
+    }
+
     /// The Or is split, and its right side waits.
-    pub(crate) fn split(&mut self, place: Place, graph: &OrderGraph) -> Result<(), Memory> {
+    pub(crate) fn split(
+        &mut self,
+        alloc: Global,
+        tree: &NumberedTree,
+        version: Version,
+        place: Place,
+        graph: &OrderGraph,
+    ) -> Result<(), Memory> {
+        self.begin_watch(alloc, tree, version, graph)?;
         self.change(place.position, Standing::none())?;
         self.failures.split(place, graph)?;
         self.marks.push(self.trail.len())?;
@@ -189,9 +220,23 @@ impl Agenda {
     ) -> Result<(), Memory>
         requires { graph.now.nodes ≡ length tree.now.nodes }
     {
-        self.gains.note(tree, graph, self.seen > 0)?;
-        self.touch_gained(tree.rows())?;
+        self.touch_all(tree, graph)?;
         self.take(tree, asserted)
+    }
+
+    /// What the literals of the side at hand may have changed is to be asked again.
+    fn touch_all(&mut self, tree: &NumberedTree, graph: &OrderGraph) -> Result<(), Memory>
+        requires { graph.now.nodes ≡ length tree.now.nodes }
+    {
+        if self.watch.is_empty() {
+            return Ok(());
+        }
+        let (from, end) = self.gains.asserted(graph);
+        for k in from..end {
+            self.gains.note(tree, graph, k)?;
+            self.touch_gained(tree.rows())?;
+        }
+        Ok(())
     }
 
     /// Looks at what the side would change, before it is entered.
@@ -206,28 +251,72 @@ impl Agenda {
         self.gains.foresee(tree, side, graph)
     }
 
-    /// What is known of the pending Or that the literal is within may have changed: whether a side is closed at once, and
-    /// with `in_truth` whether it is true.
-    fn touch(&mut self, rows: &[Row<u32>], literal: Watched, in_truth: bool) -> Result<(), Memory> {
-        let Some(p) = self.pending.last_up_to(literal.position, literal.outer) else {
-            return Ok(());
-        };
-        let standing = self.standing(p);
-        if standing.is_stale(in_truth) || literal.position >= p.saturating_add(skip_at(rows, p)) {
-            return Ok(());
+    /// The Ors of which something is known that a literal may change.
+    fn touchable(&self, in_truth: bool) -> &Bits {
+        if in_truth {
+            &self.known_truths
+        } else {
+            &self.known_sides
         }
-        self.change(p, standing.stale(in_truth))
     }
 
-    /// The same of each literal on the list.
+    /// What is known of the pending Or that this is within may have changed: whether a side is closed at once, and
+    /// with `in_truth` whether it is true. Returns from which position on the next such Or may be: where there
+    /// is none, past the last one.
+    fn touch(
+        &mut self,
+        rows: &[Row<u32>],
+        watched: Watched,
+        in_truth: bool,
+    ) -> Result<usize, Memory> {
+        let position = watched.position;
+        if let Some(p) = self.touchable(in_truth).last_up_to(position, watched.outer) {
+            let end = p.saturating_add(skip_at(rows, p));
+            if position < end {
+                let standing = self.standing(p).stale(in_truth);
+                self.change(p, standing)?;
+                return Ok(end);
+            }
+        }
+        match self.touchable(in_truth).first_from(position) {
+            Some(next) => Ok(next),
+            None => Ok(rows.len()),
+        }
+    }
+
+    /// The same where the other node is one of those that the list is looked at for. Returns the other node and the
+    /// position from which on there may be more.
+    fn touch_watched(
+        &mut self,
+        rows: &[Row<u32>],
+        watched: Watched,
+        gained: Gained,
+    ) -> Result<(u32, usize), Memory> {
+        let Some(other) = self.gains.first_other(gained.others, watched.other) else {
+            return Ok((u32::MAX, usize::MAX));
+        };
+        if other > watched.other {
+            return Ok((other, 0));
+        }
+        let position = self.touch(rows, watched, gained.in_truth)?;
+        Ok((other, position))
+    }
+
+    /// The same of all that is on the list. What is of other nodes, or in no Or of which something is known, is passed
+    /// over.
     fn touch_list(&mut self, rows: &[Row<u32>], gained: Gained) -> Result<(), Memory> {
-        let mut at = self.watch.head(gained.list);
-        for _ in 0..self.watch.len() {
-            let Some(literal) = self.watch.literal_before(at) else {
+        let (from, end) = self.watch.places(gained.list);
+        let mut at = from;
+        for _ in from..end {
+            if at >= end {
+                return Ok(());
+            }
+            let Some(watched) = self.watch.watched(at) else {
                 return Ok(());
             };
-            self.touch(rows, literal, gained.in_truth)?;
-            at = literal.before;
+            let (other, position) = self.touch_watched(rows, watched, gained)?;
+            let next = at.saturating_add(1);
+            at = self.watch.first_place(next, end, other, position);
         }
         Ok(())
     }
