@@ -61,8 +61,8 @@ def text_of(file: IO[bytes]) -> str:
 
 
 def first_words(text: str) -> str:
-    """What is shown of an answer: the verdict, and what the test says of it, or the first line; of a ring the verdict; of
-    a sweep how many rows are observable, and how many are not."""
+    """What is shown of an answer: the verdict, and what the test says of it, or the first line; of a ring the verdict;
+    of a sweep how many rows are observable, and how many are not."""
     lines = [it for it in text.splitlines() if it.isprintable()]
     word = lines[0].split()[:1] if lines else []
     if word == ["sweep"]:

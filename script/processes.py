@@ -25,8 +25,8 @@ class Ended(BaseException):
 
 
 class Signals:
-    """What asks for an end. The first signal raises `Ended`, later where it is held. Others after it are passed over, so
-    that what was begun is cleared once, and whole."""
+    """What asks for an end. The first signal raises `Ended`, later where it is held. Others after it are passed over,
+    so that what was begun is cleared once, and whole."""
 
     def __init__(self) -> None:
         self.is_held = False
