@@ -1,0 +1,120 @@
+"""From the words of the suite to its table and its status."""
+import io
+import os
+import signal
+import sys
+import traceback
+from types import FrameType
+from typing import Mapping, Sequence
+
+from .allowing import Machines, Rows
+from .axioms import Axioms, run_axioms
+from .beside import Lint
+from .calling import Calls
+from .keeping import Folder, State
+from .programs import checker_of, program_digest
+from .refusing import Interrupted, Refusal, shown
+from .running import Suite, run_suite
+from .tables import width_of_terminal
+from .words import Words, folder_of, number_of_jobs, number_of_seconds, read_words
+
+ENDING = (signal.SIGINT, signal.SIGTERM, signal.SIGHUP)
+NO_TABLE = 2
+# deep formulas are read by calls within calls
+RECURSION = 20_000
+
+
+def suite(words: Sequence[str], environ: Mapping[str, str], top: str) -> int:
+    """Runs what the words ask for, prints the table and answers the status."""
+    seconds, jobs = number_of_seconds(environ), number_of_jobs(environ)
+    asked = read_words(words, environ, top)
+    if "--axioms" in asked.options:
+        checker = checker_of(environ, top, seconds, Calls())
+        lines, status = run_axioms(Axioms(asked.models[0], asked.tests, checker), jobs)
+        print(*lines, sep="\n")
+        return status
+    return pairs(asked, environ, top, seconds, jobs)
+
+
+def pairs(asked: Words, environ: Mapping[str, str], top: str, seconds: float, jobs: int) -> int:
+    """Runs all pairs."""
+    table = environ.get("SUITE_TABLE", "")
+    rows = Rows(table or os.path.join(top, "examples", "memory-models.tsv"), by_name=bool(table))
+    # one suite at a time writes into a folder
+    folder = Folder(folder_of(environ, top))
+    folder.wait_in_turn()
+    for model in asked.models:
+        folder.make_room(model)
+    checker = checker_of(environ, top, seconds, Calls())
+    state = State(folder, program_digest(checker.command))
+    state.read()
+    run = Suite(asked, rows, Machines(os.path.join(top, "tests", "machines")), checker, folder, state)
+    lines, count = run_suite(run, Lint(top, asked.tests, checker.calls), jobs, seconds, width_of_terminal(environ))
+    status = count.status
+    try:
+        folder.write_cells([(model, test, cell) for (model, test), cell in run.cells().items()])
+    except OSError as error:
+        print(f"suite: {shown(folder.cells)} cannot be written: {error.strerror}", file=sys.stderr)
+        status = NO_TABLE
+    state.clear()
+    print(*lines, f"certificates: {shown(folder.path)}", count.line, sep="\n")
+    return status
+
+
+def interrupt(number: int, _: FrameType | None) -> None:
+    """Ends the suite, once: what ends it is not ended in turn."""
+    for other in ENDING:
+        signal.signal(other, signal.SIG_IGN)
+    raise Interrupted(number)
+
+
+def main(words: Sequence[str], top: str, text: str) -> int:
+    """The status. Where a signal ended the suite it ends this process, too, once nothing is left behind."""
+    sys.setrecursionlimit(RECURSION)
+    encoding = sys.getfilesystemencoding()
+    for stream in (sys.stdout, sys.stderr):
+        if isinstance(stream, io.TextIOWrapper):
+            stream.reconfigure(encoding=encoding, errors="surrogateescape")
+    for number in ENDING:
+        # what is ignored, as HUP behind nohup, stays ignored
+        if signal.getsignal(number) is not signal.SIG_IGN:
+            signal.signal(number, interrupt)
+    try:
+        status = answer(words, top, text)
+    except Interrupted as interrupted:
+        signal.signal(interrupted.number, signal.SIG_DFL)
+        os.kill(os.getpid(), interrupted.number)
+        status = NO_TABLE
+    return status
+
+
+def answer(words: Sequence[str], top: str, text: str) -> int:
+    """Runs the suite, and says what went wrong with it."""
+    try:
+        if "--help" in words:
+            print(text.strip())
+            status = 0
+        else:
+            status = suite(words, os.environ, top)
+        sys.stdout.flush()
+        return status
+    except Refusal as refusal:
+        print(f"suite: {refusal}", file=sys.stderr)
+    except OSError as error:
+        tell_failure(error)
+    except Exception:  # pylint: disable=broad-exception-caught
+        # Python's own status for this is 1, which says that there are bugs
+        traceback.print_exc()
+    return NO_TABLE
+
+
+def tell_failure(error: OSError) -> None:
+    """Says that a file of the suite's own, or standard output, could not be written."""
+    try:
+        sys.stdout.flush()
+    except OSError:
+        # nothing more is written there when Python ends
+        os.dup2(os.open(os.devnull, os.O_WRONLY), sys.stdout.fileno())
+        print("suite: standard output could not be written", file=sys.stderr)
+        return
+    print(f"suite: {error.strerror}{': ' + shown(str(error.filename)) if error.filename else ''}", file=sys.stderr)

@@ -1,0 +1,32 @@
+"""What ends a suite before its table, and how names stand in its lines."""
+import re
+import shlex
+
+# what would break a line: the control characters of ASCII and of Latin-1
+CONTROL = re.compile(r"[\x00-\x1f\x7f-\x9f]")
+ESCAPES = {"\t": "\\t", "\n": "\\n", "\r": "\\r"}
+
+
+class Refusal(Exception):
+    """There is no table; the text is the line that says why."""
+
+
+class Interrupted(Exception):
+    """A signal asks the suite to end."""
+
+    def __init__(self, number: int) -> None:
+        super().__init__(f"signal {number}")
+        self.number = number
+
+
+def quoted(text: str) -> str:
+    """A text as one word of bash."""
+    if CONTROL.search(text) is None:
+        return shlex.quote(text)
+    plain = text.replace("\\", "\\\\").replace("'", "\\'")
+    return "$'" + CONTROL.sub(lambda found: ESCAPES.get(found[0], f"\\u{ord(found[0]):04x}"), plain) + "'"
+
+
+def shown(path: str) -> str:
+    """A path in a line: as it is, or as one word of bash where it would break the line."""
+    return path if CONTROL.search(path) is None else quoted(path)
