@@ -11,7 +11,7 @@ INSIDE = re.compile(rb"%[ \t]*memory model:[ \t]*[a-z0-9_-]+\s*?(?:\*\)|$)", re.
 
 
 class Named(NamedTuple):
-    """The name in small letters; where there is none, the sentence that says why, and its place as a number of bytes."""
+    """The name in small letters; where there is none, the sentence that says why, and its place in bytes."""
 
     name: str
     fault: str = ""

@@ -23,8 +23,8 @@ class Row(NamedTuple):
 
 
 class Rows:
-    """The rows of a table. They go by the name of a test alone where the table is named on purpose, and otherwise by its
-    bytes too: a test of one's own that is named as a shipped one is not that test."""
+    """The rows of a table. They go by the name of a test alone where the table is named on purpose, and otherwise by
+    its bytes too: a test of one's own that is named as a shipped one is not that test."""
 
     def __init__(self, path: str, by_name: bool) -> None:
         self.by_name = by_name

@@ -1,4 +1,4 @@
-"""What each axiom of a model is for: it is taken out, and the verdicts of all tests are compared with those of the whole."""
+"""What each axiom of a model is for: which verdicts of tests change without it."""
 import os
 import tempfile
 import time
@@ -116,6 +116,6 @@ def run_axioms(axioms: Axioms, jobs: int) -> tuple[list[str], int]:
     changes = axioms.changes(jobs)
     rows = [[f'{number} "{change.title}"', *change.cells] for number, change in enumerate(changes)]
     idle = sum(not change.changed for change in changes)
-    count = f"{len(changes)} axioms on {len(axioms.tests)} tests: {len(changes) - idle} change a verdict, {idle} change none, "
-    count += f"{axioms.late} time, {axioms.faults} faults, in {int(time.monotonic() - begun)} s"
+    count = f"{len(changes)} axioms on {len(axioms.tests)} tests: {len(changes) - idle} change a verdict, "
+    count += f"{idle} change none, {axioms.late} time, {axioms.faults} faults, in {int(time.monotonic() - begun)} s"
     return [*aligned([["axiom", "changes", "first"], *rows]), count], 2 if axioms.late or axioms.faults else 0

@@ -39,8 +39,8 @@ class Lint:
 
 @dataclass(frozen=True)
 class Answer:
-    """What a machine says of a test: whether it comes up, or which rows of a pattern do. Nothing where it does not run such
-    tests, or fails; then it may be late."""
+    """What a machine says of a test: whether it comes up, or which rows of a pattern do. Nothing where it does not run
+    such tests, or fails; then it may be late."""
 
     is_allowed: bool | None = None
     rows: frozenset[str] | None = None

@@ -1,7 +1,7 @@
 """Calls of programs, side by side, within limits; and how all of them are ended.
 
-Each call is a process group of its own, so that what it started ends with it. Threads make the calls, and the main thread
-alone gets signals: so no signal comes between the start of a call and the note that it runs.
+Each call is a process group of its own, so that what it started ends with it. Threads make the calls, and the main
+thread alone gets signals: so no signal comes between the start of a call and the note that it runs.
 """
 import os
 import queue
@@ -14,8 +14,8 @@ from typing import IO, Callable, Sequence, TypeVar
 
 from .refusing import Refusal, quoted
 
-# What the limits need is done by a shell that becomes the program. Where a limit of file size is passed, a write fails, in
-# place of a signal that ends the program.
+# What the limits need is done by a shell that becomes the program. Where a limit of file size is passed, a write fails,
+# in place of a signal that ends the program.
 LIMITED = 'trap "" XFSZ; ulimit -S -v "$0" || exit 125; exec "$@"'
 UNLIMITED = 'trap "" XFSZ; exec "$@"'
 MOST_DIGITS = 11
@@ -23,6 +23,7 @@ MOST_DIGITS = 11
 GRACE = 10.0
 
 Answer = TypeVar("Answer")
+Process = subprocess.Popen[bytes]
 
 
 class Stopped(Exception):
@@ -30,8 +31,8 @@ class Stopped(Exception):
 
 
 def memory_limit(value: str) -> int | None:
-    """The address space of a call in KiB by PIPECHECK_MEMORY, as script/program has it: so many MiB, or what the machine has
-    free. None is no limit, or one that stands already and is as low."""
+    """The address space of a call in KiB by PIPECHECK_MEMORY, as script/program has it: so many MiB, or what the
+    machine has free. None is no limit, or one that stands already and is as low."""
     if value == "none":
         return None
     if value == "":
@@ -65,13 +66,13 @@ class Calls:
     def __init__(self) -> None:
         self.lock = threading.Lock()
         # each with the signal that ends it
-        self.running: dict[subprocess.Popen[bytes], signal.Signals] = {}
-        self.late: set[subprocess.Popen[bytes]] = set()
+        self.running: dict[Process, signal.Signals] = {}
+        self.late: set[Process] = set()
         self.is_stopped = False
 
     def status(self, command: Sequence[str], kib: int | None, seconds: float, out: IO[bytes]) -> int | None:
-        """Calls a program within these limits and has it write to a file; nothing is seen of its standard error. The status,
-        as a shell has it; None where it is not done in time."""
+        """Calls a program within these limits and has it write to a file; nothing is seen of its standard error. The
+        status, as a shell has it; None where it is not done in time."""
         return self.finished(self.started(limited(command, kib), out, subprocess.DEVNULL, signal.SIGKILL), seconds)
 
     def status_of_build(self, command: Sequence[str], out: IO[bytes]) -> int:
@@ -79,7 +80,7 @@ class Calls:
         status = self.finished(self.started(command, out, None, signal.SIGTERM), None)
         return 1 if status is None else status
 
-    def started(self, command: Sequence[str], out: IO[bytes], said: int | None, ending: signal.Signals) -> "subprocess.Popen[bytes]":
+    def started(self, command: Sequence[str], out: IO[bytes], said: int | None, ending: signal.Signals) -> Process:
         """Starts a call and notes that it runs, at one moment."""
         with self.lock:
             if self.is_stopped:
@@ -90,7 +91,7 @@ class Calls:
             self.running[process] = ending
             return process
 
-    def finished(self, process: "subprocess.Popen[bytes]", seconds: float | None) -> int | None:
+    def finished(self, process: Process, seconds: float | None) -> int | None:
         """Waits until a call ends, or ends it. What it left behind in its group ends, too."""
         timer = None if seconds is None else threading.Timer(seconds, self.end_late, [process])
         if timer is not None:
@@ -112,7 +113,7 @@ class Calls:
             return None
         return status if status >= 0 else 128 - status
 
-    def end_late(self, process: "subprocess.Popen[bytes]") -> None:
+    def end_late(self, process: Process) -> None:
         """Ends a call that is not done in time."""
         with self.lock:
             if process in self.running:
@@ -141,7 +142,7 @@ def limited(command: Sequence[str], kib: int | None) -> list[str]:
     return [*shell, first, *command[1:]]
 
 
-def end_group(process: "subprocess.Popen[bytes]", number: signal.Signals) -> None:
+def end_group(process: Process, number: signal.Signals) -> None:
     """Sends a signal to a call and to all that it started."""
     with suppress(ProcessLookupError, PermissionError):
         os.killpg(process.pid, number)
@@ -150,10 +151,10 @@ def end_group(process: "subprocess.Popen[bytes]", number: signal.Signals) -> Non
 def side_by_side(
     calls: Calls, jobs: int, tasks: Sequence[Callable[[], Answer]], tell: Callable[[int, Answer], None]
 ) -> list[Answer]:
-    """The answers of tasks, at most so many of which run at once. Each is told with its number as it comes. Where a signal or
-    a failure comes, the calls of the others end."""
+    """The answers of tasks, at most so many of which run at once. Each is told with its number as it comes. Where a
+    signal or a failure comes, the calls of the others end."""
     answers: dict[int, Answer] = {}
-    ended: "queue.SimpleQueue[tuple[int, BaseException | None]]" = queue.SimpleQueue()
+    ended: queue.SimpleQueue[tuple[int, BaseException | None]] = queue.SimpleQueue()
     waiting = iter(enumerate(tasks))
     taking = threading.Lock()
 

@@ -97,8 +97,8 @@ class Folder:
 
 
 class State:
-    """What an interrupted suite has got: verdicts with the hashes of all that they come from. It holds for the same bytes of
-    model, test, program and certificate alone."""
+    """What an interrupted suite has got: verdicts with the hashes of all that they come from. It holds for the same
+    bytes of model, test, program and certificate alone."""
 
     def __init__(self, folder: Folder, program: str) -> None:
         self.place = os.path.join(folder.path, STATE)
@@ -128,7 +128,8 @@ class State:
     def note(self, model: File, test: File, found: Found) -> None:
         """Notes a verdict whose certificate is kept, unless the files changed meanwhile."""
         certificate = contents_of_place(self.folder.place(model, test))
-        if self.program and found.verdict in STATUSES and certificate is not None and is_unchanged(model) and is_unchanged(test):
+        is_known = self.program != "" and found.verdict in STATUSES and certificate is not None
+        if is_known and is_unchanged(model) and is_unchanged(test):
             origin = self.origin(model, test, certificate)
             self.pairs[self.key(model, test)] = {**origin, "verdict": found.verdict, "stated": found.stated}
 

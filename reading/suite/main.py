@@ -48,7 +48,7 @@ def pairs(asked: Words, environ: Mapping[str, str], top: str, seconds: float, jo
     checker = checker_of(environ, top, seconds, Calls())
     state = State(folder, program_digest(checker.command))
     state.read()
-    run = Suite(asked, rows, Machines(os.path.join(top, "tests", "machines")), checker, folder, state)
+    run = Suite(asked, rows, Machines(os.path.join(top, "tests", "machines")), checker, state)
     lines, count = run_suite(run, Lint(top, asked.tests, checker.calls), jobs, seconds, width_of_terminal(environ))
     status = count.status
     try:

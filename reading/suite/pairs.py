@@ -24,8 +24,8 @@ HEAD = 4096
 
 @dataclass(frozen=True)
 class Found:
-    """What is known of a pair: a verdict whose certificate is judged, with what the test states of its outcome; or the rows
-    of a sweep that are observable, each as the sweep writes it; or the cell of a fault."""
+    """What is known of a pair: a verdict whose certificate is judged, with what the test states of its outcome; or the
+    rows of a sweep that are observable, each as the sweep writes it; or the cell of a fault."""
 
     verdict: str = ""
     stated: str = ""

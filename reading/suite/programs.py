@@ -1,4 +1,4 @@
-"""The program that a suite calls: that of the checkout or of the installed copy, or another one that PIPECHECK names."""
+"""The program that a suite calls: that of the checkout, of the installed copy, or another one that PIPECHECK names."""
 import os
 import shlex
 import shutil
@@ -32,8 +32,8 @@ def checker_of(environ: Mapping[str, str], top: str, seconds: float, calls: Call
 
 
 def command_of(value: str) -> list[str]:
-    """The words of PIPECHECK: one file where there is a file of this name, and otherwise words as a shell takes them apart,
-    with its quotes and backslashes; nothing in them is replaced."""
+    """The words of PIPECHECK: one file where there is a file of this name, and otherwise words as a shell takes them
+    apart, with its quotes and backslashes; nothing in them is replaced."""
     if os.path.isfile(value) and ("/" in value or shutil.which(value) is None):
         return [os.path.abspath(value)]
     try:

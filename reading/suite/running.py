@@ -8,7 +8,7 @@ from .allowing import Machines, MemoryModels, Rows
 from .beside import Answer, Judges, Lint
 from .calling import Calls, side_by_side
 from .files import File
-from .keeping import Folder, State, new_file, take_place
+from .keeping import State, new_file, take_place
 from .pairs import BUG, FAULT, OBSERVABLE, OK, STATUSES, STRICTER, SWEPT, TIME, UNNAMED, UNOBSERVABLE, UNWRITTEN
 from .pairs import Checker, Found, cell_of, cell_of_rows, remove
 from .refusing import shown
@@ -28,13 +28,13 @@ Result = TypeVar("Result")
 class Suite:
     """All models on all tests."""
 
-    def __init__(self, words: Words, rows: Rows, machines: Machines, checker: Checker, folder: Folder, state: State) -> None:
+    def __init__(self, words: Words, rows: Rows, machines: Machines, checker: Checker, state: State) -> None:
         self.words = words
         self.rows = rows
         self.machines = machines
         self.known = MemoryModels(rows, machines)
         self.checker = checker
-        self.folder = folder
+        self.folder = state.folder
         self.state = state
         self.memory_models = {model.name: self.known.name(model) for model in words.models}
         self.found: dict[tuple[str, str], Found] = {}
@@ -61,7 +61,8 @@ class Suite:
             if known is not None:
                 self.found[model.name, test.base] = known
         if self.found:
-            print(f"suite: {len(self.found)} pairs stand from a suite that was interrupted", file=sys.stderr, flush=True)
+            said = f"suite: {len(self.found)} pairs stand from a suite that was interrupted"
+            print(said, file=sys.stderr, flush=True)
         pairs = [pair for pair in self.pairs if (pair[0].name, pair[1].base) not in self.found]
         progress = Progress(len(pairs))
 
@@ -104,7 +105,7 @@ class Suite:
         return found
 
     def ask_machines(self, jobs: int, seconds: float) -> None:
-        """Asks the machines of patterns, each within the limit of a call, and of tests of one's own, all of them within it."""
+        """Asks the machines of patterns, each within the limit of a call, and of tests of one's own, all within it."""
         judges = Judges(self.machines, self.calls)
         for is_pattern in (True, False):
             asked = list(dict.fromkeys(self.asked(is_pattern)))
@@ -130,7 +131,8 @@ class Suite:
     def is_own(self, model: File, test: File) -> bool:
         """Whether a pair has a verdict, or rows, and no row of the table that says what they should be."""
         name = self.memory_models[model.name]
-        return name is not None and bool(self.found[model.name, test.base].verdict) and self.rows.allowed(name, test) is None
+        has_verdict = self.found[model.name, test.base].verdict != ""
+        return name is not None and has_verdict and self.rows.allowed(name, test) is None
 
     # what is shown
 
@@ -154,7 +156,7 @@ class Suite:
         return {(model.name, test.name): self.cell(model, test) for model, test in self.pairs}
 
     def lines_below(self, linted: Sequence[Sequence[str]]) -> list[str]:
-        """What stands below the table, each line once: models without a memory model, what machines say, what lint says."""
+        """What stands below the table, each line once: of models without a memory model, of machines, and of lint."""
         lines = [
             self.known.fault(model)
             for model in self.words.models
@@ -166,8 +168,8 @@ class Suite:
         return list(dict.fromkeys(lines))
 
     def lines_of_machines(self) -> Iterator[str]:
-        """Where a machine says otherwise than a test of one's own, or than a verdict on a test that states nothing; and which
-        rows of a pattern differ."""
+        """Where a machine says otherwise than a test of one's own, or than a verdict on a test that states nothing; and
+        which rows of a pattern differ."""
         late: set[str] = set()
         is_missing = False
         for model, test in self.pairs:
@@ -216,7 +218,9 @@ def lines_of_words(model: File, test: File, name: str, found: Found, is_allowed:
 
 def lines_of_rows(model: File, test: File, name: str, seen: frozenset[str], allowed: frozenset[str]) -> Iterator[str]:
     """Which rows of a pattern are shown and should not be, and the other way round."""
-    for sentence, rows in ((f"shown though {name} does not allow it", seen - allowed), (f"allowed by {name} and not shown", allowed - seen)):
+    too_many = (f"shown though {name} does not allow it", seen - allowed)
+    too_few = (f"allowed by {name} and not shown", allowed - seen)
+    for sentence, rows in (too_many, too_few):
         if rows:
             words = (row.removeprefix("row").strip() or "the only row" for row in sorted(rows))
             yield f"{shown(test.path)}: {model.name}: {sentence}: {', '.join(words)}"

@@ -32,8 +32,8 @@ class Paths:
 
 
 def read_words(words: Sequence[str], environ: Mapping[str, str], top: str) -> Words:
-    """The options, and the files that the other words name, in any order. Where no word names a model all that are shipped
-    are taken, and where none names a test the folder SUITE_TESTS, or that of the shipped ones."""
+    """The options, and the files that the other words name, in any order. Where no word names a model all that are
+    shipped are taken, and where none names a test the folder SUITE_TESTS, or that of the shipped ones."""
     options, rest = options_of(words)
     paths = Paths()
     for word in rest:

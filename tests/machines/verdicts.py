@@ -3,8 +3,8 @@
 
     tests/machines/verdicts.py MACHINE TEST
 
-Of a test it writes `yes` or `no`: whether the outcome comes up. Of a pattern it writes what its open reads get, a line `row ..`
-for each way, as a sweep does, and `end`. The status is 3 where the machine does not run such tests.
+Of a test it writes `yes` or `no`: whether the outcome comes up. Of a pattern it writes what its open reads get, a line
+`row ..` for each way, as a sweep does, and `end`. The status is 3 where the machine does not run such tests.
 """
 import os
 import sys
