@@ -40,7 +40,8 @@ def memory_limit(value: str) -> int | None:
     elif value.isascii() and value.isdigit() and len(value) <= MOST_DIGITS:
         kib = int(value) * 1024
     else:
-        raise Refusal(f"PIPECHECK_MEMORY is a number of MiB, or none, and not {quoted(value)}")
+        # the words of script/program
+        raise Refusal(f"PIPECHECK_MEMORY is a number of MiB, or none, and not {quoted(value)}", "pipecheck")
     standing = standing_limit()
     return kib if kib is not None and (standing is None or standing > kib) else None
 

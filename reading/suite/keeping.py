@@ -81,6 +81,7 @@ class Folder:
             is_own = not os.path.islink(path)
             if is_own:
                 os.makedirs(path, exist_ok=True)
+                remove_parts(path)
         except OSError:
             is_own = False
         if not is_own or not os.access(path, os.W_OK):
@@ -156,6 +157,14 @@ class State:
         """A suite that is done leaves nothing to go on from."""
         with suppress(OSError):
             os.unlink(self.place)
+
+
+def remove_parts(folder: str) -> None:
+    """Removes what a suite that was ended by force left half written."""
+    for name in os.listdir(folder):
+        if name.endswith(PART):
+            with suppress(OSError):
+                os.unlink(os.path.join(folder, name))
 
 
 def is_texts(pair: object) -> bool:

@@ -99,7 +99,7 @@ def answer(words: Sequence[str], top: str, text: str) -> int:
         sys.stdout.flush()
         return status
     except Refusal as refusal:
-        print(f"suite: {refusal}", file=sys.stderr)
+        print(refusal, file=sys.stderr)
     except OSError as error:
         tell_failure(error)
     except Exception:  # pylint: disable=broad-exception-caught

@@ -8,11 +8,14 @@ ESCAPES = {"\t": "\\t", "\n": "\\n", "\r": "\\r"}
 
 
 class Refusal(Exception):
-    """There is no table; the text is the line that says why."""
+    """There is no table; the line says why, and who says so."""
+
+    def __init__(self, sentence: str, teller: str = "suite") -> None:
+        super().__init__(f"{teller}: {sentence}")
 
 
-class Interrupted(Exception):
-    """A signal asks the suite to end."""
+class Interrupted(BaseException):
+    """A signal asks the suite to end. It is no failure, as KeyboardInterrupt is none."""
 
     def __init__(self, number: int) -> None:
         super().__init__(f"signal {number}")
