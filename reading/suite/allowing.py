@@ -7,7 +7,7 @@ from typing import NamedTuple
 from second.memory_models import FORM, memory_model_of
 
 from .files import File
-from .refusing import Refusal, shown
+from .refusing import Refusal, quoted, shown
 
 # a file of tests/machines that is a machine
 MACHINE = re.compile(r"^def outcomes\(", re.MULTILINE)
@@ -43,7 +43,7 @@ class Rows:
         for cells in lines:
             row = dict(zip(head, cells))
             if row.get("allowed") not in ("yes", "no"):
-                raise Refusal(f"the table {shown(path)} has a row without yes or no: {shown(' '.join(cells))}")
+                raise Refusal(f"the table {shown(path)} has a row without yes or no: {quoted(chr(9).join(cells))}")
             self.rows[row[COLUMNS[0]].lower(), row[COLUMNS[1]]] = Row(row["allowed"] == "yes", row.get(DIGEST, ""))
 
     @property

@@ -6,13 +6,13 @@ stood before stands until the new one is whole.
 import fcntl
 import json
 import os
-import sys
 from contextlib import contextmanager, suppress
 from typing import IO, Iterator
 
 from .files import CELLS, File, contents, digest_of
 from .pairs import STATUSES, Found
 from .refusing import Refusal, shown
+from .telling import tell
 
 PART = ".part"
 # no model has a name that begins with a dot
@@ -71,7 +71,7 @@ class Folder:
         try:
             fcntl.flock(self.lock, fcntl.LOCK_EX | fcntl.LOCK_NB)
         except BlockingIOError:
-            print(f"suite: another suite writes into {shown(self.path)}: waiting for it", file=sys.stderr, flush=True)
+            tell(f"suite: another suite writes into {shown(self.path)}: waiting for it")
             fcntl.flock(self.lock, fcntl.LOCK_EX)
 
     def make_room(self, model: File) -> None:

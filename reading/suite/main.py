@@ -1,5 +1,4 @@
 """From the words of the suite to its table and its status."""
-import io
 import os
 import signal
 import sys
@@ -16,6 +15,7 @@ from .programs import checker_of, program_digest
 from .refusing import Interrupted, Refusal, shown
 from .running import Suite, run_suite
 from .tables import width_of_terminal
+from .telling import open_streams, put, tell
 from .words import Words, folder_of, number_of_jobs, number_of_seconds, read_words
 
 ENDING = (signal.SIGINT, signal.SIGTERM, signal.SIGHUP)
@@ -31,7 +31,7 @@ def suite(words: Sequence[str], environ: Mapping[str, str], top: str) -> int:
     if "--axioms" in asked.options:
         checker = checker_of(environ, top, seconds, Calls())
         lines, status = run_axioms(Axioms(asked.models[0], asked.tests, checker), jobs)
-        print(*lines, sep="\n")
+        put(lines)
         return status
     return pairs(asked, environ, top, seconds, jobs)
 
@@ -54,10 +54,10 @@ def pairs(asked: Words, environ: Mapping[str, str], top: str, seconds: float, jo
     try:
         folder.write_cells([(model, test, cell) for (model, test), cell in run.cells().items()])
     except OSError as error:
-        print(f"suite: {shown(folder.cells)} cannot be written: {error.strerror}", file=sys.stderr)
+        tell(f"suite: {shown(folder.cells)} cannot be written: {error.strerror}")
         status = NO_TABLE
     state.clear()
-    print(*lines, f"certificates: {shown(folder.path)}", count.line, sep="\n")
+    put([*lines, f"certificates: {shown(folder.path)}", count.line])
     return status
 
 
@@ -71,10 +71,7 @@ def interrupt(number: int, _: FrameType | None) -> None:
 def main(words: Sequence[str], top: str, text: str) -> int:
     """The status. Where a signal ended the suite it ends this process, too, once nothing is left behind."""
     sys.setrecursionlimit(RECURSION)
-    encoding = sys.getfilesystemencoding()
-    for stream in (sys.stdout, sys.stderr):
-        if isinstance(stream, io.TextIOWrapper):
-            stream.reconfigure(encoding=encoding, errors="surrogateescape")
+    open_streams()
     for number in ENDING:
         # what is ignored, as HUP behind nohup, stays ignored
         if signal.getsignal(number) is not signal.SIG_IGN:
@@ -92,29 +89,16 @@ def answer(words: Sequence[str], top: str, text: str) -> int:
     """Runs the suite, and says what went wrong with it."""
     try:
         if "--help" in words:
-            print(text.strip())
-            status = 0
-        else:
-            status = suite(words, os.environ, top)
-        sys.stdout.flush()
-        return status
+            put([text.strip()])
+            return 0
+        return suite(words, os.environ, top)
     except Refusal as refusal:
-        print(refusal, file=sys.stderr)
+        tell(str(refusal))
     except OSError as error:
-        tell_failure(error)
+        place = f": {shown(str(error.filename))}" if error.filename else ""
+        tell(f"suite: {error.strerror}{place}")
     except Exception:  # pylint: disable=broad-exception-caught
         # Python's own status for this is 1, which says that there are bugs
-        traceback.print_exc()
+        tell(traceback.format_exc(), end="")
     return NO_TABLE
 
-
-def tell_failure(error: OSError) -> None:
-    """Says that a file of the suite's own, or standard output, could not be written."""
-    try:
-        sys.stdout.flush()
-    except OSError:
-        # nothing more is written there when Python ends
-        os.dup2(os.open(os.devnull, os.O_WRONLY), sys.stdout.fileno())
-        print("suite: standard output could not be written", file=sys.stderr)
-        return
-    print(f"suite: {error.strerror}{': ' + shown(str(error.filename)) if error.filename else ''}", file=sys.stderr)

@@ -1,9 +1,10 @@
 """What ends a suite before its table, and how names stand in its lines."""
 import re
-import shlex
 
 # what would break a line: the control characters of ASCII and of Latin-1
 CONTROL = re.compile(r"[\x00-\x1f\x7f-\x9f]")
+# what a shell may take for its own
+SPECIAL = re.compile(r"[^\w@%+=:./-]")
 ESCAPES = {"\t": "\\t", "\n": "\\n", "\r": "\\r"}
 
 
@@ -23,9 +24,9 @@ class Interrupted(BaseException):
 
 
 def quoted(text: str) -> str:
-    """A text as one word of bash."""
+    """A text as one word of bash, as its `printf %q` writes it."""
     if CONTROL.search(text) is None:
-        return shlex.quote(text)
+        return SPECIAL.sub(r"\\\g<0>", text) or "''"
     plain = text.replace("\\", "\\\\").replace("'", "\\'")
     return "$'" + CONTROL.sub(lambda found: ESCAPES.get(found[0], f"\\u{ord(found[0]):04x}"), plain) + "'"
 

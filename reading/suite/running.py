@@ -13,6 +13,7 @@ from .pairs import BUG, FAULT, OBSERVABLE, OK, STATUSES, STRICTER, SWEPT, TIME, 
 from .pairs import Checker, Found, cell_of, cell_of_rows, remove
 from .refusing import shown
 from .tables import table_of_models
+from .telling import tell
 from .words import Words
 
 # how often it is kept what stands so far
@@ -61,8 +62,7 @@ class Suite:
             if known is not None:
                 self.found[model.name, test.base] = known
         if self.found:
-            said = f"suite: {len(self.found)} pairs stand from a suite that was interrupted"
-            print(said, file=sys.stderr, flush=True)
+            tell(f"suite: {len(self.found)} pairs stand from a suite that was interrupted")
         pairs = [pair for pair in self.pairs if (pair[0].name, pair[1].base) not in self.found]
         progress = Progress(len(pairs))
 
@@ -264,18 +264,18 @@ class Progress:
     def __init__(self, count: int) -> None:
         self.count = count
         self.done = 0
-        self.is_shown = sys.stderr.isatty()
+        self.is_shown = sys.stderr is not None and sys.stderr.isatty()
 
     def step(self) -> None:
         """One more."""
         self.done += 1
         if self.is_shown:
-            print(f"\r{self.done} of {self.count}", end="", file=sys.stderr, flush=True)
+            tell(f"\r{self.done} of {self.count}", end="")
 
     def end(self) -> None:
         """The line is empty again."""
         if self.is_shown:
-            print(f"\r{'':20}\r", end="", file=sys.stderr, flush=True)
+            tell(f"\r{'':20}\r", end="")
 
 
 def run_suite(suite: Suite, lint: Lint, jobs: int, seconds: float, width: int | None) -> tuple[list[str], Count]:

@@ -22,7 +22,7 @@ def table_of_models(models: Sequence[str], rows: Sequence[Sequence[str]], width:
 
 def width_of_terminal(environ: Mapping[str, str]) -> int | None:
     """How many columns the terminal has that the table goes to; None where it goes to something else."""
-    if not sys.stdout.isatty():
+    if sys.stdout is None or not sys.stdout.isatty():
         return None
     columns = environ.get("COLUMNS", "")
     if columns.isascii() and columns.isdigit() and int(columns) > 0:
