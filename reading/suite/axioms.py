@@ -11,11 +11,11 @@ from second.scopes import read_model
 from second.tokens import Fault, tokens
 
 from .calling import side_by_side
+from .counting import Progress
 from .files import File
 from .keeping import new_file
 from .pairs import FAULT, TIME, Checker, Found
 from .refusing import Refusal, shown
-from .running import Progress
 from .tables import aligned
 
 # what begins a part of a model
@@ -71,11 +71,11 @@ class Axioms:
     def changes(self, jobs: int) -> list[Change]:
         """What each axiom changes."""
         with tempfile.TemporaryDirectory() as folder:
-            models = [self.text, *(without(self.text, axiom) for axiom in self.axioms)]
-            for number, text in enumerate(models):
+            for number in range(len(self.axioms) + 1):
                 with open(os.path.join(folder, f"{number}.uspec"), "wb") as file:
-                    file.write(text)
-            pairs = [(number, test) for number in range(len(models)) for test in self.tests]
+                    # the first is the whole
+                    file.write(without(self.text, self.axioms[number - 1]) if number else self.text)
+            pairs = [(number, test) for number in range(len(self.axioms) + 1) for test in self.tests]
             progress = Progress(len(pairs))
             tasks = [partial(self.found, folder, number, test) for number, test in pairs]
             try:

@@ -9,6 +9,7 @@ from typing import Sequence
 from .allowing import Machines
 from .calling import Calls, free_memory
 from .files import File
+from .refusing import shown
 
 LINT_SECONDS = 60.0
 # the statuses of lint that come with all its lines
@@ -34,7 +35,7 @@ class Lint:
                 status = None
             out.seek(0)
             said = os.fsdecode(out.read()).split("\n")[:-1]
-        return said if status in LINTED else [*said, f"not linted: {model.path}"]
+        return said if status in LINTED else [*said, f"not linted: {shown(model.path)}"]
 
 
 @dataclass(frozen=True)

@@ -147,11 +147,15 @@ class State:
             "certificate": digest_of(certificate) if certificate is not None else "none",
         }
 
-    def write(self) -> None:
-        """Keeps what is noted. Where that fails the next suite begins anew."""
-        if self.pairs:
-            with suppress(OSError):
-                write_anew(self.place, json.dumps({"program": self.program, "pairs": self.pairs}).encode("ascii"))
+    def write(self) -> bool:
+        """Keeps what is noted, and answers whether there is something. Where that fails the next suite begins anew."""
+        if not self.pairs:
+            return False
+        try:
+            write_anew(self.place, json.dumps({"program": self.program, "pairs": self.pairs}).encode("ascii"))
+        except OSError:
+            return False
+        return True
 
     def clear(self) -> None:
         """A suite that is done leaves nothing to go on from."""

@@ -5,7 +5,7 @@ import shutil
 import tempfile
 from typing import Mapping
 
-from .calling import Calls, free_memory, memory_limit, side_by_side
+from .calling import Calls, memory_limit, side_by_side
 from .files import digest_of
 from .pairs import Checker
 from .refusing import Refusal, quoted, shown
@@ -22,12 +22,12 @@ def checker_of(environ: Mapping[str, str], top: str, seconds: float, calls: Call
     """The program, which is built first where PIPECHECK names none."""
     value = environ.get("PIPECHECK", "")
     command = command_of(value) if value else [built_program(top, calls)]
-    kib = memory_limit(environ.get("PIPECHECK_MEMORY", ""))
-    checker = Checker(command, kib, seconds, calls)
+    memory = environ.get("PIPECHECK_MEMORY", "")
+    checker = Checker(command, memory_limit(memory), seconds, calls)
     if not is_checker(checker):
-        if kib is not None and is_checker(Checker(command, free_memory(), seconds, calls)):
-            raise Refusal(f"PIPECHECK_MEMORY is less than {quoted_command(command)} needs to start")
-        raise Refusal(f"no checker: {quoted_command(command)}")
+        if memory and is_checker(Checker(command, memory_limit(""), seconds, calls)):
+            raise Refusal(f"PIPECHECK_MEMORY is {memory} MiB, and the program takes more to start")
+        raise Refusal(f"no checker: {' '.join(map(quoted, command))}")
     return checker
 
 
@@ -43,11 +43,6 @@ def command_of(value: str) -> list[str]:
     if not words or not words[0]:
         raise Refusal(f"PIPECHECK is no command: {quoted(value)}")
     return words
-
-
-def quoted_command(command: list[str]) -> str:
-    """A command in a line."""
-    return " ".join(map(quoted, command))
 
 
 def built_program(top: str, calls: Calls) -> str:

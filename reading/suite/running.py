@@ -1,15 +1,15 @@
 """The run of a suite: all pairs, side by side, and then the table with what stands below it."""
-import sys
 import time
 from functools import partial
-from typing import Callable, Iterator, Mapping, Sequence, TypeVar
+from typing import Callable, Iterator, Mapping, Sequence
 
 from .allowing import Machines, MemoryModels, Rows
 from .beside import Answer, Judges, Lint
 from .calling import Calls, side_by_side
+from .counting import Count, Progress
 from .files import File
 from .keeping import State, new_file, take_place
-from .pairs import BUG, FAULT, OBSERVABLE, OK, STATUSES, STRICTER, SWEPT, TIME, UNNAMED, UNOBSERVABLE, UNWRITTEN
+from .pairs import FAULT, OBSERVABLE, OK, SWEPT, TIME, UNNAMED, UNOBSERVABLE, UNWRITTEN
 from .pairs import Checker, Found, cell_of, cell_of_rows, remove
 from .refusing import shown
 from .tables import table_of_models
@@ -20,10 +20,8 @@ from .words import Words
 SECONDS_OF_STATE = 2.0
 WORDS_OF_VERDICTS = {True: "permitted", False: "forbidden"}
 VERDICTS = {True: OBSERVABLE, False: UNOBSERVABLE}
-UNSTATED = (OBSERVABLE, UNOBSERVABLE, SWEPT)
 
 Pair = tuple[File, File]
-Result = TypeVar("Result")
 
 
 class Suite:
@@ -66,7 +64,7 @@ class Suite:
         pairs = [pair for pair in self.pairs if (pair[0].name, pair[1].base) not in self.found]
         progress = Progress(len(pairs))
 
-        def tell(place: int, found: Found) -> None:
+        def step(place: int, found: Found) -> None:
             model, test = pairs[place]
             self.found[model.name, test.base] = found
             self.state.note(model, test, found)
@@ -74,12 +72,13 @@ class Suite:
             self.keep_state()
 
         try:
-            side_by_side(self.calls, jobs, [partial(self.check_pair, *pair) for pair in pairs], tell)
+            side_by_side(self.calls, jobs, [partial(self.check_pair, *pair) for pair in pairs], step)
         except BaseException:
-            self.state.write()
-            raise
-        finally:
             progress.end()
+            if self.state.write():
+                tell(f"suite: {len(self.state.pairs)} pairs are kept, and the next suite goes on from there")
+            raise
+        progress.end()
 
     def keep_state(self) -> None:
         """Keeps what stands so far, now and then: an end by force says nothing before."""
@@ -124,8 +123,9 @@ class Suite:
         """The machines that are asked, with the tests: those that have no row."""
         for model, test in self.pairs:
             name = self.memory_models[model.name]
-            if name in self.machines.names and test.is_pattern == is_pattern and self.is_own(model, test):
-                assert name is not None
+            if name is None or name not in self.machines.names:
+                continue
+            if test.is_pattern == is_pattern and self.is_own(model, test):
                 yield name, test
 
     def is_own(self, model: File, test: File) -> bool:
@@ -179,13 +179,14 @@ class Suite:
             found, answer = self.found[model.name, test.base], self.answers.get((name, test.base), Answer())
             is_missing |= not self.machines.is_there
             if answer.is_late:
-                late.add(test.base)
+                late.add(test.path)
             elif answer.rows is not None:
                 yield from lines_of_rows(model, test, name, found.rows, answer.rows)
             elif answer.is_allowed is not None:
                 yield from lines_of_words(model, test, name, found, answer.is_allowed)
         if late:
-            yield f"not compared with a machine within the limit of time: {', '.join(sorted(late))}"
+            said = f"{len(late)} {'test' if len(late) == 1 else 'tests'}, the first {shown(min(late))}"
+            yield f"not compared with a machine within the limit of time: {said}"
         if is_missing:
             yield f"not compared with machines: there are none in {shown(self.machines.folder)}"
 
@@ -224,58 +225,6 @@ def lines_of_rows(model: File, test: File, name: str, seen: frozenset[str], allo
         if rows:
             words = (row.removeprefix("row").strip() or "the only row" for row in sorted(rows))
             yield f"{shown(test.path)}: {model.name}: {sentence}: {', '.join(words)}"
-
-
-class Count:
-    """The last line, and the status."""
-
-    def __init__(self, cells: Sequence[str], seconds: float) -> None:
-        self.cells = cells
-        self.seconds = seconds
-
-    def of(self, *words: str) -> int:
-        """How many cells are one of these."""
-        return sum(cell in words for cell in self.cells)
-
-    @property
-    def faults(self) -> int:
-        """How many cells are faults."""
-        return len(self.cells) - self.of(OK, BUG, STRICTER, TIME, *UNSTATED)
-
-    @property
-    def line(self) -> str:
-        """The line."""
-        unstated = self.of(*UNSTATED)
-        counted = f"{self.of(OK)} ok, {self.of(BUG)} BUG, {self.of(STRICTER)} stricter, "
-        counted += f"{unstated} unstated, " if unstated else ""
-        return f"{len(self.cells)} pairs: {counted}{self.of(TIME)} time, {self.faults} faults, in {int(self.seconds)} s"
-
-    @property
-    def status(self) -> int:
-        """2 where some are time or a fault, 1 where some are BUG or stricter."""
-        if self.of(TIME) or self.faults:
-            return 2
-        return 1 if self.of(BUG, STRICTER) else 0
-
-
-class Progress:
-    """How many of so many are done, on a terminal that shows what is said."""
-
-    def __init__(self, count: int) -> None:
-        self.count = count
-        self.done = 0
-        self.is_shown = sys.stderr is not None and sys.stderr.isatty()
-
-    def step(self) -> None:
-        """One more."""
-        self.done += 1
-        if self.is_shown:
-            tell(f"\r{self.done} of {self.count}", end="")
-
-    def end(self) -> None:
-        """The line is empty again."""
-        if self.is_shown:
-            tell(f"\r{'':20}\r", end="")
 
 
 def run_suite(suite: Suite, lint: Lint, jobs: int, seconds: float, width: int | None) -> tuple[list[str], Count]:
