@@ -34,7 +34,7 @@ def checker_of(environ: Mapping[str, str], top: str, seconds: float, calls: Call
 def command_of(value: str) -> list[str]:
     """The words of PIPECHECK: one file where there is a file of this name, and otherwise words as a shell takes them
     apart, with its quotes and backslashes; nothing in them is replaced."""
-    if os.path.isfile(value) and ("/" in value or shutil.which(value) is None):
+    if os.path.isfile(value):
         return [os.path.abspath(value)]
     try:
         words = shlex.split(value)
