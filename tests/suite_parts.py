@@ -254,7 +254,8 @@ def ends_build(cases: Cases, folder: str) -> None:
         file.write(f"ensure_built() {{ trap 'rm -f {note}' EXIT; : >{note}; sleep 300; }}\n")
     environment = {**os.environ, "SUITE_FOLDER": os.path.join(folder, "kept")}
     environment.pop("PIPECHECK", None)
-    with subprocess.Popen([os.path.join(copy, "examples", "suite"), MODEL, TEST], env=environment) as process:
+    command = [os.path.join(copy, "examples", "suite"), MODEL, TEST]
+    with subprocess.Popen(command, env=environment, stderr=subprocess.DEVNULL) as process:
         is_there = wait_until(lambda: os.path.exists(note))
         groups = {os.getpgid(child) for child in running(copy)} - {os.getpgid(0)}
         process.send_signal(signal.SIGTERM)
