@@ -226,7 +226,21 @@ def ends(cases: Cases) -> None:
             cases.same("HUP does not end a suite that ignores it, as behind nohup", process.poll(), None)
             process.send_signal(signal.SIGTERM)
             process.wait(PATIENCE)
+        ends_waiting(cases, kept, environment)
         ends_build(cases, folder)
+
+
+def ends_waiting(cases: Cases, kept: str, environment: dict[str, str]) -> None:
+    """A suite that waits for another one ends as well."""
+    with open(os.path.join(kept, ".lock"), "rb") as lock:
+        fcntl.flock(lock, fcntl.LOCK_EX)
+        with subprocess.Popen([SUITE, MODEL, TEST], env=environment, stderr=subprocess.PIPE, text=True) as process:
+            assert process.stderr is not None
+            said = process.stderr.readline()
+            process.send_signal(signal.SIGTERM)
+            status = process.wait(PATIENCE)
+    wanted = f"suite: another suite writes into {kept}: waiting for it\n"
+    cases.same("TERM ends a suite that waits for another one", (said, status), (wanted, -signal.SIGTERM))
 
 
 def left_of(groups: set[int]) -> list[int]:
