@@ -15,7 +15,7 @@ from .programs import checker_of, program_digest
 from .refusing import Interrupted, Refusal, shown
 from .running import Suite, run_suite
 from .tables import width_of_terminal
-from .telling import open_streams, put, tell
+from .telling import Unread, open_streams, put, tell
 from .words import Words, folder_of, number_of_jobs, number_of_seconds, read_words
 
 ENDING = (signal.SIGINT, signal.SIGTERM, signal.SIGHUP)
@@ -92,6 +92,8 @@ def answer(words: Sequence[str], top: str, text: str) -> int:
             put([text.strip()])
             return 0
         return suite(words, os.environ, top)
+    except Unread:
+        pass
     except Refusal as refusal:
         tell(str(refusal))
     except OSError as error:

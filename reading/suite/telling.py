@@ -7,6 +7,10 @@ from typing import Sequence
 from .refusing import Refusal
 
 
+class Unread(Exception):
+    """The reader of standard output has enough, as `head` has: there is nothing to say."""
+
+
 def open_streams() -> None:
     """Has both streams write names as the system has them. No file of the suite's own gets the number of a closed one."""
     for number in range(3):
@@ -28,6 +32,9 @@ def put(lines: Sequence[str]) -> None:
         raise Refusal(sentence)
     try:
         print(*lines, sep="\n", flush=True)
+    except BrokenPipeError as error:
+        close(sys.stdout.fileno())
+        raise Unread from error
     except OSError as error:
         close(sys.stdout.fileno())
         raise Refusal(sentence) from error
