@@ -13,6 +13,9 @@ for line in $said; do
 done
 if (( $#described )); then
     _describe -t commands 'pipecheck' described
-elif (( $#endings )); then
+elif (( $#endings > 1 )); then
     _files -g "(${(j:|:)endings})"
+elif (( $#endings )); then
+    # in parentheses it would be taken for what is asked of files
+    _files -g "$endings"
 fi

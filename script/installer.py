@@ -142,6 +142,10 @@ class Prefix:
         if os.path.islink(path) and not os.path.exists(path):
             raise Refused(f"{path} is a link to what is not there")
         self.path = os.path.realpath(path)
+        try:
+            self.path.encode("utf-8")
+        except UnicodeEncodeError as error:
+            raise Refused("no folder is taken whose path is not UTF-8: the program could not be called there") from error
 
     def at(self, name: str) -> str:
         """The whole path."""
