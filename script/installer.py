@@ -49,7 +49,7 @@ FORMER = {
 }
 # what a tree has of the checkout, and what of that it has not: what builds and installs, and what Python keeps
 COPIED = ("README.md", "commands", "docs", "editors", "examples", "pipecheck", "reading", "script", "tests/machines")
-LEFT_OUT = {f"script/{name}" for name in ("build", "installer.py", "manual")}
+LEFT_OUT = {f"script/{name}" for name in ("build", "installer.py", "make_program.py", "manual", "preview.py", "processes.py")}
 LEFT_OUT_NAMES = {"__pycache__", ".gitignore"}
 
 
