@@ -45,6 +45,7 @@ from second.positions import NodeNames, Positions
 from second.queries import InModel, read_query, with_axiom
 from second.scopes import read_model
 from second.searching import search
+from second.shortening import shortened
 from second.smtlib import write_smtlib
 from second.tokens import Fault
 
@@ -144,7 +145,8 @@ def certificate(model: Model, case: Case, version: int) -> str:
         body += [f"edge {words[start]} {words[end]}" for start, end in found.edges]
     else:
         body = [VERSION_2] if version == 2 else []
-        body += [step_line(step, words) for step in found] or ["false"]
+        steps = shortened(positions, found, version) if found else []
+        body += [step_line(step, words) for step in steps] or ["false"]
     is_observable = isinstance(found, Graph)
     first = "observable" if is_observable else "unobservable"
     return "\n".join([first, second_line(is_observable, case), *body, "end", ""])

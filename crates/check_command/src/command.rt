@@ -10,7 +10,7 @@ use command_base::{Ending, Inputs, SecondFile, read_inputs};
 use pc_common::{Files, Memory};
 use pc_ground::Version;
 use std::alloc::Global;
-use verdicts::{Verdict, verdict_on};
+use verdicts::{Verdict, short_verdict_on};
 
 /// Reads the two files and searches, with refutations of this version: the verdict on them, or how the command ends
 /// before it.
@@ -28,7 +28,7 @@ pub fn check<S: SecondFile, F: Files>(
         Ok(front) => front,
         Err(ending) => return Err(ending),
     };
-    match verdict_on(alloc, front, version) {
+    match short_verdict_on(alloc, front, version) {
         Ok(verdict) => Ok(verdict),
         Err(Memory) => Err(Ending::Memory),
     }

@@ -8,6 +8,8 @@ mod answers;
 #[cfg(test)]
 mod checking;
 #[cfg(test)]
+mod conflicts;
+#[cfg(test)]
 mod laws;
 #[cfg(test)]
 mod ties;

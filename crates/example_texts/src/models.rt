@@ -145,3 +145,36 @@ Axiom \"t\": forall microops \"i\",
   ((NodeExists (i, S) \\/ NodeExists (i, T)) \\/ NodeExists (i, U))
   /\\ ~NodeExists (i, U) /\\ ~NodeExists (i, S) /\\ ~NodeExists (i, T).
 ";
+
+/// One memory that takes one access at a time, each core's in program order. A locked exchange is a read and a write
+/// with no other write of their address between them.
+pub const ONE_MEMORY: &str = "StageName 0 \"M\".
+Axiom \"program order\": forall microops \"i\", forall microops \"j\",
+  ProgramOrder i j => AddEdge ((i, M), (j, M)).
+Axiom \"exchange\": forall microops \"r\", forall microops \"w\",
+  IsAnyRead r /\\ IsAnyWrite w /\\ SameInstruction r w /\\ AccessType Locked r =>
+  AddEdge ((r, M), (w, M)) /\\ forall microops \"v\",
+  IsAnyWrite v /\\ SamePhysicalAddress v w /\\ ~SameMicroop v w =>
+  AddEdge ((v, M), (r, M)) \\/ AddEdge ((w, M), (v, M)).
+Axiom \"coherence\": forall microops \"v\", forall microops \"w\",
+  IsAnyWrite v /\\ IsAnyWrite w /\\ SamePhysicalAddress v w /\\ ~SameMicroop v w =>
+  AddEdge ((v, M), (w, M)) \\/ AddEdge ((w, M), (v, M)).
+Axiom \"reads\": forall microops \"r\", IsAnyRead r =>
+  (DataFromInitialStateAtPA r /\\ forall microops \"v\",
+    IsAnyWrite v /\\ SamePhysicalAddress v r => AddEdge ((r, M), (v, M))) \\/
+  exists microop \"w\", IsAnyWrite w /\\ SamePhysicalAddress w r /\\ SameData w r /\\
+    AddEdge ((w, M), (r, M)) /\\ forall microops \"v\",
+    IsAnyWrite v /\\ SamePhysicalAddress v r /\\ ~SameMicroop v w =>
+    AddEdge ((v, M), (w, M)) \\/ AddEdge ((r, M), (v, M)).
+";
+
+/// For each micro-op a free choice of two orders of S and T; and of a fence four choices that cannot all be met.
+pub const CHOICES_AND_CORE: &str = "StageName 0 \"S\".
+StageName 1 \"T\".
+StageName 2 \"U\".
+StageName 3 \"V\".
+Axiom \"free\": forall microops \"i\", AddEdge ((i, S), (i, T)) \\/ AddEdge ((i, T), (i, S)).
+Axiom \"core\": forall microops \"i\", IsAnyFence i =>
+  (AddEdge ((i, S), (i, U)) \\/ AddEdge ((i, T), (i, V))) /\\ (AddEdge ((i, S), (i, U)) \\/ AddEdge ((i, V), (i, T)))
+  /\\ (AddEdge ((i, U), (i, S)) \\/ AddEdge ((i, T), (i, V))) /\\ (AddEdge ((i, U), (i, S)) \\/ AddEdge ((i, V), (i, T))).
+";

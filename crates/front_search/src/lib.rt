@@ -9,14 +9,16 @@
 //! `Search` says what grounds the parts of a model and a test, and what is found of a front; `Solver` does it, by
 //! `front_parts` and `solver`. A crate that asks for many fronts and answers, as `axiom_core` and `ask_command` do, is
 //! generic over `Search`. So it is proved by these contracts alone, and the prover need not load the grounder and the
-//! search for it.
+//! search for it. What is found is shortened: `shorten_found` leaves out of a refutation the splits that it does not need.
 //!
 //! `specs/Found.antt` says what the search finds of a front.
 #![tactic(auto)]
 
 mod search;
 mod searching;
+mod shortening;
 mod solver_search;
 
 pub use search::Search;
+pub use shortening::shorten_found;
 pub use solver_search::Solver;

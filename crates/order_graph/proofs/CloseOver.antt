@@ -33,6 +33,15 @@ words_rise v a b each i (suc j) =
     let f = ap (words_gained v a b each) e in
     omega arith
 
+-- each row changes at most so many words
+pub words_bound : (v : BitTable) (a b each k : ℕ) → words_gained v a b each k ≤ k * each
+words_bound v a b each zero = omega arith
+words_bound v a b each (suc k) = (let before = words_bound v a b each k in let here = one_bound each (gains v a b k) in omega arith)
+  where
+    one_bound : (each : ℕ) (gain : Bool) → (if gain then each else 0) ≤ each
+    one_bound each true = omega arith
+    one_bound each false = omega arith
+
 pub closing_first : (v : BitTable) (a b : ℕ) → AreClosedBelow v v a b 0
 closing_first v a b = record {
   new = λ q d qh dh. absurd (omega arith);

@@ -2,6 +2,7 @@ ghost use Rattle.std.specs.Prelude.{◌≡◌, ◌↔◌, ◌<◌, ◌≤◌, �
 ghost use Rattle.pc_common.specs.Chain.{Chain};
 ghost use Rattle.pc_common.specs.declared.limits.TheConstants.{MAX_NODES};
 ghost use Rattle.pc_ground.specs.Literals.{Joins, IsPresent, IsConsistent, Holds};
+ghost use Rattle.undo_trail.specs.Bits.{column};
 ghost use Rattle.undo_trail.specs.BitTable.{Extends};
 ghost use Rattle.order_graph.specs.Ways.{IsBelow};
 ghost use Rattle.order_graph.specs.State.{words_for, most_words, recorded_since, IsCut, IsGraph};
@@ -139,6 +140,16 @@ impl OrderGraph {
         ensures { IsTrue result ↔ Chain (Joins self.now.literals) a b }
     {
         reaches(&self.table, a, b)
+    }
+
+    /// To which nodes a chain of asserted edges leads from `a`: the columns that are set, by their numbers. Takes no
+    /// memory.
+    pub fn reached(&self, a: u32) -> &[u64]
+        requires { a < self.now.nodes }
+        ensures { (b : ℕ) → b < self.now.nodes
+            → (column result.now b ≡ true) ↔ Chain (Joins self.now.literals) a b }
+    {
+        self.table.row(a as usize)
     }
 
     /// Whether `node` is asserted, by itself or as an end of an edge. Takes no memory.

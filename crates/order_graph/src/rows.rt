@@ -1,6 +1,6 @@
 ghost use Rattle.std.specs.Prelude.{◌≡◌, ◌<◌, ◌≤◌, ◌+◌, ◌*◌, ◌^◌, ◌||◌, ◌==◌, ◌↔◌, ℕ, List, true, false, OnOk, OnErr, if◌then◌else◌};
 ghost use Rattle.std.specs.Bool.{OnTrue};
-ghost use Rattle.undo_trail.specs.BitTable.{bit_now, Extends, HasSet};
+ghost use Rattle.undo_trail.specs.BitTable.{bit_now, Extends, HasSet, IsSameTable};
 ghost use Rattle.pc_common.specs.Chain.{Chain};
 ghost use Rattle.pc_ground.specs.Literals.{Joins, IsPresent, Holds};
 ghost use Rattle.pc_ground.specs.declared.literal.Literal.{Literal as AnyLiteral};
@@ -111,6 +111,30 @@ fn words_gained(table: &UndoTable, nodes: u32, a: u32, b: u32, each: usize) -> u
     words
 }
 
+/// Takes the room of the words that an edge from `a` to `b` can change, `each` in each row that gains, and of two more.
+/// The rows that gain are counted only where there is no room for all of them.
+fn reserve_gained(
+    table: &mut UndoTable,
+    nodes: u32,
+    a: u32,
+    b: u32,
+    each: usize,
+) -> Result<(), Memory>
+    requires sized { IsSized nodes table.old }
+    requires a_in { a < nodes }
+    requires b_in { b < nodes }
+    requires small { each ≤ 2 ^ 32 }
+    ensures same { IsSameTable table.old table.new }
+    ensures room { OnOk result (words_gained table.old a b each nodes + 2 ≤ table.new.room) }
+    ensures err { OnErr result (table.new ≡ table.old) }
+{
+    if nodes as usize * each + 2 <= table.room() {
+        return Ok(());
+    }
+    table.reserve(words_gained(table, nodes, a, b, each) + 2)?;
+    Ok(())
+}
+
 /// Puts `b` and all that it reaches into what `x` reaches. A sink is one bit.
 fn join_row(table: &mut UndoTable, x: u32, b: u32, is_sink: bool)
     requires x_in { x < table.old.rows }
@@ -210,7 +234,7 @@ fn enter_edge<L: Ledger>(
     }
     let is_sink = is_sink(table, b);
     let each = row_words(table, b, is_sink);
-    table.reserve(words_gained(table, nodes, a, b, each) + 2)?;
+    reserve_gained(table, nodes, a, b, each)?;
     enter_edge_reserved(table, nodes, a, b, is_sink, steps);
     Ok(())
 }

@@ -43,6 +43,8 @@ pub(crate) fn advance<L: Ledger>(
     branch
         .refutation
         .push_split(place.negated, place.position as u64)?;
-    branch.agenda.split(place.position)?;
+    branch
+        .agenda
+        .split(alloc, tree, version, place, &branch.graph)?;
     find(alloc, tree, version, left, branch, steps)
 }

@@ -2,6 +2,7 @@ ghost use Rattle.std.specs.Prelude.{◌≡◌, All, length};
 ghost use Rattle.solver.specs.Below.{IsRowBelow};
 
 use super::bits::Bits;
+use super::failures::Failures;
 use super::gains::{Gained, Gains};
 use super::hints::{Truth, or_truth};
 use super::numbered_tree::NumberedTree;
@@ -10,8 +11,8 @@ use super::place::Place;
 use super::rows::skip_at;
 use super::side::Side;
 use super::standing::Standing;
-use super::watch::{Watch, Watched};
-use order_graph::OrderGraph;
+use super::watch::{Watch, Watched, end_of_ors};
+use order_graph::{Clash, OrderGraph};
 use pc_common::Memory;
 use pc_ground::{Row, Version};
 use std::alloc::Global;
@@ -33,7 +34,10 @@ pub(crate) struct Agenda {
     stamps: Vec<u64>,
     /// How often the search split or went back: what the trail has of a moment, it takes back together.
     moment: u64,
-    pending: Bits,
+    /// The pending Ors of which it is known whether they are true, or whether enough sides are closed; and those of which
+    /// the latter is known.
+    known_truths: Bits,
+    known_sides: Bits,
     open: Bits,
     ready: Bits,
     /// Room for the truth of a part's positions.
@@ -43,9 +47,8 @@ pub(crate) struct Agenda {
     marks: Vec<usize>,
     /// How many asserted positions were looked at.
     seen: usize,
-    /// For each Or how many leaves have closed a side of it, on all branches so far. Version 1 does not ask,
-    /// and keeps none.
-    closings: Vec<u32>,
+    /// Which splits took part in what failed so far.
+    failures: Failures,
     gains: Gains,
 }
 
@@ -57,14 +60,15 @@ impl Drop for Agenda {
             standings: _,
             stamps: _,
             moment: _,
-            pending: _,
+            known_truths: _,
+            known_sides: _,
             open: _,
             ready: _,
             truths: _,
             trail: _,
             marks: _,
             seen: _,
-            closings: _,
+            failures: _,
             gains: _,
         } = self;
     }
@@ -72,32 +76,23 @@ impl Drop for Agenda {
 
 impl Agenda {
     /// That of a search over these rows and so many nodes, before the tree is asserted.
-    pub(crate) fn new(
-        alloc: Global,
-        rows: &[Row<u32>],
-        nodes: u32,
-        version: Version,
-    ) -> Result<Agenda, Memory> {
-        let watch = Watch::new(alloc, rows, nodes)?;
-        let count = watch.end();
-        let counted = match version {
-            Version::One => 0,
-            Version::Two => count,
-        };
+    pub(crate) fn new(alloc: Global, rows: &[Row<u32>], nodes: u32) -> Result<Agenda, Memory> {
+        let count = end_of_ors(rows);
         Ok(Agenda {
-            watch,
+            watch: Watch::empty(alloc),
             standings: vec![in alloc; Standing::none(); count]?,
             stamps: vec![in alloc; 0; count]?,
             moment: 0,
-            pending: Bits::new(alloc, count)?,
+            known_truths: Bits::new(alloc, count)?,
+            known_sides: Bits::new(alloc, count)?,
             open: Bits::new(alloc, count)?,
             ready: Bits::new(alloc, count)?,
             truths: vec![in alloc; false; count]?,
             trail: Vec::new(alloc),
             marks: Vec::new(alloc),
             seen: 0,
-            closings: vec![in alloc; 0; counted]?,
-            gains: Gains::new(alloc, nodes)?,
+            failures: Failures::new(alloc, nodes, count)?,
+            gains: Gains::empty(alloc),
         })
     }
 
@@ -117,8 +112,11 @@ impl Agenda {
         }
         let before = self.standings[position];
         self.standings[position] = standing;
-        if before.is_pending() != standing.is_pending() {
-            self.pending.put(position, standing.is_pending());
+        if before.can_stale(true) != standing.can_stale(true) {
+            self.known_truths.put(position, standing.can_stale(true));
+        }
+        if before.can_stale(false) != standing.can_stale(false) {
+            self.known_sides.put(position, standing.can_stale(false));
         }
         if before.is_open() != standing.is_open() {
             self.open.put(position, standing.is_open());
@@ -153,9 +151,34 @@ impl Agenda {
         Ok(())
     }
 
+    /// Makes what is needed to know what a literal changes, where there is nothing yet: before the first split nothing is
+    /// known that could.
+    fn begin_watch(
+        &mut self,
+        alloc: Global,
+        tree: &NumberedTree,
+        version: Version,
+        graph: &OrderGraph,
+    ) -> Result<(), Memory> {
+        if self.watch.is_empty() {
+            self.watch = Watch::new(alloc, tree.rows(), tree.count(), version)?;
+            self.gains = Gains::new(alloc, tree.count(), graph)?;
+        }
+        Ok(())
+    }
+
     /// The Or is split, and its right side waits.
-    pub(crate) fn split(&mut self, position: usize) -> Result<(), Memory> {
-        self.change(position, Standing::none())?;
+    pub(crate) fn split(
+        &mut self,
+        alloc: Global,
+        tree: &NumberedTree,
+        version: Version,
+        place: Place,
+        graph: &OrderGraph,
+    ) -> Result<(), Memory> {
+        self.begin_watch(alloc, tree, version, graph)?;
+        self.change(place.position, Standing::none())?;
+        self.failures.split(place, graph)?;
         self.marks.push(self.trail.len())?;
         self.moment = self.moment.wrapping_add(1);
         Ok(())
@@ -180,6 +203,7 @@ impl Agenda {
         for k in self.seen..asserted.len() {
             let place = asserted[k];
             if is_or(tree, place) {
+                self.failures.note_or(place.position)?;
                 self.change(place.position, Standing::fresh(place.negated))?;
             }
         }
@@ -196,9 +220,23 @@ impl Agenda {
     ) -> Result<(), Memory>
         requires { graph.now.nodes ≡ length tree.now.nodes }
     {
-        self.gains.note(tree, graph, self.seen > 0)?;
-        self.touch_gained(tree.rows())?;
+        self.touch_all(tree, graph)?;
         self.take(tree, asserted)
+    }
+
+    /// What the literals of the side at hand may have changed is to be asked again.
+    fn touch_all(&mut self, tree: &NumberedTree, graph: &OrderGraph) -> Result<(), Memory>
+        requires { graph.now.nodes ≡ length tree.now.nodes }
+    {
+        if self.watch.is_empty() {
+            return Ok(());
+        }
+        let (from, end) = self.gains.asserted(graph);
+        for k in from..end {
+            self.gains.note(tree, graph, k)?;
+            self.touch_gained(tree.rows())?;
+        }
+        Ok(())
     }
 
     /// Looks at what the side would change, before it is entered.
@@ -213,28 +251,72 @@ impl Agenda {
         self.gains.foresee(tree, side, graph)
     }
 
-    /// What is known of the pending Or that the literal is within may have changed: whether a side is closed at once, and
-    /// with `in_truth` whether it is true.
-    fn touch(&mut self, rows: &[Row<u32>], literal: Watched, in_truth: bool) -> Result<(), Memory> {
-        let Some(p) = self.pending.last_up_to(literal.position, literal.outer) else {
-            return Ok(());
-        };
-        let standing = self.standing(p);
-        if standing.is_stale(in_truth) || literal.position >= p.saturating_add(skip_at(rows, p)) {
-            return Ok(());
+    /// The Ors of which something is known that a literal may change.
+    fn touchable(&self, in_truth: bool) -> &Bits {
+        if in_truth {
+            &self.known_truths
+        } else {
+            &self.known_sides
         }
-        self.change(p, standing.stale(in_truth))
     }
 
-    /// The same of each literal on the list.
+    /// What is known of the pending Or that this is within may have changed: whether a side is closed at once, and
+    /// with `in_truth` whether it is true. Returns from which position on the next such Or may be: where there
+    /// is none, past the last one.
+    fn touch(
+        &mut self,
+        rows: &[Row<u32>],
+        watched: Watched,
+        in_truth: bool,
+    ) -> Result<usize, Memory> {
+        let position = watched.position;
+        if let Some(p) = self.touchable(in_truth).last_up_to(position, watched.outer) {
+            let end = p.saturating_add(skip_at(rows, p));
+            if position < end {
+                let standing = self.standing(p).stale(in_truth);
+                self.change(p, standing)?;
+                return Ok(end);
+            }
+        }
+        match self.touchable(in_truth).first_from(position) {
+            Some(next) => Ok(next),
+            None => Ok(rows.len()),
+        }
+    }
+
+    /// The same where the other node is one of those that the list is looked at for. Returns the other node and the
+    /// position from which on there may be more.
+    fn touch_watched(
+        &mut self,
+        rows: &[Row<u32>],
+        watched: Watched,
+        gained: Gained,
+    ) -> Result<(u32, usize), Memory> {
+        let Some(other) = self.gains.first_other(gained.others, watched.other) else {
+            return Ok((u32::MAX, usize::MAX));
+        };
+        if other > watched.other {
+            return Ok((other, 0));
+        }
+        let position = self.touch(rows, watched, gained.in_truth)?;
+        Ok((other, position))
+    }
+
+    /// The same of all that is on the list. What is of other nodes, or in no Or of which something is known, is passed
+    /// over.
     fn touch_list(&mut self, rows: &[Row<u32>], gained: Gained) -> Result<(), Memory> {
-        let mut at = self.watch.head(gained.list);
-        for _ in 0..self.watch.len() {
-            let Some(literal) = self.watch.literal_before(at) else {
+        let (from, end) = self.watch.places(gained.list);
+        let mut at = from;
+        for _ in from..end {
+            if at >= end {
+                return Ok(());
+            }
+            let Some(watched) = self.watch.watched(at) else {
                 return Ok(());
             };
-            self.touch(rows, literal, gained.in_truth)?;
-            at = literal.before;
+            let (other, position) = self.touch_watched(rows, watched, gained)?;
+            let next = at.saturating_add(1);
+            at = self.watch.first_place(next, end, other, position);
         }
         Ok(())
     }
@@ -311,30 +393,19 @@ impl Agenda {
         Ok(None)
     }
 
-    /// A leaf closed the side of a split, which counts in version 2. The Or stands right before its left side,
-    /// which a right side names as what it denies.
-    pub(crate) fn count_closed(&mut self, version: Version, side: Side) {
-        let Version::Two = version else {
-            return;
-        };
-        let left = side.denied.unwrap_or(side.root);
-        let position = left.saturating_sub(1);
-        if position < self.closings.len() {
-            self.closings[position] = self.closings[position].saturating_add(1);
-        }
+    /// A leaf closes the side that was entered last by this clash.
+    pub(crate) fn learn(&mut self, clash: &Clash, graph: &OrderGraph) -> Result<(), Memory> {
+        self.failures.learn(clash, graph)
     }
 
-    /// How many leaves have closed a side of the Or.
-    fn closed_so_far(&self, position: usize) -> u32 {
-        if position < self.closings.len() {
-            self.closings[position]
-        } else {
-            0
-        }
+    /// The choice by which a part of the search failed that is to fail again, if there is one.
+    pub(crate) fn guide(&self) -> Option<Place> {
+        self.failures.guide()
     }
 
-    /// The choice whose sides were closed most often so far, and of several the first; `first` is the first.
-    pub(crate) fn most_closed(
+    /// The choice whose splits took part in the newest failures, of several the one with the most, and of several
+    /// the first; `first` is the first, and the one where none took part in a failure.
+    pub(crate) fn newest(
         &mut self,
         rows: &[Row<u32>],
         graph: &OrderGraph,
@@ -342,21 +413,26 @@ impl Agenda {
     ) -> Result<Place, Memory>
         requires { All (IsRowBelow graph.now.nodes) rows.now }
     {
+        if self.failures.is_empty() {
+            return Ok(first);
+        }
         let mut chosen = first;
-        let mut most = self.closed_so_far(first.position);
+        let mut newest = self.failures.record(first.position);
         let mut from = first.position.saturating_add(1);
         for _ in 0..rows.len() {
-            let Some(position) = self.open.first_from(from) else {
+            let Some(position) = self.open.first_common(self.failures.recorded(), from) else {
                 return Ok(chosen);
             };
-            let standing = self.refresh(rows, graph, position)?;
-            let closed = self.closed_so_far(position);
-            if standing.is_open() && closed > most {
-                most = closed;
-                chosen = Place {
-                    negated: standing.is_negated(),
-                    position,
-                };
+            let record = self.failures.record(position);
+            if record.is_newer(newest) {
+                let standing = self.refresh(rows, graph, position)?;
+                if standing.is_open() {
+                    newest = record;
+                    chosen = Place {
+                        negated: standing.is_negated(),
+                        position,
+                    };
+                }
             }
             from = position.saturating_add(1);
         }

@@ -27,6 +27,13 @@ impl Bits {
         Ok(Bits { words })
     }
 
+    /// None, and room for none.
+    pub(crate) fn empty(alloc: Global) -> Bits {
+        Bits {
+            words: Vec::new(alloc),
+        }
+    }
+
     /// Puts `k` in, or takes it out.
     pub(crate) fn put(&mut self, k: usize, is_in: bool) {
         let at = k / 64;
@@ -35,6 +42,38 @@ impl Bits {
             let word = self.words[at];
             self.words[at] = if is_in { word | bit } else { word & !bit };
         }
+    }
+
+    /// Takes all numbers out.
+    pub(crate) fn clear(&mut self) {
+        for k in 0..self.words.len() {
+            self.words[k] = 0;
+        }
+    }
+
+    /// Puts the numbers in that these words have.
+    pub(crate) fn put_words(&mut self, words: &[u64]) {
+        for k in 0..self.words.len() {
+            if k < words.len() {
+                self.words[k] |= words[k];
+            }
+        }
+    }
+
+    /// Puts the numbers of the other set in.
+    pub(crate) fn put_all(&mut self, other: &Bits) {
+        self.put_words(&other.words);
+    }
+
+    /// Whether it has a number that these words have.
+    pub(crate) fn meets(&self, words: &[u64]) -> bool {
+        let mut met = 0;
+        for k in 0..self.words.len() {
+            if k < words.len() {
+                met |= self.words[k] & words[k];
+            }
+        }
+        met != 0
     }
 
     pub(crate) fn has(&self, k: usize) -> bool {
@@ -47,6 +86,22 @@ impl Bits {
         let mut mask = u64::MAX << (from % 64);
         for at in from / 64..self.words.len() {
             let word = self.words[at] & mask;
+            if word != 0 {
+                return Some(lowest(word, at));
+            }
+            mask = u64::MAX;
+        }
+        None
+    }
+
+    /// The lowest number from `from` on that is in both.
+    pub(crate) fn first_common(&self, other: &Bits, from: usize) -> Option<usize> {
+        let mut mask = u64::MAX << (from % 64);
+        for at in from / 64..self.words.len() {
+            if at >= other.words.len() {
+                return None;
+            }
+            let word = self.words[at] & other.words[at] & mask;
             if word != 0 {
                 return Some(lowest(word, at));
             }

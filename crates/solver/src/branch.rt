@@ -7,7 +7,6 @@ use super::later::Later;
 use super::numbered_tree::NumberedTree;
 use order_graph::OrderGraph;
 use pc_common::Memory;
-use pc_ground::Version;
 use refutation::Refutation;
 use std::alloc::Global;
 
@@ -39,16 +38,12 @@ impl Drop for Branch {
 
 impl Branch {
     /// That of a search over this tree, before the tree is asserted.
-    pub(crate) fn new(
-        alloc: Global,
-        tree: &NumberedTree,
-        version: Version,
-    ) -> Result<Branch, Memory>
+    pub(crate) fn new(alloc: Global, tree: &NumberedTree) -> Result<Branch, Memory>
         ensures { IfOk result (IsBlank tree.now) }
     {
         let count = tree.count();
         let graph = OrderGraph::new(alloc, count)?;
-        let agenda = Agenda::new(alloc, tree.rows(), count, version)?;
+        let agenda = Agenda::new(alloc, tree.rows(), count)?;
         let asserted = Asserted::new(alloc);
         let later = Vec::new(alloc);
         let refutation = Refutation::new(alloc);

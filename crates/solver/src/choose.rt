@@ -9,9 +9,10 @@ ghost use Rattle.solver.specs.Branches.{HasSameRest};
 use super::agenda::Agenda;
 use super::branch::Branch;
 use super::candidate::is_candidate_now;
+use super::closing::would_close;
 use super::enter::add_row;
 use super::numbered_tree::NumberedTree;
-use super::ors::{is_or, literal_at, sides};
+use super::ors::{is_or, sides};
 use super::place::Place;
 use super::rows::row_at;
 use super::side::Side;
@@ -105,14 +106,32 @@ fn is_closed<L: Ledger>(
     requires marked { IsMarked graph.old mark }
     ensures graph { IfOk result (λ _. IsSame graph.old graph.new) }
 {
-    if side.denied.is_none() {
-        if let Some(literal) = literal_at(tree.rows(), side.negated, side.root) {
-            return Ok(graph.would_clash(literal));
-        }
+    if let Some(closes) = would_close(tree.rows(), side, graph) {
+        return Ok(closes);
     }
     let clashes = side_clashes(tree, side, graph, steps)?;
     graph.undo(mark, steps);
     Ok(clashes)
+}
+
+/// Whether the side is closed at once, where it is not known that it is, as it stays on a branch.
+fn ask_side<L: Ledger>(
+    is_known: bool,
+    tree: &NumberedTree,
+    side: Side,
+    mark: Mark,
+    graph: &mut OrderGraph,
+    steps: &mut Steps<L>,
+) -> Result<bool, Memory>
+    requires side { IsSideIn (spelled tree.now.rows) side }
+    requires nodes { graph.old.nodes ≡ length tree.now.nodes }
+    requires marked { IsMarked graph.old mark }
+    ensures graph { IfOk result (λ _. IsSame graph.old graph.new) }
+{
+    if is_known {
+        return Ok(true);
+    }
+    is_closed(tree, side, mark, graph, steps)
 }
 
 /// The same standing, once the sides of the Or have been asked, the left one first. In version 1 the right
@@ -131,22 +150,23 @@ fn with_sides<L: Ledger>(
     ensures graph { IfOk result (λ _. IsSame graph.old graph.new) }
 {
     if !is_or(tree, place) {
-        return Ok(standing.asked(false, false));
+        return Ok(standing.asked(false, false, false));
     }
     let (left, right) = sides(tree, version, place);
-    let left_closed = is_closed(tree, left, mark, graph, steps)?;
+    let is_known = standing.is_left_closed();
+    let left_closed = ask_side(is_known, tree, left, mark, graph, steps)?;
     if left_closed {
         if let Version::One = version {
-            return Ok(standing.asked(true, true));
+            return Ok(standing.asked(true, false, true));
         }
     }
-    let right_closed = is_closed(tree, right, mark, graph, steps)?;
-    let closed = left_closed | right_closed;
+    let is_known = standing.is_right_closed();
+    let right_closed = ask_side(is_known, tree, right, mark, graph, steps)?;
     let settled = match version {
-        Version::One => closed,
+        Version::One => right_closed,
         Version::Two => left_closed & right_closed,
     };
-    Ok(standing.asked(closed, settled))
+    Ok(standing.asked(left_closed, right_closed, settled))
 }
 
 /// What is known of the position, once its sides were asked where that may have changed.
@@ -213,25 +233,8 @@ fn first_closed<L: Ledger>(
     Ok(one_sided)
 }
 
-/// The choice to split where none has a closed side: the first, and in version 2 the one whose sides were
-/// closed most often so far.
-fn open_choice(
-    tree: &NumberedTree,
-    version: Version,
-    first: Place,
-    graph: &OrderGraph,
-    agenda: &mut Agenda,
-) -> Result<Place, Memory>
-    requires { graph.now.nodes ≡ length tree.now.nodes }
-{
-    match version {
-        Version::One => Ok(first),
-        Version::Two => agenda.most_closed(tree.rows(), graph, first),
-    }
-}
-
 /// The choice that the agenda proposes to split: the first with enough sides closed at once or with one, and
-/// where none has one, as `open_choice` says.
+/// where none has one, the one whose split took part in the newest failure.
 fn propose<L: Ledger>(
     tree: &NumberedTree,
     version: Version,
@@ -248,13 +251,13 @@ fn propose<L: Ledger>(
     if let Some(place) = first_closed(tree, version, mark, graph, agenda, steps)? {
         return Ok(place);
     }
-    open_choice(tree, version, first, graph, agenda)
+    agenda.newest(tree.rows(), graph, first)
 }
 
-/// The candidate to split. In version 1 it is the first with a side that is closed at once, and where none
-/// has one the first, which is given. In version 2 it is the first with both sides closed at once; otherwise
-/// the first with one; otherwise the one whose sides were closed most often so far. What the agenda proposes
-/// is tested.
+/// The candidate to split. Where what failed on the left is to fail again, it is the one that was split there.
+/// Otherwise in version 1 it is the first with a side that is closed at once; in version 2 the
+/// first with both, and otherwise the first with one. Where none has one, it is the one whose split took part in
+/// the newest failure, or the first, which is given. What the agenda proposes is tested.
 pub(crate) fn choose<L: Ledger>(
     alloc: Global,
     tree: &NumberedTree,
@@ -277,6 +280,11 @@ pub(crate) fn choose<L: Ledger>(
     ensures asserted { branch.new.asserted ≡ branch.old.asserted }
     ensures rest { HasSameRest branch.old branch.new }
 {
+    if let Some(guide) = branch.agenda.guide() {
+        if is_candidate_now(alloc, tree, &branch.graph, &branch.asserted, guide)? {
+            return Ok(guide);
+        }
+    }
     let place = propose(
         tree,
         version,

@@ -1,41 +1,96 @@
-ghost use Rattle.std.specs.Prelude.{◌≡◌, ◌<◌, length};
+ghost use Rattle.std.specs.Prelude.{◌≡◌, ◌<◌, All, length};
 ghost use Rattle.order_graph.specs.Ways.{IsBelow};
+ghost use Rattle.solver.specs.Below.{IsRowBelow};
 
 use super::bits::Bits;
 use super::numbered_tree::NumberedTree;
 use super::ors::literal_at;
+use super::rows::{row_at, skip_at};
 use super::side::Side;
-use super::watch::{ends_of, node_of, starts_of};
+use super::watch::{coarse_of, ends_of, joins_of, node_of, starts_of};
 use order_graph::OrderGraph;
 use pc_common::Memory;
-use pc_ground::Literal;
+use pc_ground::{Literal, Row, RowKind};
 use std::alloc::Global;
 
-/// A list of `Watch`, whose literals may have become a clash, and with `in_truth` true or false.
+/// Of which other nodes the pairs on a list are that a literal may change.
 #[derive(Clone, Copy)]
-pub(crate) struct Gained {
-    pub(crate) list: usize,
-    pub(crate) in_truth: bool,
+pub(crate) enum Others {
+    All,
+    Reached,
+    Closing,
+    Joined,
 }
 
-/// Which literals may have become true, false or a clash by those that a side asserts.
-/// An edge can change what is known of the edges at the nodes that come to more by it, a node what is known
-/// of itself, and a denied edge what is known of the edges at the nodes that its start comes to. Whether an edge is
-/// true changes only where its start comes to more, so a denial changes no truth.
-#[derive(Drop)]
+/// A list of `Watch` of which a literal may change what is known of some pairs: whether they clash, and with
+/// `in_truth` whether they are true.
+#[derive(Clone, Copy)]
+pub(crate) struct Gained {
+    pub(crate) list: u32,
+    pub(crate) in_truth: bool,
+    pub(crate) others: Others,
+}
+
+/// A pair that is denied.
+#[derive(Clone, Copy)]
+struct Denial {
+    from: u32,
+    to: u32,
+    /// How many literals there were before it.
+    literals: usize,
+}
+
+/// Which pairs may have become true or a clash by the literals that a side asserts.
+///
+/// By an edge from `a` to `b` each node that comes to `a` *gains*: it comes to `b`, and to what `b` comes to. A pair
+/// becomes true where its first node gains and comes to its second one by that. It becomes a clash where its second node
+/// gains, and comes to its first one by that or to the end of a denied pair whose start comes to its first one. It does
+/// so too where the start of a denied pair gains, comes to its first node by that, and its second one comes to the end.
+/// A literal that says nothing new changes nothing.
 pub(crate) struct Gains {
     nodes: u32,
-    /// The nodes from which a pair was denied.
-    deniers: Bits,
+    /// The denied pairs of the branch, in order.
+    denials: Vec<Denial>,
     lists: Vec<Gained>,
+    /// The nodes that gain by the edge at hand.
+    gaining: Vec<u32>,
+    /// What its second node comes to, and the node itself.
+    reached: Bits,
+    /// The same, and what the starts come to of the denied pairs that end in one of these.
+    closing: Bits,
+    /// What comes to the end of a denied pair whose start gains.
+    joined: Bits,
+    /// Room for a set.
+    some: Bits,
     /// How many literals there were before the side.
     known: usize,
     /// Whether the side is one edge, whose lists were found before it was entered.
     foreseen: bool,
+    /// Whether each literal of the side says nothing new.
+    implied: Vec<bool>,
+}
+
+// Written out, so that a proof of what drops the value meets one call and no field.
+impl Drop for Gains {
+    fn drop(self) {
+        let Gains {
+            nodes: _,
+            denials: _,
+            lists: _,
+            gaining: _,
+            reached: _,
+            closing: _,
+            joined: _,
+            some: _,
+            known: _,
+            foreseen: _,
+            implied: _,
+        } = self;
+    }
 }
 
 /// The literal at `k` of the graph.
-fn literal_of(graph: &OrderGraph, k: usize) -> Literal<u32>
+pub(crate) fn literal_of(graph: &OrderGraph, k: usize) -> Literal<u32>
     requires { k < length graph.now.literals }
     ensures { IsBelow graph.now.nodes result }
 {
@@ -44,15 +99,14 @@ fn literal_of(graph: &OrderGraph, k: usize) -> Literal<u32>
 }
 
 /// Whether `b` is `a`, or a chain leads from `a` to `b`.
-fn comes_to(graph: &OrderGraph, a: u32, b: u32) -> bool
+pub(crate) fn comes_to(graph: &OrderGraph, a: u32, b: u32) -> bool
     requires a_in { a < graph.now.nodes }
     requires b_in { b < graph.now.nodes }
 {
     a == b || graph.reaches(a, b)
 }
 
-/// Whether `a` comes to more by an edge from `b` to `c`, where that edge is to be asserted. Where it was
-/// asserted, whether it may have.
+/// Whether `a` gains by an edge from `b` to `c` that is to be asserted. Where it was asserted, whether it may have.
 fn may_gain(graph: &OrderGraph, a: u32, b: u32, c: u32, is_asserted: bool) -> bool
     requires a_in { a < graph.now.nodes }
     requires b_in { b < graph.now.nodes }
@@ -61,15 +115,85 @@ fn may_gain(graph: &OrderGraph, a: u32, b: u32, c: u32, is_asserted: bool) -> bo
     comes_to(graph, a, b) && (is_asserted || !graph.reaches(a, c))
 }
 
+/// Whether the literal says nothing new of which pairs can be true or clash. A denied pair says none where a chain leads
+/// from its second node to the first, since what would join it closes a cycle.
+fn is_implied(graph: &OrderGraph, literal: Literal<u32>) -> bool
+    requires { IsBelow graph.now.nodes literal }
+{
+    match literal {
+        Literal::Node(a) => graph.present(a),
+        Literal::Edge(a, b) => graph.reaches(a, b),
+        Literal::NoEdge(a, b) => graph.reaches(b, a),
+        Literal::NoNode(_) => false,
+    }
+}
+
 impl Gains {
-    pub(crate) fn new(alloc: Global, nodes: u32) -> Result<Gains, Memory> {
-        Ok(Gains {
-            nodes,
-            deniers: Bits::new(alloc, nodes as usize)?,
+    /// That of no nodes, which finds nothing.
+    pub(crate) fn empty(alloc: Global) -> Gains {
+        Gains {
+            nodes: 0,
+            denials: Vec::new(alloc),
             lists: Vec::new(alloc),
+            gaining: Vec::new(alloc),
+            reached: Bits::empty(alloc),
+            closing: Bits::empty(alloc),
+            joined: Bits::empty(alloc),
+            some: Bits::empty(alloc),
             known: 0,
             foreseen: false,
-        })
+            implied: Vec::new(alloc),
+        }
+    }
+
+    /// That of a search over so many nodes, whose graph has these literals.
+    pub(crate) fn new(alloc: Global, nodes: u32, graph: &OrderGraph) -> Result<Gains, Memory> {
+        let count = nodes as usize;
+        let mut gains = Gains {
+            nodes,
+            denials: Vec::new(alloc),
+            lists: Vec::new(alloc),
+            gaining: Vec::new(alloc),
+            reached: Bits::new(alloc, count)?,
+            closing: Bits::new(alloc, count)?,
+            joined: Bits::new(alloc, count)?,
+            some: Bits::new(alloc, count)?,
+            known: 0,
+            foreseen: false,
+            implied: Vec::new(alloc),
+        };
+        for k in 0..graph.len() {
+            gains.note_denial(literal_of(graph, k), k)?;
+        }
+        Ok(gains)
+    }
+
+    /// Remembers the pair that the literal denies, if it does.
+    fn note_denial(&mut self, literal: Literal<u32>, literals: usize) -> Result<(), Memory> {
+        if let Literal::NoEdge(from, to) = literal {
+            self.denials.push(Denial { from, to, literals })?;
+        }
+        Ok(())
+    }
+
+    fn denial(&self, k: usize) -> Option<Denial> {
+        if k < self.denials.len() {
+            Some(self.denials[k])
+        } else {
+            None
+        }
+    }
+
+    /// Forgets what was denied after the first `count` literals.
+    fn forget_denials(&mut self, count: usize) {
+        let mut kept = self.denials.len();
+        for _ in 0..self.denials.len() {
+            match self.denial(kept.saturating_sub(1)) {
+                Some(last) if kept > 0 && last.literals >= count => kept = kept.saturating_sub(1),
+                _ => break,
+            }
+        }
+        self.denials.truncate(kept);
     }
 
     /// How many lists there are.
@@ -85,61 +209,154 @@ impl Gains {
         }
     }
 
-    fn put(&mut self, list: usize, in_truth: bool) -> Result<(), Memory> {
-        self.lists.push(Gained { list, in_truth })?;
-        Ok(())
-    }
-
-    /// The edges at the node. With `comes_to_more` those that begin there may have changed their truth.
-    fn put_edges(&mut self, node: u32, comes_to_more: bool) -> Result<(), Memory> {
-        self.put(starts_of(node), comes_to_more)?;
-        self.put(ends_of(node), false)
-    }
-
-    /// The edges at the nodes that `a` comes to.
-    fn add_reached(&mut self, graph: &OrderGraph, nodes: u32, a: u32) -> Result<(), Memory>
-        requires all { nodes ≡ graph.now.nodes }
-        requires a_in { a < graph.now.nodes }
-    {
-        for x in 0..nodes {
-            if comes_to(graph, a, x) {
-                self.put_edges(x, false)?;
-            }
+    /// The first of these other nodes from `from` on.
+    pub(crate) fn first_other(&self, others: Others, from: u32) -> Option<u32> {
+        let set = match others {
+            Others::All => return Some(from),
+            Others::Reached => &self.reached,
+            Others::Closing => &self.closing,
+            Others::Joined => &self.joined,
+        };
+        let other = set.first_from(from as usize)?;
+        if other < self.nodes as usize {
+            Some(other as u32)
+        } else {
+            None
         }
+    }
+
+    fn put(&mut self, list: u32, in_truth: bool, others: Others) -> Result<(), Memory> {
+        self.lists.push(Gained {
+            list,
+            in_truth,
+            others,
+        })?;
         Ok(())
     }
 
-    fn add_present(&mut self, graph: &OrderGraph, a: u32, is_asserted: bool) -> Result<(), Memory>
-        requires { a < graph.now.nodes }
-    {
-        if is_asserted || !graph.present(a) {
-            self.put(node_of(a), true)?;
-        }
-        Ok(())
+    /// What is known of the pairs that begin in the node may have changed, where the other node is a joined one.
+    fn put_joined(&mut self, node: u32) -> Result<(), Memory> {
+        self.put(starts_of(node), false, Others::Joined)?;
+        self.put(joins_of(node), false, Others::Joined)?;
+        self.put(coarse_of(node), false, Others::All)
     }
 
-    /// The edges at the nodes that come to more by an edge from `a` to `b`. Whether a pair is denied from one
-    /// of them.
-    fn add_gaining(
+    /// Finds the nodes that gain.
+    fn find_gaining(
         &mut self,
         graph: &OrderGraph,
         nodes: u32,
         a: u32,
         b: u32,
         is_asserted: bool,
-    ) -> Result<bool, Memory>
+    ) -> Result<(), Memory>
         requires all { nodes ≡ graph.now.nodes }
         requires a_in { a < graph.now.nodes }
         requires b_in { b < graph.now.nodes }
     {
-        let mut denies = false;
+        self.gaining.clear();
         for x in 0..nodes {
             if may_gain(graph, x, a, b, is_asserted) {
-                self.put_edges(x, true)?;
-                denies = denies | self.deniers.has(x as usize);
+                self.gaining.push(x)?;
             }
         }
-        Ok(denies)
+        Ok(())
+    }
+
+    fn gaining_node(&self, k: usize) -> Option<u32> {
+        if k < self.gaining.len() {
+            Some(self.gaining[k])
+        } else {
+            None
+        }
+    }
+
+    fn find_reached(&mut self, graph: &OrderGraph, b: u32)
+        requires { b < graph.now.nodes }
+    {
+        self.reached.clear();
+        self.reached.put_words(graph.reached(b));
+        self.reached.put(b as usize, true);
+    }
+
+    /// Puts what the start of the denied pair comes to into the closing nodes, where it ends in a reached one.
+    fn note_closing(&mut self, graph: &OrderGraph, nodes: u32, denial: Denial)
+        requires { nodes ≡ graph.now.nodes }
+    {
+        let from = denial.from;
+        if !self.reached.has(denial.to as usize) || self.some.has(from as usize) || from >= nodes {
+            return;
+        }
+        self.some.put(from as usize, true);
+        self.closing.put_words(graph.reached(from));
+        self.closing.put(from as usize, true);
+    }
+
+    fn find_closing(&mut self, graph: &OrderGraph, nodes: u32)
+        requires { nodes ≡ graph.now.nodes }
+    {
+        self.closing.clear();
+        self.closing.put_all(&self.reached);
+        self.some.clear();
+        for k in 0..self.denials.len() {
+            if let Some(denial) = self.denial(k) {
+                self.note_closing(graph, nodes, denial);
+            }
+        }
+    }
+
+    /// Puts the ends of the denied pairs that begin in a gaining node into the room. Whether there are some.
+    fn find_ends(&mut self) -> bool {
+        self.joined.clear();
+        for k in 0..self.gaining.len() {
+            if let Some(node) = self.gaining_node(k) {
+                self.joined.put(node as usize, true);
+            }
+        }
+        self.some.clear();
+        let mut found = false;
+        for k in 0..self.denials.len() {
+            if let Some(denial) = self.denial(k) {
+                if self.joined.has(denial.from as usize) {
+                    self.some.put(denial.to as usize, true);
+                    found = true;
+                }
+            }
+        }
+        found
+    }
+
+    /// Finds what comes to a node that is in the room.
+    fn find_joined(&mut self, graph: &OrderGraph, nodes: u32)
+        requires { nodes ≡ graph.now.nodes }
+    {
+        self.joined.clear();
+        self.joined.put_all(&self.some);
+        for x in 0..nodes {
+            if self.some.meets(graph.reached(x)) {
+                self.joined.put(x as usize, true);
+            }
+        }
+    }
+
+    fn put_present(&mut self, graph: &OrderGraph, a: u32, is_asserted: bool) -> Result<(), Memory>
+        requires { a < graph.now.nodes }
+    {
+        if is_asserted || !graph.present(a) {
+            self.put(node_of(a), true, Others::All)?;
+        }
+        Ok(())
+    }
+
+    fn put_gaining(&mut self) -> Result<(), Memory> {
+        for k in 0..self.gaining.len() {
+            if let Some(x) = self.gaining_node(k) {
+                self.put(starts_of(x), true, Others::Reached)?;
+                self.put(ends_of(x), false, Others::Closing)?;
+                self.put(coarse_of(x), false, Others::All)?;
+            }
+        }
+        Ok(())
     }
 
     fn add_edge(
@@ -154,10 +371,36 @@ impl Gains {
         requires a_in { a < graph.now.nodes }
         requires b_in { b < graph.now.nodes }
     {
-        self.add_present(graph, a, is_asserted)?;
-        self.add_present(graph, b, is_asserted)?;
-        if self.add_gaining(graph, nodes, a, b, is_asserted)? {
-            self.add_reached(graph, nodes, b)?;
+        self.put_present(graph, a, is_asserted)?;
+        self.put_present(graph, b, is_asserted)?;
+        self.find_gaining(graph, nodes, a, b, is_asserted)?;
+        self.find_reached(graph, b);
+        self.find_closing(graph, nodes);
+        self.put_gaining()?;
+        if !self.find_ends() {
+            return Ok(());
+        }
+        self.find_joined(graph, nodes);
+        for x in 0..nodes {
+            if self.reached.has(x as usize) {
+                self.put_joined(x)?;
+            }
+        }
+        Ok(())
+    }
+
+    fn add_denial(&mut self, graph: &OrderGraph, nodes: u32, a: u32, b: u32) -> Result<(), Memory>
+        requires all { nodes ≡ graph.now.nodes }
+        requires a_in { a < graph.now.nodes }
+        requires b_in { b < graph.now.nodes }
+    {
+        self.some.clear();
+        self.some.put(b as usize, true);
+        self.find_joined(graph, nodes);
+        for x in 0..nodes {
+            if comes_to(graph, a, x) {
+                self.put_joined(x)?;
+            }
         }
         Ok(())
     }
@@ -167,21 +410,42 @@ impl Gains {
         requires below { IsBelow graph.now.nodes literal }
     {
         match literal {
-            Literal::Node(a) => self.put(node_of(a), true),
+            Literal::Node(a) => self.put(node_of(a), true, Others::All),
             Literal::NoNode(a) => {
-                self.put(node_of(a), false)?;
-                self.put_edges(a, false)
+                self.put(node_of(a), false, Others::All)?;
+                self.put(starts_of(a), false, Others::All)?;
+                self.put(ends_of(a), false, Others::All)
             }
             Literal::Edge(a, b) => self.add_edge(graph, nodes, a, b, true),
-            Literal::NoEdge(a, _) => self.add_reached(graph, nodes, a),
+            Literal::NoEdge(a, b) => self.add_denial(graph, nodes, a, b),
         }
     }
 
-    /// Remembers from which node the literal denies a pair, if it does.
-    fn note_denier(&mut self, literal: Literal<u32>) {
-        if let Literal::NoEdge(a, _) = literal {
-            self.deniers.put(a as usize, true);
+    /// Asks of each literal that the part asserts whether it says nothing new.
+    fn ask_part(
+        &mut self,
+        rows: &[Row<u32>],
+        negated: bool,
+        root: usize,
+        graph: &OrderGraph,
+    ) -> Result<(), Memory>
+        requires { All (IsRowBelow graph.now.nodes) rows.now }
+    {
+        let end = root.saturating_add(skip_at(rows, root));
+        let mut next = root;
+        for at in root..end {
+            if at >= rows.len() {
+                return Ok(());
+            }
+            if at < next {
+                continue;
+            }
+            if let Some(literal) = literal_at(rows, negated, at) {
+                self.implied.push(is_implied(graph, literal))?;
+            }
+            next = at.saturating_add(row_at(rows, at).turned(negated).stride());
         }
+        Ok(())
     }
 
     fn foresee_literal(
@@ -198,7 +462,28 @@ impl Gains {
                 self.foreseen = true;
                 self.add_edge(graph, nodes, a, b, false)
             }
-            _ => Ok(()),
+            _ => {
+                self.implied.push(is_implied(graph, literal))?;
+                Ok(())
+            }
+        }
+    }
+
+    /// Looks at the part, which is all that a side asserts.
+    fn foresee_part(
+        &mut self,
+        rows: &[Row<u32>],
+        negated: bool,
+        root: usize,
+        graph: &OrderGraph,
+        nodes: u32,
+    ) -> Result<(), Memory>
+        requires all { nodes ≡ graph.now.nodes }
+        requires below { All (IsRowBelow graph.now.nodes) rows.now }
+    {
+        match literal_at(rows, negated, root) {
+            Some(literal) => self.foresee_literal(graph, nodes, literal),
+            None => self.ask_part(rows, negated, root, graph),
         }
     }
 
@@ -212,45 +497,50 @@ impl Gains {
         requires { graph.now.nodes ≡ length tree.now.nodes }
     {
         self.lists.clear();
+        self.implied.clear();
         self.known = graph.len();
         self.foreseen = false;
+        self.forget_denials(graph.len());
         let nodes = self.nodes;
         if nodes != tree.count() {
             return Ok(());
         }
-        if side.denied.is_some() {
-            return Ok(());
-        }
-        match literal_at(tree.rows(), side.negated, side.root) {
-            Some(literal) => self.foresee_literal(graph, nodes, literal),
-            None => Ok(()),
-        }
+        let Some(left) = side.denied else {
+            return self.foresee_part(tree.rows(), side.negated, side.root, graph, nodes);
+        };
+        self.ask_part(tree.rows(), !side.negated, left, graph)?;
+        self.ask_part(tree.rows(), side.negated, side.root, graph)
     }
 
-    /// Looks at the literals that were asserted since then. Where nothing was asked before, only at what
-    /// they deny.
+    /// Which literals of the graph the side asserted that are to be looked at: none where its lists were found before.
+    pub(crate) fn asserted(&self, graph: &OrderGraph) -> (usize, usize) {
+        (self.known, graph.len())
+    }
+
+    fn was_implied(&self, k: usize) -> bool {
+        let at = k.wrapping_sub(self.known);
+        at < self.implied.len() && self.implied[at]
+    }
+
+    /// Looks at the literal at `k`, which the side asserted.
     pub(crate) fn note(
         &mut self,
         tree: &NumberedTree,
         graph: &OrderGraph,
-        was_asked: bool,
+        k: usize,
     ) -> Result<(), Memory>
         requires { graph.now.nodes ≡ length tree.now.nodes }
     {
         let nodes = self.nodes;
-        if nodes != tree.count() {
+        if nodes != tree.count() || k >= graph.len() || self.foreseen {
             return Ok(());
         }
-        if self.foreseen {
+        self.lists.clear();
+        if self.was_implied(k) {
             return Ok(());
         }
-        for k in self.known..graph.len() {
-            let literal = literal_of(graph, k);
-            self.note_denier(literal);
-            if was_asked {
-                self.add(graph, nodes, literal)?;
-            }
-        }
-        Ok(())
+        let literal = literal_of(graph, k);
+        self.note_denial(literal, k)?;
+        self.add(graph, nodes, literal)
     }
 }

@@ -16,6 +16,10 @@
 //! In version 2 a right side asserts first that the left one is false: its positions under a sign, which are
 //! positions of the tree's negation. In version 1 no position has a sign, and no flags are made for one.
 //!
+//! Which Or a turn splits is proposed by hints that no clause speaks of, and what they propose is tested. The
+//! `agenda` knows what may be split and which sides are closed at once, and `failures` which splits took part in
+//! what failed so far: those come first, and what failed for a reason that stands is refuted again by the same splits.
+//!
 //! `solve` runs a `Search` from its first turn to its last. Between two turns the steps so far with the
 //! open branches are a partial refutation, and the graph's literals are those of the first open branch.
 #![tactic(auto)]
@@ -29,12 +33,17 @@ mod branch;
 mod candidate;
 mod candidates;
 mod choose;
+mod closing;
+mod conflict_sets;
 mod descend;
 mod enter;
+mod failures;
 mod find;
+mod first_literals;
 mod flags;
 mod gains;
 mod hints;
+mod joint_pairs;
 mod later;
 mod laws;
 mod leaf;
@@ -42,7 +51,9 @@ mod numbered_tree;
 mod numbers;
 mod ors;
 mod place;
+mod records;
 mod rows;
+mod scripts;
 mod search;
 mod side;
 mod solving;

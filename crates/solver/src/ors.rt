@@ -39,7 +39,7 @@ pub(crate) fn is_or(tree: &NumberedTree, place: Place) -> bool
 }
 
 /// The left side, where the right one asserts that it is false: in version 2.
-fn denied_left(version: Version, left: usize) -> Option<usize>
+pub(crate) fn denied_left(version: Version, left: usize) -> Option<usize>
     ensures { result ≡ left_of_right version left }
 {
     match version {

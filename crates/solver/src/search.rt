@@ -157,7 +157,7 @@ impl Search {
             (t : Tree PlainNode) → tree.now ≡ rows_of t → IsTurnOf version numbering.now t turn) }
     {
         let search_tree = NumberedTree::new(alloc, tree, numbering)?;
-        let branch = Branch::new(alloc, &search_tree, version)?;
+        let branch = Branch::new(alloc, &search_tree)?;
         let turn = start(alloc, search_tree, version, branch, steps)?;
         Ok(turn)
     }

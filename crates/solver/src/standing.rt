@@ -10,8 +10,11 @@ const HOLDS: u8 = 4;
 /// Whether it is true now may have changed since it was asked.
 const TRUTH_STALE: u8 = 8;
 
-/// One of its sides is closed at once, which it stays on this branch.
-const CLOSED: u8 = 16;
+/// Its left side is closed at once, which it stays on this branch.
+const LEFT_CLOSED: u8 = 16;
+
+/// So is its right side.
+const RIGHT_CLOSED: u8 = 128;
 
 /// The search need not ask again, since enough of its sides are closed: one in version 1, both in version 2.
 const SETTLED: u8 = 32;
@@ -68,9 +71,10 @@ impl Standing {
     }
 
     /// The same, with whether one of its sides is closed at once, and whether enough of them are.
-    pub(crate) fn asked(self, closed: bool, settled: bool) -> Standing {
+    pub(crate) fn asked(self, left_closed: bool, right_closed: bool, settled: bool) -> Standing {
         self.with(SIDES_STALE, false)
-            .with(CLOSED, closed)
+            .with(LEFT_CLOSED, left_closed)
+            .with(RIGHT_CLOSED, right_closed)
             .with(SETTLED, settled)
     }
 
@@ -87,9 +91,22 @@ impl Standing {
         self.has(TRUTH_STALE)
     }
 
-    /// Whether it need not be made stale so.
-    pub(crate) fn is_stale(self, in_truth: bool) -> bool {
-        (self.has(TRUTH_STALE) | !in_truth) & self.has(SIDES_STALE | SETTLED)
+    /// Whether it is pending and may be made stale so. Where it is true now, its sides need not be until its truth is.
+    pub(crate) fn can_stale(self, in_truth: bool) -> bool {
+        let known = if in_truth {
+            !self.has(TRUTH_STALE) | !self.has(SIDES_STALE | SETTLED)
+        } else {
+            self.is_open() & !self.has(SIDES_STALE | SETTLED)
+        };
+        self.has(PENDING) & known
+    }
+
+    pub(crate) fn is_left_closed(self) -> bool {
+        self.has(LEFT_CLOSED)
+    }
+
+    pub(crate) fn is_right_closed(self) -> bool {
+        self.has(RIGHT_CLOSED)
     }
 
     pub(crate) fn is_same(self, other: Standing) -> bool {
@@ -103,7 +120,7 @@ impl Standing {
 
     /// Whether it may be a choice with a side that is closed at once, as far as is known.
     pub(crate) fn is_ready(self) -> bool {
-        self.is_open() & self.has(SIDES_STALE | CLOSED)
+        self.is_open() & self.has(SIDES_STALE | LEFT_CLOSED | RIGHT_CLOSED)
     }
 
     /// Whether its sides have to be asked, since it may be a choice and what is known of them may have changed.
@@ -113,7 +130,7 @@ impl Standing {
 
     /// Whether it may be a choice with a side that is closed at once.
     pub(crate) fn is_closed(self) -> bool {
-        self.is_open() & self.has(CLOSED)
+        self.is_open() & self.has(LEFT_CLOSED | RIGHT_CLOSED)
     }
 
     /// Whether it may be a choice with so many sides closed at once that no other is looked for.

@@ -1,137 +1,342 @@
+use super::joint_pairs::JointPairs;
 use pc_common::Memory;
-use pc_ground::{Literal, Row, RowKind};
+use pc_ground::{Literal, Row, RowKind, Version};
 use std::alloc::Global;
 
-/// A literal within an Or.
+/// An outermost Or has at most so many rows where what its sides join is watched pair by pair.
+const SMALL: usize = 9;
+
+/// Something that what is known of an Or depends on: a node, or a pair of them, as a chain may join it.
 #[derive(Clone, Copy)]
 pub(crate) struct Watched {
+    /// The list that it is on, of one node, and the other node: the node itself where there is none.
+    list: u32,
+    pub(crate) other: u32,
+    /// Where it stands, and where the outermost Or does that this is within.
     pub(crate) position: usize,
-    /// Where the outermost Or stands that it is within.
     pub(crate) outer: usize,
-    /// One more than the place of the literal before it on its list, or 0.
-    pub(crate) before: usize,
 }
 
-/// For each node the literals within Ors that name it, on three lists: those of the edges that begin in it, those of the
-/// edges that end in it, and those of the node itself.
+/// What the Ors depend on, on five lists of each node: the pairs of literals that begin in it; the pairs that end in
+/// it; its own literals; the pairs that begin in it which a side joins by several literals; and the literals of sides whose
+/// pairs are not looked at one by one. Each list is in order of the other nodes, and of positions where they
+/// are one.
 pub(crate) struct Watch {
-    /// One more than the place of the last literal on each list, or 0. The lists of a node stand one after another, in
-    /// the order above, the first at three times its number.
-    heads: Vec<usize>,
-    literals: Vec<Watched>,
-    /// Where the last Or ends, or 0 where there is none.
-    end: usize,
+    /// Where each list begins. After the last list there is one place more, where it ends.
+    starts: Vec<usize>,
+    items: Vec<Watched>,
 }
 
 // Written out, so that a proof of what drops the value meets one call and no field.
 impl Drop for Watch {
     fn drop(self) {
         let Watch {
-            heads: _,
-            literals: _,
-            end: _,
+            starts: _,
+            items: _,
         } = self;
     }
 }
 
-/// The list of the edges that begin in a node.
-pub(crate) fn starts_of(node: u32) -> usize {
-    3 * node as usize
+/// How many lists a node has.
+const LISTS: u32 = 5;
+
+fn list_of(node: u32, kind: u32) -> u32 {
+    node.saturating_mul(LISTS).saturating_add(kind)
 }
 
-/// The list of the edges that end in a node.
-pub(crate) fn ends_of(node: u32) -> usize {
-    3 * node as usize + 1
+/// The list of the pairs of literals that begin in a node.
+pub(crate) fn starts_of(node: u32) -> u32 {
+    list_of(node, 0)
 }
 
-/// The list of the literals of a node itself.
-pub(crate) fn node_of(node: u32) -> usize {
-    3 * node as usize + 2
+/// The list of the pairs that end in a node.
+pub(crate) fn ends_of(node: u32) -> u32 {
+    list_of(node, 1)
 }
 
-impl Watch {
-    /// The literals of these rows, over so many nodes.
-    pub(crate) fn new(alloc: Global, rows: &[Row<u32>], nodes: u32) -> Result<Watch, Memory> {
-        let mut watch = Watch {
-            heads: vec![in alloc; 0; 3 * nodes as usize]?,
-            literals: Vec::new(alloc),
-            end: 0,
-        };
-        let mut outer = 0;
-        for p in 0..rows.len() {
-            let row = rows[p];
-            if p >= watch.end {
-                outer = p;
-                watch.begin(row, p);
+/// The list of a node's own literals.
+pub(crate) fn node_of(node: u32) -> u32 {
+    list_of(node, 2)
+}
+
+/// The list of the pairs that begin in a node which a side joins.
+pub(crate) fn joins_of(node: u32) -> u32 {
+    list_of(node, 3)
+}
+
+/// The list of the literals with a node of sides that are not looked at pair by pair.
+pub(crate) fn coarse_of(node: u32) -> u32 {
+    list_of(node, 4)
+}
+
+/// Where an Or ends that stands at this position, or 0 where none does.
+fn end_of(row: Row<u32>, position: usize) -> usize {
+    match row.kind {
+        RowKind::Or => position.saturating_add(row.skip),
+        _ => 0,
+    }
+}
+
+/// Where the last Or ends, or 0 where there is none.
+pub(crate) fn end_of_ors(rows: &[Row<u32>]) -> usize {
+    let mut end = 0;
+    for p in 0..rows.len() {
+        if p >= end {
+            end = end.max(end_of(rows[p], p));
+        }
+    }
+    end
+}
+
+/// What is to be watched, in order of positions.
+struct Watching {
+    version: Version,
+    pairs: JointPairs,
+    items: Vec<Watched>,
+    /// Where the outermost Or at hand stands, and where it ends; and whether its sides are looked at pair by pair.
+    outer: usize,
+    end: usize,
+    is_small: bool,
+}
+
+// Written out, so that a proof of what drops the value meets one call and no field.
+impl Drop for Watching {
+    fn drop(self) {
+        let Watching {
+            version: _,
+            pairs: _,
+            items: _,
+            outer: _,
+            end: _,
+            is_small: _,
+        } = self;
+    }
+}
+
+impl Watching {
+    fn put(&mut self, list: u32, other: u32, position: usize) -> Result<(), Memory> {
+        let outer = self.outer;
+        self.items.push(Watched {
+            list,
+            other,
+            position,
+            outer,
+        })?;
+        Ok(())
+    }
+
+    /// Where a literal may be asserted with others, it is so in version 2, and in version 1 where it is no side by itself.
+    fn put_pair(&mut self, a: u32, b: u32, position: usize) -> Result<(), Memory> {
+        self.put(starts_of(a), b, position)?;
+        self.put(ends_of(b), a, position)?;
+        if self.is_small || self.pairs.is_alone(position, self.version) {
+            return Ok(());
+        }
+        self.put(coarse_of(a), 0, position)?;
+        self.put(coarse_of(b), 0, position)
+    }
+
+    /// The pairs that the sides of the Or at this position join, of the tree or of its negation.
+    fn put_joined(&mut self, rows: &[Row<u32>], position: usize) -> Result<(), Memory> {
+        if !self.is_small {
+            self.pairs.note_sides(rows, position);
+            return Ok(());
+        }
+        self.pairs.find(rows, position, self.version)?;
+        for k in 0..self.pairs.len() {
+            if let Some((a, b)) = self.pairs.pair(k) {
+                self.put(joins_of(a), b, position)?;
+                self.put(ends_of(b), a, position)?;
             }
-            if p < watch.end {
-                watch.note(row, p, outer)?;
-            }
-        }
-        Ok(watch)
-    }
-
-    /// Where the row is an Or, it is the next one that is within no other.
-    fn begin(&mut self, row: Row<u32>, position: usize) {
-        if let RowKind::Or = row.kind {
-            self.end = position.saturating_add(row.skip);
-        }
-    }
-
-    /// Where the last Or ends, or 0 where there is none.
-    pub(crate) fn end(&self) -> usize {
-        self.end
-    }
-
-    /// Puts the row's literal on its lists, if it is one's.
-    fn note(&mut self, row: Row<u32>, position: usize, outer: usize) -> Result<(), Memory> {
-        match row.kind {
-            RowKind::Lit(Literal::Node(a)) => self.put(node_of(a), position, outer),
-            RowKind::Lit(Literal::NoNode(a)) => self.put(node_of(a), position, outer),
-            RowKind::Lit(Literal::Edge(a, b)) => self.put_both(a, b, position, outer),
-            RowKind::Lit(Literal::NoEdge(a, b)) => self.put_both(a, b, position, outer),
-            _ => Ok(()),
-        }
-    }
-
-    fn put_both(&mut self, a: u32, b: u32, position: usize, outer: usize) -> Result<(), Memory> {
-        self.put(starts_of(a), position, outer)?;
-        self.put(ends_of(b), position, outer)
-    }
-
-    fn put(&mut self, list: usize, position: usize, outer: usize) -> Result<(), Memory> {
-        if list < self.heads.len() {
-            let before = self.heads[list];
-            self.literals.push(Watched {
-                position,
-                outer,
-                before,
-            })?;
-            self.heads[list] = self.literals.len();
         }
         Ok(())
     }
 
-    /// One more than the place of the last literal on the list, or 0.
-    pub(crate) fn head(&self, list: usize) -> usize {
-        if list < self.heads.len() {
-            self.heads[list]
-        } else {
-            0
+    fn put_row(&mut self, rows: &[Row<u32>], position: usize) -> Result<(), Memory> {
+        if position >= rows.len() {
+            return Ok(());
+        }
+        match rows[position].kind {
+            RowKind::Lit(Literal::Node(a)) => self.put(node_of(a), a, position),
+            RowKind::Lit(Literal::NoNode(a)) => self.put(node_of(a), a, position),
+            RowKind::Lit(Literal::Edge(a, b)) => self.put_pair(a, b, position),
+            RowKind::Lit(Literal::NoEdge(a, b)) => self.put_pair(a, b, position),
+            RowKind::And | RowKind::Or => self.put_joined(rows, position),
+            RowKind::True | RowKind::False => Ok(()),
         }
     }
 
-    /// How many literals are on the lists.
-    pub(crate) fn len(&self) -> usize {
-        self.literals.len()
+    /// Puts what the row is watched for, where it is within an Or.
+    fn look_at(&mut self, rows: &[Row<u32>], position: usize) -> Result<(), Memory> {
+        if position >= self.end && position < rows.len() {
+            let row = rows[position];
+            self.outer = position;
+            self.end = self.end.max(end_of(row, position));
+            self.is_small = row.skip <= SMALL;
+        }
+        if position < self.end {
+            return self.put_row(rows, position);
+        }
+        Ok(())
+    }
+}
+
+/// By what a list of `Watched` is sorted.
+fn key_of(watched: Watched, by_list: bool) -> usize {
+    if by_list {
+        watched.list as usize
+    } else {
+        watched.other as usize
+    }
+}
+
+/// Counts one at `k`, and returns what stood there.
+fn count_at(counts: &mut [usize], k: usize) -> usize {
+    if k >= counts.len() {
+        return 0;
+    }
+    let count = counts[k];
+    counts[k] = count.saturating_add(1);
+    count
+}
+
+/// Replaces each count by the sum of those up to it.
+fn add_up(counts: &mut [usize]) {
+    let mut sum: usize = 0;
+    for k in 0..counts.len() {
+        sum = sum.saturating_add(counts[k]);
+        counts[k] = sum;
+    }
+}
+
+fn set_at(items: &mut [Watched], k: usize, watched: Watched) {
+    if k < items.len() {
+        items[k] = watched;
+    }
+}
+
+/// The same in order of their keys below `count`, and where they have one in the order that they had. Returns too where
+/// those of each key begin, with one place more for the end. It counts the keys (Seward 1954).
+fn sorted(
+    alloc: Global,
+    items: &[Watched],
+    count: usize,
+    by_list: bool,
+) -> Result<(Vec<Watched>, Vec<usize>), Memory> {
+    let mut starts: Vec<usize> = vec![in alloc; 0; count.saturating_add(2)]?;
+    for watched in items {
+        let _count = count_at(&mut starts, key_of(*watched, by_list).saturating_add(2));
+    }
+    add_up(&mut starts);
+    let nothing = Watched {
+        list: 0,
+        other: 0,
+        position: 0,
+        outer: 0,
+    };
+    let mut all: Vec<Watched> = vec![in alloc; nothing; items.len()]?;
+    for watched in items {
+        let place = count_at(&mut starts, key_of(*watched, by_list).saturating_add(1));
+        set_at(&mut all, place, *watched);
+    }
+    Ok((all, starts))
+}
+
+impl Watch {
+    /// No list.
+    pub(crate) fn empty(alloc: Global) -> Watch {
+        Watch {
+            starts: Vec::new(alloc),
+            items: Vec::new(alloc),
+        }
     }
 
-    /// The literal before this place.
-    pub(crate) fn literal_before(&self, k: usize) -> Option<Watched> {
-        if 0 < k && k <= self.literals.len() {
-            Some(self.literals[k - 1])
+    pub(crate) fn is_empty(&self) -> bool {
+        self.starts.is_empty()
+    }
+
+    /// What the Ors of these rows depend on in this version, over so many nodes.
+    pub(crate) fn new(
+        alloc: Global,
+        rows: &[Row<u32>],
+        nodes: u32,
+        version: Version,
+    ) -> Result<Watch, Memory> {
+        let mut watching = Watching {
+            version,
+            pairs: JointPairs::new(alloc, rows.len())?,
+            items: Vec::new(alloc),
+            outer: 0,
+            end: 0,
+            is_small: false,
+        };
+        for p in 0..rows.len() {
+            watching.look_at(rows, p)?;
+        }
+        let (by_other, _) = sorted(alloc, &watching.items, nodes as usize, false)?;
+        let lists = LISTS as usize * nodes as usize;
+        let (items, starts) = sorted(alloc, &by_other, lists, true)?;
+        Ok(Watch { starts, items })
+    }
+
+    /// The places of the list.
+    pub(crate) fn places(&self, list: u32) -> (usize, usize) {
+        let list = list as usize;
+        let next = list.saturating_add(1);
+        if next < self.starts.len() {
+            (self.starts[list], self.starts[next])
+        } else {
+            (0, 0)
+        }
+    }
+
+    /// What is at this place.
+    pub(crate) fn watched(&self, place: usize) -> Option<Watched> {
+        if place < self.items.len() {
+            Some(self.items[place])
         } else {
             None
         }
+    }
+
+    /// Whether what is at this place has a lower other node, or the same and stands before the position.
+    fn is_before(&self, place: usize, other: u32, position: usize) -> bool {
+        if place >= self.items.len() {
+            return false;
+        }
+        let watched = self.items[place];
+        watched.other < other || (watched.other == other && watched.position < position)
+    }
+
+    /// The first place from `from` up to `end`, among those of one list, where this is not so. The steps that are
+    /// looked over double, and then halve (Bentley and Yao 1976).
+    pub(crate) fn first_place(
+        &self,
+        from: usize,
+        end: usize,
+        other: u32,
+        position: usize,
+    ) -> usize {
+        let mut low = from;
+        let mut step: usize = 1;
+        for _ in from..end {
+            let next = low.saturating_add(step);
+            if next > end || !self.is_before(next.saturating_sub(1), other, position) {
+                break;
+            }
+            low = next;
+            step = step.saturating_mul(2);
+        }
+        for _ in from..end {
+            step /= 2;
+            if step == 0 {
+                return low;
+            }
+            let next = low.saturating_add(step);
+            if next <= end && self.is_before(next.saturating_sub(1), other, position) {
+                low = next;
+            }
+        }
+        low
     }
 }

@@ -1,7 +1,10 @@
 //! The search with signs: a model and a test, and the steps of the refutation that `solve` returns.
 ghost use Rattle.std.specs.Prelude.{◌≡◌, ◌<◌};
 
-use example_texts::{BOTH_OR_ONE, EITHER_AND, EITHER_ORDER, EMPTY, ONE, SOME_OP, TWO_FORBIDDEN};
+use example_texts::{
+    BOTH_OR_ONE, CHOICES_AND_CORE, EITHER_AND, EITHER_ORDER, EMPTY, ONE, SEVEN_AND_A_FENCE, SOME_OP,
+    TWO_FORBIDDEN,
+};
 use pc_common::Memory;
 use pc_front::front;
 use pc_ground::{Front, Version};
@@ -133,5 +136,53 @@ fn the_search_returns_these_steps_in_each_version(rt: HostRuntime) -> Result<(),
 #[test]
 fn an_and_that_was_denied_is_split(rt: HostRuntime) -> Result<(), Fail> {
     assert!(rt; is_solved_so(rt.alloc(), (EITHER_AND, ONE), Version::Two, SIGNED)?);
+    Ok(())
+}
+
+fn is_split(step: &Step) -> bool {
+    matches!(step, Step::Split { .. })
+}
+
+/// How many splits the steps have.
+fn splits(steps: &Refutation) -> usize {
+    let mut count = 0usize;
+    for k in 0..steps.len() {
+        if is_split(steps.step(k)) {
+            count = count.saturating_add(1);
+        }
+    }
+    count
+}
+
+/// How many splits the search makes that refutes the front; none where it finds a world.
+fn splits_of(alloc: Global, front: &Front, version: Version) -> Result<Option<usize>, Memory> {
+    match solved::<Brand>(alloc, front, version, Blank::new(1))? {
+        Answer::Unobservable(steps) => Ok(Some(splits(&steps))),
+        Answer::Observable(_) => Ok(None),
+    }
+}
+
+/// Whether the search refutes the model and the test with so many splits.
+fn is_refuted_by(
+    alloc: Global,
+    (model, test): (&str, &str),
+    version: Version,
+    count: usize,
+) -> Result<bool, Memory> {
+    if model.len() > 10_000 || test.len() > 10_000 {
+        return Ok(false);
+    }
+    let Ok(front) = front(alloc, model.as_bytes(), test.as_bytes()) else {
+        return Ok(false);
+    };
+    Ok(splits_of(alloc, &front, version)? == Some(count))
+}
+
+/// Eight free choices stand before four that cannot all be met. With each choice tried anew there are 1,535 splits: 255 of
+/// the free ones, and 5 below each of their 256 branches.
+#[test]
+fn free_choices_before_a_core_are_not_all_tried(rt: HostRuntime) -> Result<(), Fail> {
+    let texts = (CHOICES_AND_CORE, SEVEN_AND_A_FENCE);
+    assert!(rt; is_refuted_by(rt.alloc(), texts, Version::One, 53)?);
     Ok(())
 }

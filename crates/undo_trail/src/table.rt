@@ -86,6 +86,13 @@ impl UndoTable {
         &self.table[at..at + self.words]
     }
 
+    /// For how many changed words more the trail has room. Takes no memory.
+    pub fn room(&self) -> usize
+        ensures { result ≡ self.now.room }
+    {
+        self.trail.capacity().saturating_sub(self.trail.len())
+    }
+
     /// Takes the trail's room for so many changed words more. `Memory` comes where it is refused; then nothing
     /// has changed.
     pub fn reserve(&mut self, changes: usize) -> Result<(), Memory>

@@ -8,13 +8,14 @@
 //! assert!(rt; sink.taken() == b"unobservable\ntest unstated\nfalse\nend\n".as_slice());
 //! ```
 //!
-//! `verdict_on` searches a front: a graph that shows the outcome, or a refutation of the ground tree. `write_verdict`
-//! writes the certificate of that, and `verdict_status` is the status that goes with it. `check` returns a verdict
-//! as its answer; other commands put the texts of verdicts into theirs.
+//! `verdict_on` searches a front: a graph that shows the outcome, or a refutation of the ground tree. `short_verdict_on`
+//! leaves out of a refutation the splits that it does not need. `write_verdict` writes the certificate of that, and
+//! `verdict_status` is the status that goes with it. `check` returns a short verdict as its answer, and `gen` counts the
+//! steps of the search itself.
 #![tactic(auto)]
 
 mod report;
 mod verdict;
 
 pub use report::write_verdict;
-pub use verdict::{Verdict, verdict_kind, verdict_on, verdict_status};
+pub use verdict::{Verdict, short_verdict_on, verdict_kind, verdict_on, verdict_status};

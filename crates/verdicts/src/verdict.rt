@@ -10,6 +10,7 @@ ghost use Rattle.cert_check.specs.Verdicts.{plain_verdict};
 ghost use Rattle.verdicts.specs.Verdicts.{kind_of, status_of, IsVerdict};
 
 use cert_check::Verdict as Kind;
+use front_search::shorten_found;
 use pc_common::{Memory, Status};
 use pc_ground::{Front, Version};
 use solver::{Answer as Found, solve};
@@ -54,6 +55,15 @@ fn search<L: Ledger>(
     solve(alloc, &front.tree, &front.numbering, version, &mut steps)
 }
 
+/// The same, where a refutation leaves out the splits that it does not need.
+fn short_search(alloc: Global, front: &Front, version: Version) -> Result<Found, Memory>
+    ensures { IfOk result (λ found. (t : Tree PlainNode) → front.now.tree ≡ rows_of t
+        → IsAnswer version front.now.numbering t found) }
+{
+    let found = search::<Brand>(alloc, front, version, Blank::new(1))?;
+    shorten_found(alloc, front, version, found)
+}
+
 /// What the search finds of a front: a verdict on each model and case that it is the front of.
 pub fn verdict_on(alloc: Global, front: Front, version: Version) -> Result<Verdict, Memory>
     ensures front { IfOk result (λ v. v.front ≡ front) }
@@ -61,6 +71,20 @@ pub fn verdict_on(alloc: Global, front: Front, version: Version) -> Result<Verdi
     ensures verdict { IfOk result (λ v. (m : WrittenModel) (c : PlainCase) → IsFrontOf m c front → IsVerdict m c v) }
 {
     let found = search::<Brand>(alloc, &front, version, Blank::new(1))?;
+    Ok(Verdict {
+        front,
+        version,
+        found,
+    })
+}
+
+/// The same, where a refutation leaves out the splits that it does not need.
+pub fn short_verdict_on(alloc: Global, front: Front, version: Version) -> Result<Verdict, Memory>
+    ensures front { IfOk result (λ v. v.front ≡ front) }
+    ensures version { IfOk result (λ v. v.version ≡ version) }
+    ensures verdict { IfOk result (λ v. (m : WrittenModel) (c : PlainCase) → IsFrontOf m c front → IsVerdict m c v) }
+{
+    let found = short_search(alloc, &front, version)?;
     Ok(Verdict {
         front,
         version,

@@ -8,4 +8,4 @@ pub solve-requires-clause-folded : goal.solve-requires-clause-folded
 solve-requires-clause-folded g c = front_folded c.args.front.now
 
 pub returns : goal.returns
-returns g c = found_front c.args.front.now c.solve.result c.solve.ensures
+returns g c = found_front c.args.front.now c.shorten_found.result c.shorten_found.ensures

@@ -4,8 +4,8 @@ use Rattle.pc_ground.specs.declared.row.Row.{Row}
 use Rattle.solver.specs.Below.{IsRowBelow}
 use Rattle.solver.proofs.choose.is_closed.Goals as goal
 
-pub would_clash-requires : goal.would_clash-requires
-would_clash-requires g c =
+pub would_close-requires : goal.would_close-requires
+would_close-requires g c =
     let B : List (Row ℕ) → ℕ → Type 0 = λ rows n. All (IsRowBelow n) rows in
-    c.in-Some.ensures c.args.graph.now.nodes
-    (subst (λ rows. B rows c.args.graph.now.nodes) (sym c.rows.ensures.rows) (subst (B c.args.tree.now.rows) (sym c.requires.nodes) c.rows.ensures.numbered.below))
+    subst (λ rows. B rows c.args.graph.now.nodes) (sym c.rows.ensures.rows)
+    (subst (B c.args.tree.now.rows) (sym c.requires.nodes) c.rows.ensures.numbered.below)

@@ -1,0 +1,97 @@
+"""What scripts of this folder count of the program: instructions, turns of the search, and peak memory.
+
+Instructions are counted by `valgrind --tool=callgrind`, and so are the turns, as calls of what hands out the result of a
+turn, less one for the start of each search: both are the same in each run, whatever else the machine does. A turn makes one
+split. The splits of a text are fewer, since a refutation is written without those that it does not need, and a graph has
+none.
+"""
+import os
+import re
+import resource
+import subprocess
+import sys
+import tempfile
+import time
+from dataclasses import dataclass
+
+TOP = os.path.dirname(os.path.dirname(os.path.realpath(__file__)))
+PROGRAM = os.path.join(TOP, "crates/pipecheck_cli/out/pipecheck_cli")
+# a function's name stands whole where it comes first, and after that its number alone
+NAMED = re.compile(r"^(?:c?fn)=\((\d+)\)(?: (.*))?$")
+CALLS = re.compile(r"^calls=(\d+) ")
+# what hands out the result of a turn, and what each search calls once
+HANDED_OUT, BEGUN = "solver::search::settle", "solver::gains::Gains::new"
+
+
+@dataclass(frozen=True)
+class Counted:
+    """What a call of the program takes, and what it writes."""
+
+    instructions: int
+    turns: int
+    text: str
+
+
+@dataclass(frozen=True)
+class Timed:
+    """The seconds and the peak memory, in bytes, of a call of the program, and what it writes. Of a call that was ended
+    at the limit the seconds are the limit."""
+
+    seconds: float
+    peak: int
+    text: str
+
+
+def saved(folder: str, name: str, text: str) -> str:
+    """The path of a file with this text."""
+    path = os.path.join(folder, name)
+    with open(path, "w", encoding="ascii") as file:
+        file.write(text)
+    return path
+
+
+def calls_of(profile: str, functions: tuple[str, ...]) -> list[int]:
+    """How often a profile of callgrind has each of these functions called."""
+    names: dict[str, str] = {}
+    calls = dict.fromkeys(functions, 0)
+    called = ""
+    with open(profile, encoding="utf-8", errors="replace") as file:
+        for line in file:
+            if named := NAMED.match(line):
+                names.setdefault(named[1], (named[2] or "").strip())
+                called = names[named[1]] if line.startswith("c") else ""
+            elif (count := CALLS.match(line)) and called in calls:
+                calls[called] += int(count[1])
+    return [calls[function] for function in functions]
+
+
+def turns_in(profile: str) -> int:
+    """How many turns of searches a profile has."""
+    handed_out, begun = calls_of(profile, (HANDED_OUT, BEGUN))
+    if begun and not handed_out:
+        raise SystemExit(f"not counted: the program has no function {HANDED_OUT} any more")
+    return handed_out - begun
+
+
+def counted(*words: str) -> Counted:
+    """A call under callgrind."""
+    with tempfile.TemporaryDirectory() as folder:
+        profile = os.path.join(folder, "profile")
+        command = ["valgrind", "--tool=callgrind", f"--callgrind-out-file={profile}", PROGRAM, *words]
+        done = subprocess.run(command, capture_output=True, check=False)
+        found = re.search(rb"Collected : (\d+)", done.stderr)
+        if not found:
+            raise SystemExit(f"not counted: valgrind ended with status {done.returncode}")
+        return Counted(int(found[1]), turns_in(profile), done.stdout.decode("ascii"))
+
+
+def timed(limit: float, *words: str) -> Timed:
+    """A call by the clock, ended at a limit of seconds."""
+    with tempfile.TemporaryFile() as out:
+        begun = time.perf_counter()
+        child = subprocess.Popen(["timeout", str(limit), *words], stdout=out, stderr=subprocess.DEVNULL)
+        _, _, usage = os.wait4(child.pid, 0)
+        seconds = time.perf_counter() - begun
+        child.returncode = 0
+        out.seek(0)
+        return Timed(seconds, 1024 * usage.ru_maxrss, out.read().decode("latin-1"))

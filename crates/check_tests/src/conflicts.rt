@@ -1,0 +1,60 @@
+//! Questions that need many splits where the search does not follow what failed: their verdicts in both versions, with
+//! certificates that `verify` takes.
+use example_texts::{LOCK_OF_FOUR, ONE_MEMORY, RUN_OF_TWENTY_FOUR};
+use memory_runs::{End, ends_over, written};
+use pc_common::{Memory, Status};
+use std::alloc::Global;
+use std::test::Fail;
+
+/// A command, a test on one memory, how the text begins that is written, and how that text is judged.
+const JUDGED: &[(&'static str, &'static str, &'static str, End<'static>)] = &[
+    (
+        "check model test",
+        LOCK_OF_FOUR,
+        "unobservable\ntest forbidden: ok\nsplit ",
+        (Status::Unobservable, "verified unobservable\n"),
+    ),
+    (
+        "check2 model test",
+        LOCK_OF_FOUR,
+        "unobservable\ntest forbidden: ok\nversion 2\nsplit ",
+        (Status::Unobservable, "verified unobservable\n"),
+    ),
+    (
+        "check model test",
+        RUN_OF_TWENTY_FOUR,
+        "observable\ntest permitted: ok\nnode ",
+        (Status::Observable, "verified observable\n"),
+    ),
+    (
+        "check2 model test",
+        RUN_OF_TWENTY_FOUR,
+        "observable\ntest permitted: ok\nnode ",
+        (Status::Observable, "verified observable\n"),
+    ),
+];
+
+/// Whether the command writes a text that begins so, and `verify` ends so with that text.
+fn is_judged(
+    alloc: Global,
+    command: &str,
+    test: &str,
+    head: &str,
+    end: End<'_>,
+) -> Result<bool, Memory> {
+    let text = written(alloc, command, &[("model", ONE_MEMORY), ("test", test)])?;
+    let Ok(text) = str::from_utf8(&text) else {
+        return Ok(false);
+    };
+    let contents = &[("model", ONE_MEMORY), ("test", test), ("text", text)];
+    let is_taken = ends_over(alloc, "verify model test text", contents, (&[], &[]), end)?;
+    Ok(is_taken && text.starts_with(head))
+}
+
+#[test]
+fn what_failed_leads_the_search(rt: HostRuntime) -> Result<(), Fail> {
+    for (command, test, head, end) in JUDGED {
+        assert!(rt; is_judged(rt.alloc(), command, test, head, *end)?, "{command}: {head}");
+    }
+    Ok(())
+}

@@ -1,0 +1,10 @@
+-- The steps up to the loop's are followed.
+use Rattle.std.proofs.Common.{◌≡◌, take}
+use Rattle.pc_common.specs.World.{Node}
+use Rattle.pc_ground.specs.Tree.{Tree}
+use Rattle.pc_ground.specs.Rows.{rows_of}
+use Rattle.shorten.proofs.Followed.{AreFollowed}
+use Rattle.shorten.proofs.judging.is_refutation.Given as goal
+
+abbrev pub invariant-loop-k : goal.invariant-loop-k
+invariant-loop-k l = (t : Tree Node) → l.fn.tree ≡ rows_of t → AreFollowed l.fn.version t (take l.k l.fn.steps) l.branches

@@ -1,0 +1,107 @@
+use pc_common::Memory;
+use std::alloc::Global;
+
+/// Sets of levels: of a part of the search that failed the *conflict set*, which are the levels whose splits took
+/// part in its failure (Prosser 1993). One set is at hand; those of left sides wait while their right sides are
+/// searched, the newest last.
+pub(crate) struct ConflictSets {
+    /// The levels of the set at hand, each once.
+    levels: Vec<usize>,
+    /// For each level the number of the last set at hand that it was put into, or 0.
+    stamps: Vec<u64>,
+    /// The number of the set at hand, from 1.
+    number: u64,
+    /// The levels of the sets that wait.
+    waiting: Vec<usize>,
+}
+
+// Written out, so that a proof of what drops the value meets one call and no field.
+impl Drop for ConflictSets {
+    fn drop(self) {
+        let ConflictSets {
+            levels: _,
+            stamps: _,
+            number: _,
+            waiting: _,
+        } = self;
+    }
+}
+
+impl ConflictSets {
+    /// An empty set at hand, and none that waits.
+    pub(crate) fn new(alloc: Global) -> ConflictSets {
+        ConflictSets {
+            levels: Vec::new(alloc),
+            stamps: Vec::new(alloc),
+            number: 1,
+            waiting: Vec::new(alloc),
+        }
+    }
+
+    /// Empties the set at hand.
+    pub(crate) fn clear(&mut self) {
+        self.levels.clear();
+        self.number = self.number.saturating_add(1);
+    }
+
+    /// Whether the level is in the set at hand.
+    pub(crate) fn has(&self, level: usize) -> bool {
+        level < self.stamps.len() && self.stamps[level] == self.number
+    }
+
+    /// Puts the level into the set at hand.
+    pub(crate) fn put(&mut self, level: usize) -> Result<(), Memory> {
+        if self.has(level) {
+            return Ok(());
+        }
+        if level >= self.stamps.len() {
+            self.stamps.resize(level.saturating_add(1), 0)?;
+        }
+        if level < self.stamps.len() {
+            self.stamps[level] = self.number;
+        }
+        self.levels.push(level)?;
+        Ok(())
+    }
+
+    /// How many levels were put into the set at hand.
+    pub(crate) fn len(&self) -> usize {
+        self.levels.len()
+    }
+
+    /// The level that was put into the set at hand after `k` others: 0 where there are not so many.
+    pub(crate) fn level(&self, k: usize) -> usize {
+        if k < self.levels.len() {
+            self.levels[k]
+        } else {
+            0
+        }
+    }
+
+    /// Lets the levels of the set at hand wait that are below `end`. Returns how many levels waited before.
+    pub(crate) fn set_aside(&mut self, end: usize) -> Result<usize, Memory> {
+        let waited = self.waiting.len();
+        for k in 0..self.levels.len() {
+            let level = self.level(k);
+            if level < end {
+                self.waiting.push(level)?;
+            }
+        }
+        Ok(waited)
+    }
+
+    /// Puts the last set that waits into the set at hand, where so many levels waited before it.
+    pub(crate) fn unite(&mut self, waited: usize) -> Result<(), Memory> {
+        for _ in waited..self.waiting.len() {
+            if let Some(level) = self.waiting.pop() {
+                self.put(level)?;
+            }
+        }
+        Ok(())
+    }
+
+    /// Lets the last set that waits go, where so many levels waited before it.
+    pub(crate) fn discard(&mut self, waited: usize) {
+        self.waiting.truncate(waited);
+    }
+}

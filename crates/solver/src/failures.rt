@@ -1,0 +1,367 @@
+use super::bits::Bits;
+use super::conflict_sets::ConflictSets;
+use super::first_literals::FirstLiterals;
+use super::place::Place;
+use super::records::{Record, Records};
+use super::scripts::{Script, Scripts};
+use order_graph::{Clash, OrderGraph};
+use pc_common::Memory;
+use pc_ground::Literal;
+use std::alloc::Global;
+
+/// How the left side of a split failed, while its right side is searched.
+#[derive(Clone, Copy)]
+struct LeftFailure {
+    /// Whether it failed without the split: then the right side is to fail in the same way.
+    is_independent: bool,
+    script: Option<usize>,
+    /// How many scripts there were after it, and how many levels waited before its conflict set.
+    scripts: usize,
+    waited: usize,
+}
+
+/// A split on the way to the first open branch.
+#[derive(Clone, Copy)]
+struct Fork {
+    place: Place,
+    /// The level at which its Or was asserted.
+    origin: usize,
+    /// How many literals, and how many scripts, there were before it.
+    literals: usize,
+    scripts: usize,
+    /// The script that it follows.
+    script: Option<usize>,
+    /// Whether its right side is at hand, and how the left one failed.
+    left: Option<LeftFailure>,
+}
+
+/// What the search learns of its failures: which splits to make next. No clause speaks of it, since what it
+/// proposes is tested.
+///
+/// A leaf closes a side by literals. Its conflict set has the levels at which they were asserted, and that of the side.
+/// Where both sides of a split have failed and each conflict set has its level, that of the split has the levels of both,
+/// with the one at which its Or was asserted in place of its own. Where one has it not, it stands alone (Prosser 1993).
+///
+/// The search still refutes each side, since a refutation has each of them. So where a left side has failed
+/// without its split, the right one is searched by the same splits: they are replayed.
+pub(crate) struct Failures {
+    /// The level of a split is its place here, from 1; level 0 is what the whole tree asserts.
+    forks: Vec<Fork>,
+    literals: FirstLiterals,
+    /// How many positions there are: the list below, of one level a position, is made with the first Or that a split
+    /// asserts.
+    positions: usize,
+    levels: Vec<usize>,
+    /// That of the failure at hand, and those of left sides.
+    conflicts: ConflictSets,
+    records: Records,
+    scripts: Scripts,
+    /// The script of the failure at hand, and the one that the next split is to follow.
+    found: Option<usize>,
+    guide: Option<usize>,
+}
+
+// Written out, so that a proof of what drops the value meets one call and no field.
+impl Drop for Failures {
+    fn drop(self) {
+        let Failures {
+            forks: _,
+            literals: _,
+            positions: _,
+            levels: _,
+            conflicts: _,
+            records: _,
+            scripts: _,
+            found: _,
+            guide: _,
+        } = self;
+    }
+}
+
+impl Failures {
+    /// Those of a search over so many nodes and positions, before its first turn.
+    pub(crate) fn new(alloc: Global, nodes: u32, positions: usize) -> Result<Failures, Memory> {
+        let records = Records::new(alloc, positions)?;
+        Ok(Failures {
+            forks: Vec::new(alloc),
+            literals: FirstLiterals::new(alloc, nodes),
+            positions,
+            levels: Vec::new(alloc),
+            conflicts: ConflictSets::new(alloc),
+            records,
+            scripts: Scripts::new(alloc),
+            found: None,
+            guide: None,
+        })
+    }
+
+    /// Whether nothing failed so far.
+    pub(crate) fn is_empty(&self) -> bool {
+        self.records.is_empty()
+    }
+
+    /// In which failures the splits of the Or took part.
+    pub(crate) fn record(&self, position: usize) -> Record {
+        self.records.record(position)
+    }
+
+    /// The Ors whose splits took part in a failure.
+    pub(crate) fn recorded(&self) -> &Bits {
+        self.records.recorded()
+    }
+
+    /// The Or is asserted on the side at hand.
+    pub(crate) fn note_or(&mut self, position: usize) -> Result<(), Memory> {
+        let level = self.forks.len();
+        if level == 0 {
+            return Ok(());
+        }
+        if self.levels.is_empty() {
+            self.levels.resize(self.positions, 0)?;
+        }
+        if position < self.levels.len() {
+            self.levels[position] = level;
+        }
+        Ok(())
+    }
+
+    /// The level at which the Or was asserted.
+    fn level_of_or(&self, position: usize) -> usize {
+        if position < self.levels.len() {
+            self.levels[position]
+        } else {
+            0
+        }
+    }
+
+    /// Whether the literal at this place, from 1, was asserted before the fork.
+    fn is_before_fork(&self, place: usize, fork: usize) -> bool {
+        fork < self.forks.len() && place <= self.forks[fork].literals
+    }
+
+    /// The level at which the literal at this place was asserted: how many forks were made before it.
+    fn level_of_literal(&self, place: usize) -> usize {
+        let mut low = 0;
+        let mut high = self.forks.len();
+        for _ in 0..self.forks.len() {
+            if low >= high {
+                return low;
+            }
+            let middle = low + (high - low) / 2;
+            if self.is_before_fork(place, middle) {
+                high = middle;
+            } else {
+                low = middle.saturating_add(1);
+            }
+        }
+        low
+    }
+
+    /// The Or that is to be split next, where a failure is to be replayed.
+    pub(crate) fn guide(&self) -> Option<Place> {
+        let script = self.scripts.script(self.guide)?;
+        Some(script.place)
+    }
+
+    /// The Or is split, and its left side is at hand. Where it is not the one that the guide says, there is no guide to
+    /// follow any more.
+    pub(crate) fn split(&mut self, place: Place, graph: &OrderGraph) -> Result<(), Memory> {
+        self.literals.add(graph)?;
+        let mut script = self.guide;
+        self.guide = None;
+        match self.scripts.script(script) {
+            Some(followed) if followed.place.position == place.position => {
+                self.guide = followed.left;
+            }
+            _ => script = None,
+        }
+        let origin = self.level_of_or(place.position);
+        let literals = self.literals.len();
+        let scripts = self.scripts.len();
+        self.forks.push(Fork {
+            place,
+            origin,
+            literals,
+            scripts,
+            script,
+            left: None,
+        })?;
+        Ok(())
+    }
+
+    /// A leaf closes the side at hand by this clash. The graph has the literals that clash.
+    pub(crate) fn learn(&mut self, clash: &Clash, graph: &OrderGraph) -> Result<(), Memory> {
+        self.conflicts.clear();
+        self.add_clash(clash, graph)?;
+        let level = self.forks.len();
+        self.add(level)?;
+        self.record_conflict()?;
+        self.found = None;
+        for _ in 0..self.forks.len() {
+            if self.go_up(graph)? {
+                return Ok(());
+            }
+        }
+        Ok(())
+    }
+
+    /// The level took part in the failure at hand. The whole tree takes part in each, and is not noted.
+    fn add(&mut self, level: usize) -> Result<(), Memory> {
+        if level == 0 {
+            return Ok(());
+        }
+        self.conflicts.put(level)
+    }
+
+    /// The literal at this place took part. Where it is none of those before the last split, it is one of the side at hand.
+    fn add_place(&mut self, place: usize) -> Result<(), Memory> {
+        if place == 0 {
+            return Ok(());
+        }
+        let level = self.level_of_literal(place);
+        self.add(level)
+    }
+
+    /// The literals of the clash took part.
+    fn add_clash(&mut self, clash: &Clash, graph: &OrderGraph) -> Result<(), Memory> {
+        match clash {
+            Clash::Cycle(nodes) => self.add_cycle(nodes.as_slice(), graph),
+            Clash::Path(nodes) => self.add_path(nodes.as_slice(), graph),
+            Clash::Absent(node) => {
+                let place = self.literals.of_node(*node);
+                self.add_place(place)
+            }
+        }
+    }
+
+    fn add_literal(&mut self, literal: Literal<u32>, graph: &OrderGraph) -> Result<(), Memory> {
+        let place = self.literals.of_literal(graph, literal);
+        self.add_place(place)
+    }
+
+    /// The edges from each node to the next took part.
+    fn add_edges(&mut self, nodes: &[u32], graph: &OrderGraph) -> Result<(), Memory> {
+        for k in 1..nodes.len() {
+            self.add_literal(Literal::Edge(nodes[k - 1], nodes[k]), graph)?;
+        }
+        Ok(())
+    }
+
+    /// So did these edges, and the one from the last to the first.
+    fn add_cycle(&mut self, nodes: &[u32], graph: &OrderGraph) -> Result<(), Memory> {
+        if nodes.is_empty() {
+            return Ok(());
+        }
+        self.add_edges(nodes, graph)?;
+        self.add_literal(Literal::Edge(nodes[nodes.len() - 1], nodes[0]), graph)
+    }
+
+    /// So did these edges, and that the pair of the first and the last is denied.
+    fn add_path(&mut self, nodes: &[u32], graph: &OrderGraph) -> Result<(), Memory> {
+        if nodes.is_empty() {
+            return Ok(());
+        }
+        self.add_edges(nodes, graph)?;
+        self.add_literal(Literal::NoEdge(nodes[0], nodes[nodes.len() - 1]), graph)
+    }
+
+    /// Each Or whose split took part in the failure at hand gets a record of it.
+    fn record_conflict(&mut self) -> Result<(), Memory> {
+        self.records.count_failure();
+        for k in 0..self.conflicts.len() {
+            let level = self.conflicts.level(k);
+            if 0 < level && level <= self.forks.len() {
+                let position = self.forks[level - 1].place.position;
+                self.records.put(position)?;
+            }
+        }
+        Ok(())
+    }
+
+    /// What is at hand of the last fork failed. Returns whether a right side is at hand now.
+    fn go_up(&mut self, graph: &OrderGraph) -> Result<bool, Memory> {
+        let Some(fork) = self.forks.pop() else {
+            return Ok(true);
+        };
+        self.literals.cut(graph, fork.literals);
+        match fork.left {
+            None => {
+                self.turn_right(fork)?;
+                Ok(true)
+            }
+            Some(left) => {
+                self.close(fork, left)?;
+                Ok(false)
+            }
+        }
+    }
+
+    /// The left side of the fork, which was the last, failed: its right side is at hand.
+    fn turn_right(&mut self, fork: Fork) -> Result<(), Memory> {
+        let level = self.forks.len().saturating_add(1);
+        let is_independent = !self.conflicts.has(level);
+        self.guide = if is_independent {
+            self.found
+        } else {
+            self.right_of(fork.script)
+        };
+        let waited = self.conflicts.set_aside(level)?;
+        let left = LeftFailure {
+            is_independent,
+            script: self.found,
+            scripts: self.scripts.len(),
+            waited,
+        };
+        self.forks.push(Fork {
+            left: Some(left),
+            ..fork
+        })?;
+        Ok(())
+    }
+
+    /// The script of the right side.
+    fn right_of(&self, script: Option<usize>) -> Option<usize> {
+        self.scripts.script(script)?.right
+    }
+
+    /// Both sides of the fork, which was the last, failed.
+    fn close(&mut self, fork: Fork, left: LeftFailure) -> Result<(), Memory> {
+        let level = self.forks.len().saturating_add(1);
+        if left.is_independent {
+            return self.take_left(left);
+        }
+        if self.conflicts.has(level) {
+            return self.join(fork, left);
+        }
+        self.take_right(fork, left);
+        Ok(())
+    }
+
+    /// The left side failed without the fork, and so what failed there stands for both sides.
+    fn take_left(&mut self, left: LeftFailure) -> Result<(), Memory> {
+        self.scripts.truncate(left.scripts);
+        self.found = left.script;
+        self.conflicts.clear();
+        self.conflicts.unite(left.waited)
+    }
+
+    /// The right side failed without the fork, and so what failed there stands for both sides.
+    fn take_right(&mut self, fork: Fork, left: LeftFailure) {
+        self.conflicts.discard(left.waited);
+        self.found = self.scripts.remove(fork.scripts, left.scripts, self.found);
+    }
+
+    /// The fork took part in the failures of both sides: it is one of the splits by which the part that it begins failed.
+    fn join(&mut self, fork: Fork, left: LeftFailure) -> Result<(), Memory> {
+        self.conflicts.unite(left.waited)?;
+        self.record_conflict()?;
+        self.records.put(fork.place.position)?;
+        let script = Script {
+            place: fork.place,
+            left: left.script,
+            right: self.found,
+        };
+        self.found = Some(self.scripts.push(script)?);
+        self.add(fork.origin)
+    }
+}

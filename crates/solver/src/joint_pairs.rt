@@ -1,0 +1,174 @@
+use super::bits::Bits;
+use super::ors::denied_left;
+use super::rows::{row_at, skip_at};
+use pc_common::Memory;
+use pc_ground::{Literal, Row, RowKind, Version};
+use std::alloc::Global;
+
+/// Which pairs of nodes a side of an Or joins that asserts several literals: where two of them clash that do not clash
+/// alone, a chain leads from the second node of such a pair to the first, or a denied pair would be joined by an edge
+/// between them.
+pub(crate) struct JointPairs {
+    /// The literals of the side at hand, and the pairs of the Or at hand.
+    side: Vec<Literal<u32>>,
+    pairs: Vec<(u32, u32)>,
+    /// The positions of sides so far.
+    sides: Bits,
+}
+
+// Written out, so that a proof of what drops the value meets one call and no field.
+impl Drop for JointPairs {
+    fn drop(self) {
+        let JointPairs {
+            side: _,
+            pairs: _,
+            sides: _,
+        } = self;
+    }
+}
+
+impl JointPairs {
+    /// None, of so many positions.
+    pub(crate) fn new(alloc: Global, positions: usize) -> Result<JointPairs, Memory> {
+        let sides = Bits::new(alloc, positions)?;
+        Ok(JointPairs {
+            side: Vec::new(alloc),
+            pairs: Vec::new(alloc),
+            sides,
+        })
+    }
+
+    /// How many pairs the Or at hand has.
+    pub(crate) fn len(&self) -> usize {
+        self.pairs.len()
+    }
+
+    pub(crate) fn pair(&self, k: usize) -> Option<(u32, u32)> {
+        if k < self.pairs.len() {
+            Some(self.pairs[k])
+        } else {
+            None
+        }
+    }
+
+    /// Notes where the sides stand of an Or at `p`, if one stands there.
+    pub(crate) fn note_sides(&mut self, rows: &[Row<u32>], p: usize) {
+        if p < rows.len() {
+            if let RowKind::Or = rows[p].kind {
+                let left = p.saturating_add(1);
+                self.sides.put(left, true);
+                self.sides
+                    .put(left.saturating_add(skip_at(rows, left)), true);
+            }
+        }
+    }
+
+    /// Whether the literal at `p` is asserted with no other: in version 1 where it is a side.
+    pub(crate) fn is_alone(&self, p: usize, version: Version) -> bool {
+        match version {
+            Version::One => self.sides.has(p),
+            Version::Two => false,
+        }
+    }
+
+    /// Finds the pairs of the Or at `p`: of the tree, or in version 2 of its negation.
+    pub(crate) fn find(
+        &mut self,
+        rows: &[Row<u32>],
+        p: usize,
+        version: Version,
+    ) -> Result<(), Memory> {
+        self.pairs.clear();
+        if p >= rows.len() {
+            return Ok(());
+        }
+        match (rows[p].kind, version) {
+            // each side is one leaf, as most are, and denies no other
+            (RowKind::Or, Version::One) if rows[p].skip == 3 => Ok(()),
+            (RowKind::Or, _) => self.find_under(rows, false, p, version),
+            (RowKind::And, Version::Two) => self.find_under(rows, true, p, version),
+            _ => Ok(()),
+        }
+    }
+
+    fn find_under(
+        &mut self,
+        rows: &[Row<u32>],
+        negated: bool,
+        p: usize,
+        version: Version,
+    ) -> Result<(), Memory> {
+        let left = p.saturating_add(1);
+        let right = left.saturating_add(skip_at(rows, left));
+        self.side.clear();
+        self.gather(rows, negated, left)?;
+        self.join_all()?;
+        self.side.clear();
+        if let Some(denied) = denied_left(version, left) {
+            self.gather(rows, !negated, denied)?;
+        }
+        self.gather(rows, negated, right)?;
+        self.join_all()
+    }
+
+    /// Puts the literals that the part at `root` asserts under this sign to those of the side.
+    fn gather(&mut self, rows: &[Row<u32>], negated: bool, root: usize) -> Result<(), Memory> {
+        let end = root.saturating_add(skip_at(rows, root));
+        let mut next = root;
+        for at in root..end {
+            if at >= rows.len() {
+                return Ok(());
+            }
+            if at < next {
+                continue;
+            }
+            let row = row_at(rows, at).turned(negated);
+            if let RowKind::Lit(literal) = row.kind {
+                self.side.push(literal)?;
+            }
+            next = at.saturating_add(row.stride());
+        }
+        Ok(())
+    }
+
+    fn literal(&self, k: usize) -> Option<Literal<u32>> {
+        if k < self.side.len() {
+            Some(self.side[k])
+        } else {
+            None
+        }
+    }
+
+    /// The pairs of each two literals of the side.
+    fn join_all(&mut self) -> Result<(), Memory> {
+        for j in 0..self.side.len() {
+            for k in 0..self.side.len() {
+                if j != k {
+                    if let (Some(first), Some(second)) = (self.literal(j), self.literal(k)) {
+                        self.join(first, second)?;
+                    }
+                }
+            }
+        }
+        Ok(())
+    }
+
+    fn put(&mut self, a: u32, b: u32) -> Result<(), Memory> {
+        if a != b {
+            self.pairs.push((a, b))?;
+        }
+        Ok(())
+    }
+
+    /// The pairs by which an edge and another literal clash. A node that is both ends of a pair joins nothing new.
+    fn join(&mut self, first: Literal<u32>, second: Literal<u32>) -> Result<(), Memory> {
+        match (first, second) {
+            (Literal::Edge(a, _), Literal::Edge(_, d)) => self.put(a, d),
+            (Literal::Edge(a, b), Literal::NoEdge(c, d)) => {
+                self.put(a, c)?;
+                self.put(d, b)
+            }
+            _ => Ok(()),
+        }
+    }
+}

@@ -1,0 +1,121 @@
+"""What each axiom of a model is for: which verdicts of tests change without it."""
+import os
+import tempfile
+import time
+from dataclasses import dataclass
+from functools import partial
+from typing import Sequence
+
+from second.models import Axiom
+from second.scopes import read_model
+from second.tokens import Fault, tokens
+
+from .calling import side_by_side
+from .counting import Progress
+from .files import File
+from .keeping import new_file
+from .pairs import FAULT, TIME, Checker, Found
+from .refusing import Refusal, shown
+from .tables import aligned
+
+# what begins a part of a model
+PARTS = ("StageName", "Axiom", "DefineMacro")
+NEEDED = "untested or not needed"
+
+
+@dataclass(frozen=True)
+class Change:
+    """Which tests have another verdict without an axiom, and on which there is none with it or without it."""
+
+    title: str
+    changed: list[str]
+    unknown: list[str]
+
+    @property
+    def cells(self) -> list[str]:
+        """How many verdicts change, and the first test whose does, or that none does."""
+        unknown = [f"no verdict on {len(self.unknown)}, the first {self.unknown[0]}"] if self.unknown else []
+        if self.changed:
+            return [str(len(self.changed)), "; ".join([self.changed[0], *unknown])]
+        return ["0", *(unknown or [NEEDED])]
+
+
+def without(text: bytes, axiom: Axiom) -> bytes:
+    """A model without an axiom: blanks stand in its place, so that all else stays where it is."""
+    found = tokens(text)
+    first = next(place for place, token in enumerate(found) if token.at == axiom.at)
+    is_end = (token.kind == "end" or (token.kind == "name" and token.piece in PARTS) for token in found[first + 1 :])
+    last = found[first + list(is_end).index(True)]
+    end = last.at + len(last.piece)
+    blanks = bytes(byte if byte in b"\n" else 32 for byte in text[axiom.at : end])
+    return text[: axiom.at] + blanks + text[end:]
+
+
+class Axioms:
+    """A model with each of its axioms taken out in turn, and tests."""
+
+    def __init__(self, model: File, tests: Sequence[File], checker: Checker) -> None:
+        self.tests = sorted(tests, key=lambda test: test.name.encode("utf-8", "surrogateescape"))
+        self.checker = checker
+        self.text = model.text or b""
+        self.faults = self.late = 0
+        try:
+            self.axioms = read_model(self.text).axioms
+        except Fault as fault:
+            before = self.text[: fault.place].split(b"\n")
+            place = f"{shown(model.path)}:{len(before)}:{len(before[-1]) + 1}"
+            raise Refusal(f"the model is refused: {place}: {fault.word}") from fault
+        if any(test.is_pattern for test in tests):
+            raise Refusal("--axioms compares verdicts, which patterns have not")
+
+    def changes(self, jobs: int) -> list[Change]:
+        """What each axiom changes."""
+        with tempfile.TemporaryDirectory() as folder:
+            for number in range(len(self.axioms) + 1):
+                with open(os.path.join(folder, f"{number}.uspec"), "wb") as file:
+                    # the first is the whole
+                    file.write(without(self.text, self.axioms[number - 1]) if number else self.text)
+            pairs = [(number, test) for number in range(len(self.axioms) + 1) for test in self.tests]
+            progress = Progress(len(pairs))
+            tasks = [partial(self.found, folder, number, test) for number, test in pairs]
+            try:
+                answers = side_by_side(self.checker.calls, jobs, tasks, lambda _, __: progress.step())
+            finally:
+                progress.end()
+        self.late = sum(found.fault == TIME for found in answers)
+        self.faults = sum(bool(found.fault) for found in answers) - self.late
+        count = len(self.tests)
+        return [
+            self.change(axiom, answers[:count], answers[number * count : (number + 1) * count])
+            for number, axiom in enumerate(self.axioms, 1)
+        ]
+
+    def found(self, folder: str, number: int, test: File) -> Found:
+        """The verdict on a test without an axiom, or of the whole model."""
+        model = os.path.join(folder, f"{number}.uspec")
+        try:
+            with new_file(f"{model}.{test.base}") as (out, part):
+                return self.checker.found(model, test, out, part)
+        except OSError:
+            return Found(fault=FAULT)
+
+    def change(self, axiom: Axiom, whole: Sequence[Found], rest: Sequence[Found]) -> Change:
+        """What one axiom changes."""
+        changed, unknown = [], []
+        for test, here, there in zip(self.tests, whole, rest):
+            if here.fault or there.fault:
+                unknown.append(test.name)
+            elif here.verdict != there.verdict:
+                changed.append(test.name)
+        return Change(axiom.title, changed, unknown)
+
+
+def run_axioms(axioms: Axioms, jobs: int) -> tuple[list[str], int]:
+    """The lines of the table with the count, and the status."""
+    begun = time.monotonic()
+    changes = axioms.changes(jobs)
+    rows = [[f'{number} "{change.title}"', *change.cells] for number, change in enumerate(changes)]
+    idle = sum(not change.changed for change in changes)
+    count = f"{len(changes)} axioms on {len(axioms.tests)} tests: {len(changes) - idle} change a verdict, "
+    count += f"{idle} change none, {axioms.late} time, {axioms.faults} faults, in {int(time.monotonic() - begun)} s"
+    return [*aligned([["axiom", "changes", "first"], *rows]), count], 2 if axioms.late or axioms.faults else 0

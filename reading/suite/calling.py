@@ -1,0 +1,199 @@
+"""Calls of programs, side by side, within limits; and how all of them are ended.
+
+Each call is a process group of its own, so that what it started ends with it. Threads make the calls, and the main
+thread alone gets signals: so no signal comes between the start of a call and the note that it runs.
+"""
+import os
+import queue
+import resource
+import signal
+import subprocess
+import threading
+from contextlib import suppress
+from typing import IO, Callable, Sequence, TypeVar
+
+from .refusing import Refusal, quoted
+
+# What the limits need is done by a shell that becomes the program. Where a limit of file size is passed, a write fails,
+# in place of a signal that ends the program.
+LIMITED = 'trap "" XFSZ; ulimit -S -v "$0" || exit 125; exec "$@"'
+UNLIMITED = 'trap "" XFSZ; exec "$@"'
+MOST_DIGITS = 11
+# how long what cleans up after itself may take to end
+GRACE = 10.0
+
+Answer = TypeVar("Answer")
+Process = subprocess.Popen[bytes]
+
+
+class Stopped(Exception):
+    """The suite ends, and this call with it."""
+
+
+def memory_limit(value: str) -> int | None:
+    """The address space of a call in KiB by PIPECHECK_MEMORY, as script/program has it: so many MiB, or what the
+    machine has free. None is no limit, or one that stands already and is as low."""
+    if value == "none":
+        return None
+    if value == "":
+        kib = free_memory()
+    elif value.isascii() and value.isdigit() and len(value) <= MOST_DIGITS:
+        kib = int(value) * 1024
+    else:
+        # the words of script/program
+        raise Refusal(f"PIPECHECK_MEMORY is a number of MiB, or none, and not {quoted(value)}", "pipecheck")
+    standing = standing_limit()
+    return kib if kib is not None and (standing is None or standing > kib) else None
+
+
+def free_memory() -> int | None:
+    """What the machine has free, in KiB; None where it does not say so."""
+    with suppress(OSError, ValueError), open("/proc/meminfo", encoding="ascii") as file:
+        for line in file:
+            if line.startswith("MemAvailable:"):
+                return int(line.split()[1])
+    return None
+
+
+def standing_limit() -> int | None:
+    """The limit of address space in KiB that stands already."""
+    soft, _ = resource.getrlimit(resource.RLIMIT_AS)
+    return None if soft == resource.RLIM_INFINITY else soft // 1024
+
+
+class Calls:
+    """The calls that run now."""
+
+    def __init__(self) -> None:
+        self.lock = threading.Lock()
+        # each with the signal that ends it
+        self.running: dict[Process, signal.Signals] = {}
+        self.late: set[Process] = set()
+        self.is_stopped = False
+
+    def status(self, command: Sequence[str], kib: int | None, seconds: float, out: IO[bytes]) -> int | None:
+        """Calls a program within these limits and has it write to a file; nothing is seen of its standard error. The
+        status, as a shell has it; None where it is not done in time."""
+        return self.finished(self.started(limited(command, kib), out, subprocess.DEVNULL, signal.SIGKILL), seconds)
+
+    def status_of_build(self, command: Sequence[str], out: IO[bytes]) -> int:
+        """Calls what builds the program, without limits. It may clean up when it is ended."""
+        status = self.finished(self.started(command, out, None, signal.SIGTERM), None)
+        return 1 if status is None else status
+
+    def started(self, command: Sequence[str], out: IO[bytes], said: int | None, ending: signal.Signals) -> Process:
+        """Starts a call and notes that it runs, at one moment."""
+        with self.lock:
+            if self.is_stopped:
+                raise Stopped
+            process = subprocess.Popen(  # pylint: disable=consider-using-with
+                command, stdin=subprocess.DEVNULL, stdout=out, stderr=said, start_new_session=True
+            )
+            self.running[process] = ending
+            return process
+
+    def finished(self, process: Process, seconds: float | None) -> int | None:
+        """Waits until a call ends, or ends it. What it left behind in its group ends, too."""
+        timer = None if seconds is None else threading.Timer(seconds, self.end_late, [process])
+        if timer is not None:
+            timer.daemon = True
+            timer.start()
+        # it is not reaped yet, so that the number of its group stays its own
+        os.waitid(os.P_PID, process.pid, os.WEXITED | os.WNOWAIT)
+        if timer is not None:
+            timer.cancel()
+        with self.lock:
+            del self.running[process]
+            end_group(process, signal.SIGKILL)
+            status = process.wait()
+            is_late = process in self.late
+            self.late.discard(process)
+            if self.is_stopped:
+                raise Stopped
+        if is_late:
+            return None
+        return status if status >= 0 else 128 - status
+
+    def end_late(self, process: Process) -> None:
+        """Ends a call that is not done in time."""
+        with self.lock:
+            if process in self.running:
+                self.late.add(process)
+                end_group(process, signal.SIGKILL)
+
+    def stop(self) -> None:
+        """Ends all calls, and has none begin any more."""
+        with self.lock:
+            self.is_stopped = True
+            for process, ending in self.running.items():
+                end_group(process, ending)
+
+    def end_all(self) -> None:
+        """Ends what has not ended though it was asked to."""
+        with self.lock:
+            for process in self.running:
+                end_group(process, signal.SIGKILL)
+
+
+def limited(command: Sequence[str], kib: int | None) -> list[str]:
+    """The command under a limit of address space."""
+    # the shell would take a dash for an option
+    first = os.path.join(".", command[0]) if command[0].startswith("-") else command[0]
+    shell = ["/bin/sh", "-c", UNLIMITED, "sh"] if kib is None else ["/bin/sh", "-c", LIMITED, str(kib)]
+    return [*shell, first, *command[1:]]
+
+
+def end_group(process: Process, number: signal.Signals) -> None:
+    """Sends a signal to a call and to all that it started."""
+    with suppress(ProcessLookupError, PermissionError):
+        os.killpg(process.pid, number)
+
+
+def side_by_side(
+    calls: Calls, jobs: int, tasks: Sequence[Callable[[], Answer]], tell: Callable[[int, Answer], None]
+) -> list[Answer]:
+    """The answers of tasks, at most so many of which run at once. Each is told with its number as it comes. Where a
+    signal or a failure comes, the calls of the others end."""
+    answers: dict[int, Answer] = {}
+    ended: queue.SimpleQueue[tuple[int, BaseException | None]] = queue.SimpleQueue()
+    waiting = iter(enumerate(tasks))
+    taking = threading.Lock()
+
+    def work() -> None:
+        while not calls.is_stopped:
+            with taking:
+                place, task = next(waiting, (-1, None))
+            if task is None:
+                return
+            try:
+                answers[place] = task()
+                ended.put((place, None))
+            except Stopped:
+                return
+            except BaseException as error:  # pylint: disable=broad-exception-caught
+                ended.put((place, error))
+
+    threads = [threading.Thread(target=work) for _ in range(min(jobs, len(tasks)))]
+    try:
+        for thread in threads:
+            thread.start()
+        for _ in tasks:
+            place, error = ended.get()
+            if error is not None:
+                raise error
+            tell(place, answers[place])
+    except BaseException:
+        calls.stop()
+        join(threads, GRACE)
+        calls.end_all()
+        raise
+    finally:
+        join(threads, None)
+    return [answers[place] for place in range(len(tasks))]
+
+
+def join(threads: Sequence[threading.Thread], seconds: float | None) -> None:
+    """Waits for threads that were started, at most so long for each."""
+    for thread in threads:
+        if thread.ident is not None:
+            thread.join(seconds)

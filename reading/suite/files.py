@@ -1,0 +1,126 @@
+"""The models and tests of a suite: their bytes, their names in the table, and what checks and judges them."""
+import hashlib
+import os
+import stat
+from dataclasses import dataclass
+
+from .refusing import CONTROL, Refusal, quoted, shown
+
+# the program refuses longer files, whatever stands behind
+LIMIT = 1_048_576
+MODEL_ENDING = ".uspec"
+TEST_ENDING = ".test"
+PATTERN_ENDING = ".pattern"
+# the rows of the last table stand beside the folders of the models
+CELLS = "cells"
+
+
+@dataclass(frozen=True)
+class Kind:
+    """What checks a test, and what judges its certificate; a sweep has none."""
+
+    check: str
+    verify: str | None
+
+
+# the endings of tests; script/program has those that `explain` takes
+KINDS = {
+    TEST_ENDING: Kind("check", "verify"),
+    ".litmus": Kind("check86", "verify86"),
+    PATTERN_ENDING: Kind("sweep", None),
+}
+
+
+@dataclass(frozen=True)
+class File:
+    """A model or a test: its name in the table, its bytes, and the hash of these bytes; it may be past reading."""
+
+    path: str
+    name: str
+    text: bytes | None
+    digest: str
+
+    @property
+    def base(self) -> str:
+        """The name of the file."""
+        return os.path.basename(self.path)
+
+    @property
+    def kind(self) -> Kind:
+        """What checks and judges a test of this name."""
+        return KINDS[ending_of(self.path)]
+
+    @property
+    def is_pattern(self) -> bool:
+        """Whether it is a test whose reads may be open."""
+        return ending_of(self.path) == PATTERN_ENDING
+
+
+def ending_of(path: str) -> str:
+    """What a file's name ends in, from its last dot."""
+    return os.path.splitext(path)[1]
+
+
+def is_test(path: str) -> bool:
+    """Whether a file is a test by its name."""
+    return ending_of(path) in KINDS
+
+
+def contents(path: str) -> bytes | None:
+    """The bytes of a file, with one more than the limit where there are more; None where they cannot be read."""
+    try:
+        with open(path, "rb") as file:
+            return file.read(LIMIT + 1)
+    except OSError:
+        return None
+
+
+def digest_of(text: bytes) -> str:
+    """The hash by which bytes are known again."""
+    return hashlib.sha256(text).hexdigest()
+
+
+def model_file(path: str) -> File:
+    """A model."""
+    return file_at("model", path, os.path.basename(path).removesuffix(MODEL_ENDING))
+
+
+def test_file(path: str) -> File:
+    """A test. A listing and a pattern keep their endings in the table."""
+    return file_at("test", path, os.path.basename(path).removesuffix(TEST_ENDING))
+
+
+def file_at(kind: str, path: str, name: str) -> File:
+    """A file under this name."""
+    judge_name(kind, name)
+    text = contents(path)
+    return File(path, name, text, digest_of(text) if text is not None else "")
+
+
+def judge_name(kind: str, name: str) -> None:
+    """Refuses what would stand outside the folder, or would not be one cell of a table."""
+    if name in ("", CELLS) or name.startswith((".", "-")) or CONTROL.search(name):
+        raise Refusal(f"no {kind} may be named {quoted(name)}")
+
+
+def judge_present(path: str) -> None:
+    """Refuses a word that names no file and no folder."""
+    try:
+        mode = os.stat(path).st_mode
+    except FileNotFoundError as error:
+        raise Refusal(f"{shown(path)} is not there") from error
+    except OSError as error:
+        raise Refusal(f"{shown(path)} cannot be read: {error.strerror}") from error
+    if not stat.S_ISREG(mode) and not stat.S_ISDIR(mode):
+        raise Refusal(f"{shown(path)} is neither a file nor a folder: it is read more than once")
+    if not os.access(path, os.R_OK):
+        raise Refusal(f"{shown(path)} may not be read")
+
+
+def judge_distinct(kind: str, files: list[File]) -> None:
+    """Refuses two files of one name."""
+    seen: set[str] = set()
+    for file in files:
+        if file.name in seen:
+            raise Refusal(f"two {kind}s have one name: {file.name}")
+        seen.add(file.name)

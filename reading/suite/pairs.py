@@ -1,0 +1,125 @@
+"""A pair of a model and a test: what the program says of it, and what the table shows of that."""
+import os
+import re
+import tempfile
+from contextlib import suppress
+from dataclasses import dataclass
+from typing import IO
+
+from .calling import Calls
+from .files import File
+
+OBSERVABLE, UNOBSERVABLE = "observable", "unobservable"
+# the status of `check` with its first line, and that of `verify` with its line
+STATUSES = {OBSERVABLE: 0, UNOBSERVABLE: 1}
+SWEPT = "swept"
+OK, BUG, STRICTER, TIME, UNNAMED, FAULT = "ok", "BUG", "stricter", "time", "unnamed", "fault"
+CERTIFICATE, UNREADABLE, UNWRITTEN = "certificate", "unreadable", "unwritten"
+REFUSED = re.compile(rb"refused ([a-z]+) ([a-z0-9-]+) at [0-9]+:[0-9]+")
+STATED = re.compile(rb"test (?:(unstated)|(permitted|forbidden): (?:ok|BUG|stricter))")
+SUMMARY = re.compile(rb"sweep [0-9]+")
+# the lines that are looked at are short
+HEAD = 4096
+
+
+@dataclass(frozen=True)
+class Found:
+    """What is known of a pair: a verdict whose certificate is judged, with what the test states of its outcome; or the
+    rows of a sweep that are observable, each as the sweep writes it; or the cell of a fault."""
+
+    verdict: str = ""
+    stated: str = ""
+    fault: str = ""
+    rows: frozenset[str] = frozenset()
+
+    @property
+    def is_swept(self) -> bool:
+        """Whether it has rows in place of a verdict."""
+        return self.verdict == SWEPT
+
+
+class Checker:
+    """The program, within limits."""
+
+    def __init__(self, command: list[str], kib: int | None, seconds: float, calls: Calls) -> None:
+        self.command = command
+        self.kib = kib
+        self.seconds = seconds
+        self.calls = calls
+
+    def status(self, words: list[str], out: IO[bytes]) -> int | None:
+        """Calls the program with these words."""
+        return self.calls.status([*self.command, *words], self.kib, self.seconds, out)
+
+    def found(self, model: str, test: File, out: IO[bytes], part: str) -> Found:
+        """Checks a pair. The certificate goes to a file, which has this path."""
+        status = self.status([test.kind.check, model, test.path], out)
+        lines = os.pread(out.fileno(), HEAD, 0).split(b"\n")
+        first, second = lines[0], lines[1] if len(lines) > 1 else b""
+        if test.kind.verify is None and status == 0 and SUMMARY.fullmatch(first):
+            return rows_found(out)
+        verdict = first.decode("latin-1")
+        if test.kind.verify is not None and verdict in STATUSES and status == STATUSES[verdict]:
+            return self.judged(verdict, second, [test.kind.verify, model, test.path, part])
+        return Found(fault=fault_of(status, first))
+
+    def judged(self, verdict: str, second: bytes, words: list[str]) -> Found:
+        """The verdict, where the judge of certificates says the same."""
+        with tempfile.TemporaryFile() as out:
+            status = self.status(words, out)
+            said = os.pread(out.fileno(), HEAD, 0)
+        stated = STATED.fullmatch(second)
+        if status is None:
+            return Found(fault=TIME)
+        if status != STATUSES[verdict] or said.rstrip(b"\n") != b"verified " + verdict.encode("ascii"):
+            return Found(fault=CERTIFICATE)
+        if stated is None:
+            return Found(fault=FAULT)
+        return Found(verdict, (stated[1] or stated[2]).decode("ascii"))
+
+
+def fault_of(status: int | None, first: bytes) -> str:
+    """The cell of a call that gave no verdict."""
+    refused = REFUSED.fullmatch(first)
+    if status is None:
+        return TIME
+    if status == 3 and refused is not None:
+        return f"{refused[1].decode('ascii')}:{refused[2].decode('ascii')}"
+    return UNREADABLE if status == 4 else f"status:{status}"
+
+
+def rows_found(out: IO[bytes]) -> Found:
+    """The rows of a sweep that are observable."""
+    out.seek(0)
+    lines = out.read().decode("latin-1").splitlines()
+    if lines[-1:] != ["end"]:
+        return Found(fault=FAULT)
+    ending = f" {OBSERVABLE}"
+    rows = (line.removesuffix(ending) for line in lines if line.startswith("row ") and line.endswith(ending))
+    return Found(SWEPT, rows=frozenset(rows))
+
+
+def cell_of(found: Found, is_allowed: bool | None) -> str:
+    """What the table shows of a verdict, where a row says what is allowed, or else the test itself."""
+    if found.fault:
+        return found.fault
+    if is_allowed is None:
+        if found.stated not in ("permitted", "forbidden"):
+            return found.verdict
+        is_allowed = found.stated == "permitted"
+    if found.verdict == OBSERVABLE:
+        return OK if is_allowed else BUG
+    return STRICTER if is_allowed else OK
+
+
+def cell_of_rows(found: Found, allowed: frozenset[str]) -> str:
+    """What the table shows of a sweep, where a machine says which rows come up."""
+    if found.rows - allowed:
+        return BUG
+    return STRICTER if allowed - found.rows else OK
+
+
+def remove(path: str) -> None:
+    """Removes a file that may be there."""
+    with suppress(FileNotFoundError):
+        os.unlink(path)

@@ -1,0 +1,56 @@
+#!/usr/bin/env python3
+"""Says what a machine allows of a test.
+
+    tests/machines/verdicts.py MACHINE TEST
+
+Of a test it writes `yes` or `no`: whether the outcome comes up. Of a pattern it writes what its open reads get, a line
+`row ..` for each way, as a sweep does, and `end`. The status is 3 where the machine does not run such tests.
+"""
+import os
+import sys
+from importlib import import_module
+from types import ModuleType
+
+from listing import read_file
+from litmus import Reads, Test
+
+PATTERN = ".pattern"
+NOT_RUN = 3
+
+
+def runs(machine: ModuleType, test: Test) -> bool:
+    """Whether a machine runs tests of this kind: with page-table entries or without, and with locked instructions."""
+    takes_entries = getattr(machine, "TAKES_ENTRIES", False)
+    if test.has_entries or takes_entries:
+        return test.has_entries and takes_entries
+    return not test.has_locked or getattr(machine, "TAKES_LOCKED", False)
+
+
+def rows_allowed(machine: ModuleType, test: Test) -> set[Reads]:
+    """What the open reads get in the stated outcomes that come up; without open reads the one empty row, or none."""
+    return test.rows_shown_by(machine.outcomes(test))
+
+
+def line_of(row: Reads) -> str:
+    """A row as a sweep writes its values."""
+    words = ("Maps:" + ":".join(map(str, value)) if isinstance(value, tuple) else str(value) for value in row)
+    return " ".join(("row", *words))
+
+
+def main(name: str, path: str) -> int:
+    """Writes what the machine says, and answers the exit status."""
+    machine, test = import_module(name), read_file(path)
+    if not runs(machine, test):
+        return NOT_RUN
+    rows = rows_allowed(machine, test)
+    if os.path.splitext(path)[1] == PATTERN:
+        for line in sorted(map(line_of, rows)):
+            print(line)
+        print("end")
+    else:
+        print("yes" if rows else "no")
+    return 0
+
+
+if __name__ == "__main__":
+    sys.exit(main(*sys.argv[1:]))
