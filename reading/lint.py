@@ -4,18 +4,17 @@
     lint.py MODEL [TEST..]
 
 Each slip is a line `FILE:LINE:COLUMN: KIND: ..` on standard output, and so is a refused file, with the fault's word. The
-exit status is 0 where there is no slip, 1 where there are some, 3 where a file is refused, 4 where one cannot be read, and
-125 where this program fails.
+exit status is 0 where there is no slip, 1 where there are some, 3 where a file is refused, 4 where one cannot be read, 5
+where standard output could not be written, and 125 where this program fails.
 """
 import os
 import re
-import signal
 import sys
-import traceback
 
 from second.linting import TestFile, read_test, slips
 from second.models import Model
 from second.scopes import read_model
+from second.standard_output import status_of
 from second.tokens import Fault
 
 LIMIT = 1_048_576
@@ -92,14 +91,4 @@ def main(model_path: str, *test_paths: str) -> int:
 
 
 if __name__ == "__main__":
-    sys.setrecursionlimit(20_000)
-    # a reader that goes away ends this program quietly, as other filters do
-    signal.signal(signal.SIGPIPE, signal.SIG_DFL)
-    try:
-        STATUS = main(*sys.argv[1:])
-        sys.stdout.flush()
-    except Exception:  # pylint: disable=broad-exception-caught
-        # Python's own status for this is 1, which says that there are slips
-        traceback.print_exc()
-        STATUS = 125
-    sys.exit(STATUS)
+    sys.exit(status_of(main, sys.argv[1:]))

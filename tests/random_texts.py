@@ -150,7 +150,9 @@ class ModelMaker:
 def test_text(random: Random) -> bytes:
     """A test of either format, of at most twelve micro-ops."""
     has_entries = random.random() < 0.3
-    ops, lines, g = [], [], 0
+    ops: list[tuple[int, int, tuple[int, int]]] = []
+    lines: list[str] = []
+    g = 0
     for _ in range(random.choice((0, 1, 2, 3, 4, 4, 5, 6, 8, 10, 12))):
         joins = bool(ops) and random.random() < 0.15
         if not joins:
@@ -166,7 +168,8 @@ def test_text(random: Random) -> bytes:
         for address in random.sample(addresses(has_entries), random.choice((0, 0, 0, 1, 2))):
             value = f"({entry(random)})" if has_entries and random.random() < 0.5 else str(random.randint(0, 3))
             lines.append(f"{word} {address} {value}.")
-    lines += random.choice(([], ["Permitted."], ["Forbidden."]))
+    nothing: list[str] = []
+    lines += random.choice((nothing, ["Permitted."], ["Forbidden."]))
     return "\n".join([f'Litmus{"2" if has_entries else ""} "r".'] + lines + [""]).encode()
 
 

@@ -91,7 +91,7 @@ class Case:
 
     def initial_at(self, address: Address) -> Value:
         """The value at the start: without a line 0 at a page, and at the entry of a tag that very tag without marks."""
-        default = 0 if isinstance(address, Page) else Entry(address.tag, 0, 0)
+        default: Value = 0 if isinstance(address, Page) else Entry(address.tag, 0, 0)
         return self.initial.get(address, default)
 
     def find(self, g: int, n: int) -> int | None:
@@ -283,7 +283,7 @@ class CaseReader(Reader):
         self.expect("(")
         word = self.expect("PA", "Entry") if self.has_entries else self.expect("PA")
         tag = self.number()
-        address = EntryAddress(tag) if word.piece == "Entry" else Page(tag, self.number())
+        address: Address = EntryAddress(tag) if word.piece == "Entry" else Page(tag, self.number())
         self.expect(")")
         return address
 

@@ -93,8 +93,8 @@ class LiftedJudge:
                 values = [self.evaluator.value(arg, fact.env) for arg in args]
                 bound = [(parameter.name, value) for parameter, value in zip(macro.parameters, values)]
                 return Said(holds, macro.body, fact.env + bound)
-            case "inst", holds, Quantified(universal=universal) if universal is holds:
-                value = self.member_named(fact.formula, which)
+            case "inst", holds, Quantified(universal=universal) as formula if universal is holds:
+                value = self.member_named(formula, which)
                 return None if value is None else self.instance(fact, value)
             case "member", True, (Nodes(members) | Edges(members)):
                 is_there = is_decimal(which) and int(which) < len(members)

@@ -5,7 +5,7 @@ program or with the second reading.
 """
 import re
 
-from litmus import Op, Test, read_test
+from litmus import Address, Op, Test, Value, read_test
 
 COMMENT = re.compile(r"\(\*.*?\*\)", re.DOTALL)
 BODY = re.compile(
@@ -45,7 +45,7 @@ def address_of(name: str, numbers: dict[str, int]) -> tuple[int, int]:
     return numbers.setdefault(name, len(numbers)), 0
 
 
-def stated(values: dict[str, int], numbers: dict[str, int]) -> dict:
+def stated(values: dict[str, int], numbers: dict[str, int]) -> dict[Address, Value]:
     """Values by addresses."""
     return {address_of(name, numbers): value for name, value in values.items()}
 

@@ -5,7 +5,7 @@ made for files that are well-formed, and shares no code with the program or with
 """
 import re
 from dataclasses import dataclass, replace
-from typing import Callable, Hashable, Iterable, Iterator
+from typing import Callable, Hashable, Iterable, Iterator, TypeVar
 
 # the types of a full fence: that of tests, and that of herd's X86 listings
 FULL = frozenset({"Full", "MFENCE"})
@@ -29,8 +29,16 @@ Address = tuple[int, ...]
 Value = int | tuple[int, int, int]
 # the values of reads in test order
 Reads = tuple[Value, ...]
+# the value of each address
+Memory = tuple[tuple[Address, Value], ...]
+# the reads that were done, by their places, with what they got
+ReadValues = tuple[tuple[int, Value], ...]
 # the values of all reads, and the last value of each address
-Outcome = tuple[Reads, tuple[tuple[Address, Value], ...]]
+Outcome = tuple[Reads, Memory]
+
+Key = TypeVar("Key", bound=Hashable)
+Item = TypeVar("Item")
+Reached = TypeVar("Reached", bound=Hashable)
 
 
 @dataclass(frozen=True)
@@ -154,14 +162,14 @@ def default_at(address: Address) -> Value:
     return 0 if len(address) == 2 else (address[0], 0, 0)
 
 
-def replaced(pairs: tuple, key: Hashable, value: Hashable) -> tuple:
+def replaced(pairs: tuple[tuple[Key, Item], ...], key: Key, value: Item) -> tuple[tuple[Key, Item], ...]:
     """A tuple of pairs, with this value at the key; a key that is not there comes last."""
     known = dict(pairs)
     known[key] = value
     return tuple(known.items())
 
 
-def ends(start: Hashable, steps: Callable[[Hashable], Iterable[Hashable]]) -> Iterator[Hashable]:
+def ends(start: Reached, steps: Callable[[Reached], Iterable[Reached]]) -> Iterator[Reached]:
     """The states that can be reached from the start and have no further step."""
     seen = {start}
     waiting = [start]
@@ -176,6 +184,6 @@ def ends(start: Hashable, steps: Callable[[Hashable], Iterable[Hashable]]) -> It
                 waiting.append(state)
 
 
-def in_test_order(reads: tuple[tuple[int, Value], ...]) -> tuple[Value, ...]:
+def in_test_order(reads: ReadValues) -> Reads:
     """The values of the reads, given as pairs of a place and a value."""
     return tuple(value for _, value in sorted(reads))

@@ -9,7 +9,7 @@ write that its core has seen, of whichever core, is seen by all cores.
 from typing import Iterator, NamedTuple
 
 import weak
-from litmus import Op, Outcome, Test, ends, in_test_order
+from litmus import Memory, Op, Outcome, ReadValues, Test, Value, ends, in_test_order
 
 
 class State(NamedTuple):
@@ -19,7 +19,7 @@ class State(NamedTuple):
     executed: frozenset[int]
     order: tuple[Op, ...]
     seen: tuple[frozenset[int], ...]
-    reads: tuple
+    reads: ReadValues
 
     @property
     def performed(self) -> frozenset[int]:
@@ -34,10 +34,10 @@ def outcomes(test: Test) -> set[Outcome]:
     return {(in_test_order(end.reads), rules.memory(end)) for end in ends(start, rules.steps)}
 
 
-class Rules(weak.Rules):
+class Rules(weak.Rules[State]):
     """The steps of the machine on one test."""
 
-    def memory(self, state: State) -> tuple:
+    def memory(self, state: State) -> Memory:
         """The last value of each address."""
         last = dict(self.test.memory)
         last.update((op.address, op.value) for op in state.order)
@@ -72,7 +72,7 @@ class Rules(weak.Rules):
         order = tuple(sorted(state.order + (op,), key=lambda write: write.address))
         return state._replace(order=order, seen=with_seen(state.seen, op.core, op))
 
-    def value_seen(self, state: State, op: Op) -> int:
+    def value_seen(self, state: State, op: Op) -> Value:
         """The last write of the address that the core has seen."""
         values = [
             write.value

@@ -1,15 +1,15 @@
 """Sequential consistency: all interleavings of the cores over one memory (Lamport 1979)."""
 from typing import Iterator, NamedTuple
 
-from litmus import Outcome, Test, ends, in_test_order, replaced
+from litmus import Memory, Outcome, ReadValues, Test, ends, in_test_order, replaced
 
 
 class State(NamedTuple):
     """How many micro-ops each core has run, the memory, and the values that reads got."""
 
     done: tuple[int, ...]
-    memory: tuple
-    reads: tuple
+    memory: Memory
+    reads: ReadValues
 
 
 def outcomes(test: Test) -> set[Outcome]:

@@ -23,7 +23,7 @@ where it sets a mark. A run that translates otherwise, or goes to another page, 
 """
 from typing import Iterator, NamedTuple
 
-from litmus import Address, Op, Outcome, Test, Value, ends, in_test_order, replaced
+from litmus import Address, Memory, Op, Outcome, ReadValues, Test, Value, ends, in_test_order, replaced
 
 # the machine runs tests of format 2, and no others
 TAKES_ENTRIES = True
@@ -49,8 +49,8 @@ class State(NamedTuple):
     """The cores, the memory, and the values that reads got."""
 
     cores: tuple[Core, ...]
-    memory: tuple
-    reads: tuple
+    memory: Memory
+    reads: ReadValues
 
 
 class Instruction(NamedTuple):
@@ -134,8 +134,9 @@ def translates(state: State, k: int, core: Core, line: tuple[Instruction, ...]) 
         yield from walks(state, k, following, instruction, instruction.walk)
     else:
         found = dict(core.tlb).get(instruction.access.virtual[0])
-        is_hit = found is not None and (found.is_dirty or instruction.access.kind == "Read")
-        if is_hit and instruction.access.address == (found.frame, instruction.access.virtual[1]):
+        if found is None or not (found.is_dirty or instruction.access.kind == "Read"):
+            return
+        if instruction.access.address == (found.frame, instruction.access.virtual[1]):
             yield with_core(state, k, following)
 
 

@@ -12,7 +12,7 @@ drain. That is partial store order (The SPARC Architecture Manual, version 8); s
 """
 from typing import Iterator, NamedTuple
 
-from litmus import Op, Outcome, Test, ends, in_test_order, replaced
+from litmus import Item, Memory, Op, Outcome, ReadValues, Test, ends, in_test_order, replaced
 
 
 # whether a test may have instructions of two micro-ops
@@ -23,9 +23,9 @@ class State(NamedTuple):
     """How many micro-ops each core has run, the buffers with the oldest entry first, the memory, the reads."""
 
     done: tuple[int, ...]
-    buffers: tuple[tuple, ...]
-    memory: tuple
-    reads: tuple
+    buffers: tuple[Memory, ...]
+    memory: Memory
+    reads: ReadValues
 
 
 def outcomes(test: Test, by_address: bool = False) -> set[Outcome]:
@@ -85,6 +85,6 @@ def drains(state: State, core: int, by_address: bool) -> Iterator[State]:
         )
 
 
-def at(values: tuple, place: int, value) -> tuple:
+def at(values: tuple[Item, ...], place: int, value: Item) -> tuple[Item, ...]:
     """The tuple with another value at a place."""
     return values[:place] + (value,) + values[place + 1 :]

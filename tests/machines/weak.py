@@ -13,9 +13,30 @@ memory, where all cores see it at the same moment.
   5. A read whose youngest earlier write of its address on its own core is not performed takes the value of that write,
      which has to have executed. Otherwise it takes the value in memory.
 """
-from typing import Iterator, NamedTuple
+from typing import Any, Generic, Iterator, NamedTuple, Protocol, TypeVar
 
-from litmus import Op, Outcome, Test, ends, in_test_order, replaced
+from litmus import Memory, Op, Outcome, ReadValues, Test, Value, ends, in_test_order, replaced
+
+Reached = TypeVar("Reached", bound="Executing")
+
+
+class Executing(Protocol):
+    """What the rules ask of a state: the places of what has executed and of the writes that are performed; the reads."""
+
+    @property
+    def executed(self) -> frozenset[int]:
+        """The places of what has executed."""
+
+    @property
+    def performed(self) -> frozenset[int]:
+        """The places of the performed writes."""
+
+    @property
+    def reads(self) -> ReadValues:
+        """The values that reads got."""
+
+    def _replace(self: Reached, *parts: Any, **named: Any) -> Reached:
+        """The state with other parts."""
 
 
 class State(NamedTuple):
@@ -23,25 +44,25 @@ class State(NamedTuple):
 
     executed: frozenset[int]
     performed: frozenset[int]
-    memory: tuple
-    reads: tuple
+    memory: Memory
+    reads: ReadValues
 
 
 def outcomes(test: Test) -> set[Outcome]:
     """All outcomes of a test."""
-    rules = Rules(test)
+    rules = OneMemory(test)
     start = State(frozenset(), frozenset(), test.memory, ())
     return {(in_test_order(end.reads), end.memory) for end in ends(start, rules.steps)}
 
 
-class Rules:
-    """The steps of the machine on one test; nmca.py has the same rules over another memory."""
+class Rules(Generic[Reached]):
+    """The steps of the machine on one test, over any memory; that of nmca.py is another one."""
 
     def __init__(self, test: Test) -> None:
         self.test = test
         self.earlier = {op.place: ops[:k] for ops in test.cores for k, op in enumerate(ops)}
 
-    def steps(self, state: State) -> Iterator[State]:
+    def steps(self, state: Reached) -> Iterator[Reached]:
         """One micro-op executes, or one write is performed."""
         for op in self.test.ops:
             if op.place not in state.executed:
@@ -50,21 +71,19 @@ class Rules:
             elif op.kind == "Write" and op.place not in state.performed and self.may_perform(state, op):
                 yield self.perform(state, op)
 
-    def perform(self, state: State, op: Op) -> State:
+    def perform(self, state: Reached, op: Op) -> Reached:
         """A write goes to memory."""
-        return state._replace(
-            performed=state.performed | {op.place}, memory=replaced(state.memory, op.address, op.value)
-        )
+        raise NotImplementedError
 
-    def value_seen(self, state: State, op: Op) -> int:
+    def value_seen(self, state: Reached, op: Op) -> Value:
         """What a read gets that forwards nothing."""
-        return dict(state.memory)[op.address]
+        raise NotImplementedError
 
-    def is_done(self, state: State, op: Op) -> bool:
+    def is_done(self, state: Reached, op: Op) -> bool:
         """Whether nothing of it is left to do."""
         return op.place in (state.performed if op.kind == "Write" else state.executed)
 
-    def follows(self, state: State, op: Op, *kinds: str) -> bool:
+    def follows(self, state: Reached, op: Op, *kinds: str) -> bool:
         """Whether all that it depends on, in these ways, has executed."""
         return all(
             source in state.executed
@@ -72,7 +91,7 @@ class Rules:
             if target == op.place and kind in kinds
         )
 
-    def may_execute(self, state: State, op: Op) -> bool:
+    def may_execute(self, state: Reached, op: Op) -> bool:
         """Rules 1 and 3, and of rule 4 the order of reads."""
         earlier = self.earlier[op.place]
         if op.kind == "Fence":
@@ -83,7 +102,7 @@ class Rules:
         )
         return fences_done and reads_done and self.follows(state, op, "addr", "data")
 
-    def execute(self, state: State, op: Op) -> Iterator[State]:
+    def execute(self, state: Reached, op: Op) -> Iterator[Reached]:
         """Rule 5, where it is a read."""
         after = state._replace(executed=state.executed | {op.place})
         if op.kind != "Read":
@@ -95,13 +114,25 @@ class Rules:
         elif own[-1].place in state.executed:
             yield after._replace(reads=with_read(state.reads, op, own[-1].value))
 
-    def may_perform(self, state: State, op: Op) -> bool:
+    def may_perform(self, state: Reached, op: Op) -> bool:
         """Rule 2, and of rule 4 what speaks of writes."""
         same = same_address(self.earlier[op.place], op, "Read", "Write")
         return self.follows(state, op, "ctrl") and all(self.is_done(state, other) for other in same)
 
 
-def with_read(reads: tuple, op: Op, value: int) -> tuple:
+class OneMemory(Rules[State]):
+    """The rules over a memory that all cores see."""
+
+    def perform(self, state: State, op: Op) -> State:
+        return state._replace(
+            performed=state.performed | {op.place}, memory=replaced(state.memory, op.address, op.value)
+        )
+
+    def value_seen(self, state: State, op: Op) -> Value:
+        return dict(state.memory)[op.address]
+
+
+def with_read(reads: ReadValues, op: Op, value: Value) -> ReadValues:
     """The reads with one more, in test order: in which order they executed makes no other state."""
     return tuple(sorted(reads + ((op.place, value),)))
 

@@ -1,0 +1,454 @@
+#!/usr/bin/env python3
+"""Puts pipecheck under a prefix, updates what stands there, or takes it away. `install` calls it.
+
+    installer.py judge PREFIX                       whether it may be installed there; nothing is changed
+    installer.py install PREFIX PROGRAM VERSION     VERSION is the text of the file `version`
+    installer.py uninstall PREFIX
+
+An installation is a folder, its tree, PREFIX/lib/pipecheck.1 or PREFIX/lib/pipecheck.2. The link PREFIX/lib/pipecheck
+leads to the tree that is in use, and each command, page and completion is a link through that one. So an update makes the
+other tree, and one rename of that link puts it in use.
+
+The file `installed` of a tree lists the links, and the folders that were made for them. It stands before any of them is
+made, and goes after all of them. So what was ended halfway is known, and the next call takes it away.
+
+In the former layout the tree was PREFIX/lib/pipecheck itself, and the man page and the completion were files.
+"""
+import fcntl
+import io
+import os
+import shutil
+import signal
+import subprocess
+import sys
+from collections.abc import Iterator
+from contextlib import ExitStack, contextmanager, suppress
+from dataclasses import dataclass
+from types import FrameType
+from typing import NoReturn
+
+TOP = os.path.dirname(os.path.dirname(os.path.realpath(__file__)))
+
+IN_USE = "lib/pipecheck"
+TREES = ("lib/pipecheck.1", "lib/pipecheck.2")
+LIST = "installed"
+# each link, and the file of the tree that it leads to
+LINKS = {
+    "bin/pipecheck": "pipecheck",
+    "bin/pipecheck-suite": "examples/suite",
+    "share/man/man1/pipecheck.1": "man/pipecheck.1",
+    "share/man/man1/pipecheck-suite.1": "man/pipecheck-suite.1",
+    "share/bash-completion/completions/pipecheck": "script/completion.bash",
+    "share/zsh/site-functions/_pipecheck": "script/completion.zsh",
+    "share/fish/vendor_completions.d/pipecheck.fish": "script/completion.fish",
+}
+# how the files of the former layout begin
+FORMER = {
+    "share/man/man1/pipecheck.1": b".TH PIPECHECK 1 ",
+    "share/bash-completion/completions/pipecheck": b"# shellcheck shell=bash\n# Completion of `pipecheck` for bash.",
+}
+# what a tree has of the checkout, and what of that it has not: what builds and installs, and what Python keeps
+COPIED = ("README.md", "commands", "docs", "editors", "examples", "pipecheck", "reading", "script", "tests/machines")
+LEFT_OUT = {f"script/{name}" for name in ("build", "installer.py", "make_program.py", "manual", "preview.py", "processes.py")}
+LEFT_OUT_NAMES = {"__pycache__", ".gitignore"}
+
+
+class Refused(Exception):
+    """Nothing is changed, and why."""
+
+
+class Failed(Exception):
+    """A step failed, and why."""
+
+
+class Ended(Exception):
+    """A signal asks this program to end."""
+
+
+@dataclass(frozen=True)
+class Listing:
+    """What stands outside of a tree for it, by paths from the prefix: links or files, and folders that were made."""
+
+    files: frozenset[str] = frozenset()
+    folders: frozenset[str] = frozenset()
+
+    def __or__(self, other: "Listing") -> "Listing":
+        return Listing(self.files | other.files, self.folders | other.folders)
+
+    def text(self, tree: str) -> str:
+        """The list as it is kept; older installers know `file` and `tree`."""
+        lines = [f"file {name}" for name in sorted(self.files)] + [f"tree {tree}"]
+        return "".join(line + "\n" for line in lines + [f"made {name}" for name in sorted(self.folders)])
+
+
+def parents(name: str) -> list[str]:
+    """The folders that a path from the prefix goes through, the prefix first."""
+    parts = name.split("/")
+    return ["."] + ["/".join(parts[:k]) for k in range(1, len(parts))]
+
+
+FOLDERS = sorted({folder for name in (IN_USE, *LINKS) for folder in parents(name)}, key=lambda name: (name.count("/"), name))
+
+
+def is_below(name: str) -> bool:
+    """Whether a path from the prefix stays in it."""
+    return name != "" and not os.path.isabs(name) and ".." not in name.split("/")
+
+
+def write_new(path: str, text: str) -> None:
+    """A file with this text, in place of what has the name; no link is followed."""
+    with suppress(FileNotFoundError):
+        os.remove(path)
+    with open(path, "x", encoding="utf-8", errors="surrogateescape") as file:
+        file.write(text)
+
+
+def remove(path: str) -> bool:
+    """Takes away a file, a link or a folder, and says whether there was one."""
+    if os.path.isdir(path) and not os.path.islink(path):
+        shutil.rmtree(path)
+    elif os.path.lexists(path):
+        os.remove(path)
+    else:
+        return False
+    return True
+
+
+def copy(source: str, target: str) -> None:
+    """A file, or a folder with all that is not left out; what may be run stays so."""
+    if os.path.isdir(source):
+        os.makedirs(target, exist_ok=True)
+        for name in sorted(os.listdir(source)):
+            path = os.path.join(source, name)
+            if name not in LEFT_OUT_NAMES and os.path.relpath(path, TOP) not in LEFT_OUT:
+                copy(path, os.path.join(target, name))
+    else:
+        shutil.copyfile(source, target)
+        os.chmod(target, 0o755 if os.access(source, os.X_OK) else 0o644)
+
+
+def manual(name: str) -> str:
+    """The text of a man page."""
+    done = subprocess.run([os.path.join(TOP, "script", "manual"), name], stdout=subprocess.PIPE, check=False)
+    if done.returncode != 0:
+        raise Failed(f"the man page {name}(1) could not be made")
+    return done.stdout.decode("utf-8")
+
+
+class Prefix:
+    """A folder that is installed under. Names of files are paths from it."""
+
+    def __init__(self, path: str) -> None:
+        if os.path.islink(path) and not os.path.exists(path):
+            raise Refused(f"{path} is a link to what is not there")
+        self.path = os.path.realpath(path)
+        try:
+            self.path.encode("utf-8")
+        except UnicodeEncodeError as error:
+            raise Refused("no folder is taken whose path is not UTF-8: the program could not be called there") from error
+
+    def at(self, name: str) -> str:
+        """The whole path."""
+        return os.path.normpath(os.path.join(self.path, name))
+
+    def part(self, name: str) -> str:
+        """Where something is made before a rename gives it this name, or goes to after one took it."""
+        folder, base = os.path.split(self.at(name))
+        return os.path.join(folder, f".{base}.pipecheck-part")
+
+    # what stands there
+
+    def trees(self) -> list[str]:
+        """The trees that stand."""
+        return [
+            name
+            for name in (IN_USE, *TREES)
+            if not os.path.islink(self.at(name)) and os.path.isfile(os.path.join(self.at(name), LIST))
+        ]
+
+    def listing(self, tree: str) -> Listing:
+        """What the list of a tree says; of the former layout the folders are whole paths."""
+        files, folders = set(), set()
+        with open(os.path.join(self.at(tree), LIST), encoding="utf-8", errors="surrogateescape") as file:
+            for line in file.read().split("\n"):
+                kind, _, name = line.partition(" ")
+                if kind == "folder":
+                    kind, name = "made", os.path.relpath(os.path.realpath(name), self.path)
+                if is_below(name) and kind == "file":
+                    files.add(name)
+                elif is_below(name) and kind == "made" and not name.startswith(IN_USE):
+                    folders.add(name)
+        return Listing(frozenset(files), frozenset(folders))
+
+    def known(self) -> Listing:
+        """What the lists of all trees say."""
+        known = Listing()
+        for tree in self.trees():
+            known |= self.listing(tree)
+        return known
+
+    def led_to(self, name: str) -> str | None:
+        """The tree that a link leads to by its own words: IN_USE for one that goes through it."""
+        path = self.at(name)
+        if not os.path.islink(path):
+            return None
+        end = os.path.normpath(os.path.join(os.path.dirname(name), os.readlink(path)))
+        return next((tree for tree in (IN_USE, *TREES) if f"{end}/".startswith(f"{tree}/")), None)
+
+    def in_use(self) -> str | None:
+        """The tree that is in use."""
+        tree = self.led_to(IN_USE) or IN_USE
+        return tree if tree in self.trees() else None
+
+    def serves(self, tree: str) -> bool:
+        """Whether a link leads to the tree."""
+        return any(self.led_to(name) == tree for name in (IN_USE, *LINKS))
+
+    def is_ours(self, name: str, known: Listing) -> bool:
+        """Whether an installation made what has the name: a link into a tree, or a file of the former layout."""
+        path = self.at(name)
+        if os.path.islink(path) or not os.path.isfile(path):
+            return self.led_to(name) is not None
+        if name not in FORMER or name not in known.files:
+            return False
+        with open(path, "rb") as file:
+            return file.read(len(FORMER[name])) == FORMER[name]
+
+    def is_followed(self, name: str) -> bool:
+        """Whether a folder on the way to a name is a link, so that the name is another place's."""
+        return any(os.path.islink(self.at(folder)) for folder in parents(name)[1:])
+
+    def refuse_foreign(self) -> None:
+        """Refuses where something that is not of an installation stands in the way."""
+        for folder in FOLDERS:
+            path = self.at(folder)
+            if os.path.islink(path):
+                raise Refused(f"{path} is a link, so that what is installed there would stand elsewhere")
+            if os.path.lexists(path) and not os.path.isdir(path):
+                raise Refused(f"{path} is no folder")
+        for tree in (IN_USE, *TREES):
+            is_link_to_tree = tree == IN_USE and self.led_to(tree) in TREES
+            if os.path.lexists(self.at(tree)) and tree not in self.trees() and not is_link_to_tree:
+                raise Refused(f"{self.at(tree)} is not of an installation")
+        known = self.known()
+        for name in LINKS:
+            if os.path.lexists(self.at(name)) and not self.is_ours(name, known):
+                raise Refused(f"{self.at(name)} is not of an installation: it is left as it is")
+
+    # what is made
+
+    def put_list(self, tree: str, listing: Listing) -> None:
+        """Puts the list of a tree in its place by one rename, with the folders on the way that are not there."""
+        text = listing.text(tree)
+        if os.path.isdir(self.at(tree)):
+            path = os.path.join(self.at(tree), LIST)
+            write_new(f"{path}.part", text)
+            os.replace(f"{path}.part", path)
+            return
+        first = next(name for name in (".", "lib", tree) if not os.path.isdir(self.at(name)))
+        inner = os.path.join(self.part(first), os.path.relpath(tree, first))
+        os.makedirs(inner)
+        write_new(os.path.join(inner, LIST), text)
+        os.rename(self.part(first), self.at(first))
+
+    def fill(self, tree: str, program: str, version: str) -> None:
+        """Makes all of a tree but its list."""
+        folder = self.at(tree)
+        for name in os.listdir(folder):
+            if name != LIST:
+                remove(os.path.join(folder, name))
+        for name in COPIED:
+            os.makedirs(os.path.dirname(os.path.join(folder, name)), exist_ok=True)
+            copy(os.path.join(TOP, name), os.path.join(folder, name))
+        copy(program, os.path.join(folder, "pipecheck_cli"))
+        write_new(os.path.join(folder, "version"), version + "\n")
+        os.mkdir(os.path.join(folder, "man"))
+        for name in ("pipecheck", "pipecheck-suite"):
+            write_new(os.path.join(folder, "man", f"{name}.1"), manual(name))
+
+    def put_link(self, name: str, end: str) -> None:
+        """Puts a link in its place by one rename; its end is a path from the prefix."""
+        path, text = self.at(name), os.path.relpath(end, os.path.dirname(name))
+        if os.path.islink(path) and os.readlink(path) == text:
+            return
+        os.makedirs(os.path.dirname(path), exist_ok=True)
+        with suppress(FileNotFoundError):
+            os.remove(self.part(name))
+        os.symlink(text, self.part(name))
+        os.replace(self.part(name), path)
+
+    def put_in_use(self, tree: str) -> None:
+        """Has the links lead to the tree. One rename decides, but where the former layout stands: there each link leads
+        to the tree of its own, and the former one makes room."""
+        is_former = os.path.isdir(self.at(IN_USE)) and not os.path.islink(self.at(IN_USE))
+        way = tree if is_former or any(self.led_to(name) == tree for name in LINKS) else IN_USE
+        for name, file in LINKS.items():
+            self.put_link(name, f"{way}/{file}")
+        if is_former:
+            other = next(name for name in TREES if name != tree)
+            self.take_tree(other, Listing())
+            os.rename(self.at(IN_USE), self.at(other))
+        self.put_link(IN_USE, tree)
+        for name, file in LINKS.items():
+            self.put_link(name, f"{IN_USE}/{file}")
+
+    # what is taken away
+
+    def take_file(self, name: str, known: Listing) -> None:
+        """Takes away a link, or a file of the former layout; what is of another is left."""
+        if self.is_followed(name):
+            print(f"install: {self.at(name)} stands behind a link: it is left as it is", file=sys.stderr)
+            return
+        with suppress(FileNotFoundError):
+            os.remove(self.part(name))
+        if self.is_ours(name, known):
+            os.remove(self.at(name))
+        elif os.path.lexists(self.at(name)):
+            print(f"install: {self.at(name)} is not of an installation: it is left as it is", file=sys.stderr)
+
+    def take_tree(self, tree: str, listing: Listing) -> None:
+        """Takes away a tree by one rename, with the folders around it that the list has and that hold nothing else."""
+        if tree not in self.trees():
+            return
+        whole = [tree]
+        for folder, only in (("lib", os.path.basename(tree)), (".", "lib")):
+            if folder not in listing.folders or os.listdir(self.at(folder)) != [only]:
+                break
+            whole.append(folder)
+        while True:
+            first = whole.pop()
+            try:
+                os.rename(self.at(first), self.part(first))
+                break
+            except OSError:
+                # as where the folder around the prefix may not be written
+                if not whole:
+                    raise
+        remove(self.part(first))
+
+    def take_parts(self) -> bool:
+        """Takes away what a call that was ended had not given its name, and says whether there was something."""
+        return any([remove(self.part(name)) for name in (".", "lib", IN_USE, *TREES)])
+
+    def take_all_but(self, kept: str | None, stays: Listing) -> None:
+        """Takes away what the lists have and is not to stay, and all trees but the kept one, if any is kept."""
+        known = self.known()
+        others = [tree for tree in self.trees() if tree != kept]
+        if kept is None and others:
+            # one list has all of it to the end
+            self.put_list(others[0], known)
+            for tree in others[1:]:
+                self.take_tree(tree, Listing())
+        for name in sorted(known.files - stays.files):
+            self.take_file(name, known)
+        for folder in sorted(known.folders - stays.folders - {".", "lib"}, key=lambda name: -name.count("/")):
+            if not self.is_followed(f"{folder}/."):
+                with suppress(OSError):
+                    os.rmdir(self.at(folder))
+        if kept is None and os.path.islink(self.at(IN_USE)) and self.led_to(IN_USE):
+            os.remove(self.at(IN_USE))
+        for tree in others[:1] if kept is None else others:
+            self.take_tree(tree, known)
+
+    # the three calls
+
+    def install(self, program: str, version: str) -> None:
+        """Installs or updates."""
+        os.makedirs(os.path.dirname(self.path), exist_ok=True)
+        with self.alone():
+            self.refuse_foreign()
+            self.take_parts()
+            for tree in TREES:
+                if any(self.led_to(name) == tree for name in LINKS):
+                    # a call was ended while it left the former layout
+                    self.put_in_use(tree)
+            in_use = self.in_use()
+            fresh = next(tree for tree in TREES if tree != in_use)
+            made = frozenset(folder for folder in FOLDERS if not os.path.isdir(self.at(folder)))
+            known = self.known() | Listing(frozenset(LINKS), made)
+            try:
+                self.put_list(fresh, known)
+                self.fill(fresh, program, version)
+                self.put_in_use(fresh)
+            except BaseException:
+                if not self.serves(fresh):
+                    with suppress(OSError):
+                        self.take_all_but(in_use, self.listing(in_use) if in_use else Listing())
+                raise
+            stays = Listing(frozenset(LINKS), known.folders)
+            self.take_all_but(fresh, stays)
+            self.put_list(fresh, stays)
+
+    def uninstall(self) -> None:
+        """Takes away what is installed, and what an install that was ended left."""
+        if not os.path.isdir(os.path.dirname(self.path)):
+            raise Refused(f"nothing is installed under {self.path}")
+        with self.alone():
+            had_parts = self.take_parts()
+            if not self.trees():
+                if not had_parts:
+                    raise Refused(f"nothing is installed under {self.path}")
+                return
+            self.take_all_but(None, Listing())
+
+    @contextmanager
+    def alone(self) -> Iterator[None]:
+        """One call at a time works on a prefix: the folder around it is locked."""
+        with ExitStack() as stack:
+            # a folder that may not be read, or is of another machine, may not be locked
+            with suppress(OSError):
+                folder = os.open(os.path.dirname(self.path), os.O_RDONLY)
+                stack.callback(os.close, folder)
+                try:
+                    fcntl.flock(folder, fcntl.LOCK_EX | fcntl.LOCK_NB)
+                except BlockingIOError:
+                    print(f"install: another call works in {os.path.dirname(self.path)}: waiting for it", file=sys.stderr)
+                    fcntl.flock(folder, fcntl.LOCK_EX)
+            yield
+
+
+def end(number: int, _: FrameType | None) -> NoReturn:
+    """What a signal does: what was begun is taken away before the program ends."""
+    raise Ended(number)
+
+
+def tell_installed(prefix: Prefix) -> None:
+    """Says what is there now."""
+    print(f"installed under {prefix.path}: pipecheck, pipecheck-suite, their man pages, completion for bash, zsh and fish")
+    if prefix.at("bin") not in [os.path.realpath(folder) for folder in os.environ.get("PATH", "").split(":")]:
+        print(f"{prefix.at('bin')} is not in PATH")
+
+
+def main(work: str, path: str, *words: str) -> int:
+    """Does one of the three, and says what hinders it."""
+    try:
+        prefix = Prefix(path)
+        if work == "judge":
+            prefix.refuse_foreign()
+        elif work == "install":
+            prefix.install(*words)
+            tell_installed(prefix)
+        else:
+            prefix.uninstall()
+            print(f"removed from {prefix.path}")
+    except (Refused, Failed) as problem:
+        print(f"install: {problem}", file=sys.stderr)
+    except OSError as error:
+        print(f"install: {error.filename2 or error.filename or path}: {error.strerror}", file=sys.stderr)
+    except Ended as signalled:
+        return 128 + int(signalled.args[0])
+    else:
+        return 0
+    return 1
+
+
+if __name__ == "__main__":
+    os.umask(0o022)
+    for stream in (sys.stdout, sys.stderr):
+        # a name need not be UTF-8
+        if isinstance(stream, io.TextIOWrapper):
+            stream.reconfigure(errors="surrogateescape")
+    for signal_number in (signal.SIGHUP, signal.SIGINT, signal.SIGTERM):
+        if signal.getsignal(signal_number) != signal.SIG_IGN:
+            signal.signal(signal_number, end)
+    sys.exit(main(*sys.argv[1:]))

@@ -1,0 +1,29 @@
+# Prints what zsh offers for the last word of a line, one a line.
+#
+#     zsh -f completes.zsh FOLDER LINE      FOLDER has the function _pipecheck
+#
+# A shell on a terminal of its own completes the line by a widget, and `compadd` says what it is given.
+zmodload zsh/zpty
+zpty line zsh -f -i
+zpty -w line "PS1= PS2= fpath=(${(q)1} \$fpath); autoload -Uz compinit && compinit -u -D; setopt no_beep zle
+compadd() {
+    [[ \${@[1,(i)(-|--)]} != *-(O|A|D)\ * ]] || { builtin compadd \"\$@\"; return }
+    local -a found
+    builtin compadd -A found \"\$@\"
+    print -rl -- 'candidate '\$^found
+    builtin compadd \"\$@\"
+}
+show() { print begin; _main_complete; print end; zle kill-buffer }
+zle -C show complete-word show
+bindkey '^I' show
+print ready"
+local text
+while zpty -r line text; do [[ $text != *ready* ]] || break; done
+zpty -w -n line "$2"$'\t'
+while zpty -r line text; do
+    case $text in
+    (*candidate\ *) print -r -- "${${text##*candidate }%%[$'\r\n']*}" ;;
+    (*end*) break ;;
+    esac
+done
+zpty -d line
