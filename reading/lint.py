@@ -1,7 +1,7 @@
 #!/usr/bin/env python3
-"""Lists what in a model, and in tests that are to be run on it, may change the question without a word.
+"""Lists what in a model, and in tests and queries that are to be asked of it, may change the question without a word.
 
-    lint.py MODEL [TEST..]
+    lint.py MODEL [TEST..] [QUERY..]
 
 Each slip is a line `FILE:LINE:COLUMN: KIND: ..` on standard output, and so is a refused file, with the fault's word. The
 exit status is 0 where there is no slip, 1 where there are some, 3 where a file is refused, 4 where one cannot be read, 5
@@ -10,14 +10,19 @@ where standard output could not be written, and 125 where this program fails.
 import os
 import re
 import sys
+from bisect import bisect_right
+from functools import lru_cache
 
-from second.linting import TestFile, read_test, slips
+from second.linting import QueryFile, TestFile, read_query_file, read_test, slips
 from second.models import Model
+from second.queries import InModel
 from second.scopes import read_model
 from second.standard_output import status_of
 from second.tokens import Fault
 
 LIMIT = 1_048_576
+# how the name of a query ends; any other file is a test, a listing or a pattern
+QUERY = ".query"
 PAGE = os.path.join(os.path.dirname(os.path.dirname(os.path.realpath(__file__))), "docs", "faults.md")
 
 
@@ -46,10 +51,17 @@ def sentence(kind: str, word: str) -> str:
     return found.group(1) if found else ""
 
 
+@lru_cache(maxsize=None)
+def line_starts(text: bytes) -> list[int]:
+    """Where the lines of a text begin. A text of many slips is cut once."""
+    return [0, *(match.end() for match in re.finditer(b"\n", text))]
+
+
 def line_of(path: str, text: bytes, at: int, rest: str) -> str:
     """A line about a place, which is a number of bytes."""
-    before = text[:at].split(b"\n")
-    return f"{path}:{len(before)}:{len(before[-1]) + 1}: {rest}"
+    starts = line_starts(text)
+    line = bisect_right(starts, at)
+    return f"{path}:{line}:{at - starts[line - 1] + 1}: {rest}"
 
 
 class Files:
@@ -67,22 +79,41 @@ class Files:
                 raise Fault("too-large", 0)
             return read_model(text) if kind == "model" else read_test(path, text)
         except Fault as fault:
-            self.is_refused = True
-            print(line_of(path, text, fault.place, f"{fault.word}: {sentence(kind, fault.word)}"))
+            self.tell(kind, path, fault)
             return None
 
+    def read_query(self, path: str, model_path: str, model: Model) -> QueryFile | None:
+        """A query beside its model; None where it is refused, which is told: of the model where the fault is there."""
+        text = self.texts[path] = contents(path)
+        try:
+            if len(text) > LIMIT:
+                raise Fault("too-large", 0)
+            return read_query_file(path, text, model)
+        except Fault as fault:
+            self.tell("model", model_path if isinstance(fault, InModel) else path, fault)
+            return None
 
-def main(model_path: str, *test_paths: str) -> int:
+    def tell(self, kind: str, path: str, fault: Fault) -> None:
+        """The line of a fault."""
+        self.is_refused = True
+        print(line_of(path, self.texts[path], fault.place, f"{fault.word}: {sentence(kind, fault.word)}"))
+
+
+def main(model_path: str, *paths: str) -> int:
     """Writes the lines and answers the exit status."""
     files = Files()
     try:
         model = files.read("model", model_path)
-        tests = [test for test in (files.read("test", path) for path in test_paths) if isinstance(test, TestFile)]
+        found = [files.read("test", path) for path in paths if not path.endswith(QUERY)]
+        tests = [test for test in found if isinstance(test, TestFile)]
+        asked = [path for path in paths if path.endswith(QUERY)]
+        read = [files.read_query(path, model_path, model) for path in asked] if isinstance(model, Model) else []
+        queries = [query for query in read if query is not None]
     except Unreadable:
         return 4
     count = 0
     if isinstance(model, Model):
-        for slip in slips(model_path, files.texts[model_path], model, tests):
+        for slip in slips(model_path, files.texts[model_path], model, tests, queries):
             print(line_of(slip.path, files.texts[slip.path], slip.at, f"{slip.kind}: {slip.sentence}"))
             count += 1
     if files.is_refused:

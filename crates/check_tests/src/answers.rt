@@ -30,6 +30,27 @@ Axiom \"x\": forall microops \"i\", AddEdge ((i, S), (i, T))
   /\\ (AddEdge ((i, T), (i, S)) \\/ AddEdges [((i, T), (i, U)); ((i, U), (i, S))]).
 ";
 
+/// The choices of `BOTH_OPEN`, after one that has nothing to do with them and stays open on both sides.
+const FREE_FIRST: &str =
+    "StageName 0 \"S\". StageName 1 \"T\". StageName 2 \"U\". StageName 3 \"V\".
+Axiom \"x\": forall microops \"i\",
+  (AddEdge ((i, S), (i, V)) \\/ AddEdge ((i, T), (i, V)))
+  /\\ (AddEdge ((i, S), (i, T)) \\/ AddEdge ((i, S), (i, U)))
+  /\\ (AddEdges [((i, T), (i, S)); ((i, U), (i, S))]
+    \\/ AddEdges [((i, T), (i, U)); ((i, U), (i, S))]).
+";
+
+/// The choices of `BOTH_OPEN`, after one whose left side is closed at once and whose right side has nothing to do with
+/// them.
+const CLOSED_FIRST: &str =
+    "StageName 0 \"S\". StageName 1 \"T\". StageName 2 \"U\". StageName 3 \"V\".
+Axiom \"x\": forall microops \"i\",
+  (AddEdge ((i, V), (i, V)) \\/ AddEdge ((i, S), (i, V)))
+  /\\ (AddEdge ((i, S), (i, T)) \\/ AddEdge ((i, S), (i, U)))
+  /\\ (AddEdges [((i, T), (i, S)); ((i, U), (i, S))]
+    \\/ AddEdges [((i, T), (i, U)); ((i, U), (i, S))]).
+";
+
 /// A model and a test, and how a check of them ends.
 const VERDICTS: &[(&'static str, &'static str, Status, &'static str)] = &[
     (
@@ -154,6 +175,20 @@ const VERDICTS: &[(&'static str, &'static str, Status, &'static str)] = &[
         Status::Unobservable,
         "unobservable\ntest unstated\nsplit 6\ncycle 0.0@0:S 0.0@0:T\ncycle 0.0@0:S 0.0@0:T 0.0@0:U\nend\n",
     ),
+    // a split that both sides are closed without is left out
+    (
+        FREE_FIRST,
+        ONE,
+        Status::Unobservable,
+        "unobservable\ntest unstated\nsplit 5\nsplit 8\ncycle 0.0@0:S 0.0@0:T\ncycle 0.0@0:S 0.0@0:T 0.0@0:U\nsplit 8\ncycle 0.0@0:S 0.0@0:U\ncycle 0.0@0:S 0.0@0:U\nend\n",
+    ),
+    // so is one whose right side is closed without it
+    (
+        CLOSED_FIRST,
+        ONE,
+        Status::Unobservable,
+        "unobservable\ntest unstated\nsplit 5\nsplit 8\ncycle 0.0@0:S 0.0@0:T\ncycle 0.0@0:S 0.0@0:T 0.0@0:U\nsplit 8\ncycle 0.0@0:S 0.0@0:U\ncycle 0.0@0:S 0.0@0:U\nend\n",
+    ),
 ];
 
 #[test]
@@ -165,6 +200,22 @@ fn a_verdict_comes_with_its_certificate(rt: HostRuntime) -> Result<(), Fail> {
             ends_over(rt.alloc(), "check model test", contents, (&[], &[]), end)?,
             "{text}"
         );
+    }
+    Ok(())
+}
+
+/// The models of which a split is left out, and their refutation in version 2.
+const SIGNED: &[&'static str] = &[FREE_FIRST, CLOSED_FIRST];
+
+#[test]
+fn a_split_is_left_out_in_version_2_too(rt: HostRuntime) -> Result<(), Fail> {
+    let end = (
+        Status::Unobservable,
+        "unobservable\ntest unstated\nversion 2\nsplit 5\nsplit 8\ncycle 0.0@0:S 0.0@0:T\ncycle 0.0@0:S 0.0@0:T 0.0@0:U\nsplit 8\ncycle 0.0@0:S 0.0@0:U\ncycle 0.0@0:S 0.0@0:U\nend\n",
+    );
+    for model in SIGNED {
+        let contents = &[("model", *model), ("test", ONE)];
+        assert!(rt; ends_over(rt.alloc(), "check2 model test", contents, (&[], &[]), end)?);
     }
     Ok(())
 }

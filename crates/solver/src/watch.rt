@@ -114,6 +114,19 @@ impl Drop for Watching {
 }
 
 impl Watching {
+    /// What was put.
+    fn into_items(self) -> Vec<Watched> {
+        let Watching {
+            version: _,
+            pairs: _,
+            items,
+            outer: _,
+            end: _,
+            is_small: _,
+        } = self;
+        items
+    }
+
     fn put(&mut self, list: u32, other: u32, position: usize) -> Result<(), Memory> {
         let outer = self.outer;
         self.items.push(Watched {
@@ -181,65 +194,23 @@ impl Watching {
     }
 }
 
-/// By what a list of `Watched` is sorted.
-fn key_of(watched: Watched, by_list: bool) -> usize {
-    if by_list {
-        watched.list as usize
-    } else {
-        watched.other as usize
-    }
+/// By what all are sorted: the list, and on it the other node. Those of one key keep the order of their positions.
+fn key_of(watched: &Watched) -> (u32, u32) {
+    (watched.list, watched.other)
 }
 
-/// Counts one at `k`, and returns what stood there.
-fn count_at(counts: &mut [usize], k: usize) -> usize {
-    if k >= counts.len() {
-        return 0;
+/// Where each of so many lists begins among these, which are in order of their lists, with one place more for the end.
+fn starts_among(alloc: Global, items: &[Watched], lists: usize) -> Result<Vec<usize>, Memory> {
+    let mut starts = Vec::new(alloc);
+    for k in 0..items.len() {
+        for _ in starts.len()..(items[k].list as usize).saturating_add(1).min(lists) {
+            starts.push(k)?;
+        }
     }
-    let count = counts[k];
-    counts[k] = count.saturating_add(1);
-    count
-}
-
-/// Replaces each count by the sum of those up to it.
-fn add_up(counts: &mut [usize]) {
-    let mut sum: usize = 0;
-    for k in 0..counts.len() {
-        sum = sum.saturating_add(counts[k]);
-        counts[k] = sum;
+    for _ in starts.len()..lists.saturating_add(1) {
+        starts.push(items.len())?;
     }
-}
-
-fn set_at(items: &mut [Watched], k: usize, watched: Watched) {
-    if k < items.len() {
-        items[k] = watched;
-    }
-}
-
-/// The same in order of their keys below `count`, and where they have one in the order that they had. Returns too where
-/// those of each key begin, with one place more for the end. It counts the keys (Seward 1954).
-fn sorted(
-    alloc: Global,
-    items: &[Watched],
-    count: usize,
-    by_list: bool,
-) -> Result<(Vec<Watched>, Vec<usize>), Memory> {
-    let mut starts: Vec<usize> = vec![in alloc; 0; count.saturating_add(2)]?;
-    for watched in items {
-        let _count = count_at(&mut starts, key_of(*watched, by_list).saturating_add(2));
-    }
-    add_up(&mut starts);
-    let nothing = Watched {
-        list: 0,
-        other: 0,
-        position: 0,
-        outer: 0,
-    };
-    let mut all: Vec<Watched> = vec![in alloc; nothing; items.len()]?;
-    for watched in items {
-        let place = count_at(&mut starts, key_of(*watched, by_list).saturating_add(1));
-        set_at(&mut all, place, *watched);
-    }
-    Ok((all, starts))
+    Ok(starts)
 }
 
 impl Watch {
@@ -273,9 +244,9 @@ impl Watch {
         for p in 0..rows.len() {
             watching.look_at(rows, p)?;
         }
-        let (by_other, _) = sorted(alloc, &watching.items, nodes as usize, false)?;
-        let lists = LISTS as usize * nodes as usize;
-        let (items, starts) = sorted(alloc, &by_other, lists, true)?;
+        let mut items = watching.into_items();
+        items.sort_by_key(key_of)?;
+        let starts = starts_among(alloc, &items, LISTS as usize * nodes as usize)?;
         Ok(Watch { starts, items })
     }
 
