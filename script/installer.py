@@ -5,14 +5,9 @@
     installer.py install PREFIX PROGRAM VERSION     VERSION is the text of the file `version`
     installer.py uninstall PREFIX
 
-An installation is a folder, its tree, PREFIX/lib/pipecheck.1 or PREFIX/lib/pipecheck.2. The link PREFIX/lib/pipecheck
-leads to the tree that is in use, and each command, page and completion is a link through that one. So an update makes the
-other tree, and one rename of that link puts it in use.
-
-The file `installed` of a tree lists the links, and the folders that were made for them. It stands before any of them is
-made, and goes after all of them. So what was ended halfway is known, and the next call takes it away.
-
-In the former layout the tree was PREFIX/lib/pipecheck itself, and the man page and the completion were files.
+installed.py says how an installation stands. An update makes the other tree, and one rename of the link puts it in use.
+The list of a tree stands before anything that it lists is made, and goes after all of it. So what was ended halfway is
+known, and the next call takes it away.
 """
 import fcntl
 import io
@@ -23,38 +18,18 @@ import subprocess
 import sys
 from collections.abc import Iterator
 from contextlib import ExitStack, contextmanager, suppress
-from dataclasses import dataclass
 from types import FrameType
 from typing import NoReturn
 
+from installed import FOLDERS, IN_USE, LINKS, LIST, TREES, Listing, Prefix, Refused
+
 TOP = os.path.dirname(os.path.dirname(os.path.realpath(__file__)))
 
-IN_USE = "lib/pipecheck"
-TREES = ("lib/pipecheck.1", "lib/pipecheck.2")
-LIST = "installed"
-# each link, and the file of the tree that it leads to
-LINKS = {
-    "bin/pipecheck": "pipecheck",
-    "bin/pipecheck-suite": "examples/suite",
-    "share/man/man1/pipecheck.1": "man/pipecheck.1",
-    "share/man/man1/pipecheck-suite.1": "man/pipecheck-suite.1",
-    "share/bash-completion/completions/pipecheck": "script/completion.bash",
-    "share/zsh/site-functions/_pipecheck": "script/completion.zsh",
-    "share/fish/vendor_completions.d/pipecheck.fish": "script/completion.fish",
-}
-# how the files of the former layout begin
-FORMER = {
-    "share/man/man1/pipecheck.1": b".TH PIPECHECK 1 ",
-    "share/bash-completion/completions/pipecheck": b"# shellcheck shell=bash\n# Completion of `pipecheck` for bash.",
-}
 # what a tree has of the checkout, and what of that it has not: what builds and installs, and what Python keeps
 COPIED = ("README.md", "commands", "docs", "editors", "examples", "pipecheck", "reading", "script", "tests/machines")
-LEFT_OUT = {f"script/{name}" for name in ("build", "installer.py", "make_program.py", "manual", "preview.py", "processes.py")}
+BUILDS = ("build", "make_program.py", "preview.py", "processes.py")
+LEFT_OUT = {f"script/{name}" for name in (*BUILDS, "installed.py", "installer.py", "manual")}
 LEFT_OUT_NAMES = {"__pycache__", ".gitignore"}
-
-
-class Refused(Exception):
-    """Nothing is changed, and why."""
 
 
 class Failed(Exception):
@@ -63,36 +38,6 @@ class Failed(Exception):
 
 class Ended(Exception):
     """A signal asks this program to end."""
-
-
-@dataclass(frozen=True)
-class Listing:
-    """What stands outside of a tree for it, by paths from the prefix: links or files, and folders that were made."""
-
-    files: frozenset[str] = frozenset()
-    folders: frozenset[str] = frozenset()
-
-    def __or__(self, other: "Listing") -> "Listing":
-        return Listing(self.files | other.files, self.folders | other.folders)
-
-    def text(self, tree: str) -> str:
-        """The list as it is kept; older installers know `file` and `tree`."""
-        lines = [f"file {name}" for name in sorted(self.files)] + [f"tree {tree}"]
-        return "".join(line + "\n" for line in lines + [f"made {name}" for name in sorted(self.folders)])
-
-
-def parents(name: str) -> list[str]:
-    """The folders that a path from the prefix goes through, the prefix first."""
-    parts = name.split("/")
-    return ["."] + ["/".join(parts[:k]) for k in range(1, len(parts))]
-
-
-FOLDERS = sorted({folder for name in (IN_USE, *LINKS) for folder in parents(name)}, key=lambda name: (name.count("/"), name))
-
-
-def is_below(name: str) -> bool:
-    """Whether a path from the prefix stays in it."""
-    return name != "" and not os.path.isabs(name) and ".." not in name.split("/")
 
 
 def write_new(path: str, text: str) -> None:
@@ -135,105 +80,8 @@ def manual(name: str) -> str:
     return done.stdout.decode("utf-8")
 
 
-class Prefix:
-    """A folder that is installed under. Names of files are paths from it."""
-
-    def __init__(self, path: str) -> None:
-        if os.path.islink(path) and not os.path.exists(path):
-            raise Refused(f"{path} is a link to what is not there")
-        self.path = os.path.realpath(path)
-        try:
-            self.path.encode("utf-8")
-        except UnicodeEncodeError as error:
-            raise Refused("no folder is taken whose path is not UTF-8: the program could not be called there") from error
-
-    def at(self, name: str) -> str:
-        """The whole path."""
-        return os.path.normpath(os.path.join(self.path, name))
-
-    def part(self, name: str) -> str:
-        """Where something is made before a rename gives it this name, or goes to after one took it."""
-        folder, base = os.path.split(self.at(name))
-        return os.path.join(folder, f".{base}.pipecheck-part")
-
-    # what stands there
-
-    def trees(self) -> list[str]:
-        """The trees that stand."""
-        return [
-            name
-            for name in (IN_USE, *TREES)
-            if not os.path.islink(self.at(name)) and os.path.isfile(os.path.join(self.at(name), LIST))
-        ]
-
-    def listing(self, tree: str) -> Listing:
-        """What the list of a tree says; of the former layout the folders are whole paths."""
-        files, folders = set(), set()
-        with open(os.path.join(self.at(tree), LIST), encoding="utf-8", errors="surrogateescape") as file:
-            for line in file.read().split("\n"):
-                kind, _, name = line.partition(" ")
-                if kind == "folder":
-                    kind, name = "made", os.path.relpath(os.path.realpath(name), self.path)
-                if is_below(name) and kind == "file":
-                    files.add(name)
-                elif is_below(name) and kind == "made" and not name.startswith(IN_USE):
-                    folders.add(name)
-        return Listing(frozenset(files), frozenset(folders))
-
-    def known(self) -> Listing:
-        """What the lists of all trees say."""
-        known = Listing()
-        for tree in self.trees():
-            known |= self.listing(tree)
-        return known
-
-    def led_to(self, name: str) -> str | None:
-        """The tree that a link leads to by its own words: IN_USE for one that goes through it."""
-        path = self.at(name)
-        if not os.path.islink(path):
-            return None
-        end = os.path.normpath(os.path.join(os.path.dirname(name), os.readlink(path)))
-        return next((tree for tree in (IN_USE, *TREES) if f"{end}/".startswith(f"{tree}/")), None)
-
-    def in_use(self) -> str | None:
-        """The tree that is in use."""
-        tree = self.led_to(IN_USE) or IN_USE
-        return tree if tree in self.trees() else None
-
-    def serves(self, tree: str) -> bool:
-        """Whether a link leads to the tree."""
-        return any(self.led_to(name) == tree for name in (IN_USE, *LINKS))
-
-    def is_ours(self, name: str, known: Listing) -> bool:
-        """Whether an installation made what has the name: a link into a tree, or a file of the former layout."""
-        path = self.at(name)
-        if os.path.islink(path) or not os.path.isfile(path):
-            return self.led_to(name) is not None
-        if name not in FORMER or name not in known.files:
-            return False
-        with open(path, "rb") as file:
-            return file.read(len(FORMER[name])) == FORMER[name]
-
-    def is_followed(self, name: str) -> bool:
-        """Whether a folder on the way to a name is a link, so that the name is another place's."""
-        return any(os.path.islink(self.at(folder)) for folder in parents(name)[1:])
-
-    def refuse_foreign(self) -> None:
-        """Refuses where something that is not of an installation stands in the way."""
-        for folder in FOLDERS:
-            path = self.at(folder)
-            if os.path.islink(path):
-                raise Refused(f"{path} is a link, so that what is installed there would stand elsewhere")
-            if os.path.lexists(path) and not os.path.isdir(path):
-                raise Refused(f"{path} is no folder")
-        for tree in (IN_USE, *TREES):
-            is_link_to_tree = tree == IN_USE and self.led_to(tree) in TREES
-            if os.path.lexists(self.at(tree)) and tree not in self.trees() and not is_link_to_tree:
-                raise Refused(f"{self.at(tree)} is not of an installation")
-        known = self.known()
-        for name in LINKS:
-            if os.path.lexists(self.at(name)) and not self.is_ours(name, known):
-                raise Refused(f"{self.at(name)} is not of an installation: it is left as it is")
+class Installation(Prefix):
+    """A prefix that is changed."""
 
     # what is made
 
@@ -394,15 +242,16 @@ class Prefix:
     @contextmanager
     def alone(self) -> Iterator[None]:
         """One call at a time works on a prefix: the folder around it is locked."""
+        around = os.path.dirname(self.path)
         with ExitStack() as stack:
             # a folder that may not be read, or is of another machine, may not be locked
             with suppress(OSError):
-                folder = os.open(os.path.dirname(self.path), os.O_RDONLY)
+                folder = os.open(around, os.O_RDONLY)
                 stack.callback(os.close, folder)
                 try:
                     fcntl.flock(folder, fcntl.LOCK_EX | fcntl.LOCK_NB)
                 except BlockingIOError:
-                    print(f"install: another call works in {os.path.dirname(self.path)}: waiting for it", file=sys.stderr)
+                    print(f"install: another call works in {around}: waiting for it", file=sys.stderr)
                     fcntl.flock(folder, fcntl.LOCK_EX)
             yield
 
@@ -414,7 +263,8 @@ def end(number: int, _: FrameType | None) -> NoReturn:
 
 def tell_installed(prefix: Prefix) -> None:
     """Says what is there now."""
-    print(f"installed under {prefix.path}: pipecheck, pipecheck-suite, their man pages, completion for bash, zsh and fish")
+    names = "pipecheck, pipecheck-suite, their man pages, completion for bash, zsh and fish"
+    print(f"installed under {prefix.path}: {names}")
     if prefix.at("bin") not in [os.path.realpath(folder) for folder in os.environ.get("PATH", "").split(":")]:
         print(f"{prefix.at('bin')} is not in PATH")
 
@@ -422,7 +272,7 @@ def tell_installed(prefix: Prefix) -> None:
 def main(work: str, path: str, *words: str) -> int:
     """Does one of the three, and says what hinders it."""
     try:
-        prefix = Prefix(path)
+        prefix = Installation(path)
         if work == "judge":
             prefix.refuse_foreign()
         elif work == "install":

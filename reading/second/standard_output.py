@@ -38,7 +38,7 @@ class Output(io.TextIOWrapper):
 
 def status_of(main: Callable[..., int], words: Sequence[str]) -> int:
     """Calls a command with its words. The status is its own, UNWRITTEN where standard output is closed or does not take
-    all of it, and FAILED where the command fails: Python's own status for that is 1, which other commands mean by it."""
+    all of it, and FAILED where the command fails: Python's own status for that is 1, which is an answer here."""
     sys.setrecursionlimit(DEPTH)
     # a reader that goes away ends this program quietly, as other filters do
     signal.signal(signal.SIGPIPE, signal.SIG_DFL)
