@@ -54,7 +54,10 @@ fn is_judged(
 #[test]
 fn what_failed_leads_the_search(rt: HostRuntime) -> Result<(), Fail> {
     for (command, test, head, end) in JUDGED {
-        assert!(rt; is_judged(rt.alloc(), command, test, head, *end)?, "{command}: {head}");
+        assert!(rt;
+            is_judged(rt.alloc(), command, test, head, *end)?,
+            "{command}: {head}"
+        );
     }
     Ok(())
 }

@@ -2,8 +2,8 @@
 ghost use Rattle.std.specs.Prelude.{◌≡◌, ◌<◌};
 
 use example_texts::{
-    BOTH_OR_ONE, CHOICES_AND_CORE, EITHER_AND, EITHER_ORDER, EMPTY, ONE, SEVEN_AND_A_FENCE, SOME_OP,
-    TWO_FORBIDDEN,
+    BOTH_OR_ONE, CHOICES_AND_CORE, EITHER_AND, EITHER_ORDER, EMPTY, ONE, SEVEN_AND_A_FENCE,
+    SOME_OP, TWO_FORBIDDEN,
 };
 use pc_common::Memory;
 use pc_front::front;
