@@ -37,7 +37,7 @@ SUITE = os.path.join(TOP, "examples", "suite")
 MODEL = os.path.join(TOP, "examples", "models", "tutorial.uspec")
 TEST = os.path.join(TOP, "examples", "tests", "MP.test")
 # how long a process may take to come to where it is looked at
-PATIENCE = 30.0
+PATIENCE = 120.0
 
 
 class Cases:
