@@ -231,7 +231,7 @@ def ends(cases: Cases) -> None:
             process.send_signal(signal.SIGTERM)
             process.wait(PATIENCE)
         ends_waiting(cases, kept, environment)
-        ends_by_force(cases, folder)
+        limits(cases, folder)
         ends_build(cases, folder)
 
 
@@ -248,22 +248,23 @@ def ends_waiting(cases: Cases, kept: str, environment: dict[str, str]) -> None:
     cases.same("TERM ends a suite that waits for another one", (said, status), (wanted, -signal.SIGTERM))
 
 
-def ends_by_force(cases: Cases, folder: str) -> None:
-    """A program whose suite was ended by force goes on no longer than its limit of processor time: a second on one."""
-    checker = os.path.join(folder, "busy")
+def limits(cases: Cases, folder: str) -> None:
+    """A call has a limit of processor time, which holds where its suite was ended by force; one that stands is kept."""
+    checker = os.path.join(folder, "limited")
     with open(checker, "w", encoding="ascii") as file:
-        file.write("#!/bin/sh\n[ $# -gt 0 ] || exit 2\nwhile :; do :; done\n")
+        file.write('#!/bin/sh\n[ $# -gt 0 ] || exit 2\nulimit -S -t >"$0.limit"\n')
     os.chmod(checker, 0o755)
     kept = os.path.join(folder, "kept")
-    environment = {**os.environ, "PIPECHECK": checker, "SUITE_FOLDER": kept, "SUITE_SECONDS": "1"}
-    processors = os.sched_getaffinity(0)
-    os.sched_setaffinity(0, {min(processors)})
-    with subprocess.Popen([SUITE, MODEL, TEST], env=environment, stdout=subprocess.DEVNULL) as process:
-        is_there = wait_until(lambda: len(parts_in(folder)) > 0 and len(running(checker)) > 0)
-        process.kill()
-    os.sched_setaffinity(0, processors)
-    is_gone = wait_until(lambda: not running(checker))
-    cases.same("a program whose suite was ended by force ends", (is_there, is_gone), (True, True))
+    environment = {**os.environ, "PIPECHECK": checker, "SUITE_FOLDER": kept, "SUITE_SECONDS": "2.5"}
+    whole = 3 * len(os.sched_getaffinity(0)) + 1
+    for name, shell, wanted in (
+        ("3 seconds on each processor, and one more", 'exec "$@"', whole),
+        ("a lower limit that stands", 'ulimit -S -t 3; exec "$@"', 3),
+    ):
+        command = ["sh", "-c", shell, "sh", SUITE, MODEL, TEST]
+        subprocess.run(command, env=environment, stdout=subprocess.DEVNULL, check=False)
+        with open(f"{checker}.limit", encoding="ascii") as file:
+            cases.same(f"the processor time of a call: {name}", file.read(), f"{wanted}\n")
 
 
 def left_of(groups: set[int]) -> list[int]:
