@@ -38,7 +38,8 @@ def literal(noted: Noted) -> NamedFact:
 
 @dataclass(frozen=True)
 class Waiting:
-    """A right side whose left one is open: where its branch begins, its name, how many facts stand before it, it, its level."""
+    """A right side whose left one is open: where its branch begins, its name, how many facts stand before it, it, the level of
+    the split."""
 
     step: int
     name: str
@@ -89,8 +90,7 @@ class LiftedRefutation:
 
     def lines(self) -> Iterator[str]:
         """The steps. Of a split one side of which the test alone makes false, or a clash closes at once, a line says what the
-        other one adds, which goes on there. Of any other one the left branch stands one level further in, and then the right
-        one goes on."""
+        other one adds, which goes on there. Of any other one both branches follow, one level further in."""
         yield "The axioms are the first facts:"
         for number, axiom in enumerate(self.model.axioms):
             yield f"  {number}: {self.names.axiom(axiom)} at {self.names.place(axiom.at)}"
@@ -166,6 +166,9 @@ class LiftedRefutation:
         del self.facts[next_one.count :]
         self.level, self.here = next_one.level, next_one.step
         yield f"{self.indent()}{next_one.name}: {self.added(next_one.side)}"
+        # what splits the right side itself goes on with the choices of one formula
+        if self.steps[self.here] != f"split {next_one.count}":
+            self.level += 1
 
     # why a side cannot be
 

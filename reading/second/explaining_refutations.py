@@ -29,7 +29,7 @@ class Source:
 @dataclass(frozen=True)
 class Waiting:
     """A right side whose left one is open: where its branch begins, its name, what it asserts, how much of the trail is
-    its own, its level."""
+    its own, the level of the split."""
 
     step: int
     name: str
@@ -44,6 +44,11 @@ class Group:
 
     heading: str
     last: str
+
+
+def split_of(position: int, is_denied: bool) -> str:
+    """The step that splits a position."""
+    return f"split {'~' if is_denied else ''}{position}"
 
 
 class Refutation:
@@ -67,7 +72,7 @@ class Refutation:
 
     def lines(self) -> Iterator[str]:
         """The steps. Of a split one of whose sides closes at once a line says what the other one gives, which goes on there.
-        Of any other one the left branch stands one level further in, and then the right one goes on."""
+        Of any other one both branches follow, one level further in."""
         yield "Each split is a choice that the model leaves, and each branch ends in what cannot be:"
         if self.positions.constant is None:
             self.add([(0, False)], "")
@@ -114,7 +119,7 @@ class Refutation:
         last = self.group.last if self.group is not None and self.group.heading == heading else ""
         if not last:
             yield f"{self.indent()}{heading}:"
-        said, reason = self.said_of(other), self.reason(closed, closed_at, last)
+        said, reason = self.said_of(self.unknown(other)), self.reason(closed, closed_at, last)
         yield f"{self.indent()}  {step}{self.names.inside(self.origin_of(step))}: {said}, since {reason}"
         self.group = Group(heading, step)
         self.add(other, step)
@@ -136,6 +141,9 @@ class Refutation:
         self.take_back(next_one.mark)
         self.level, self.here = next_one.level, next_one.step
         yield from self.begin(next_one.name, next_one.side)
+        # what splits the right side itself goes on with the choices of one formula
+        if self.steps[self.here] != split_of(*next_one.side[-1]):
+            self.level += 1
 
     def origin_of(self, step: str) -> Origin | None:
         """Where the position that a step splits comes from."""
@@ -185,6 +193,15 @@ class Refutation:
         chain = nodes + nodes[:1] if word == "cycle" else nodes
         edges: list[Fact] = [(start, end, True) for start, end in zip(chain, chain[1:])]
         return edges if word == "cycle" else [*edges, (nodes[0], nodes[-1], False)]
+
+    def unknown(self, side: Side) -> Side:
+        """What of a side is no fact of the present branch; all of it where nothing else is."""
+        rows = self.positions.rows
+        return [
+            (position, is_denied)
+            for position, is_denied in side
+            if not (isinstance(row := rows[position], Leaf) and self.fact(row, is_denied) in self.facts)
+        ] or side
 
     # words
 

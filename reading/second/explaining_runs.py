@@ -43,6 +43,11 @@ class Run:
             "No edge is between micro-ops of two cores."
         origins = self.origins()
         yield from (self.edge(edge, origins) for edge in between)
+        asked = [edge for edge, origin in origins.items() if origin is not None and self.names.is_query(origin.axiom)]
+        if asked:
+            yield ""
+            yield "The edges that the query asks for:"
+            yield from (self.edge(edge, origins) for edge in asked)
 
     def table(self) -> list[str]:
         """One order of the run. Where the columns of all cores are wider than a line may be, each line names its core."""

@@ -49,6 +49,10 @@ class Names:
         """An axiom by its title."""
         return f'axiom "{axiom.title}"'
 
+    def is_query(self, _axiom: Axiom) -> bool:
+        """Whether an axiom is a query that is asked of the model, or its denial."""
+        return False
+
     def fact(self, fact: Fact) -> str:
         """A node or an edge in words."""
         start, end, wanted = fact

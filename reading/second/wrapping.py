@@ -1,4 +1,5 @@
 """Lines within a width: how wide they may be, how far in they may begin, and where a long one is broken."""
+import re
 import shutil
 import textwrap
 from typing import Iterable, Iterator
@@ -11,6 +12,10 @@ GAP = "   "
 STEP = 2
 # how much further in the rest of a long line stands
 FURTHER = 4
+# an order of two nodes, and a fact by its number: no line is broken inside, if it need not be
+NODE = r"(?:\(\w+, \w+\)\S*|\S+)"
+WHOLE = re.compile(rf"(?<!\S)(?<! before ){NODE} before {NODE}(?!\S)(?! before )|\bfact \d+")
+BOUND = "\x1f"
 # No line begins further in than this. The facts below a heading and the rest of a line stand further in than a branch does.
 MOST_INDENT = 40
 
@@ -34,10 +39,11 @@ def within(lines: Iterable[str], width: int) -> Iterator[str]:
 
 def broken(line: str, width: int) -> Iterator[str]:
     """The parts of a line that is too wide: broken before what says where something comes from, and then between words."""
-    text = line.lstrip(" ")
+    text = WHOLE.sub(lambda found: found[0].replace(" ", BOUND), line.lstrip(" "))
     first = line[: len(line) - len(text)]
     rest = " " * min(len(first) + FURTHER, width // 2)
     for number, part in enumerate(text.split(GAP)):
-        yield from textwrap.wrap(
+        lines = textwrap.wrap(
             part, width, initial_indent=rest if number else first, subsequent_indent=rest, break_on_hyphens=False
         )
+        yield from (one.replace(BOUND, " ") for one in lines)
