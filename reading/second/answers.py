@@ -60,9 +60,9 @@ class Asked:
 Answer = Union[Core, Asked]
 
 
-def is_answer(first_line: str) -> bool:
-    """Whether a text that begins so is an answer of `core` or of `ask`, if it is anything."""
-    return first_line.split(" ")[0] in ("core", "ask")
+def is_answer(data: bytes) -> bool:
+    """Whether a text is an answer of `core` or of `ask`, if it is anything."""
+    return data.startswith((b"core ", b"ask "))
 
 
 def read_answer(data: bytes, model: Model) -> Answer:

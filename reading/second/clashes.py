@@ -23,16 +23,18 @@ def clash_heading(names: Names, word: str, facts: list[Fact]) -> str:
 
 
 def clash_reason(names: Names, word: str, facts: list[Fact], new: Collection[Fact]) -> str:
-    """Why a side cannot be that adds the new ones of these facts. Where it only denies what the others say, they say so."""
-    denied = None if word == "cycle" else facts[-1]
-    if list(new) == [denied]:
-        return names.fact(facts[0]) if word == "absent" else names.chain(clash_nodes(word, facts))
-    if word == "absent" and list(new) == [facts[0]] and facts[0][1] is None:
-        return names.fact(facts[-1])
+    """Why a side cannot be that adds the new ones of these facts. Where it only denies what the others say, or says what they
+    deny, they say so."""
+    denial = None if word == "cycle" else facts[-1]
+    others = [fact for fact in facts if fact not in new]
     chain = names.chain(clash_nodes(word, facts))
+    if list(new) == [denial]:
+        return names.fact(others[0]) if word == "absent" else chain
+    if len(new) == 1 and others == [denial] and denial is not None and facts[0][:2] == denial[:2]:
+        return names.fact(denial)
     said = " and ".join(map(names.fact, new))
     if word == "cycle":
         return f"{said} closes a cycle: {chain}" if said else f"there is a cycle: {chain}"
     if word == "path":
-        said = f"{said} makes {chain}" if said else f"{chain} is asked for"
+        said = f"{said} makes {chain}" if said else ""
     return f"{said or f'{chain} is asked for'}, and {names.fact(facts[-1])}"
