@@ -249,7 +249,8 @@ class LiftedRefutation:
         facts = leaf.facts[::-1] if leaf.word == "absent" else leaf.facts
         known = [str(number) for number, _ in facts if number < len(self.facts)]
         new = [literal(noted) for number, noted in facts if number >= len(self.facts)]
-        by = f", fact{'s' if known[1:] else ''} {' and '.join(known)}" if known else ""
+        numbers = " and ".join([", ".join(known[:-1]), known[-1]] if known[1:] else known)
+        by = f", fact{'s' if known[1:] else ''} {numbers}" if known else ""
         return clash_reason(self.names, leaf.word, [literal(noted) for _, noted in facts], new) + by
 
     def falsity(self, noted: Noted) -> str:

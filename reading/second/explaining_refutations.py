@@ -3,7 +3,7 @@ from dataclasses import dataclass
 from typing import Iterator
 
 from .branches import branch_ends
-from .clashes import clash_heading, clash_reason
+from .clashes import clash_heading, clash_reason, is_long
 from .judging import VERSION_2, Signed
 from .naming import Fact, Names
 from .origins import Origin, TracedPositions
@@ -119,8 +119,9 @@ class Refutation:
         last = self.group.last if self.group is not None and self.group.heading == heading else ""
         if not last:
             yield f"{self.indent()}{heading}:"
-        said, reason = self.said_of(self.unknown(other)), self.reason(closed, closed_at, last)
+        said, (reason, *facts) = self.said_of(self.unknown(other)), self.reason(closed, closed_at, last)
         yield f"{self.indent()}  {step}{self.names.inside(self.origin_of(step))}: {said}, since {reason}"
+        yield from (f"{self.indent()}    {fact}" for fact in facts)
         self.group = Group(heading, step)
         self.add(other, step)
 
@@ -236,9 +237,10 @@ class Refutation:
         origin = self.positions.origins[source.position]
         return self.names.of_side(origin, source.side) if source.side else self.names.origin(origin)
 
-    def reason(self, side: Side, at: int, last: str) -> str:
-        """Why a side cannot be, which the step there closes, and where the facts come from that were there before it. What the
-        line above gives, which is of the split of this name, needs no word."""
+    def reason(self, side: Side, at: int, last: str) -> list[str]:
+        """Why a side cannot be, which the step there closes, and where the facts come from that were there before it: in one
+        line, or each in its own where they are many. What the line above gives, which is of the split of this name, needs no
+        word."""
         word, *written = self.steps[at].split(" ")
         mark = len(self.trail)
         self.add(side, "")
@@ -247,9 +249,15 @@ class Refutation:
         known = [fact for fact in facts if fact not in new]
         self.take_back(mark)
         text = clash_reason(self.names, word, facts, new)
+        if is_long(facts):
+            return [f"{text}:", *map(self.fact_line, known)]
         if not known or (last and all(self.facts[fact].side == last for fact in known)):
-            return text
-        return text + GAP + "; ".join(map(self.source, known))
+            return [text]
+        return [text + GAP + "; ".join(map(self.source, known))]
+
+    def fact_line(self, fact: Fact) -> str:
+        """A fact with where it comes from."""
+        return f"{self.names.fact(fact)}{GAP}{self.source(fact)}"
 
     def clash_lines(self, word: str, written: list[str]) -> Iterator[str]:
         """What clashes, and each of its facts with where it comes from."""
@@ -258,4 +266,4 @@ class Refutation:
             return
         facts = self.clash(word, written)
         yield f"{word}: {clash_heading(self.names, word, facts)}"
-        yield from (f"  {self.names.fact(fact)}{GAP}{self.source(fact)}" for fact in facts)
+        yield from (f"  {self.fact_line(fact)}" for fact in facts)

@@ -16,7 +16,7 @@ FURTHER = 4
 NODE = r"(?:\(\w+, \w+\)\S*|\S+)"
 WHOLE = re.compile(rf"(?<!\S)(?<! before ){NODE} before {NODE}(?!\S)(?! before )|\bfact \d+")
 BOUND = "\x1f"
-# No line begins further in than this. The facts below a heading and the rest of a line stand further in than a branch does.
+# No line begins further in than this. The facts below a split, and the rest of a long one, stand further in than a branch does.
 MOST_INDENT = 40
 
 
@@ -27,7 +27,7 @@ def width_of_output() -> int:
 
 def indent(level: int, width: int) -> str:
     """What stands before a line of a branch at this level, with room for what stands below it."""
-    most = min(MOST_INDENT, width // 2) - STEP - FURTHER
+    most = min(MOST_INDENT, width // 2) - 2 * STEP - FURTHER
     return " " * min(STEP * level, most - most % STEP)
 
 
@@ -39,9 +39,11 @@ def within(lines: Iterable[str], width: int) -> Iterator[str]:
 
 def broken(line: str, width: int) -> Iterator[str]:
     """The parts of a line that is too wide: broken before what says where something comes from, and then between words."""
-    text = WHOLE.sub(lambda found: found[0].replace(" ", BOUND), line.lstrip(" "))
+    text = line.lstrip(" ")
     first = line[: len(line) - len(text)]
     rest = " " * min(len(first) + FURTHER, width // 2)
+    room = width - len(rest)
+    text = WHOLE.sub(lambda found: found[0].replace(" ", BOUND) if len(found[0]) <= room else found[0], text)
     for number, part in enumerate(text.split(GAP)):
         lines = textwrap.wrap(
             part, width, initial_indent=rest if number else first, subsequent_indent=rest, break_on_hyphens=False
