@@ -10,10 +10,9 @@ where standard output could not be written, and 125 where this program fails.
 import os
 import re
 import sys
-from bisect import bisect_right
-from functools import lru_cache
 
 from second.linting import QueryFile, TestFile, read_query_file, read_test, slips
+from second.linting_lines import line_of
 from second.models import Model
 from second.queries import InModel
 from second.scopes import read_model
@@ -49,19 +48,6 @@ def sentence(kind: str, word: str) -> str:
     table = text.partition(f"| word of a {kind} |")[2].partition("\n\n")[0]
     found = re.search(rf"^\| [^|]*`{re.escape(word)}`[^|]* \| (.*) \|$", table, re.MULTILINE)
     return found.group(1) if found else ""
-
-
-@lru_cache(maxsize=None)
-def line_starts(text: bytes) -> list[int]:
-    """Where the lines of a text begin. A text of many slips is cut once."""
-    return [0, *(match.end() for match in re.finditer(b"\n", text))]
-
-
-def line_of(path: str, text: bytes, at: int, rest: str) -> str:
-    """A line about a place, which is a number of bytes."""
-    starts = line_starts(text)
-    line = bisect_right(starts, at)
-    return f"{path}:{line}:{at - starts[line - 1] + 1}: {rest}"
 
 
 class Files:

@@ -23,7 +23,7 @@ import time
 from dataclasses import dataclass
 from typing import Iterator, Optional
 
-from preview import Preview, form_of, previewing
+from preview import Preview, is_misuse, previewing
 from processes import SIGNALS, Ended, Process, end_by, running, stop_with
 
 # Lines of `rt` that say nothing of why a build failed.
@@ -164,7 +164,7 @@ def make(job: Job) -> None:
 
 
 def tell_begin(job: Job) -> None:
-    if job.words and form_of(job.top, job.words) is None:
+    if job.words and is_misuse(job.top, job.words):
         say("these words are no command, as the program will say when it is built: ./pipecheck help lists the forms")
     say(f"proving and building {len(job.crates)} crates, once; the first time 12 to 35 minutes on four processors")
 

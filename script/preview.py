@@ -15,21 +15,29 @@ from processes import Process, running
 MEMORY = 4 << 30
 
 
-def form_of(top: str, words: list[str]) -> Optional[list[str]]:
-    """What the words after the first are, by the form of the program's that they fit in the table of commands."""
+def forms_of(top: str, word: str) -> list[tuple[str, list[str]]]:
+    """The forms of a command by the table of commands: whose each is, and what the words after the first are."""
     with open(f"{top}/commands", encoding="utf-8") as table:
-        for line in table:
-            whose, word, after = [*line.split("|"), "", ""][:3]
-            kinds = after.split()
-            if words and whose == "program" and word == words[0] and len(kinds) == len(words) - 1:
-                return kinds
-    return None
+        rows = [line.split("|") for line in table]
+    return [(row[0], row[2].split()) for row in rows if len(row) > 2 and row[1] == word]
+
+
+def form_of(top: str, words: list[str]) -> Optional[list[str]]:
+    """What the words after the first are, by the form of the program's that they fit."""
+    fit = [kinds for whose, kinds in forms_of(top, words[0]) if whose == "program" and len(kinds) == len(words) - 1]
+    return fit[0] if fit else None
+
+
+def is_misuse(top: str, words: list[str]) -> bool:
+    """Whether the words are no command of the program, nor of the script, which judges its own."""
+    is_of_script = any(whose == "script" for whose, _ in forms_of(top, words[0]))
+    return not is_of_script and form_of(top, words) is None
 
 
 def trial(top: str, words: list[str]) -> Optional[list[str]]:
     """The command that runs the words without proofs, on copies of their files. There is none of what is no file, as a
     pipe: it may be read only once, and that is the program's."""
-    kinds = form_of(top, words)
+    kinds = form_of(top, words) if words else None
     if kinds is None:
         return None
     data: list[str] = []

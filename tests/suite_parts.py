@@ -1,7 +1,10 @@
 #!/usr/bin/env python3
-"""Tries the parts of examples/suite that need no program: how a model names its memory model, how words become a command,
-a table on a narrow terminal, what stands of an interrupted suite, a model without an axiom; and, with programs that answer
-nothing, that signals end all that runs. Prints a line for each case; the status is 1 where one fails."""
+"""Tries the parts of examples/suite that need no program.
+
+How a model names its memory model, how words become a command, a table on a narrow terminal, what stands of an
+interrupted suite, a model without an axiom; and, with programs that answer nothing, that signals end all that runs.
+Prints a line for each case; the status is 1 where one fails.
+"""
 import fcntl
 import os
 import pty
@@ -97,7 +100,8 @@ def commands(cases: Cases) -> None:
         try:
             cases.same(f"PIPECHECK is {quoted(value)}", command_of(value), "a refusal")
         except Refusal as refusal:
-            cases.same(f"PIPECHECK is {quoted(value)}", str(refusal).startswith("suite: PIPECHECK is no command: "), True)
+            is_told = str(refusal).startswith("suite: PIPECHECK is no command: ")
+            cases.same(f"PIPECHECK is {quoted(value)}", is_told, True)
 
 
 def tables(cases: Cases) -> None:
@@ -218,8 +222,8 @@ def ends(cases: Cases) -> None:
             cases.same(f"{number.name} ends a suite", (is_there, status), (True, -number))
             cases.same("... and its programs", (running(checker), left_of(groups)), ([], []))
             cases.same("... and leaves no part", parts_in(kept), [])
-        ignoring = 'trap "" HUP; exec "$@"'
-        with subprocess.Popen(["sh", "-c", ignoring, "sh", SUITE, MODEL, TEST], env=environment, stdout=subprocess.DEVNULL) as process:
+        ignoring = ["sh", "-c", 'trap "" HUP; exec "$@"', "sh", SUITE, MODEL, TEST]
+        with subprocess.Popen(ignoring, env=environment, stdout=subprocess.DEVNULL) as process:
             wait_until(lambda: len(running(checker)) > 0)
             process.send_signal(signal.SIGHUP)
             time.sleep(0.5)
@@ -227,6 +231,7 @@ def ends(cases: Cases) -> None:
             process.send_signal(signal.SIGTERM)
             process.wait(PATIENCE)
         ends_waiting(cases, kept, environment)
+        ends_by_force(cases, folder)
         ends_build(cases, folder)
 
 
@@ -241,6 +246,24 @@ def ends_waiting(cases: Cases, kept: str, environment: dict[str, str]) -> None:
             status = process.wait(PATIENCE)
     wanted = f"suite: another suite writes into {kept}: waiting for it\n"
     cases.same("TERM ends a suite that waits for another one", (said, status), (wanted, -signal.SIGTERM))
+
+
+def ends_by_force(cases: Cases, folder: str) -> None:
+    """A program whose suite was ended by force goes on no longer than its limit of processor time: a second on one."""
+    checker = os.path.join(folder, "busy")
+    with open(checker, "w", encoding="ascii") as file:
+        file.write("#!/bin/sh\n[ $# -gt 0 ] || exit 2\nwhile :; do :; done\n")
+    os.chmod(checker, 0o755)
+    kept = os.path.join(folder, "kept")
+    environment = {**os.environ, "PIPECHECK": checker, "SUITE_FOLDER": kept, "SUITE_SECONDS": "1"}
+    processors = os.sched_getaffinity(0)
+    os.sched_setaffinity(0, {min(processors)})
+    with subprocess.Popen([SUITE, MODEL, TEST], env=environment, stdout=subprocess.DEVNULL) as process:
+        is_there = wait_until(lambda: len(parts_in(folder)) > 0 and len(running(checker)) > 0)
+        process.kill()
+    os.sched_setaffinity(0, processors)
+    is_gone = wait_until(lambda: not running(checker))
+    cases.same("a program whose suite was ended by force ends", (is_there, is_gone), (True, True))
 
 
 def left_of(groups: set[int]) -> list[int]:

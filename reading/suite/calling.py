@@ -3,6 +3,7 @@
 Each call is a process group of its own, so that what it started ends with it. Threads make the calls, and the main
 thread alone gets signals: so no signal comes between the start of a call and the note that it runs.
 """
+import math
 import os
 import queue
 import resource
@@ -15,9 +16,8 @@ from typing import IO, Callable, Sequence, TypeVar
 from .refusing import Refusal, quoted
 
 # What the limits need is done by a shell that becomes the program. Where a limit of file size is passed, a write fails,
-# in place of a signal that ends the program.
-LIMITED = 'trap "" XFSZ; ulimit -S -v "$0" || exit 125; exec "$@"'
-UNLIMITED = 'trap "" XFSZ; exec "$@"'
+# in place of a signal that ends the program. The limit of processor time is for a call whose suite was ended by force.
+LIMITED = 'trap "" XFSZ; ulimit -S -t "$0" && ulimit -S -v "$1" || exit 125; shift; exec "$@"'
 MOST_DIGITS = 11
 # how long what cleans up after itself may take to end
 GRACE = 10.0
@@ -42,8 +42,8 @@ def memory_limit(value: str) -> int | None:
     else:
         # the words of script/program
         raise Refusal(f"PIPECHECK_MEMORY is a number of MiB, or none, and not {quoted(value)}", "pipecheck")
-    standing = standing_limit()
-    return kib if kib is not None and (standing is None or standing > kib) else None
+    standing = standing_limit(resource.RLIMIT_AS)
+    return kib if kib is not None and (standing is None or standing > kib * 1024) else None
 
 
 def free_memory() -> int | None:
@@ -55,10 +55,10 @@ def free_memory() -> int | None:
     return None
 
 
-def standing_limit() -> int | None:
-    """The limit of address space in KiB that stands already."""
-    soft, _ = resource.getrlimit(resource.RLIMIT_AS)
-    return None if soft == resource.RLIM_INFINITY else soft // 1024
+def standing_limit(kind: int) -> int | None:
+    """The limit of this kind that stands already."""
+    soft, _ = resource.getrlimit(kind)
+    return None if soft == resource.RLIM_INFINITY else soft
 
 
 class Calls:
@@ -74,7 +74,8 @@ class Calls:
     def status(self, command: Sequence[str], kib: int | None, seconds: float, out: IO[bytes]) -> int | None:
         """Calls a program within these limits and has it write to a file; nothing is seen of its standard error. The
         status, as a shell has it; None where it is not done in time."""
-        return self.finished(self.started(limited(command, kib), out, subprocess.DEVNULL, signal.SIGKILL), seconds)
+        under_limits = limited(command, kib, seconds)
+        return self.finished(self.started(under_limits, out, subprocess.DEVNULL, signal.SIGKILL), seconds)
 
     def status_of_build(self, command: Sequence[str], out: IO[bytes]) -> int:
         """Calls what builds the program, without limits. It may clean up when it is ended."""
@@ -135,12 +136,20 @@ class Calls:
                 end_group(process, signal.SIGKILL)
 
 
-def limited(command: Sequence[str], kib: int | None) -> list[str]:
-    """The command under a limit of address space."""
+def limited(command: Sequence[str], kib: int | None, seconds: float) -> list[str]:
+    """The command under a limit of address space, and of the processor time that it may take on all processors."""
     # the shell would take a dash for an option
     first = os.path.join(".", command[0]) if command[0].startswith("-") else command[0]
-    shell = ["/bin/sh", "-c", UNLIMITED, "sh"] if kib is None else ["/bin/sh", "-c", LIMITED, str(kib)]
-    return [*shell, first, *command[1:]]
+    standing = standing_limit(resource.RLIMIT_AS)
+    space = kib if kib is not None else "unlimited" if standing is None else standing // 1024
+    return ["/bin/sh", "-c", LIMITED, str(processor_limit(seconds)), str(space), first, *command[1:]]
+
+
+def processor_limit(seconds: float) -> int:
+    """The processor time in seconds of a call that may last so long. A limit that stands is never raised."""
+    most = math.ceil(seconds) * len(os.sched_getaffinity(0)) + 1
+    standing = standing_limit(resource.RLIMIT_CPU)
+    return most if standing is None else min(most, standing)
 
 
 def end_group(process: Process, number: signal.Signals) -> None:

@@ -15,6 +15,9 @@ from .refusing import Refusal, shown
 from .telling import tell
 
 PART = ".part"
+CERTIFICATE, ROWS = ".certificate", ".rows"
+# other files of such a folder may end in .part, too
+PARTS = (CERTIFICATE + PART, ROWS + PART)
 # no model has a name that begins with a dot
 LOCK = ".lock"
 STATE = ".state"
@@ -89,7 +92,7 @@ class Folder:
 
     def place(self, model: File, test: File) -> str:
         """Where the certificate of a pair is kept, or the text of a sweep."""
-        return os.path.join(self.path, model.name, f"{test.base}.{'rows' if test.is_pattern else 'certificate'}")
+        return os.path.join(self.path, model.name, test.base + (ROWS if test.is_pattern else CERTIFICATE))
 
     def write_cells(self, rows: list[tuple[str, str, str]]) -> None:
         """Keeps the rows of a table: model, test and cell."""
@@ -166,7 +169,7 @@ class State:
 def remove_parts(folder: str) -> None:
     """Removes what a suite that was ended by force left half written."""
     for name in os.listdir(folder):
-        if name.endswith(PART):
+        if name.endswith(PARTS):
             with suppress(OSError):
                 os.unlink(os.path.join(folder, name))
 

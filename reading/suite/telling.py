@@ -12,7 +12,7 @@ class Unread(Exception):
 
 
 def open_streams() -> None:
-    """Has both streams write names as the system has them. No file of the suite's own gets the number of a closed one."""
+    """Has both streams write names as the system has them. No file of the suite gets the number of a closed one."""
     for number in range(3):
         try:
             os.fstat(number)
