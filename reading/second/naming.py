@@ -1,16 +1,20 @@
 """How micro-ops, addresses, nodes and places of a model are written where a certificate is explained."""
 from .cases import Address, Case, Location
 from .grounding import Node
-from .models import Model
+from .models import Axiom, Model
 from .origins import Origin
 from .positions import NodeNames
 
-# how many levels of indentation are shown
-MOST_LEVELS = 30
 LETTERS = ("x", "y", "z", "w", "u", "v", "a", "b", "c", "d", "e", "f")
 
 # a node (with None) or an edge, and whether it is asked for
 Fact = tuple[Node, Node | None, bool]
+
+
+def line_and_column(text: bytes, at: int) -> str:
+    """A place in a text as line and column."""
+    lines = text[:at].split(b"\n")
+    return f"{len(lines)}:{len(lines[-1]) + 1}"
 
 
 class Names:
@@ -39,8 +43,15 @@ class Names:
 
     def place(self, at: int) -> str:
         """A place in the model as line and column."""
-        lines = self.text[:at].split(b"\n")
-        return f"{len(lines)}:{len(lines[-1]) + 1}"
+        return line_and_column(self.text, at)
+
+    def axiom(self, axiom: Axiom) -> str:
+        """An axiom by its title."""
+        return f'axiom "{axiom.title}"'
+
+    def is_query(self, _axiom: Axiom) -> bool:
+        """Whether an axiom is a query that is asked of the model, or its denial."""
+        return False
 
     def fact(self, fact: Fact) -> str:
         """A node or an edge in words."""
@@ -49,14 +60,35 @@ class Names:
             return f"{self.node(start)} is {'' if wanted else 'not '}there"
         return f"{'' if wanted else 'not '}{self.node(start)} before {self.node(end)}"
 
+    def chain(self, nodes: list[Node]) -> str:
+        """Nodes each of which is before the next."""
+        return " before ".join(map(self.node, nodes))
+
     def origin(self, origin: Origin | None) -> str:
         """Where a part of the tree comes from."""
         if origin is None:
             return "several axioms"
-        words = [f'axiom "{origin.axiom.title}" at {self.place(origin.axiom.at)}']
+        label = f'"{origin.label}" by ' if origin.label else ""
+        return label + self.formula(origin) + self.inside(origin)
+
+    def formula(self, origin: Origin | None) -> str:
+        """The axiom that a part of the tree comes from, what its quantifiers took, and the innermost macro."""
+        if origin is None:
+            return "several axioms"
+        words = [f"{self.axiom(origin.axiom)} at {self.place(origin.axiom.at)}"]
         for taken in origin.taken:
             words.append(f"{taken.name} = {self.microop(taken.value) if taken.is_microop else f'core {taken.value}'}")
         if origin.macro is not None:
-            words.append(f"in macro {origin.macro} at {self.place(origin.at)}")
+            words.append(f"in macro {origin.macro}")
+        return ", ".join(words)
+
+    def inside(self, origin: Origin | None) -> str:
+        """The place in the innermost macro, where there is one."""
+        return "" if origin is None or origin.macro is None else f" at {self.place(origin.at)}"
+
+    def of_side(self, origin: Origin | None, side: str) -> str:
+        """Where a part of the tree comes from that holds on a side of a split alone, whose line says the rest."""
+        if origin is None:
+            return side
         label = f'"{origin.label}" by ' if origin.label else ""
-        return label + ", ".join(words)
+        return f"{label}{side}, {self.axiom(origin.axiom)}"

@@ -1,0 +1,130 @@
+"""A graph in the words of the model: one order of the run, as a table, and the edges that carry values."""
+from typing import Iterator
+
+from .cases import Case
+from .grounding import Node
+from .naming import Names
+from .origins import Origin, TracedPositions
+from .positions import Inner
+from .wrapping import GAP
+
+Edge = tuple[Node, Node]
+
+
+class Run:
+    """The lines of a graph: one order of the run, and the edges between micro-ops of two cores."""
+
+    def __init__(
+        self, case: Case, names: Names, positions: TracedPositions, lines: list[str], width: int
+    ) -> None:
+        self.case = case
+        self.names = names
+        self.positions = positions
+        self.width = width
+        words = [line.split(" ") for line in lines]
+        self.nodes = list(dict.fromkeys(self.read(word[1]) for word in words if word[0] == "node"))
+        self.edges = list(dict.fromkeys((self.read(word[1]), self.read(word[2])) for word in words if word[0] == "edge"))
+
+    def read(self, word: str) -> Node:
+        """A node of the graph."""
+        node = self.names.nodes.read(word)
+        assert node is not None
+        return node
+
+    def lines(self) -> Iterator[str]:
+        """The table of steps, and then the edges."""
+        if not self.nodes:
+            yield "The axioms ask for no step: the empty run satisfies them."
+            return
+        yield from self.table()
+        yield ""
+        between = [edge for edge in self.edges if self.core(edge[0]) != self.core(edge[1])]
+        yield "The edges between micro-ops of two cores, which carry the values:" if between else \
+            "No edge is between micro-ops of two cores."
+        origins = self.origins()
+        yield from (self.edge(edge, origins) for edge in between)
+        asked = [edge for edge, origin in origins.items() if origin is not None and self.names.is_query(origin.axiom)]
+        if asked:
+            yield ""
+            yield "The edges that the query asks for:"
+            yield from (self.edge(edge, origins) for edge in asked)
+
+    def table(self) -> list[str]:
+        """One order of the run. Where the columns of all cores are wider than a line may be, each line names its core."""
+        cores = sorted({self.case.ops[node[0]].core for node in self.nodes})
+        order = self.order()
+        cells = {node: self.cell(node) for node in order}
+        width = {core: max([len(f"core {core}")] + [len(cells[n]) for n in order if self.core(n) == core]) for core in cores}
+        lines = ["One order of the run, a step a line, in the column of the micro-op's core:"]
+        lines.append(("step  " + "  ".join(f"core {core}".ljust(width[core]) for core in cores)).rstrip())
+        for number, node in enumerate(order, 1):
+            row = (cells[node] if core == self.core(node) else "" for core in cores)
+            lines.append(f"{number:4}  " + "  ".join(cell.ljust(width[core]) for cell, core in zip(row, cores)).rstrip())
+        if max(map(len, lines[1:])) <= self.width:
+            return lines
+        lines = [f"{number:4}  core {self.core(node)}  {cells[node]}" for number, node in enumerate(order, 1)]
+        return ["One order of the run, a step a line, behind the micro-op's core:", "step", *lines]
+
+    def edge(self, edge: Edge, origins: dict[Edge, Origin | None]) -> str:
+        """An edge, with what asks for it."""
+        where = self.names.origin(origins[edge]) if edge in origins else "no axiom asks for it"
+        return f"  {self.names.fact((*edge, True))}{GAP}{where}"
+
+    def core(self, node: Node) -> int:
+        """The core of a node's micro-op."""
+        return self.case.ops[node[0]].core
+
+    def cell(self, node: Node) -> str:
+        """A node in the table: the micro-op and the stage, with a core that is not the micro-op's own."""
+        stage = self.names.node(node).split(":")[1]
+        return f"{self.names.microop(node[0])} {stage}" + ("" if node[1] == self.core(node) else f" at core {node[1]}")
+
+    def order(self) -> list[Node]:
+        """The nodes in an order that all edges keep; of several that could come next the first listed."""
+        before = {node: 0 for node in self.nodes}
+        after: dict[Node, list[Node]] = {node: [] for node in self.nodes}
+        for start, end in self.edges:
+            before[end] += 1
+            after[start].append(end)
+        found: list[Node] = []
+        left = list(self.nodes)
+        while left:
+            node = next(one for one in left if before[one] == 0)
+            left.remove(node)
+            found.append(node)
+            for end in after[node]:
+                before[end] -= 1
+        return found
+
+    def origins(self) -> dict[Edge, Origin | None]:
+        """Of each edge the first position that asks for it, among those that are true in this run."""
+        truth = self.truth()
+        found: dict[Edge, Origin | None] = {}
+        waiting = [0] if self.positions.rows else []
+        while waiting:
+            here = waiting.pop()
+            row = self.positions.rows[here]
+            if isinstance(row, Inner):
+                waiting += [side for side in (row.right, row.left) if truth[side]]
+            elif row.end is not None and row.wanted:
+                edge = self.positions.nodes[row.start], self.positions.nodes[row.end]
+                found.setdefault(edge, self.positions.origins[here])
+        return found
+
+    def truth(self) -> list[bool]:
+        """Whether each position is true in this run; members stand after what they are members of."""
+        later: dict[Node, set[Node]] = {}
+        for node in reversed(self.order()):
+            ends = [end for start, end in self.edges if start == node]
+            later[node] = set(ends).union(*(later[end] for end in ends))
+        truth = [False] * len(self.positions.rows)
+        for here in reversed(range(len(truth))):
+            row = self.positions.rows[here]
+            if isinstance(row, Inner):
+                both = truth[row.left], truth[row.right]
+                truth[here] = any(both) if row.is_disjunction else all(both)
+                continue
+            start = self.positions.nodes[row.start]
+            is_there = start in later if row.end is None else self.positions.nodes[row.end] in later.get(start, set())
+            truth[here] = is_there is row.wanted
+        return truth
