@@ -1,0 +1,132 @@
+"""Random programs for `agree --random`: patterns of at most eight micro-ops, whose reads are all open.
+
+They ask what a model and its machine make of the same program, and search for no test. A program is made smaller part by
+part as long as a question about it keeps its answer.
+"""
+from dataclasses import dataclass, replace
+from random import Random
+from typing import Callable, Iterator
+
+MOST_OPS = 8
+KINDS = ("addr", "data", "ctrl")
+NAMES = "xyz"
+
+
+@dataclass(frozen=True)
+class Made:
+    """A micro-op: the number of its core, what it is, its type names, the number of its address, what it writes."""
+
+    core: int
+    kind: str
+    types: tuple[str, ...] = ()
+    address: int = 0
+    value: int = 0
+
+    @property
+    def access(self) -> str:
+        """What stands in its brackets in a pattern."""
+        words = " ".join((self.kind,) + self.types)
+        value = "Any" if self.kind == "Read" else self.value
+        return words if self.kind == "Fence" else f"{words} (VA {self.address} 0) (PA {self.address} 0) (Data {value})"
+
+
+@dataclass(frozen=True)
+class Program:
+    """The micro-ops core by core, each core's in program order; dependencies by their places; the final value that is
+    stated of an address."""
+
+    ops: tuple[Made, ...]
+    dependencies: tuple[tuple[str, int, int], ...] = ()
+    final: tuple[int, int] | None = None
+
+    @property
+    def pattern(self) -> str:
+        """The program as a pattern."""
+        lines = ['Litmus "random".']
+        lines += [f"Microop {g} {op.core} {op.core} 0 ({op.access})." for g, op in enumerate(self.ops)]
+        lines += [f"Relationship {kind} {i} 0 -> {j} 0." for kind, i, j in self.dependencies]
+        lines += [f"Final (PA {self.final[0]} 0) {self.final[1]}."] if self.final is not None else []
+        return "\n".join(lines) + "\n"
+
+    @property
+    def smaller(self) -> Iterator["Program"]:
+        """The programs that have one part less: a micro-op, the final value, a dependency, a type."""
+        for place in range(len(self.ops)):
+            rest = [(kind, i, j) for kind, i, j in self.dependencies if place not in (i, j)]
+            moved = tuple((kind, i - (i > place), j - (j > place)) for kind, i, j in rest)
+            yield replace(self, ops=self.ops[:place] + self.ops[place + 1 :], dependencies=moved)
+        if self.final is not None:
+            yield replace(self, final=None)
+        for dependency in self.dependencies:
+            yield replace(self, dependencies=tuple(other for other in self.dependencies if other != dependency))
+        for place, op in enumerate(self.ops):
+            for name in op.types:
+                less = replace(op, types=tuple(other for other in op.types if other != name))
+                yield replace(self, ops=self.ops[:place] + (less,) + self.ops[place + 1 :])
+
+
+def random_program(random: Random, types: tuple[str, ...]) -> Program:
+    """A program of at least one read. Its fences have some of these types, if there are any, and now and then an access
+    has one."""
+    while True:
+        size = random.randint(2, MOST_OPS)
+        cores = sorted(random.randrange(random.choice((1, 2, 2, 3, 4))) for _ in range(size))
+        addresses = random.choice((1, 2, 2, 2, 3))
+        ops = tuple(random_op(random, core, place, addresses, types) for place, core in enumerate(cores))
+        if any(op.kind == "Read" for op in ops):
+            return Program(ops, random_dependencies(random, ops), random_final(random, ops))
+
+
+def random_op(random: Random, core: int, place: int, addresses: int, types: tuple[str, ...]) -> Made:
+    """A micro-op. A write has a value of its own most of the time."""
+    kind = random.choice(("Read",) * 5 + ("Write",) * 5 + ("Fence",) * 2)
+    some = tuple(sorted(random.sample(types, random.randint(1, len(types))))) if types else ()
+    if kind == "Fence":
+        return Made(core, kind, some)
+    address, value = random.randrange(addresses), random.choice((place + 1,) * 4 + (1,))
+    return Made(core, kind, some[:1] if random.random() < 0.25 else (), address, value if kind == "Write" else 0)
+
+
+def random_dependencies(random: Random, ops: tuple[Made, ...]) -> tuple[tuple[str, int, int], ...]:
+    """Dependencies of later accesses of a core on its reads; those of data are of writes."""
+    pairs = [
+        (i, j)
+        for i, read in enumerate(ops)
+        for j, op in enumerate(ops)
+        if i < j and read.core == op.core and read.kind == "Read" and op.kind != "Fence"
+    ]
+    chosen = [pair for pair in pairs if random.random() < 0.3]
+    kinds = [random.choice(KINDS if ops[j].kind == "Write" else ("addr", "ctrl")) for _, j in chosen]
+    return tuple((kind, i, j) for kind, (i, j) in zip(kinds, chosen))
+
+
+def random_final(random: Random, ops: tuple[Made, ...]) -> tuple[int, int] | None:
+    """A value that is written, in one of three programs."""
+    writes = [op for op in ops if op.kind == "Write"]
+    if not writes or random.randrange(3):
+        return None
+    write = random.choice(writes)
+    return write.address, write.value
+
+
+def smallest(program: Program, holds: Callable[[Program], bool]) -> Program:
+    """A program of which it holds, and of none of those that have one part less."""
+    for less in program.smaller:
+        if holds(less):
+            return smallest(less, holds)
+    return program
+
+
+def named(program: Program) -> str:
+    """The program in one line: R for read, W for write, F for fence; cores are parted by a bar."""
+    cores = sorted({op.core for op in program.ops})
+    return " | ".join("; ".join(word(op) for op in program.ops if op.core == core) for core in cores)
+
+
+def word(op: Made) -> str:
+    """A micro-op as a word."""
+    types = "".join(f".{name}" for name in op.types)
+    if op.kind == "Fence":
+        return f"F{types}"
+    value = "" if op.kind == "Read" else str(op.value)
+    return f"{op.kind[0]}{NAMES[op.address]}{value}{types}"
