@@ -80,11 +80,16 @@ def random_program(random: Random, types: tuple[str, ...]) -> Program:
 def random_op(random: Random, core: int, place: int, addresses: int, types: tuple[str, ...]) -> Made:
     """A micro-op. A write has a value of its own most of the time."""
     kind = random.choice(("Read",) * 5 + ("Write",) * 5 + ("Fence",) * 2)
-    some = tuple(sorted(random.sample(types, random.randint(1, len(types))))) if types else ()
     if kind == "Fence":
-        return Made(core, kind, some)
+        return Made(core, kind, some_types(random, types, random.randint(1, 3)))
     address, value = random.randrange(addresses), random.choice((place + 1,) * 4 + (1,))
-    return Made(core, kind, some[:1] if random.random() < 0.25 else (), address, value if kind == "Write" else 0)
+    here = some_types(random, types, random.choice((0, 0, 1)))
+    return Made(core, kind, here, address, value if kind == "Write" else 0)
+
+
+def some_types(random: Random, types: tuple[str, ...], count: int) -> tuple[str, ...]:
+    """This many of the types, or all where there are fewer."""
+    return tuple(sorted(random.sample(types, min(count, len(types)))))
 
 
 def random_dependencies(random: Random, ops: tuple[Made, ...]) -> tuple[tuple[str, int, int], ...]:
