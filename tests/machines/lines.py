@@ -1,12 +1,12 @@
-"""Total store order by caches: in-order cores with store buffers, over caches whose lines may be invalidated before their
-data come.
+"""Total store order by caches: in-order cores with store buffers, over caches whose lines may be invalidated before
+their data come.
 
 A cache has one line of an address at a time, or none. A read that has no line of its address asks for it, and may do so
 before the micro-ops before it are executed, as soon as the reads that its address depends on are. The answer, with the
 value of that moment, is on its way from then on. When it comes the cache has a line, which reads of its core may use; a
 line may be given up at any time. The oldest write of a buffer goes to its cache, which then has the only line of the
-address: each other cache gives its line up, and an answer that is on its way there is marked as late. A cache that waits
-for an answer takes no write of that address.
+address: each other cache gives its line up, and an answer that is on its way there is marked as late. A cache that
+waits for an answer takes no write of that address.
 
 A late answer is good for one use, by the read that asked; it is thrown away where that read takes its value elsewhere.
 With `is_mended` it is used only where the read was the oldest of its core that was not executed when it asked: this is
@@ -15,7 +15,7 @@ was left, and a fence may have been.
 """
 from typing import Callable, Iterator, NamedTuple
 
-from litmus import Address, Op, Outcome, Test, Value, ends, in_test_order, replaced
+from litmus import Address, Memory, Op, Outcome, Test, Value, ends, in_test_order, replaced
 
 
 class Line(NamedTuple):
@@ -39,8 +39,8 @@ class State(NamedTuple):
     """The cores, the newest value of each address, and the values that reads got."""
 
     cores: tuple[Core, ...]
-    memory: tuple
-    reads: tuple
+    memory: Memory
+    reads: tuple[tuple[int, Value], ...]
 
 
 # whether a read is the oldest: by the micro-ops before it that are not executed

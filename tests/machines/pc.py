@@ -1,20 +1,22 @@
-"""Processor consistency: in-order cores with store buffers, over first-in first-out channels from each core to each other.
+"""Processor consistency: in-order cores with store buffers, over first-in first-out channels from each to each other.
 
-A write goes into its core's buffer. The oldest write of a buffer drains when its core has seen all writes of the address
-that have drained: then its own core sees it, it is the last write of its address, and it is sent to the other cores. The
-writes of one core arrive at another in the order in which they were sent, and each one when that core has seen the
-writes of the address that are before it. A read takes the youngest entry of its address in its own buffer, and the last
-write that its core has seen where there is none.
+A write goes into its core's buffer. The oldest write of a buffer drains when its core has seen all writes of the
+address that have drained: then its own core sees it, it is the last write of its address, and it is sent to the other
+cores. The writes of one core arrive at another in the order in which they were sent, and each one when that core has
+seen the writes of the address that are before it. A read takes the youngest entry of its address in its own buffer, and
+the last write that its core has seen where there is none.
 
-A full fence waits until its buffer is empty and every write that its core has seen, of whichever core, is seen by all. A
-fence of type `Own` waits until its buffer is empty and every write of its own core is seen by all.
+A full fence waits until its buffer is empty and every write that its core has seen, of whichever core, is seen by all.
+A fence of type `Own` waits until its buffer is empty and every write of its own core is seen by all.
 
 After Goodman, Cache Consistency and Sequential Consistency (1989), and the machine nWR of Trippel, Manerkar, Lustig,
 Pellauer, Martonosi, TriCheck (ASPLOS 2017).
 """
-from typing import Iterator, NamedTuple
+from typing import Iterator, NamedTuple, TypeVar
 
-from litmus import Address, Op, Outcome, Test, ends, in_test_order
+from litmus import Address, Memory, Op, Outcome, Test, Value, ends, in_test_order
+
+Part = TypeVar("Part")
 
 
 class Core(NamedTuple):
@@ -32,7 +34,7 @@ class State(NamedTuple):
 
     cores: tuple[Core, ...]
     order: tuple[tuple[Op, ...], ...]
-    reads: tuple
+    reads: tuple[tuple[int, Value], ...]
 
 
 def outcomes(test: Test) -> set[Outcome]:
@@ -50,7 +52,7 @@ class Machine:
         self.test = test
         self.addresses = [address for address, _ in test.memory]
 
-    def memory(self, state: State) -> tuple:
+    def memory(self, state: State) -> Memory:
         """The last value of each address."""
         values = [writes[-1].value if writes else first for (_, first), writes in zip(self.test.memory, state.order)]
         return tuple(zip(self.addresses, values))
@@ -96,7 +98,7 @@ class Machine:
             return bool(core.buffer) or not all(self.seen_by_all(state, j, count) for j, count in enumerate(core.seen))
         return "Own" in fence.types and (bool(core.buffer) or not self.seen_by_all(state, k, len(core.sent)))
 
-    def value(self, state: State, k: int, op: Op):
+    def value(self, state: State, k: int, op: Op) -> Value:
         """What a read of core k gets."""
         own = [write.value for write in state.cores[k].buffer if write.address == op.address]
         seen = [write.value for write in self.order(state, op.address) if self.has_seen(state, k, (write,))]
@@ -124,6 +126,6 @@ def with_core(state: State, k: int, core: Core) -> State:
     return state._replace(cores=at(state.cores, k, core))
 
 
-def at(values: tuple, place: int, value) -> tuple:
+def at(values: tuple[Part, ...], place: int, value: Part) -> tuple[Part, ...]:
     """The tuple with another value at a place."""
     return values[:place] + (value,) + values[place + 1 :]

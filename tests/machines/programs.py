@@ -1,7 +1,7 @@
 """Random programs for `agree --random`: patterns of at most eight micro-ops, whose reads are all open.
 
-They ask what a model and its machine make of the same program, and search for no test. A program is made smaller part by
-part as long as a question about it keeps its answer.
+They ask what a model and its machine make of the same program, and search for no test. A program is made smaller part
+by part as long as a question about it keeps its answer.
 """
 from dataclasses import dataclass, replace
 from random import Random

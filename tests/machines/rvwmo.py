@@ -1,9 +1,9 @@
 """RISC-V's memory model, by its rules: all global memory orders that keep what has to be kept of program order.
 
 The RISC-V Instruction Set Manual, volume I (20191213), chapter RVWMO. A *global memory order* is one order of the reads
-and writes of all cores. It is made here from its first access on, an access at a time; an access may come next where each
-one that has to be before it has come. Of two accesses of a core, i before j in program order, i has to come first where
-one of these rules says so:
+and writes of all cores. It is made here from its first access on, an access at a time; an access may come next where
+each one that has to be before it has come. Of two accesses of a core, i before j in program order, i has to come first
+where one of these rules says so:
 
    1. j is a write, and both are of one address.
    2. Both are reads of one address, no write of it is between them in program order, and they take their values from
@@ -23,7 +23,7 @@ have none. There is no pipeline here, and no queue.
 """
 from typing import Iterator, NamedTuple
 
-from litmus import Op, Outcome, Test, ends
+from litmus import Address, Op, Outcome, Test, Value, ends
 
 FENCE_TYPES = {"Read": ("PR", "SR"), "Write": ("PW", "SW")}
 
@@ -122,10 +122,12 @@ class Rules:
 
     def outcome(self, state: State) -> Outcome:
         """The values of the reads in test order, and the last value of each address."""
-        first = dict(self.test.memory)
-        reads = (first[self.ops[read].address] if source is None else self.ops[source].value for read, source in state.sources)
-        values = (first[a] if last is None else self.ops[last].value for a, last in zip(self.addresses, state.last))
-        return tuple(reads), tuple(zip(self.addresses, values))
+        reads = tuple(self.value(self.ops[read].address, source) for read, source in state.sources)
+        return reads, tuple((a, self.value(a, last)) for a, last in zip(self.addresses, state.last))
+
+    def value(self, address: Address, source: int | None) -> Value:
+        """The value that an address has from a write, or the initial one."""
+        return dict(self.test.memory)[address] if source is None else self.ops[source].value
 
 
 def is_predecessor(i: Op, fence: Op) -> bool:
