@@ -9,9 +9,9 @@ address: each other cache gives its line up, and an answer that is on its way th
 waits for an answer takes no write of that address.
 
 A late answer is good for one use, by the read that asked; it is thrown away where that read takes its value elsewhere.
-With `is_mended` it is used only where the read was the oldest of its core that was not executed when it asked: this is
-total store order. Without, any read may use it; see lines_any.py. `lines_reads.py` is half a mend: no *read* before it
-was left, and a fence may have been.
+With the mend it is used only where the read was the oldest of its core that was not executed when it asked: this is
+total store order. Without, any read may use it (any_read.py). Half a mend is that no *read* before it was left, while
+a fence may have been (oldest_read.py).
 """
 from typing import Callable, Iterator, NamedTuple
 

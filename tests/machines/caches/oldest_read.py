@@ -1,7 +1,7 @@
-"""Cache lines with half of the mend: no read before it may be left, and a fence may be. No memory model has this; see
-lines.py."""
-import lines
+"""Cache lines with half of the mend: no read before it may be left when a read asks, and a fence may be."""
 from litmus import Outcome, Test
+
+from . import lines
 
 
 def outcomes(test: Test) -> set[Outcome]:

@@ -1,6 +1,7 @@
-"""Cache lines without the mend: any read may use an answer that is late. No memory model has this; see lines.py."""
-import lines
+"""Cache lines without the mend: any read may use an answer that is late."""
 from litmus import Outcome, Test
+
+from . import lines
 
 
 def outcomes(test: Test) -> set[Outcome]:
