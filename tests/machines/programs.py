@@ -5,11 +5,13 @@ by part as long as a question about it keeps its answer.
 """
 from dataclasses import dataclass, replace
 from random import Random
-from typing import Callable, Iterator
+from typing import Callable, Iterator, Sequence, TypeVar
 
 MOST_OPS = 8
 KINDS = ("addr", "data", "ctrl")
 NAMES = "xyz"
+
+Item = TypeVar("Item")
 
 
 @dataclass(frozen=True)
@@ -48,13 +50,18 @@ class Program:
         lines += [f"Final (PA {self.final[0]} 0) {self.final[1]}."] if self.final is not None else []
         return "\n".join(lines) + "\n"
 
+    def without(self, place: int) -> "Program":
+        """The program without a micro-op. A final value goes where no write of it is left: no model can see it."""
+        ops = self.ops[:place] + self.ops[place + 1 :]
+        rest = [(kind, i, j) for kind, i, j in self.dependencies if place not in (i, j)]
+        moved = tuple((kind, i - (i > place), j - (j > place)) for kind, i, j in rest)
+        is_written = self.final in [(op.address, op.value) for op in ops if op.kind == "Write"]
+        return Program(ops, moved, self.final if is_written else None)
+
     @property
     def smaller(self) -> Iterator["Program"]:
         """The programs that have one part less: a micro-op, the final value, a dependency, a type."""
-        for place in range(len(self.ops)):
-            rest = [(kind, i, j) for kind, i, j in self.dependencies if place not in (i, j)]
-            moved = tuple((kind, i - (i > place), j - (j > place)) for kind, i, j in rest)
-            yield replace(self, ops=self.ops[:place] + self.ops[place + 1 :], dependencies=moved)
+        yield from map(self.without, range(len(self.ops)))
         if self.final is not None:
             yield replace(self, final=None)
         for dependency in self.dependencies:
@@ -65,13 +72,18 @@ class Program:
                 yield replace(self, ops=self.ops[:place] + (less,) + self.ops[place + 1 :])
 
 
+def choose(random: Random, items: Sequence[Item]) -> Item:
+    """One of these items. Python promises the same numbers in all its versions of `random()` alone."""
+    return items[int(random.random() * len(items))]
+
+
 def random_program(random: Random, types: tuple[str, ...]) -> Program:
     """A program of at least one read. Its fences have some of these types, if there are any, and now and then an access
     has one."""
     while True:
-        size = random.randint(2, MOST_OPS)
-        cores = sorted(random.randrange(random.choice((1, 2, 2, 3, 4))) for _ in range(size))
-        addresses = random.choice((1, 2, 2, 2, 3))
+        size = choose(random, range(2, MOST_OPS + 1))
+        cores = sorted(choose(random, range(choose(random, (1, 2, 2, 3, 4)))) for _ in range(size))
+        addresses = choose(random, (1, 2, 2, 2, 3))
         ops = tuple(random_op(random, core, place, addresses, types) for place, core in enumerate(cores))
         if any(op.kind == "Read" for op in ops):
             return Program(ops, random_dependencies(random, ops), random_final(random, ops))
@@ -79,17 +91,17 @@ def random_program(random: Random, types: tuple[str, ...]) -> Program:
 
 def random_op(random: Random, core: int, place: int, addresses: int, types: tuple[str, ...]) -> Made:
     """A micro-op. A write has a value of its own most of the time."""
-    kind = random.choice(("Read",) * 5 + ("Write",) * 5 + ("Fence",) * 2)
+    kind = choose(random, ("Read",) * 5 + ("Write",) * 5 + ("Fence",) * 2)
     if kind == "Fence":
-        return Made(core, kind, some_types(random, types, random.randint(1, 3)))
-    address, value = random.randrange(addresses), random.choice((place + 1,) * 4 + (1,))
-    here = some_types(random, types, random.choice((0, 0, 1)))
+        return Made(core, kind, some_types(random, types, choose(random, (1, 2, 3))))
+    address, value = choose(random, range(addresses)), choose(random, (place + 1,) * 4 + (1,))
+    here = some_types(random, types, choose(random, (0, 0, 1)))
     return Made(core, kind, here, address, value if kind == "Write" else 0)
 
 
 def some_types(random: Random, types: tuple[str, ...], count: int) -> tuple[str, ...]:
-    """This many of the types, or all where there are fewer."""
-    return tuple(sorted(random.sample(types, min(count, len(types)))))
+    """This many of the types, or fewer where one is chosen twice."""
+    return tuple(sorted({choose(random, types) for _ in range(count)})) if types else ()
 
 
 def random_dependencies(random: Random, ops: tuple[Made, ...]) -> tuple[tuple[str, int, int], ...]:
@@ -101,16 +113,16 @@ def random_dependencies(random: Random, ops: tuple[Made, ...]) -> tuple[tuple[st
         if i < j and read.core == op.core and read.kind == "Read" and op.kind != "Fence"
     ]
     chosen = [pair for pair in pairs if random.random() < 0.3]
-    kinds = [random.choice(KINDS if ops[j].kind == "Write" else ("addr", "ctrl")) for _, j in chosen]
+    kinds = [choose(random, KINDS if ops[j].kind == "Write" else ("addr", "ctrl")) for _, j in chosen]
     return tuple((kind, i, j) for kind, (i, j) in zip(kinds, chosen))
 
 
 def random_final(random: Random, ops: tuple[Made, ...]) -> tuple[int, int] | None:
     """A value that is written, in one of three programs."""
     writes = [op for op in ops if op.kind == "Write"]
-    if not writes or random.randrange(3):
+    if not writes or random.random() < 2 / 3:
         return None
-    write = random.choice(writes)
+    write = choose(random, writes)
     return write.address, write.value
 
 
