@@ -78,25 +78,67 @@ def choose(random: Random, items: Sequence[Item]) -> Item:
 
 
 def random_program(random: Random, types: tuple[str, ...]) -> Program:
-    """A program of at least one read. Its fences have some of these types, if there are any, and now and then an access
-    has one."""
+    """A program of at least one read: every other one is made around a ring. Its fences have some of these types, if
+    there are any, and now and then an access has one."""
     while True:
-        size = choose(random, range(2, MOST_OPS + 1))
-        cores = sorted(choose(random, range(choose(random, (1, 2, 2, 3, 4)))) for _ in range(size))
-        addresses = choose(random, (1, 2, 2, 2, 3))
-        ops = tuple(random_op(random, core, place, addresses, types) for place, core in enumerate(cores))
+        ops = choose(random, (ring_ops, loose_ops))(random, types)
         if any(op.kind == "Read" for op in ops):
-            return Program(ops, random_dependencies(random, ops), random_final(random, ops))
+            valued = tuple(with_value(random, op, place) for place, op in enumerate(sorted(ops, key=core_of)))
+            return Program(valued, random_dependencies(random, valued), random_final(random, valued))
 
 
-def random_op(random: Random, core: int, place: int, addresses: int, types: tuple[str, ...]) -> Made:
-    """A micro-op. A write has a value of its own most of the time."""
-    kind = choose(random, ("Read",) * 5 + ("Write",) * 5 + ("Fence",) * 2)
-    if kind == "Fence":
-        return Made(core, kind, some_types(random, types, choose(random, (1, 2, 3))))
-    address, value = choose(random, range(addresses)), choose(random, (place + 1,) * 4 + (1,))
-    here = some_types(random, types, choose(random, (0, 0, 1)))
-    return Made(core, kind, here, address, value if kind == "Write" else 0)
+def core_of(op: Made) -> int:
+    """The number of its core."""
+    return op.core
+
+
+def loose_ops(random: Random, types: tuple[str, ...]) -> list[Made]:
+    """Micro-ops of any kind on any core."""
+    cores = choose(random, (1, 2, 2, 3, 4))
+    addresses = choose(random, (1, 2, 2, 2, 3))
+    size = choose(random, range(2, MOST_OPS + 1))
+    return [random_op(random, choose(random, range(cores)), addresses, types) for _ in range(size)]
+
+
+def ring_ops(random: Random, types: tuple[str, ...]) -> list[Made]:
+    """Two or three cores, each with an access of its own address and then one of the next core's, with a fence between
+    the two or none; and micro-ops of any kind among them. Few loose programs have these."""
+    cores = choose(random, (2, 2, 3))
+    lines = [
+        [random_access(random, core, address % cores, types) for address in (core, core + 1)] for core in range(cores)
+    ]
+    left = MOST_OPS - 2 * cores
+    for core, line in enumerate(lines):
+        if left and random.random() < 0.5:
+            line.insert(1, random_fence(random, core, types))
+            left -= 1
+    while left and random.random() < 0.4:
+        core = choose(random, range(cores))
+        lines[core].insert(choose(random, range(len(lines[core]) + 1)), random_op(random, core, cores, types))
+        left -= 1
+    return [op for line in lines for op in line]
+
+
+def random_op(random: Random, core: int, addresses: int, types: tuple[str, ...]) -> Made:
+    """A micro-op of any kind."""
+    if random.random() < 1 / 6:
+        return random_fence(random, core, types)
+    return random_access(random, core, choose(random, range(addresses)), types)
+
+
+def random_fence(random: Random, core: int, types: tuple[str, ...]) -> Made:
+    """A fence."""
+    return Made(core, "Fence", some_types(random, types, choose(random, (1, 2, 3))))
+
+
+def random_access(random: Random, core: int, address: int, types: tuple[str, ...]) -> Made:
+    """A read or a write."""
+    return Made(core, choose(random, ("Read", "Write")), some_types(random, types, choose(random, (0, 0, 1))), address)
+
+
+def with_value(random: Random, op: Made, place: int) -> Made:
+    """A micro-op at its place in the program. A write has a value of its own most of the time."""
+    return replace(op, value=choose(random, (place + 1,) * 4 + (1,))) if op.kind == "Write" else op
 
 
 def some_types(random: Random, types: tuple[str, ...], count: int) -> tuple[str, ...]:
