@@ -89,7 +89,7 @@ class Test:
         return len({op.instruction for op in self.ops}) < len(self.ops)
 
     @property
-    def memory(self) -> tuple[tuple[Address, Value], ...]:
+    def memory(self) -> Memory:
         """The memory at the start: each address in use with its value."""
         addresses = sorted({op.address for op in self.ops if op.kind != "Fence"})
         return tuple((address, self.initial.get(address, default_at(address))) for address in addresses)
