@@ -7,11 +7,9 @@ none.
 """
 import os
 import re
-import resource
 import subprocess
 import sys
 import tempfile
-import time
 from dataclasses import dataclass
 
 TOP = os.path.dirname(os.path.dirname(os.path.realpath(__file__)))
@@ -19,6 +17,15 @@ PROGRAM = os.path.join(TOP, "crates/pipecheck_cli/out/pipecheck_cli")
 # a function's name stands whole where it comes first, and after that its number alone
 NAMED = re.compile(r"^(?:c?fn)=\((\d+)\)(?: (.*))?$")
 CALLS = re.compile(r"^calls=(\d+) ")
+# the status of `timeout` for a call that it ended
+TIMED_OUT = 124
+MEASURED = """
+import resource, subprocess, sys
+with open(sys.argv[1], "wb") as out:
+    status = subprocess.run(["timeout", *sys.argv[2:]], stdout=out, stderr=subprocess.DEVNULL).returncode
+used = resource.getrusage(resource.RUSAGE_CHILDREN)
+print(used.ru_utime + used.ru_stime, used.ru_maxrss, status)
+"""
 # what hands out the result of a turn, and what each search calls once
 HANDED_OUT, BEGUN = "solver::search::settle", "solver::gains::Gains::new"
 
@@ -34,12 +41,11 @@ class Counted:
 
 @dataclass(frozen=True)
 class Timed:
-    """The seconds and the peak memory, in bytes, of a call of the program, and what it writes. Of a call that was ended
-    at the limit the seconds are the limit."""
+    """The processor seconds and the peak memory, in bytes, of a call, and whether it came to an end."""
 
     seconds: float
     peak: int
-    text: str
+    has_ended: bool
 
 
 def saved(folder: str, name: str, text: str) -> str:
@@ -85,13 +91,10 @@ def counted(*words: str) -> Counted:
         return Counted(int(found[1]), turns_in(profile), done.stdout.decode("ascii"))
 
 
-def timed(limit: float, *words: str) -> Timed:
-    """A call by the clock, ended at a limit of seconds."""
-    with tempfile.TemporaryFile() as out:
-        begun = time.perf_counter()
-        child = subprocess.Popen(["timeout", str(limit), *words], stdout=out, stderr=subprocess.DEVNULL)
-        _, _, usage = os.wait4(child.pid, 0)
-        seconds = time.perf_counter() - begun
-        child.returncode = 0
-        out.seek(0)
-        return Timed(seconds, 1024 * usage.ru_maxrss, out.read().decode("latin-1"))
+def timed(limit: float, out: str, *words: str) -> Timed:
+    """A call whose standard output goes to a file, ended at a limit of seconds by the clock."""
+    # a child has what its parent has until its program begins, so a small parent stands between
+    command = [sys.executable, "-c", MEASURED, out, str(limit), *words]
+    done = subprocess.run(command, stdout=subprocess.PIPE, check=True)
+    seconds, peak, status = done.stdout.split()
+    return Timed(float(seconds), 1024 * int(peak), int(status) != TIMED_OUT)
