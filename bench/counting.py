@@ -26,8 +26,8 @@ with open(sys.argv[1], "wb") as out:
 used = resource.getrusage(resource.RUSAGE_CHILDREN)
 print(used.ru_utime + used.ru_stime, used.ru_maxrss, status)
 """
-# what hands out the result of a turn, and what each search calls once
-HANDED_OUT, BEGUN = "solver::search::settle", "solver::gains::Gains::new"
+# what hands out the result of a turn, and a whole search; a name has the number of its types behind it
+HANDED_OUT, SEARCHED = "solver::search::settle", "solver::solving::solve"
 
 
 @dataclass(frozen=True)
@@ -64,7 +64,7 @@ def calls_of(profile: str, functions: tuple[str, ...]) -> list[int]:
     with open(profile, encoding="utf-8", errors="replace") as file:
         for line in file:
             if named := NAMED.match(line):
-                names.setdefault(named[1], (named[2] or "").strip())
+                names.setdefault(named[1], (named[2] or "").strip().partition("::<")[0])
                 called = names[named[1]] if line.startswith("c") else ""
             elif (count := CALLS.match(line)) and called in calls:
                 calls[called] += int(count[1])
@@ -73,10 +73,10 @@ def calls_of(profile: str, functions: tuple[str, ...]) -> list[int]:
 
 def turns_in(profile: str) -> int:
     """How many turns of searches a profile has."""
-    handed_out, begun = calls_of(profile, (HANDED_OUT, BEGUN))
-    if begun and not handed_out:
+    handed_out, searched = calls_of(profile, (HANDED_OUT, SEARCHED))
+    if searched > handed_out:
         raise SystemExit(f"not counted: the program has no function {HANDED_OUT} any more")
-    return handed_out - begun
+    return handed_out - searched
 
 
 def counted(*words: str) -> Counted:
