@@ -348,6 +348,10 @@ def shown_on_terminal(command: list[str], environment: dict[str, str], width: in
 
 def main() -> int:
     """All cases."""
+    # a shell has what it starts beside itself ignore Ctrl-C, and who runs this may ignore the others
+    for number in (signal.SIGTERM, signal.SIGHUP):
+        signal.signal(number, signal.SIG_DFL)
+    signal.signal(signal.SIGINT, signal.default_int_handler)
     cases = Cases()
     for part in (names_of_memory_models, commands, tables, states, models_without_axioms, ends, terminals):
         part(cases)
