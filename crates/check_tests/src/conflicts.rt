@@ -34,11 +34,23 @@ const JUDGED: &[(&'static str, &'static str, &'static str, End<'static>)] = &[
     ),
 ];
 
+/// Whether `verify` ends so with the text.
+fn is_taken<'a>(
+    alloc: Global,
+    model: &'a str,
+    test: &'a str,
+    text: &'a str,
+    end: End<'_>,
+) -> Result<bool, Memory> {
+    let contents = &[("model", model), ("test", test), ("text", text)];
+    ends_over(alloc, "verify model test text", contents, (&[], &[]), end)
+}
+
 /// Whether the command writes a text that begins so, and `verify` ends so with that text.
-fn is_judged(
+fn is_judged<'a>(
     alloc: Global,
     command: &str,
-    test: &str,
+    test: &'a str,
     head: &str,
     end: End<'_>,
 ) -> Result<bool, Memory> {
@@ -46,16 +58,17 @@ fn is_judged(
     let Ok(text) = str::from_utf8(&text) else {
         return Ok(false);
     };
-    let contents = &[("model", ONE_MEMORY), ("test", test), ("text", text)];
-    let is_taken = ends_over(alloc, "verify model test text", contents, (&[], &[]), end)?;
-    Ok(is_taken && text.starts_with(head))
+    if !text.starts_with(head) {
+        return Ok(false);
+    }
+    is_taken(alloc, ONE_MEMORY, test, text, end)
 }
 
 #[test]
 fn what_failed_leads_the_search(rt: HostRuntime) -> Result<(), Fail> {
     for (command, test, head, end) in JUDGED {
         assert!(rt;
-            is_judged(rt.alloc(), command, test, head, *end)?,
+            is_judged(rt.alloc(), command, *test, head, *end)?,
             "{command}: {head}"
         );
     }
