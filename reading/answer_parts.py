@@ -3,20 +3,20 @@
 
     answer_parts.py FOLDER MODEL TEST ANSWER [QUERY]
 
-Writes each model and each certificate into the folder, as 0.model, 0.certificate and so on, and prints a line for each: its
-number, the number of its first line in the answer, and the status that `verify` has to end with. The exit status is 0; 3 with
-the line of a refusal where the query is refused; 6 with the line of the answer that is; 125 where the words or the other files
-are none that can be.
+Writes each model and each certificate into the folder, as 0.model, 0.certificate and so on, and prints a line for each:
+its number, the number of its first line in the answer, and the status that `verify` has to end with. The exit status is
+0; 3 with the line of a refusal where the query is refused; 5 where the folder or standard output cannot be written; 6
+with the line of the answer that is refused; 125 where the words or the other files are none that can be.
 """
 import os
 import sys
-import traceback
 
 from second.answers import AnswerRefused, read_answer
 from second.explaining_files import contents, parts_of
 from second.naming import line_and_column
 from second.queries import InModel
 from second.scopes import read_model
+from second.standard_output import FAILED, UNWRITTEN, status_of
 from second.tokens import Fault
 
 
@@ -26,13 +26,13 @@ def refusal(fault: Fault, model: bytes, query: bytes) -> str:
     return f"refused {kind} {fault.word} at {line_and_column(text, fault.place)}"
 
 
-def main(folder: str, model_path: str, answer_path: str, query_path: str) -> int:
+def main(folder: str, model_path: str, _test_path: str, answer_path: str, query_path: str = "") -> int:
     """Writes the parts, and answers the exit status."""
     text, data = contents(model_path), contents(answer_path)
     if data.startswith(b"ask ") is not bool(query_path):
         say = "an answer of ask is explained beside its query" if not query_path else "only an answer of ask has a query"
         print(f"pipecheck: {say}: explain MODEL TEST ANSWER QUERY", file=sys.stderr)
-        return 125
+        return FAILED
     model, query = read_model(text), contents(query_path) if query_path else b""
     try:
         parts = list(parts_of(model, text, read_answer(data, model), query))
@@ -44,17 +44,14 @@ def main(folder: str, model_path: str, answer_path: str, query_path: str) -> int
         return 3
     for number, (line, status, written, certificate) in enumerate(parts):
         for ending, content in (("model", written), ("certificate", certificate)):
-            with open(os.path.join(folder, f"{number}.{ending}"), "wb") as file:
-                file.write(content)
+            try:
+                with open(os.path.join(folder, f"{number}.{ending}"), "wb") as file:
+                    file.write(content)
+            except OSError:
+                return UNWRITTEN
         print(number, line, status)
     return 0
 
 
 if __name__ == "__main__":
-    sys.setrecursionlimit(20_000)
-    try:
-        words = sys.argv[1:]
-        sys.exit(main(words[0], words[1], words[3], words[4] if words[4:] else ""))
-    except Exception:  # pylint: disable=broad-except
-        traceback.print_exc()
-        sys.exit(125)
+    sys.exit(status_of(main, sys.argv[1:]))

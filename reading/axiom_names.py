@@ -14,6 +14,7 @@ from second.explaining_files import contents
 from second.models import Axiom
 from second.naming import line_and_column
 from second.scopes import read_model
+from second.standard_output import FAILED, status_of
 from second.tokens import Fault, tokens
 
 
@@ -40,12 +41,11 @@ def main(word: str, model_path: str, other_path: str) -> int:
     """Writes the lines."""
     try:
         lines = list((of_core if word == "core" else of_query)(model_path, other_path))
-        print("".join(f"{line}\n" for line in lines), end="", flush=True)
-    except (AnswerRefused, Fault, OSError, UnicodeError, RecursionError):
-        return 125
+    except (AnswerRefused, Fault, OSError):
+        return FAILED
+    print("".join(f"{line}\n" for line in lines), end="")
     return 0
 
 
 if __name__ == "__main__":
-    sys.setrecursionlimit(20_000)
-    sys.exit(main(*sys.argv[1:]))
+    sys.exit(status_of(main, sys.argv[1:]))

@@ -2,12 +2,12 @@
 """Says each line of a certificate in the words of the model.
 
     explain.py [--called NAME] MODEL TEST CERTIFICATE
-    explain.py [--called NAME] MODEL TEST ANSWER [QUERY]
+    explain.py [--called NAME] MODEL TEST ANSWER [QUERY [NAME]]
 
-A certificate, and each one in an answer of `core` or of `ask`, has to be one that a judge accepted: `pipecheck explain` has
-`verify` judge it first. NAME is what the model is called where the file is a copy of it. The exit status is 0, 5 where
-standard output could not be written, or 125 where a file is none that a judge could have accepted, or where this program
-fails.
+A certificate, and each one in an answer of `core` or of `ask`, has to be one that a judge accepted: `pipecheck explain`
+has `verify` judge it first. NAME is what the model, or the query, is called where the file is a copy of it. The exit
+status is 0, 5 where standard output could not be written, or 125 where a file is none that a judge could have accepted,
+or where this program fails.
 """
 import sys
 

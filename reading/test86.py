@@ -3,14 +3,13 @@
 
     test86.py FILE
 
-The exit status is 0, 3 where the listing is refused, 4 where it cannot be read, 5 where standard output cannot be written, and
-125 where this program fails.
+The exit status is 0, 3 where the listing is refused, 4 where it cannot be read, 5 where standard output cannot be
+written, and 125 where this program fails.
 """
-import os
 import sys
-import traceback
 
 from second.naming import line_and_column
+from second.standard_output import status_of
 from second.tokens import Fault
 from second.writing_tests import LIMIT, test_of_listing
 
@@ -33,20 +32,9 @@ def answer(path: str) -> tuple[str, int]:
 def main(path: str) -> int:
     """Writes the test, or the refusal of the listing."""
     text, status = answer(path)
-    try:
-        sys.stdout.write(text)
-        sys.stdout.flush()
-    except (AttributeError, OSError):
-        # what is left in the buffer must not fail once more at the end
-        os.dup2(os.open(os.devnull, os.O_WRONLY), 1)
-        return 5
+    print(text, end="")
     return status
 
 
 if __name__ == "__main__":
-    sys.setrecursionlimit(20_000)
-    try:
-        sys.exit(main(sys.argv[1]))
-    except Exception:  # pylint: disable=broad-except
-        traceback.print_exc()
-        sys.exit(125)
+    sys.exit(status_of(main, sys.argv[1:]))

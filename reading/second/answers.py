@@ -1,7 +1,7 @@
 """The answers of `core` and of `ask`: the certificates in them, and of which model each of them is.
 
-An answer is read by its lines alone. Whether its certificates are right is for `verify` to say, which takes each of them with
-the text of its model.
+An answer is read by its lines alone. Whether its certificates are right is for `verify` to say, which takes each of
+them with the text of its model.
 """
 import re
 from bisect import bisect
@@ -37,8 +37,8 @@ class Part:
 
 @dataclass(frozen=True)
 class Core:
-    """An answer of `core`: the axioms of the set by their numbers, or none; the certificate of the set, or of the model where
-    there is none, and then one for each axiom left out."""
+    """An answer of `core`: the axioms of the set by their numbers, or none; the certificate of the set, or of the model
+    where there is none, and then one for each axiom left out."""
 
     kept: list[int] | None
     parts: list[Part]
@@ -51,7 +51,8 @@ class Core:
 
 @dataclass(frozen=True)
 class Asked:
-    """An answer of `ask`: its word, the certificate of the model with the formula as an axiom, and that with its denial."""
+    """An answer of `ask`: its word, the certificate of the model with the formula as an axiom, and that with its
+    denial."""
 
     word: str
     parts: list[Part]
@@ -130,8 +131,8 @@ class AnswerReader:
 
 @dataclass(frozen=True)
 class ModelOfPart:
-    """The model that a certificate is of. Places in it are places in `text`, which begins with the whole model, and behind
-    it has the query from `query_at` on. `written` is a file that says the model."""
+    """The model that a certificate is of. Places in it are places in `text`, which begins with the whole model, and
+    behind it has the query from `query_at` on. `written` is a file that says the model."""
 
     model: Model
     text: bytes
@@ -140,7 +141,8 @@ class ModelOfPart:
 
 
 def model_of(answer: Answer, part: Part, model: Model, text: bytes, query: bytes) -> ModelOfPart:
-    """The model that a certificate of an answer is of. The query is one that is read beside the model without a fault."""
+    """The model that a certificate of an answer is of. The query is one that is read beside the model without a
+    fault."""
     if isinstance(answer, Core):
         kept = answer.axioms_of(part)
         if kept is None:

@@ -8,8 +8,8 @@ HEADINGS = {"cycle": "no order has one", "path": "this order is asked for and de
 
 
 def clash_nodes(word: str, facts: list[Fact]) -> list[Node]:
-    """The nodes of a chain of edges, the first one again at the end of a cycle; or the one node. Of a path and of an absent
-    node the denied fact is the last one."""
+    """The nodes of a chain of edges, the first one again at the end of a cycle; or the one node. Of a path and of an
+    absent node the denied fact is the last one."""
     if word == "absent":
         return [facts[-1][0]]
     chain = facts if word == "cycle" else facts[:-1]
@@ -28,8 +28,8 @@ def is_long(facts: list[Fact]) -> bool:
 
 
 def clash_reason(names: Names, word: str, facts: list[Fact], new: list[Fact]) -> str:
-    """Why a side cannot be that adds the new ones of these facts. Where it only denies what the others say, or says what they
-    deny, they say so. The orders of a long clash are left out."""
+    """Why a side cannot be that adds the new ones of these facts. Where it only denies what the others say, or says
+    what they deny, they say so. The orders of a long clash are left out."""
     others = [fact for fact in facts if fact not in new]
     chain = "" if is_long(facts) else names.chain(clash_nodes(word, facts))
     said = " and ".join(map(names.fact, new))

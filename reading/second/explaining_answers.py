@@ -1,4 +1,5 @@
-"""An answer of `core` or of `ask` in the words of the model. Each certificate in it has to be one that a judge accepted."""
+"""An answer of `core` or of `ask` in the words of the model. Each certificate in it has to be one that a judge
+accepted."""
 from typing import Iterator
 
 from .answers import Answer, Core, Part, model_of

@@ -17,22 +17,22 @@ def contents(path: str) -> bytes:
 
 
 def explain_files(
-    model_name: str, model_path: str, test_path: str, certificate_path: str, query_path: str = ""
+    model_name: str, model_path: str, test_path: str, certificate_path: str, query_path: str = "", query_name: str = ""
 ) -> Iterator[str]:
     """The lines that are said of the certificate or answer, which judges have accepted. An answer of `ask` has a query
-    beside it. The model is called by its name."""
+    beside it. The model is called by its name, and so is the query where it has one."""
     text = contents(model_path)
     model, (case, _) = read_model(text), read_file_items(test_path, contents(test_path))
     data = contents(certificate_path)
     if not is_answer(data):
         return explain(model, case, text, model_name, data.decode("ascii").split("\n")[:-1])
     query = contents(query_path) if query_path else b""
-    return explain_answer(model, case, text, model_name, read_answer(data, model), query, query_path)
+    return explain_answer(model, case, text, model_name, read_answer(data, model), query, query_name or query_path)
 
 
 def parts_of(model: Model, text: bytes, answer: Answer, query: bytes) -> Iterator[tuple[int, int, bytes, bytes]]:
-    """Of each certificate in an answer the number of its first line, the status that `verify` has to end with, the model that
-    it is of and its own text. Of `ask` the query is read first, which may have a fault."""
+    """Of each certificate in an answer the number of its first line, the status that `verify` has to end with, the
+    model that it is of and its own text. Of `ask` the query is read first, which may have a fault."""
     if isinstance(answer, Asked):
         read_query(query, model)
     for part in answer.parts:

@@ -38,8 +38,8 @@ def literal(noted: Noted) -> NamedFact:
 
 @dataclass(frozen=True)
 class Waiting:
-    """A right side whose left one is open: where its branch begins, its name, how many facts stand before it, it, the level of
-    the split."""
+    """A right side whose left one is open: where its branch begins, its name, how many facts stand before it, it, the
+    level of the split."""
 
     step: int
     name: str
@@ -58,8 +58,8 @@ class ClosedBy:
 
 @dataclass(frozen=True)
 class Closing:
-    """A side of a split with the place of its first step, and the other one with its own; how the side is closed, and why
-    it cannot be."""
+    """A side of a split with the place of its first step, and the other one with its own; how the side is closed, and
+    why it cannot be."""
 
     side: Noted
     at: int
@@ -89,8 +89,8 @@ class LiftedRefutation:
         self.waiting: list[Waiting] = []
 
     def lines(self) -> Iterator[str]:
-        """The steps. Of a split one side of which the test alone makes false, or a clash closes at once, a line says what the
-        other one adds, which goes on there. Of any other one both branches follow, one level further in."""
+        """The steps. Of a split one side of which the test alone makes false, or a clash closes at once, a line says
+        what the other one adds, which goes on there. Of any other one both branches follow, one level further in."""
         yield "The axioms are the first facts:"
         for number, axiom in enumerate(self.model.axioms):
             yield f"  {number}: {self.names.axiom(axiom)} at {self.names.place(axiom.at)}"
@@ -173,7 +173,8 @@ class LiftedRefutation:
     # why a side cannot be
 
     def closed_side(self, sides: list[Closing]) -> Closing | None:
-        """The first of these sides that the test makes false, or else the first that a clash closes; with the reason."""
+        """The first of these sides that the test makes false, or else the first that a clash closes; with the
+        reason."""
         found = [replace(one, leaves=self.leaves(one.side, one.at)) for one in sides]
         for one in found:
             if one.leaves and all(leaf.word == "false" for leaf in one.leaves):
@@ -185,8 +186,8 @@ class LiftedRefutation:
         return None
 
     def leaves(self, side: Noted, at: int) -> list[ClosedBy]:
-        """How the branches of a side are closed, whose first step stands there; nothing where more is taken apart in them
-        than the side itself."""
+        """How the branches of a side are closed, whose first step stands there; nothing where more is taken apart in
+        them than the side itself."""
         if not self.is_alone(at):
             return []
         first = len(self.facts)
@@ -210,10 +211,11 @@ class LiftedRefutation:
         return found
 
     def is_alone(self, at: int) -> bool:
-        """Whether the branch that begins there takes apart its own fact and no other one, and is closed by `false` of its
-        parts, but for one clash at most."""
+        """Whether the branch that begins there takes apart its own fact and no other one, and is closed by `false` of
+        its parts, but for one clash at most."""
         first = len(self.facts)
-        # of each fact from that one on whether it is a part of it, and of each right side that waits its place and the same
+        # of each fact from that one on whether it is a part of it, and of each right side that waits its place and the
+        # same
         is_part = [True]
         waiting: list[tuple[int, bool]] = []
         clashes = 0
@@ -264,7 +266,8 @@ class LiftedRefutation:
     # the facts
 
     def part(self, above: Noted, part: Fact, place: int, name: str) -> Noted:
-        """A part of a fact: the member of a list at a place, the body of a quantifier at what has this name, or a side."""
+        """A part of a fact: the member of a list at a place, the body of a quantifier at what has this name, or a
+        side."""
         assert isinstance(above.fact, Said)
         formula, origin = above.fact.formula, above.origin
         values = above.values

@@ -19,8 +19,8 @@ Side = list[Signed]
 
 @dataclass(frozen=True)
 class Source:
-    """What asserted a fact of the present branch: a position, and the split whose side has it, by its name; without one it
-    holds on every branch."""
+    """What asserted a fact of the present branch: a position, and the split whose side has it, by its name; without one
+    it holds on every branch."""
 
     position: int
     side: str
@@ -71,8 +71,8 @@ class Refutation:
         self.group: Group | None = None
 
     def lines(self) -> Iterator[str]:
-        """The steps. Of a split one of whose sides closes at once a line says what the other one gives, which goes on there.
-        Of any other one both branches follow, one level further in."""
+        """The steps. Of a split one of whose sides closes at once a line says what the other one gives, which goes on
+        there. Of any other one both branches follow, one level further in."""
         yield "Each split is a choice that the model leaves, and each branch ends in what cannot be:"
         if self.positions.constant is None:
             self.add([(0, False)], "")
@@ -106,15 +106,15 @@ class Refutation:
             self.here = left_at
 
     def closed_side(self, left_at: int, right_at: int) -> str | None:
-        """The side of a split that is closed by its first step. Where both are it is the one that is closed by fewer nodes, so
-        that the other clash is seen whole."""
+        """The side of a split that is closed by its first step. Where both are it is the one that is closed by fewer
+        nodes, so that the other clash is seen whole."""
         steps = {"left": self.steps[left_at], "right": self.steps[right_at]}
         closed = [side for side, step in steps.items() if not step.startswith("split ")]
         return min(closed, key=lambda side: steps[side].count(" ")) if closed else None
 
     def forced(self, step: str, closed: Side, closed_at: int, other: Side) -> Iterator[str]:
-        """The line of a split of which one side, closed by the step there, leaves the other. Those that come from one formula
-        stand below one heading."""
+        """The line of a split of which one side, closed by the step there, leaves the other. Those that come from one
+        formula stand below one heading."""
         heading = self.names.formula(self.origin_of(step))
         last = self.group.last if self.group is not None and self.group.heading == heading else ""
         if not last:
@@ -132,7 +132,8 @@ class Refutation:
         self.add(side, name)
 
     def leaf(self) -> Iterator[str]:
-        """What clashes at the end of a branch, each fact with where it comes from. Then the branch that waited last goes on."""
+        """What clashes at the end of a branch, each fact with where it comes from. Then the branch that waited last
+        goes on."""
         word, *written = self.steps[self.here].split(" ")
         yield from (self.indent() + line for line in self.clash_lines(word, written))
         if not self.waiting:
@@ -238,9 +239,9 @@ class Refutation:
         return self.names.of_side(origin, source.side) if source.side else self.names.origin(origin)
 
     def reason(self, side: Side, at: int, last: str) -> list[str]:
-        """Why a side cannot be, which the step there closes, and where the facts come from that were there before it: in one
-        line, or each in its own where they are many. What the line above gives, which is of the split of this name, needs no
-        word."""
+        """Why a side cannot be, which the step there closes, and where the facts come from that were there before it:
+        in one line, or each in its own where they are many. What the line above gives, which is of the split of this
+        name, needs no word."""
         word, *written = self.steps[at].split(" ")
         mark = len(self.trail)
         self.add(side, "")

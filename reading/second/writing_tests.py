@@ -1,6 +1,7 @@
 """The test that a listing of herd's says, as a text that every command takes.
 
-The names of the listing stand in comments: of its threads, locations and registers, and what its author wrote beside them.
+The names of the listing stand in comments: of its threads, locations and registers, and what its author wrote beside
+them.
 """
 from dataclasses import replace
 from typing import Iterator
@@ -16,8 +17,8 @@ MOST_CHARACTERS = 100
 
 
 def test_of_listing(data: bytes) -> str:
-    """The text of the test that a listing says, or the listing's first fault. Comments are left out where the text would
-    have too many bytes with them; where it has without them too, the listing is refused."""
+    """The text of the test that a listing says, or the listing's first fault. Comments are left out where the text
+    would have too many bytes with them; where it has without them too, the listing is refused."""
     title, start = behind_header(data)
     listing = ListingReader(tokens(data, PIECE, start)).listing()
     items = Judge(listing).items()
