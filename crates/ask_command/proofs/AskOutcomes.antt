@@ -8,9 +8,9 @@ use Rattle.pc_syntax.specs.Written.{Written, not_, WrittenModel}
 use Rattle.pc_syntax.specs.Closed.{PlainClosed, plain_closed, closed_not}
 use Rattle.pc_ground.specs.Stages.{plain_axioms}
 use Rattle.pc_front.specs.Front.{IsFrontOf}
-use Rattle.query_front.specs.Queries.{with_axiom, with_denial}
-use Rattle.query_front.specs.declared.inquiry.Inquiry.{Inquiry}
-use Rattle.query_front.proofs.FaultlessQueries.{denial_faultless, axiom_faultless}
+use Rattle.ask_command.specs.Queries.{with_axiom, with_denial}
+use Rattle.ask_command.specs.declared.inquiry.Inquiry.{Inquiry}
+use Rattle.ask_command.proofs.FaultlessQueries.{denial_faultless, axiom_faultless}
 use Rattle.ask_command.specs.declared.outcome.Asked.{Asked}
 use Rattle.ask_command.specs.Asking.{IsFrontMore, IsAsked, word_of}
 use Rattle.command_base.specs.declared.ending.Ending.{Ending}

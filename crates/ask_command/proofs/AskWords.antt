@@ -1,15 +1,16 @@
 -- The two verdicts tell the word of the formula.
 use Rattle.std.proofs.Common.{◌≡◌, true, false, ◌&&◌, List, [], refl, sym, ◌∙◌}
 use Rattle.std.specs.Prelude.{ℕ}
+use Rattle.std.proofs.lemmas.Bool.{and_from}
 use Rattle.pc_common.specs.Case.{Case}
 use Rattle.pc_common.specs.World.{Node, World}
+use Rattle.pc_common.proofs.Bools.{and_first, and_second}
 use Rattle.pc_syntax.specs.Written.{Written, not_, WrittenModel}
 use Rattle.pc_syntax.specs.Observable.{macros_of, setting, satisfies, Observable}
 use Rattle.pc_syntax.specs.Truth.{is_true}
 use Rattle.pc_ground.specs.declared.version.Version.TheVariants.{One}
-use Rattle.pc_ground.proofs.Bools.{and_first, and_second, and_both}
-use Rattle.query_front.specs.Queries.{with_axiom, with_denial}
-use Rattle.query_front.proofs.WithAxiom.{satisfies_more}
+use Rattle.ask_command.specs.Queries.{with_axiom, with_denial}
+use Rattle.ask_command.proofs.WithAxiom.{satisfies_more}
 use Rattle.solver.specs.declared.answer.Answer.{Answer}
 use Rattle.solver.specs.declared.answer.Answer.TheVariants.{Observable as a_graph, Unobservable as a_refutation}
 use Rattle.ask_command.specs.Asking.{word_of}
@@ -32,7 +33,7 @@ module _ (m : WrittenModel) (c : Case) (f : Written) where
 
   unseen : (Observable (with_axiom m f) c → ⊥) → (w : World Node) → IsAllowed m c w → holds_in m c f w ≡ true → ⊥
   unseen none w allowed holding =
-      none (w, allowed.0, satisfies_more m f c w ∙ and_both (satisfies m c w) (is_true (setting m c w) (macros_of m) [] f) allowed.1 holding)
+      none (w, allowed.0, satisfies_more m f c w ∙ and_from (satisfies m c w) (is_true (setting m c w) (macros_of m) [] f) allowed.1 holding)
 
 module _ (m : WrittenModel) (c : Case) (f : Written) where
   added_told : (x : Answer) {text : List ℕ} → IsCertified One (with_axiom m f) c (status_of x) text → Told (IsAllowed m c) (holds_in m c f) true x

@@ -1,3 +1,10 @@
+pub mod WithAxiom
+pub mod FaultlessQueries
+pub mod QueryEnds
+pub mod OneQuery
+pub mod QueryOrFault
+pub mod InquiryParts
+pub mod ShortNames
 pub mod MoreParts
 pub mod TrueWords
 pub mod ThreeFiles

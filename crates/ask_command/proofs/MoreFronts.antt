@@ -28,14 +28,14 @@ use Rattle.pc_front.specs.ModelFront.{closed_axiom}
 use Rattle.pc_front.specs.Front.{ArePartsOf, IsFrontOf}
 use Rattle.pc_front.proofs.FrontLaws.{satisfied_alike}
 use Rattle.pc_front.proofs.PartsOf.{no_name_fault}
-use Rattle.query_front.specs.Queries.{with_axiom, first_query_fault}
-use Rattle.query_front.specs.Inquiries.{IsInquiryOf}
-use Rattle.query_front.specs.declared.inquiry.Inquiry.{Inquiry}
-use Rattle.query_front.proofs.WithAxiom.{axioms_more, macros_same}
-use Rattle.query_front.proofs.FaultlessQueries.{denial_names}
+use Rattle.ask_command.specs.Queries.{with_axiom, first_query_fault}
+use Rattle.ask_command.specs.Inquiries.{IsInquiryOf}
+use Rattle.ask_command.specs.declared.inquiry.Inquiry.{Inquiry}
+use Rattle.ask_command.proofs.WithAxiom.{axioms_more, macros_same}
+use Rattle.ask_command.proofs.FaultlessQueries.{denial_names}
 use Rattle.solver.specs.Answers.{IsAnswer}
 use Rattle.solver.specs.declared.answer.Answer.{Answer}
-use Rattle.front_search.specs.Found.{IsFound}
+use Rattle.search_trait.specs.Found.{IsFound}
 use Rattle.ask_command.specs.Asking.{IsFrontMore}
 use Rattle.command_base.proofs.AskedAlike.{numbers_same, same_tree}
 use Rattle.verdicts.specs.Verdicts.{IsVerdict, IsWritable, status_of, verdict_text}

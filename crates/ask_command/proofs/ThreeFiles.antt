@@ -1,5 +1,5 @@
 -- How `ask` ends at its three files, and what it knows where they have no fault.
-use Rattle.std.proofs.Common.{◌≡◌, inl, inr, ℕ, List, Some, None, refl, sym, ◌∙◌, subst}
+use Rattle.std.proofs.Common.{◌≡◌, ◌⊎◌, inl, inr, ℕ, List, Some, None, refl, sym, ◌∙◌, subst}
 use Rattle.std.specs.Prelude.{IsTrue}
 use Rattle.pc_common.specs.Outside.{FilesView}
 use Rattle.pc_common.specs.LineColumn.{line_of, column_of}
@@ -11,26 +11,28 @@ use Rattle.pc_common.specs.declared.fault.Which.{Which}
 use Rattle.pc_common.specs.declared.fault.Which.TheVariants.{Model, Test, Query}
 use Rattle.pc_common.specs.declared.reading.ReadEnd.{ReadEnd}
 use Rattle.pc_common.specs.declared.reading.ReadEnd.TheVariants.{ReadFault as an_outside_fault, TooLarge as past_limit, Memory as no_memory}
+use Rattle.pc_common.specs.declared.status.Status.{Status}
 use Rattle.pc_common.specs.declared.status.Status.TheVariants.{Usage, Refused, ReadFault, Memory}
-use Rattle.pc_case.specs.MicroOps.{AreMicroOps}
 use Rattle.pc_syntax.specs.Written.{Written, WrittenModel}
 use Rattle.litmus_reader.specs.Answer.{CaseOf}
-use Rattle.litmus_reader.proofs.CleanFacts.{are_micro_ops}
 use Rattle.pc_front.specs.Front.{SaysModel}
 use Rattle.pc_front.proofs.OneModel.{one_whole_model}
-use Rattle.query_front.specs.Queries.{SaysQuery, IsQueryFault}
-use Rattle.query_front.specs.Inquiries.{IsFirstFault as IsFaultOfBytes, in_two, in_query, SaysInquiry}
-use Rattle.query_front.specs.declared.inquiry.Inquiry.{Inquiry}
-use Rattle.query_front.proofs.OneQuery.{no_fault_beside}
+use Rattle.ask_command.specs.Queries.{SaysQuery, IsQueryFault}
+use Rattle.ask_command.specs.Inquiries.{IsFirstInquiryFault as IsFaultOfBytes, in_two, in_query, SaysInquiry}
+use Rattle.ask_command.specs.declared.inquiry.Inquiry.{Inquiry}
+use Rattle.ask_command.proofs.OneQuery.{no_fault_beside}
 use Rattle.command_base.specs.declared.refusal.Refusal.{Refusal}
 use Rattle.command_base.specs.declared.ending.Ending.{Ending}
 use Rattle.command_base.specs.declared.ending.Ending.TheVariants.{ReadFault as a_read_fault, Memory as a_memory, Refused as a_refusal}
-use Rattle.command_base.specs.Inputs.{Inputs, Contents, IsRead, IsTooLarge, too_large}
-use Rattle.command_base.specs.Endings.{refusal_text, IsUnread}
+use Rattle.command_base.specs.Inputs.{Inputs, Contents, IsRead, IsTooLarge, too_large, large_model as model_is_large, large_test as test_is_large, in_bytes as bytes_have_one}
+use Rattle.command_base.specs.SecondFiles.{NoFault}
+use Rattle.command_base.specs.Refusals.{IsInputRefusal as IsRefusalOfTwo, refusal as refusal_of_two}
+use Rattle.command_base.specs.Endings.{ending_status, refusal_text, IsUnread}
+use Rattle.command_base.specs.Outcomes.{IsUnreadEnding}
 use Rattle.command_base.proofs.InputsRead.{refusal_is}
 use Rattle.command_base.proofs.OneCase.{one_held, never_both}
-use Rattle.command_base.proofs.TestForm.{test_form}
-use Rattle.ask_command.specs.AskFiles.{name_of, bytes_of, IsBytesEnding, AreRead, SaysAll, IsFirstFault, large_model, large_test, large_query, in_bytes, IsRefusal, refusal, WasRead, LacksOne, HasInquiry, IsFilesEnding}
+use Rattle.command_base.proofs.TestForm.{test_form, test_kept}
+use Rattle.ask_command.specs.AskFiles.{name_of, bytes_of, IsBytesEnding, AreRead, SaysAll, IsFirstAskFault, large_model, large_test, large_query, in_bytes, IsAskRefusal, refusal, WasRead, LacksAskedFile, HasInquiry, IsFilesEnding}
 
 some_none : {x : List ℕ} → Some x ≡ None → ⊥
 some_none e = cc
@@ -50,17 +52,20 @@ refused_no_fault e = cc
 refused_no_usage : Refused ≡ Usage → ⊥
 refused_no_usage e = cc
 
+refused_no_memory : Refused ≡ Memory → ⊥
+refused_no_memory e = cc
+
 -- what is said of the second bytes is said of the first, where both are those of one name
 moved : (P : List ℕ → Type 0) (holds : Contents) (name a b : List ℕ) → holds name ≡ Some a → holds name ≡ Some b → P b → P a
 moved P holds name a b x y is = subst P (one_held holds name b a y x) is
 
 module _ (holds : Contents) (i : Inputs) (query : List ℕ) where
   -- a refusal by the first fault
-  refusal_of : (bytes : List ℕ) (f : InputFault) (r : Refusal) → IsFirstFault holds i query f → holds (name_of f.file i query) ≡ Some bytes
+  refusal_of : (bytes : List ℕ) (f : InputFault) (r : Refusal) → IsFirstAskFault holds i query f → holds (name_of f.file i query) ≡ Some bytes
       → r.fault ≡ f → r.line ≡ line_of bytes f.place.offset → r.column ≡ column_of bytes f.place.offset
-      → IsRefusal holds i query Refused (refusal_text r)
+      → IsAskRefusal holds i query Refused (refusal_text r)
   refusal_of bytes f r first held e l c =
-      let Q : List ℕ → Type 0 = λ t. IsRefusal holds i query Refused t in
+      let Q : List ℕ → Type 0 = λ t. IsAskRefusal holds i query Refused t in
       subst Q (refusal_is bytes f r e l c) (refusal first held)
 
   -- the file that a fault is in holds these bytes
@@ -70,43 +75,31 @@ module _ (holds : Contents) (i : Inputs) (query : List ℕ) where
   held_in mb tb qb Query read = read.third.held
 
   -- all names are held
-  all_held : (mb tb qb : List ℕ) → AreRead holds i query mb tb qb → LacksOne holds i query → ⊥
+  all_held : (mb tb qb : List ℕ) → AreRead holds i query mb tb qb → LacksAskedFile holds i query → ⊥
   all_held mb tb qb read (inl (inl none)) = some_none (sym read.model.held ∙ none)
   all_held mb tb qb read (inl (inr (first, none))) = some_none (sym read.test.held ∙ none)
   all_held mb tb qb read (inr (model, test, none)) = some_none (sym read.third.held ∙ none)
 
-  -- what came before a file was read
-  abbrev pub WereRead : Which → Type 0
-  WereRead Model = Unit {0}
-  WereRead Test = WasRead holds i.model
-  WereRead Query = WasRead holds i.model × WasRead holds i.test
+  -- where the first two were read, a query past the limit is held
+  large_held : IsTooLarge holds query → WasRead holds i.model × WasRead holds i.test → LacksAskedFile holds i query → ⊥
+  large_held l read (inl (inl none)) = some_none (sym read.0.1.held ∙ none)
+  large_held l read (inl (inr (first, none))) = some_none (sym read.1.1.held ∙ none)
+  large_held l read (inr (model, test, none)) = some_none (sym l.held ∙ none)
 
-  -- a file past the limit is held
-  large_held : (file : Which) → IsTooLarge holds (name_of file i query) → WereRead file → LacksOne holds i query → ⊥
-  large_held Model l read (inl (inl none)) = some_none (sym l.held ∙ none)
-  large_held Model l read (inl (inr ((mb, is), none))) = never_both holds i.model mb is l
-  large_held Model l read (inr ((mb, is), test, none)) = never_both holds i.model mb is l
-  large_held Test l read (inl (inl none)) = some_none (sym read.1.held ∙ none)
-  large_held Test l read (inl (inr (first, none))) = some_none (sym l.held ∙ none)
-  large_held Test l read (inr (model, (tb, is), none)) = never_both holds i.test tb is l
-  large_held Query l read (inl (inl none)) = some_none (sym read.0.1.held ∙ none)
-  large_held Query l read (inl (inr (first, none))) = some_none (sym read.1.1.held ∙ none)
-  large_held Query l read (inr (model, test, none)) = some_none (sym l.held ∙ none)
+  -- a refusal of the first two for their size is one of the three
+  size_refusal : {status : Status} {text : List ℕ} → IsRefusalOfTwo NoFault holds i status text → IsAskRefusal holds i query status text
+  size_refusal (refusal_of_two (model_is_large l) held) = refusal (large_model l) held
+  size_refusal (refusal_of_two (test_is_large r l) held) = refusal (large_test r l) held
+  size_refusal (refusal_of_two (bytes_have_one rm rt is) held) = absurd is
 
-  -- the first fault of a file past the limit
-  large_first : (file : Which) → IsTooLarge holds (name_of file i query) → WereRead file → IsFirstFault holds i query (too_large file)
-  large_first Model l read = large_model l
-  large_first Test l read = large_test read.1 l
-  large_first Query l read = large_query read.0.1 read.1.1 l
-
-  -- a name that is not held, where what comes before it was read
-  none_lacks : (file : Which) → holds (name_of file i query) ≡ None → WereRead file → LacksOne holds i query
-  none_lacks Model none read = inl (inl none)
-  none_lacks Test none read = inl (inr (read, none))
-  none_lacks Query none read = inr (read.0, read.1, none)
+  -- and comes only where one of them is not read
+  size_unread : {status : Status} {text : List ℕ} → IsRefusalOfTwo NoFault holds i status text → WasRead holds i.model × WasRead holds i.test → ⊥
+  size_unread (refusal_of_two (model_is_large l) held) read = never_both holds i.model read.0.0 read.0.1 l
+  size_unread (refusal_of_two (test_is_large r l) held) read = never_both holds i.test read.1.0 read.1.1 l
+  size_unread (refusal_of_two (bytes_have_one rm rt is) held) read = absurd is
 
   -- three files that say something have no fault
-  pub no_fault_said : (m : WrittenModel) (c : Case) (f : Written) (x : InputFault) → SaysAll holds i query m c f → IsFirstFault holds i query x → ⊥
+  pub no_fault_said : (m : WrittenModel) (c : Case) (f : Written) (x : InputFault) → SaysAll holds i query m c f → IsFirstAskFault holds i query x → ⊥
   no_fault_said m c f _ says (large_model l) = never_both holds i.model says.two.model_bytes says.two.model_read l
   no_fault_said m c f _ says (large_test r l) = never_both holds i.test says.two.test_bytes says.two.test_read l
   no_fault_said m c f _ says (large_query r s l) = never_both holds query says.bytes says.query_read l
@@ -130,18 +123,9 @@ module _ (holds : Contents) (i : Inputs) (query : List ℕ) where
       of_bytes (in_two fault) = test_form.no_fault mb tb x fault m c model_says test_says
       of_bytes (in_query {m = n} other said fault) = of_query n other fault
 
--- a test that is read keeps its micro-ops
-test_kept : (bytes : List ℕ) (c : Case) → CaseOf bytes c → AreMicroOps c.ops
-test_kept bytes c said = subst (λ (d : Case). AreMicroOps d.ops) (sym said.is) (are_micro_ops said.items said.clean)
-
--- what was read of the three files, over files that are modelled
-pub read_all_three : (holds : Contents) (i : Inputs) (query mb tb qb : List ℕ) → IsRead holds i.model mb → IsRead holds i.test tb → IsRead holds query qb
-    → AreRead holds i query mb tb qb
-read_all_three holds i query mb tb qb model test third = record { model = model; test = test; third = third }
-
 module _ {F : Type 0} {view : F → FilesView} {old new : F} (failing_modelled : IsTrue (view old).only_missing_fail → IsTrue (view old).modelled)
     (keeps : Reads view old new) (i : Inputs) (query : List ℕ) where
-  fault_ends : Rose (view old).faults (view new).faults → (IsTrue (view old).only_missing_fail → LacksOne (view old).holds i query)
+  fault_ends : Rose (view old).faults (view new).faults → (IsTrue (view old).only_missing_fail → LacksAskedFile (view old).holds i query)
       → IsFilesEnding view i query old new a_read_fault
   fault_ends rose lacking = record {
     keeps = keeps;
@@ -162,8 +146,8 @@ module _ {F : Type 0} {view : F → FilesView} {old new : F} (failing_modelled :
     answers = λ t no_fault memory. absurd (memory refl);
   }
 
-  refusal_ends : (r : Refusal) → (IsTrue (view old).modelled → IsRefusal (view old).holds i query Refused (refusal_text r))
-      → (IsTrue (view old).only_missing_fail → LacksOne (view old).holds i query → ⊥)
+  refusal_ends : (r : Refusal) → (IsTrue (view old).modelled → IsAskRefusal (view old).holds i query Refused (refusal_text r))
+      → (IsTrue (view old).only_missing_fail → LacksAskedFile (view old).holds i query → ⊥)
       → IsFilesEnding view i query old new (a_refusal r)
   refusal_ends r is held = record {
     keeps = keeps;
@@ -174,28 +158,45 @@ module _ {F : Type 0} {view : F → FilesView} {old new : F} (failing_modelled :
     answers = λ t no_fault memory. is t;
   }
 
-  -- a file could not be read whole
-  pub unread_ends : (file : Which) (end : ReadEnd) (e : Ending) → IsUnread file end e
+  -- one of the first two could not be read whole
+  pub two_end : (e : Ending) → IsUnreadEnding view i old new e → IsFilesEnding view i query old new e
+  two_end e d = record {
+    keeps = d.keeps;
+    usage_only = d.usage_only;
+    cause = d.cause;
+    missing_only = λ c fault. inl (d.missing_only c fault);
+    missing_due = due e d;
+    answers = λ t no_fault memory. size_refusal (view old).holds i query (d.answers t no_fault memory).0;
+  }
+    where
+      due : (e : Ending) → IsUnreadEnding view i old new e → IsTrue (view old).only_missing_fail → LacksAskedFile (view old).holds i query
+          → (ending_status e ≡ ReadFault) ⊎ (ending_status e ≡ Memory)
+      due e d c (inl two) = d.missing_due c two
+      due a_read_fault d c (inr third) = inl refl
+      due a_memory d c (inr third) = inr refl
+      due (a_refusal r) d c (inr (model, test, none)) =
+          absurd (size_unread (view old).holds i query (d.answers (failing_modelled c) refused_no_fault refused_no_memory).0 (model, test))
+
+  -- the query could not be read whole
+  pub query_end : (end : ReadEnd) (e : Ending) → IsUnread Query end e
       → (end ≡ an_outside_fault → Rose (view old).faults (view new).faults)
-      → (IsTrue (view old).only_missing_fail → end ≡ an_outside_fault → (view old).holds (name_of file i query) ≡ None)
-      → (IsTrue (view old).modelled → end ≡ past_limit → IsTooLarge (view old).holds (name_of file i query))
-      → (IsTrue (view old).modelled → WereRead (view old).holds i query file)
+      → (IsTrue (view old).only_missing_fail → end ≡ an_outside_fault → (view old).holds query ≡ None)
+      → (IsTrue (view old).modelled → end ≡ past_limit → IsTooLarge (view old).holds query)
+      → (IsTrue (view old).modelled → WasRead (view old).holds i.model × WasRead (view old).holds i.test)
       → IsFilesEnding view i query old new e
-  unread_ends file an_outside_fault e is rose none large read =
+  query_end an_outside_fault e is rose none large read =
       let P : Ending → Type 0 = λ a. IsFilesEnding view i query old new a in
-      subst P (sym is) (fault_ends (rose refl) (λ c. none_lacks (view old).holds i query file (none c refl) (read (failing_modelled c))))
-  unread_ends file no_memory e is rose none large read =
+      subst P (sym is) (fault_ends (rose refl) (λ c. let two = read (failing_modelled c) in inr (two.0, two.1, none c refl)))
+  query_end no_memory e is rose none large read =
       let P : Ending → Type 0 = λ a. IsFilesEnding view i query old new a in
       subst P (sym is) memory_ends
-  unread_ends file past_limit (a_refusal r) is rose none large read = refusal_ends r
+  query_end past_limit (a_refusal r) is rose none large read = refusal_ends r
       (λ t. let l = large t refl in
-      refusal_of (view old).holds i query l.bytes (too_large file) r (large_first (view old).holds i query file l (read t)) (held_large l) is.0 is.1 is.2)
-      (λ c. large_held (view old).holds i query file (large (failing_modelled c) refl) (read (failing_modelled c)))
-    where
-      held_large : (l : IsTooLarge (view old).holds (name_of file i query)) → (view old).holds (name_of file i query) ≡ Some l.bytes
-      held_large l = l.held
-  unread_ends file past_limit a_read_fault is rose none large read = absurd is
-  unread_ends file past_limit a_memory is rose none large read = absurd is
+      let two = read t in
+      refusal_of (view old).holds i query l.bytes (too_large Query) r (large_query two.0.1 two.1.1 l) l.held is.0 is.1 is.2)
+      (λ c. large_held (view old).holds i query (large (failing_modelled c) refl) (read (failing_modelled c)))
+  query_end past_limit a_read_fault is rose none large read = absurd is
+  query_end past_limit a_memory is rose none large read = absurd is
 
   module _ (mb tb qb : List ℕ) (read : IsTrue (view old).modelled → AreRead (view old).holds i query mb tb qb) where
     -- these bytes say nothing that can be asked

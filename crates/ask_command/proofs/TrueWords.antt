@@ -3,17 +3,18 @@ use Rattle.std.proofs.Common.{◌≡◌, inl, inr, Bool, true, false, not, ◌&&
 use Rattle.std.specs.List.{list_all}
 use Rattle.std.specs.Prelude.{IsTrue}
 use Rattle.std.proofs.Math.Bool.{and-true}
+use Rattle.std.proofs.lemmas.Bool.{and_from}
 use Rattle.pc_common.specs.Case.{Case}
 use Rattle.pc_common.specs.World.{Node, World, IsWorld}
+use Rattle.pc_common.proofs.Bools.{true_or_false, and_first, and_second, and_assoc, not_both}
 use Rattle.pc_syntax.specs.Closed.{PlainClosed, closed_not, closed_true, closed_satisfies}
-use Rattle.pc_ground.proofs.Bools.{true_or_false, and_first, and_second, and_both, and_assoc, not_both}
 use Rattle.pc_ground.specs.declared.front.Front.{Front}
 use Rattle.pc_ground.specs.declared.stage.Stage.{Stage}
 use Rattle.pc_ground.specs.Stages.{plain_axioms}
 use Rattle.solver.specs.declared.answer.Answer.{Answer}
 use Rattle.solver.specs.declared.answer.Answer.TheVariants.{Observable, Unobservable}
-use Rattle.front_search.specs.Found.{IsFound}
-use Rattle.front_search.proofs.FoundFronts.{found_world, found_none}
+use Rattle.search_trait.specs.Found.{IsFound}
+use Rattle.search_trait.proofs.FoundFronts.{found_world, found_none}
 use Rattle.ask_command.specs.Asking.{IsFrontMore, word_of}
 use Rattle.ask_command.specs.Words.{Somewhere, Everywhere, IsWord, IsClosedWorld, WordsAreTrue}
 
@@ -68,7 +69,7 @@ module _ (c : Case) (stages : List Stage) (ps : List PlainClosed) (p : PlainClos
       → ((w : World Node) → IsWorld w → IsTrue (closed_satisfies (plain_axioms front.axioms) front.case w) → ⊥)
       → (w : World Node) → IsClosedWorld c ps w → closed_true c w [] p ≡ true → ⊥
   unseen front is none w allowed holding =
-      none w allowed.0 (satisfied_more front is w ∙ and_both (closed_satisfies ps c w) (closed_true c w [] p) allowed.1 holding)
+      none w allowed.0 (satisfied_more front is w ∙ and_from (closed_satisfies ps c w) (closed_true c w [] p) allowed.1 holding)
 
 module _ (c : Case) (stages : List Stage) (ps : List PlainClosed) (p : PlainClosed) where
   added_told : (front : Front) (x : Answer) → IsFrontMore c stages ps p front → IsFound front x → Told (IsClosedWorld c ps) (λ w. closed_true c w [] p) true x

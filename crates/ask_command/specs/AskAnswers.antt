@@ -10,14 +10,14 @@ use Rattle.pc_syntax.specs.Written.{Written, WrittenModel, stage_numbers}
 use Rattle.pc_syntax.specs.Observable.{macros_of, setting, satisfies, IsWorldOf}
 use Rattle.pc_syntax.specs.Truth.{is_true}
 use Rattle.pc_ground.specs.declared.version.Version.TheVariants.{One}
-use Rattle.query_front.specs.Queries.{with_axiom, with_denial}
+use Rattle.ask_command.specs.Queries.{with_axiom, with_denial}
 use Rattle.ask_command.specs.declared.outcome.AskWord.{AskWord}
 use Rattle.ask_command.specs.Words.{IsWord}
 use Rattle.verdicts.specs.Certified.{IsCertified}
 use Rattle.command_base.specs.Inputs.{Inputs, Contents}
 use Rattle.command_base.specs.Outcomes.{IsOutcome}
 use Rattle.ask_command.specs.AskTexts.{ask_text}
-use Rattle.ask_command.specs.AskFiles.{SaysAll, IsFirstFault, IsRefusal, LacksOne}
+use Rattle.ask_command.specs.AskFiles.{SaysAll, IsFirstAskFault, IsAskRefusal, LacksAskedFile}
 
 -- a world of the model and the case that satisfies the model
 abbrev pub IsAllowed : WrittenModel → Case → World Node → Type 0
@@ -40,17 +40,17 @@ pub data IsAskText (m : WrittenModel) (c : Case) (f : Written) : Status → List
 
 -- the refusal by the first fault, or the word with its certificates
 pub data AnswersAsk (holds : Contents) (i : Inputs) (query : List ℕ) : Status → List ℕ → Type 0 where
-  refused : {status : Status} {text : List ℕ} → IsRefusal holds i query status text → AnswersAsk holds i query status text
+  refused : {status : Status} {text : List ℕ} → IsAskRefusal holds i query status text → AnswersAsk holds i query status text
   found : {m : WrittenModel} {c : Case} {f : Written} {status : Status} {text : List ℕ} → SaysAll holds i query m c f
       → IsAskText m c f status text → AnswersAsk holds i query status text
 
 -- refused wherever the files have a fault, and done wherever they say what is asked
 pub record IsAskDue (holds : Contents) (i : Inputs) (query : List ℕ) (status : Status) : Type 0 where
   pub answered : (m : WrittenModel) (c : Case) (f : Written) → SaysAll holds i query m c f → status ≡ Done
-  pub fault : (x : InputFault) → IsFirstFault holds i query x → status ≡ Refused
+  pub fault : (x : InputFault) → IsFirstAskFault holds i query x → status ≡ Refused
 
 -- the outcome of `ask`
 abbrev pub IsAskOutcome : {F : Type 0} → (F → FilesView) → Inputs → List ℕ → F → F → Status → List ℕ → Type 0
 IsAskOutcome view i query old new status text =
-    IsOutcome view ⊥ (IsTrue (view old).modelled) (LacksOne (view old).holds i query)
+    IsOutcome view ⊥ (IsTrue (view old).modelled) (LacksAskedFile (view old).holds i query)
     (AnswersAsk (view old).holds i query) old new status text

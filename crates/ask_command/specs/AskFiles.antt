@@ -12,9 +12,9 @@ use Rattle.pc_case.specs.MicroOps.{AreMicroOps}
 use Rattle.pc_syntax.specs.Written.{Written, WrittenModel}
 use Rattle.pc_syntax.specs.ModelFault.{first_model_fault}
 use Rattle.litmus_reader.specs.Answer.{CaseOf}
-use Rattle.query_front.specs.Queries.{SaysQuery, first_query_fault}
-use Rattle.query_front.specs.Inquiries.{IsInquiryOf, IsFirstFault as IsFaultOfBytes}
-use Rattle.query_front.specs.declared.inquiry.Inquiry.{Inquiry}
+use Rattle.ask_command.specs.Queries.{SaysQuery, first_query_fault}
+use Rattle.ask_command.specs.Inquiries.{IsInquiryOf, IsFirstInquiryFault as IsFaultOfBytes}
+use Rattle.ask_command.specs.declared.inquiry.Inquiry.{Inquiry}
 use Rattle.command_base.specs.Inputs.{Inputs, Contents, IsRead, IsTooLarge, too_large, Says, LacksInput}
 use Rattle.command_base.specs.Refusals.{refused_text}
 use Rattle.command_base.specs.Endings.{ending_status, ending_text, IsPlaced}
@@ -55,27 +55,27 @@ pub record SaysAll (holds : Contents) (i : Inputs) (query : List ℕ) (m : Writt
   pub says_query : SaysQuery m bytes f
 
 -- the first fault: size as the files are read, in their order; then that of the bytes of the three
-pub data IsFirstFault (holds : Contents) (i : Inputs) (query : List ℕ) : InputFault → Type 0 where
-  large_model : IsTooLarge holds i.model → IsFirstFault holds i query (too_large Model)
+pub data IsFirstAskFault (holds : Contents) (i : Inputs) (query : List ℕ) : InputFault → Type 0 where
+  large_model : IsTooLarge holds i.model → IsFirstAskFault holds i query (too_large Model)
   large_test : {mb : List ℕ} → IsRead holds i.model mb → IsTooLarge holds i.test
-      → IsFirstFault holds i query (too_large Test)
+      → IsFirstAskFault holds i query (too_large Test)
   large_query : {mb tb : List ℕ} → IsRead holds i.model mb → IsRead holds i.test tb → IsTooLarge holds query
-      → IsFirstFault holds i query (too_large Query)
+      → IsFirstAskFault holds i query (too_large Query)
   in_bytes : {mb tb qb : List ℕ} {fault : InputFault} → AreRead holds i query mb tb qb → IsFaultOfBytes mb tb qb fault
-      → IsFirstFault holds i query fault
+      → IsFirstAskFault holds i query fault
 
 -- the refusal by it
-pub data IsRefusal (holds : Contents) (i : Inputs) (query : List ℕ) : Status → List ℕ → Type 0 where
-  refusal : {bytes : List ℕ} {fault : InputFault} → IsFirstFault holds i query fault
+pub data IsAskRefusal (holds : Contents) (i : Inputs) (query : List ℕ) : Status → List ℕ → Type 0 where
+  refusal : {bytes : List ℕ} {fault : InputFault} → IsFirstAskFault holds i query fault
       → holds (name_of fault.file i query) ≡ Some bytes
-      → IsRefusal holds i query Refused (refused_text bytes fault)
+      → IsAskRefusal holds i query Refused (refused_text bytes fault)
 
 abbrev pub WasRead : Contents → List ℕ → Type 0
 WasRead holds name = (bytes : List ℕ) × IsRead holds name bytes
 
 -- a name that is come to is not held: one of the first two, or where these were read, the query's
-abbrev pub LacksOne : Contents → Inputs → List ℕ → Type 0
-LacksOne holds i query = LacksInput holds i ⊎ (WasRead holds i.model × WasRead holds i.test × (holds query ≡ None))
+abbrev pub LacksAskedFile : Contents → Inputs → List ℕ → Type 0
+LacksAskedFile holds i query = LacksInput holds i ⊎ (WasRead holds i.model × WasRead holds i.test × (holds query ≡ None))
 
 -- what is asked of a model and a case, which (view files).modelled say; (view files).only_missing_fail hold all names
 pub record HasInquiry {F : Type 0} (view : F → FilesView) (i : Inputs) (query : List ℕ) (old new : F)
@@ -89,11 +89,11 @@ pub record HasInquiry {F : Type 0} (view : F → FilesView) (i : Inputs) (query 
   pub inquiry_of : IsInquiryOf m c f asked
   pub kept : AreMicroOps c.ops
   pub says : IsTrue (view old).modelled → SaysAll (view old).holds i query m c f
-  pub held : IsTrue (view old).only_missing_fail → LacksOne (view old).holds i query → ⊥
+  pub held : IsTrue (view old).only_missing_fail → LacksAskedFile (view old).holds i query → ⊥
 
 module _ {F : Type 0} (view : F → FilesView) (i : Inputs) (query : List ℕ) where
   -- the ending of the command at its files: over (view files).modelled a refusal, if it is no fault of the outside
   abbrev pub IsFilesEnding : F → F → Ending → Type 0
   IsFilesEnding old new e =
-      IsOutcome view ⊥ (IsTrue (view old).modelled) (LacksOne (view old).holds i query)
-      (IsRefusal (view old).holds i query) old new (ending_status e) (ending_text e)
+      IsOutcome view ⊥ (IsTrue (view old).modelled) (LacksAskedFile (view old).holds i query)
+      (IsAskRefusal (view old).holds i query) old new (ending_status e) (ending_text e)

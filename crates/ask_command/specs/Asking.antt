@@ -7,7 +7,7 @@ use Rattle.pc_ground.specs.declared.stage.Stage.{Stage}
 use Rattle.pc_ground.specs.Stages.{plain_axioms}
 use Rattle.solver.specs.declared.answer.Answer.{Answer}
 use Rattle.solver.specs.declared.answer.Answer.TheVariants.{Observable, Unobservable}
-use Rattle.front_search.specs.Found.{IsFound}
+use Rattle.search_trait.specs.Found.{IsFound}
 use Rattle.ask_command.specs.declared.outcome.Asked.{Asked}
 use Rattle.ask_command.specs.declared.outcome.AskWord.{AskWord}
 use Rattle.ask_command.specs.declared.outcome.AskWord.TheVariants.{Always, Never, Sometimes, Vacuous}

@@ -1,3 +1,8 @@
+pub mod Queries
+pub mod Inquiries
+pub mod Denials
+pub mod Judged
+pub mod Laws
 pub mod Asking
 pub mod Words
 pub mod AskTexts

@@ -7,10 +7,10 @@ ghost use Rattle.ask_command.specs.Asking.{IsFoundMore, IsAsked};
 use super::copies::{copy_parts, denial};
 use super::fronts::front_more;
 use super::outcome::Asked;
-use front_search::Search;
 use pc_common::Memory;
 use pc_ground::{Front, Parts};
 use pc_syntax::Closed;
+use search_trait::Search;
 use solver::Answer;
 use std::alloc::Global;
 
@@ -32,8 +32,8 @@ fn found_more<S: Search>(
 /// What the search finds of the parts of a model and a test with a formula more, and with its denial. The formula names
 /// no stages but those of the parts.
 ///
-/// Makes two ground trees and two searches, and copies the parts for each. The one error is that memory was refused; the
-/// parts and the formula stay as they are.
+/// Makes two ground trees and two searches, and copies the parts for each. The one error is that memory was refused;
+/// the parts and the formula stay as they are.
 pub fn ask_parts<S: Search>(alloc: Global, parts: &Parts, formula: &Closed) -> Result<Asked, Memory>
     requires { StagesWithin (numbers_of (map plain_stage parts.now.stages)) (plain_closed formula.now.body) }
     ensures { IfOk result (IsAsked parts.now.case parts.now.stages (plain_axioms parts.now.axioms)
@@ -44,8 +44,8 @@ pub fn ask_parts<S: Search>(alloc: Global, parts: &Parts, formula: &Closed) -> R
     Ok(Asked { added, against })
 }
 
-/// What the search finds of a front with a formula as its last axiom, and with the formula's denial. The formula names no
-/// stages but those of the front.
+/// What the search finds of a front with a formula as its last axiom, and with the formula's denial. The formula names
+/// no stages but those of the front.
 ///
 /// Makes two ground trees and two searches. The one error is that memory was refused; the front and the formula stay as
 /// they are.

@@ -3,15 +3,16 @@ ghost use Rattle.pc_common.specs.declared.status.Status.TheVariants.{Done};
 ghost use Rattle.command_base.specs.Inputs.{plain_inputs};
 ghost use Rattle.command_base.specs.Endings.{returned_status, returned_text};
 ghost use Rattle.ask_command.specs.AskAnswers.{IsAskOutcome};
-ghost use Rattle.ask_command.specs.FoundAsks.{verdict_of as verdict_in, verdicts_of as verdicts_in, found_text, IsAskWritable};
+ghost use Rattle.ask_command.specs.FoundAsks.{verdict_of as verdict_in, verdicts_of as verdicts_in};
+ghost use Rattle.ask_command.specs.FoundAsks.{found_text, IsAskWritable};
 
 use super::asking::ask_parts;
 use super::files::read_three;
 use super::outcome::Asked;
 use command_base::{Ending, Inputs};
-use front_search::Search;
 use pc_common::{Files, Memory};
 use pc_ground::{Front, Version};
+use search_trait::Search;
 use solver::Answer;
 use std::alloc::Global;
 use verdicts::Verdict;
@@ -22,7 +23,7 @@ pub struct FoundAsk {
     pub against: Verdict,
 }
 
-// Written out, so that a proof of what drops the value meets one call and no field.
+// By hand: docs/DECISIONS.md, "Drops are written by hand".
 impl Drop for FoundAsk {
     fn drop(self) {
         let FoundAsk {

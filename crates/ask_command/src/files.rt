@@ -1,13 +1,14 @@
 ghost use Rattle.std.specs.Prelude.{◌≡◌, ◌≤◌, length, MatchResult};
 ghost use Rattle.pc_front.specs.declared.limits.TheConstants.{MAX_FILE};
 ghost use Rattle.command_base.specs.Inputs.{plain_inputs};
-ghost use Rattle.query_front.specs.Inquiries.{SaysInquiry};
+ghost use Rattle.ask_command.specs.Inquiries.{SaysInquiry};
 ghost use Rattle.ask_command.specs.AskFiles.{bytes_of as bytes_in, IsBytesEnding, HasInquiry, IsFilesEnding};
 
-use command_base::{Ending, Inputs, placed, unread};
+use super::inquiry::Inquiry;
+use super::three_files::read_inquiry;
+use command_base::{Ending, Inputs, placed, two_files, unread};
 use pc_common::{Files, Which, read_all};
 use pc_front::{FrontEnd, MAX_FILE};
-use query_front::{Inquiry, read_inquiry};
 use std::alloc::Global;
 
 /// The bytes of one of the three files.
@@ -50,13 +51,9 @@ pub(crate) fn read_three<F: Files>(
         (HasInquiry F.view (plain_inputs inputs.entry) query.now files.old files.new)
         (IsFilesEnding F.view (plain_inputs inputs.entry) query.now files.old files.new) }
 {
-    let model = match read_all(alloc, files, inputs.model, MAX_FILE) {
-        Ok(bytes) => bytes,
-        Err(end) => return Err(unread(Which::Model, end)),
-    };
-    let test = match read_all(alloc, files, inputs.test, MAX_FILE) {
-        Ok(bytes) => bytes,
-        Err(end) => return Err(unread(Which::Test, end)),
+    let (model, test) = match two_files(alloc, inputs, files) {
+        Ok(both) => both,
+        Err(ending) => return Err(ending),
     };
     let third = match read_all(alloc, files, query, MAX_FILE) {
         Ok(bytes) => bytes,

@@ -5,10 +5,10 @@ ghost use Rattle.pc_ground.specs.Stages.{plain_stage, plain_axioms, numbers_of};
 ghost use Rattle.ask_command.specs.Asking.{IsFrontMore};
 
 use super::copies::copy_axioms;
-use front_search::Search;
 use pc_common::Memory;
 use pc_ground::{Front, Parts, copy_stages};
 use pc_syntax::Closed;
+use search_trait::Search;
 use std::alloc::Global;
 
 /// The parts once more, in memory of their own, with one axiom more after the others.

@@ -1,7 +1,7 @@
 //! What the bytes of three files say.
+use ask_command::read_inquiry;
 use example_texts::{EMPTY, SOME_OP};
 use pc_syntax::ClosedFormula;
-use query_front::read_inquiry;
 use std::alloc::Global;
 
 /// Whether the three say something that may be asked, of so many axioms.

@@ -1,6 +1,5 @@
 //! The laws of queries and of their words.
-use ask_command::words_are_true;
-use query_front::{no_query_fault, one_query, one_query_fault, query_or_fault};
+use ask_command::{no_query_fault, one_query, one_query_fault, query_or_fault, words_are_true};
 use scope_check::query_faults_are_name_faults;
 
 /// A law does nothing, and can be called by anyone who wants what it says.

@@ -8,7 +8,7 @@ use Rattle.pc_common.specs.declared.place.Place.{Place}
 use Rattle.pc_syntax.specs.Written.{Written, WrittenItem, axiom_, macro_, WrittenModel}
 use Rattle.pc_syntax.specs.Observable.{axiom_of, macro_of, axioms_of, macros_in_order, macros_of, satisfies, setting}
 use Rattle.pc_syntax.specs.Truth.{are_true}
-use Rattle.axiom_core.specs.Chosen.{Choice, behind, taken}
+use Rattle.axiom_core.specs.Chosen.{Choice, after_first, taken}
 use Rattle.axiom_core.specs.ModelWith.{items_with, model_with}
 
 axiom_front : (b : Bool) (at : Place) (body : Written) (items : List WrittenItem) (bodies : List Written) → flat_map axiom_of items ≡ bodies
@@ -20,7 +20,8 @@ items_axioms : (keep : Choice) (items : List WrittenItem) → flat_map axiom_of 
 items_axioms keep [] = refl
 items_axioms keep (macro_ m ∷ items) = items_axioms keep items
 items_axioms keep (axiom_ at body ∷ items) =
-    axiom_front (keep zero) at body (items_with (behind keep) items) (taken (behind keep) (flat_map axiom_of items)) (items_axioms (behind keep) items)
+    axiom_front (keep zero) at body (items_with (after_first keep) items) (taken (after_first keep) (flat_map axiom_of items))
+    (items_axioms (after_first keep) items)
 
 macro_front : (b : Bool) (at : Place) (body : Written) (items : List WrittenItem)
     → flat_map macro_of (if b then axiom_ at body ∷ items else items) ≡ flat_map macro_of items
@@ -30,7 +31,7 @@ macro_front false at body items = refl
 items_macros : (keep : Choice) (items : List WrittenItem) → flat_map macro_of (items_with keep items) ≡ flat_map macro_of items
 items_macros keep [] = refl
 items_macros keep (macro_ m ∷ items) = ap (λ zs. m ∷ zs) (items_macros keep items)
-items_macros keep (axiom_ at body ∷ items) = macro_front (keep zero) at body (items_with (behind keep) items) ∙ items_macros (behind keep) items
+items_macros keep (axiom_ at body ∷ items) = macro_front (keep zero) at body (items_with (after_first keep) items) ∙ items_macros (after_first keep) items
 
 -- the axioms are those that are chosen
 pub axioms_with : (keep : Choice) (m : WrittenModel) → axioms_of (model_with keep m) ≡ taken keep (axioms_of m)

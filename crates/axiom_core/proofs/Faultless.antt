@@ -14,7 +14,7 @@ use Rattle.pc_syntax.specs.Sizes.{expanded_size, expanded_height, depth_fault, t
 use Rattle.pc_syntax.specs.NameFaults.{name_fault, first_name_fault}
 use Rattle.pc_syntax.specs.ModelFault.{first_model_fault}
 use Rattle.pc_syntax.proofs.NoFault.{none_first, none_second, none_where}
-use Rattle.axiom_core.specs.Chosen.{Choice, behind, taken}
+use Rattle.axiom_core.specs.Chosen.{Choice, after_first, taken}
 use Rattle.axiom_core.specs.ModelWith.{items_with, model_with}
 use Rattle.axiom_core.proofs.AxiomsWith.{axioms_with, ordered_macros_with, macros_with}
 
@@ -39,8 +39,8 @@ calls_with keep all earlier (macro_ m ∷ items) h =
     none_both (macro_fault earlier m) (items_fault all (m ∷ earlier) (items_with keep items)) (none_first (macro_fault earlier m) _ h)
     (calls_with keep all (m ∷ earlier) items (none_second (macro_fault earlier m) _ h))
 calls_with keep all earlier (axiom_ at body ∷ items) h =
-    call_front all earlier (keep zero) at body (items_with (behind keep) items) (none_first (body_fault all body) _ h)
-    (calls_with (behind keep) all earlier items (none_second (body_fault all body) _ h))
+    call_front all earlier (keep zero) at body (items_with (after_first keep) items) (none_first (body_fault all body) _ h)
+    (calls_with (after_first keep) all earlier items (none_second (body_fault all body) _ h))
 
 total_less : (at : Place) (total other : ℕ) → other ≤ total → total_fault at total ≡ None → total_fault at other ≡ None
 total_less at total other less h =
@@ -66,8 +66,8 @@ sizes_with keep ms total other (axiom_ at body ∷ items) less h =
     let depth = depth_fault at (expanded_height ms body) in
     let now = total + expanded_size ms body in
     let rest : option_or (total_fault at now) (sizes_fault ms now items) ≡ None = none_second depth _ h in
-    size_front ms (keep zero) at body total other (items_with (behind keep) items) less (none_first depth _ h) (none_first (total_fault at now) _ rest)
-    (λ k within. sizes_with (behind keep) ms now k items within (none_second (total_fault at now) _ rest))
+    size_front ms (keep zero) at body total other (items_with (after_first keep) items) less (none_first depth _ h) (none_first (total_fault at now) _ rest)
+    (λ k within. sizes_with (after_first keep) ms now k items within (none_second (total_fault at now) _ rest))
 
 name_front : {A : Type 0} (fault : A → Option Fault) (b : Bool) (x : A) (xs : List A)
     → fault x ≡ None → first_fault fault xs ≡ None → first_fault fault (if b then x ∷ xs else xs) ≡ None
@@ -78,7 +78,7 @@ names_with : {A : Type 0} (fault : A → Option Fault) (keep : Choice) (xs : Lis
     → first_fault fault xs ≡ None → first_fault fault (taken keep xs) ≡ None
 names_with fault keep [] h = refl
 names_with fault keep (x ∷ xs) h =
-    name_front fault (keep zero) x (taken (behind keep) xs) (none_first (fault x) _ h) (names_with fault (behind keep) xs (none_second (fault x) _ h))
+    name_front fault (keep zero) x (taken (after_first keep) xs) (none_first (fault x) _ h) (names_with fault (after_first keep) xs (none_second (fault x) _ h))
 
 module _ (keep : Choice) (m : WrittenModel) where
   macro_faultless : first_macro_fault m ≡ None → first_macro_fault (model_with keep m) ≡ None

@@ -13,8 +13,8 @@ use Rattle.pc_ground.specs.Stages.{plain_axioms}
 use Rattle.graph_text.specs.declared.graph.Graph.{Graph}
 use Rattle.solver.specs.declared.answer.Answer.{Answer}
 use Rattle.solver.specs.declared.answer.Answer.TheVariants.{Observable, Unobservable}
-use Rattle.front_search.specs.Found.{IsFound}
-use Rattle.front_search.proofs.FoundFronts.{found_world, found_none}
+use Rattle.search_trait.specs.Found.{IsFound}
+use Rattle.search_trait.proofs.FoundFronts.{found_world, found_none}
 use Rattle.axiom_core.specs.Chosen.{Choice, taken, among, less, flagged, AreRising}
 use Rattle.axiom_core.specs.Choices.{is_refutation, places, IsTried}
 use Rattle.axiom_core.specs.Cores.{Allow, Forbid, IsMinimal, IsFrontWith, IsRefutedWith, IsShownWith, AreShownWithout, IsCore, IsCoreOf, HasNone}

@@ -4,27 +4,28 @@ use Rattle.std.specs.Prelude.{IsTrue, if◌then◌else◌}
 use Rattle.std.specs.List.{list_all}
 use Rattle.std.proofs.Common.{add-one}
 use Rattle.std.proofs.lemmas.List.{get_or-map, length-map}
+use Rattle.std.proofs.lemmas.Bool.{and_from}
 use Rattle.pc_common.specs.Case.{Case}
+use Rattle.pc_common.proofs.Bools.{and_first, and_second}
 use Rattle.pc_syntax.specs.Closed.{PlainClosed, closed_true}
 use Rattle.pc_syntax.specs.StagesWithin.{StagesWithin}
 use Rattle.pc_ground.specs.Stages.{AxiomsWithin}
-use Rattle.pc_ground.proofs.Bools.{and_first, and_second, and_both}
-use Rattle.axiom_core.specs.Chosen.{Choice, behind, taken, less}
+use Rattle.axiom_core.specs.Chosen.{Choice, after_first, taken, less}
 use Rattle.axiom_core.specs.Cores.{Allow, Forbid}
 
 -- choices that agree at the places of a list take the same of it
 pub same_taken : {X : Type 0} (keep other : Choice) (xs : List X) → ((k : ℕ) → k < length xs → keep k ≡ other k) → taken keep xs ≡ taken other xs
 same_taken keep other [] same = refl
 same_taken keep other (x ∷ xs) same =
-    ap (λ b. if b then x ∷ taken (behind keep) xs else taken (behind keep) xs) (same zero (omega arith))
-    ∙ ap (λ ys. if other zero then x ∷ ys else ys) (same_taken (behind keep) (behind other) xs (λ k h. same (suc k) (omega arith)))
+    ap (λ b. if b then x ∷ taken (after_first keep) xs else taken (after_first keep) xs) (same zero (omega arith))
+    ∙ ap (λ ys. if other zero then x ∷ ys else ys) (same_taken (after_first keep) (after_first other) xs (λ k h. same (suc k) (omega arith)))
 
 -- all is taken where all places are chosen
 pub all_taken : {X : Type 0} (keep : Choice) (xs : List X) → ((k : ℕ) → k < length xs → keep k ≡ true) → taken keep xs ≡ xs
 all_taken keep [] all = refl
 all_taken keep (x ∷ xs) all =
-    ap (λ b. if b then x ∷ taken (behind keep) xs else taken (behind keep) xs) (all zero (omega arith))
-    ∙ ap (λ ys. x ∷ ys) (all_taken (behind keep) xs (λ k h. all (suc k) (omega arith)))
+    ap (λ b. if b then x ∷ taken (after_first keep) xs else taken (after_first keep) xs) (all zero (omega arith))
+    ∙ ap (λ ys. x ∷ ys) (all_taken (after_first keep) xs (λ k h. all (suc k) (omega arith)))
 
 put_front : {X : Type 0} (b : Bool) (x : X) (ys zs us : List X) → ys ≡ zs ++ us → (if b then x ∷ ys else ys) ≡ (if b then x ∷ zs else zs) ++ us
 put_front true x ys zs us e = ap (λ vs. x ∷ vs) e
@@ -35,8 +36,9 @@ taken_next : {X : Type 0} (keep : Choice) (xs : List X) (k : ℕ) (d : X) → k 
 taken_next keep [] k d h = absurd (omega arith)
 taken_next keep (x ∷ xs) zero d h = refl
 taken_next keep (x ∷ xs) (suc k) d h =
-    put_front (keep zero) x (taken (behind keep) (take (suc k) xs)) (taken (behind keep) (take k xs)) (if keep (suc k) then get_or xs k d ∷ [] else [])
-    (taken_next (behind keep) xs k d (omega arith))
+    put_front (keep zero) x (taken (after_first keep) (take (suc k) xs)) (taken (after_first keep) (take k xs)) (if keep (suc k) then
+    get_or xs k d ∷ [] else [])
+    (taken_next (after_first keep) xs k d (omega arith))
 
 -- a loop that has taken of the first k, and then comes to the next
 pub taken_more : {X : Type 0} (keep : Choice) (xs : List X) (k : ℕ) (d : X) → k < length xs
@@ -63,13 +65,13 @@ within_front numbers false p ps first rest = rest
 pub within_taken : (numbers : List ℕ) (keep : Choice) (ps : List PlainClosed) → AxiomsWithin numbers ps → AxiomsWithin numbers (taken keep ps)
 within_taken numbers keep [] within = tt
 within_taken numbers keep (p ∷ ps) within =
-    within_front numbers (keep zero) p (taken (behind keep) ps) within.0 (within_taken numbers (behind keep) ps within.1)
+    within_front numbers (keep zero) p (taken (after_first keep) ps) within.0 (within_taken numbers (after_first keep) ps within.1)
 
 fewer_front : {X : Type 0} (test : X → Bool) (a b : Bool) (x : X) (ys zs : List X)
     → (b ≡ true → a ≡ true) → (list_all test ys ≡ true → list_all test zs ≡ true)
     → list_all test (if a then x ∷ ys else ys) ≡ true → list_all test (if b then x ∷ zs else zs) ≡ true
 fewer_front test true true x ys zs more rest h =
-    and_both (test x) (list_all test zs) (and_first (test x) (list_all test ys) h) (rest (and_second (test x) (list_all test ys) h))
+    and_from (test x) (list_all test zs) (and_first (test x) (list_all test ys) h) (rest (and_second (test x) (list_all test ys) h))
 fewer_front test true false x ys zs more rest h = rest (and_second (test x) (list_all test ys) h)
 fewer_front test false true x ys zs more rest h = let no : false ≡ true = more refl in cc
 fewer_front test false false x ys zs more rest h = rest h
@@ -79,8 +81,8 @@ pub fewer_hold : {X : Type 0} (test : X → Bool) (keep other : Choice) (xs : Li
     → list_all test (taken keep xs) ≡ true → list_all test (taken other xs) ≡ true
 fewer_hold test keep other [] more h = refl
 fewer_hold test keep other (x ∷ xs) more h =
-    fewer_front test (keep zero) (other zero) x (taken (behind keep) xs) (taken (behind other) xs) (more zero)
-    (fewer_hold test (behind keep) (behind other) xs (λ k. more (suc k))) h
+    fewer_front test (keep zero) (other zero) x (taken (after_first keep) xs) (taken (after_first other) xs) (more zero)
+    (fewer_hold test (after_first keep) (after_first other) xs (λ k. more (suc k))) h
 
 module _ (c : Case) (ps : List PlainClosed) (keep other : Choice) (more : (k : ℕ) → IsTrue (other k) → IsTrue (keep k)) where
   -- where some axioms allow, fewer do
@@ -110,7 +112,7 @@ map_front f false x xs ys e = e
 pub map_taken : {X Y : Type 0} (f : X → Y) (keep : Choice) (xs : List X) → map f (taken keep xs) ≡ taken keep (map f xs)
 map_taken f keep [] = refl
 map_taken f keep (x ∷ xs) =
-    map_front f (keep zero) x (taken (behind keep) xs) (taken (behind keep) (map f xs)) (map_taken f (behind keep) xs)
+    map_front f (keep zero) x (taken (after_first keep) xs) (taken (after_first keep) (map f xs)) (map_taken f (after_first keep) xs)
 
 pub less_kept : (i : ℕ) (keep : Choice) (k : ℕ) → IsTrue (less i keep k) → IsTrue (keep k)
 less_kept i keep k h = and_first (keep k) _ h

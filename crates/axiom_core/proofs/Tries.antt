@@ -1,13 +1,13 @@
 -- The deletion loop: flags at its start, where an axiom stays, and where one is taken out.
 use Rattle.std.proofs.Common.{◌≡◌, ℕ, ◌+◌, ◌<◌, inl, inr, Bool, true, false, ◌&&◌, not, eqb, List, length, replicate, set, sym, ◌∙◌, ap, subst, arith, length-set}
 use Rattle.std.specs.Prelude.{IsTrue}
-use Rattle.std.proofs.lemmas.Bool.{cases_lt, eq-eqb}
+use Rattle.std.proofs.lemmas.Bool.{cases_lt, eq-eqb, and_from}
 use Rattle.std.proofs.lemmas.Bool.Decides.{eqb_tells}
 use Rattle.std.proofs.Math.Bool.{and-true, and-false}
 use Rattle.std.proofs.lemmas.List.{length-replicate, get_or-replicate, get_or-set_same, get_or-set_other}
 use Rattle.pc_common.specs.Case.{Case}
+use Rattle.pc_common.proofs.Bools.{and_first, and_second}
 use Rattle.pc_syntax.specs.Closed.{PlainClosed}
-use Rattle.pc_ground.proofs.Bools.{and_first, and_second, and_both}
 use Rattle.axiom_core.specs.Chosen.{Choice, taken, less, flagged}
 use Rattle.axiom_core.specs.Choices.{IsTried}
 use Rattle.axiom_core.specs.Cores.{Allow, Forbid}
@@ -72,7 +72,7 @@ module _ (c : Case) (ps : List PlainClosed) where
               let apart : k ≡ i → ⊥ = less_other i (flagged flags) k left in
               fewer_allow c ps (less k (flagged flags)) (less k new)
               (λ j h.
-              and_both (flagged flags j) (not (eqb j k))
+              and_from (flagged flags j) (not (eqb j k))
               (and_first (flagged flags j) (not (eqb j i)) (sym (cleared flags i inside j) ∙ and_first (new j) (not (eqb j k)) h))
               (and_second (new j) (not (eqb j k)) h))
               (t.needed k (omega arith) (and_first (flagged flags k) (not (eqb k i)) left));

@@ -7,13 +7,13 @@ abbrev pub Choice : Type 0
 Choice = ℕ → Bool
 
 -- the choice as it goes on after the first place
-abbrev pub behind : Choice → Choice
-behind keep k = keep (suc k)
+abbrev pub after_first : Choice → Choice
+after_first keep k = keep (suc k)
 
 -- the things at the chosen places, in order
 abbrev pub taken : {X : Type 0} → Choice → List X → List X
 taken keep [] = []
-taken keep (x ∷ xs) = if keep zero then x ∷ taken (behind keep) xs else taken (behind keep) xs
+taken keep (x ∷ xs) = if keep zero then x ∷ taken (after_first keep) xs else taken (after_first keep) xs
 
 -- the places of these numbers
 abbrev pub among : List ℕ → Choice

@@ -8,7 +8,7 @@ use Rattle.pc_ground.specs.declared.front.Front.{Front}
 use Rattle.pc_ground.specs.Stages.{plain_axioms}
 use Rattle.graph_text.specs.declared.graph.Graph.{Graph}
 use Rattle.solver.specs.declared.answer.Answer.TheVariants.{Observable, Unobservable}
-use Rattle.front_search.specs.Found.{IsFound}
+use Rattle.search_trait.specs.Found.{IsFound}
 use Rattle.axiom_core.specs.declared.answer.Core.{Core}
 use Rattle.axiom_core.specs.declared.answer.Core.TheVariants.{None as no_core, Minimal}
 use Rattle.axiom_core.specs.Chosen.{Choice, taken, among, less, AreRising}

@@ -24,7 +24,7 @@ pub enum Core {
     },
 }
 
-// Written out, so that a proof of what drops the value meets one call and no variant.
+// By hand: docs/DECISIONS.md, "Drops are written by hand".
 impl Drop for Core {
     fn drop(self) {
         match self {

@@ -5,10 +5,10 @@ ghost use Rattle.axiom_core.specs.Chosen.{taken};
 ghost use Rattle.axiom_core.specs.Choices.{choice};
 ghost use Rattle.axiom_core.specs.Cores.{IsFrontWith};
 
-use front_search::Search;
 use pc_common::Memory;
 use pc_ground::{Axioms, Front};
 use pc_syntax::Closed;
+use search_trait::Search;
 use std::alloc::Global;
 
 /// Whether the axiom at `k` is chosen: its flag is set, and it is not the one that is left out.

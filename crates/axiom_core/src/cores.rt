@@ -6,9 +6,9 @@ ghost use Rattle.axiom_core.specs.Cores.{Allow, Forbid, IsCoreOf, HasNone};
 use super::answer::Core;
 use super::members::{all_shown, refuted_by};
 use super::shrinking::{numbers_of, shrink};
-use front_search::Search;
 use pc_common::Memory;
 use pc_ground::Front;
+use search_trait::Search;
 use solver::Answer;
 use std::alloc::Global;
 

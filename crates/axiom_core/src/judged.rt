@@ -6,9 +6,9 @@ ghost use Rattle.axiom_core.specs.Cores.{Allow, Forbid};
 ghost use Rattle.axiom_core.specs.Choices.{choice, is_refutation};
 
 use super::chosen::part_of;
-use front_search::Search;
 use pc_common::Memory;
 use pc_ground::Front;
+use search_trait::Search;
 use solver::Answer;
 use std::alloc::Global;
 

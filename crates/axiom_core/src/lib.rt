@@ -1,5 +1,8 @@
 //! Which axioms forbid the outcome: a minimal set of them, with a certificate of each of its claims.
 //!
+//! Clause: `core` returns a minimal set of axioms that forbid an outcome, or none exactly where it is observable
+//! (`core`, `none`).
+//!
 //! ```rust
 //! // the axioms are `True` and `exists microop "i", True`, and the test has no micro-op
 //! if let Core::Minimal { kept, .. } = &core::<Solver>(alloc, &front)? {
@@ -12,7 +15,7 @@
 //! it, and without any one of them the others allow it. Each certificate is what the search finds on the ground
 //! tree of just those axioms, so it is the one that `check` prints for the model of just those axioms.
 //!
-//! What grounds and searches is a `Search`, such as `front_search::Solver`. `specs/Chosen.antt` says what some of the
+//! What grounds and searches is a `Search`, such as `search_trait::Solver`. `specs/Chosen.antt` says what some of the
 //! axioms are, `specs/ModelWith.antt` what the model with some of its axioms is, and `specs/Cores.antt` what a core is.
 #![tactic(auto)]
 

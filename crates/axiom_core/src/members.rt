@@ -8,10 +8,10 @@ ghost use Rattle.graph_text.specs.declared.graph.Graph.{Graph as AnyGraph};
 
 use super::answer::{AxiomNumbers, Shown};
 use super::chosen::part_of;
-use front_search::Search;
 use pc_common::Memory;
 use pc_ground::Front;
 use refutation::Refutation;
+use search_trait::Search;
 use solver::Answer;
 use std::alloc::Global;
 

@@ -6,9 +6,9 @@ ghost use Rattle.axiom_core.specs.Cores.{Forbid};
 
 use super::answer::AxiomNumbers;
 use super::judged::are_refuted;
-use front_search::Search;
 use pc_common::{Listed, Memory};
 use pc_ground::Front;
+use search_trait::Search;
 use std::alloc::Global;
 
 /// Takes the axiom at `at` out where the rest still forbids the outcome.

@@ -11,6 +11,7 @@ use Rattle.pc_ground.specs.NodeForm.{IsNodeIn, AreReadable}
 use Rattle.pc_ground.specs.Numbers.{nodes_of_tree}
 use Rattle.pc_ground.specs.Tree.{Tree as GroundTree}
 use Rattle.pc_common.specs.Steps.{Leaf, path, Step, split, close}
+use Rattle.pc_common.proofs.Bools.{clash}
 use Rattle.pc_ground.specs.declared.version.Version.{Version}
 use Rattle.pc_ground.specs.declared.version.Version.TheVariants.{One, Two}
 use Rattle.pc_ground.specs.Refutes.{all_signed, Branch, IsContradiction, a_cycle, a_path, an_absence, Closes, a_contradiction, a_falsity, literals_of, Runs, IsPartial, asserted}
@@ -43,7 +44,8 @@ start_stuck q lines text none other l is begins =
     let v = first_line q l [] (subst P none begins) in
     other v.0 (is ∙ ap (line_words q.names) v.1)
 
-pub start_goes : (q : Question) (lines : List Line) (text : List ℕ) (v : Verdict) → lines ≡ [] → text ≡ verdict_text (plain_verdict v) → GoesOn q lines text (Said v)
+pub start_goes : (q : Question) (lines : List Line) (text : List ℕ) (v : Verdict) → lines ≡ [] → text ≡ verdict_text (plain_verdict v)
+    → GoesOn q lines text (Said v)
 start_goes q lines text v none is = record {
   line = verdict (plain_verdict v);
   text_is = is;
@@ -55,11 +57,13 @@ start_goes q lines text v none is = record {
 }
 
 -- the second line
-second_is : (q : Question) (lines : List Line) (v : PlainVerdict) (l : Line) → lines ≡ verdict v ∷ [] → BeginsWell q (lines ++ l ∷ []) → l ≡ second v q.expectation
+second_is : (q : Question) (lines : List Line) (v : PlainVerdict) (l : Line) → lines ≡ verdict v ∷ [] → BeginsWell q (lines ++ l ∷ [])
+    → l ≡ second v q.expectation
 second_is q lines v l are begins =
     let P : List Line → Type 0 = λ ls. BeginsWell q (ls ++ l ∷ []) in second_line q v l [] (subst P are begins)
 
-pub said_stuck : (q : Question) (lines : List Line) (text : List ℕ) (v : PlainVerdict) → lines ≡ verdict v ∷ [] → (text ≡ second_text v q.expectation → ⊥) → IsStuck q lines text
+pub said_stuck : (q : Question) (lines : List Line) (text : List ℕ) (v : PlainVerdict) → lines ≡ verdict v ∷ [] → (text ≡ second_text v q.expectation → ⊥)
+    → IsStuck q lines text
 said_stuck q lines text v are other l is begins = other (is ∙ ap (line_words q.names) (second_is q lines v l are begins))
 
 pub graph_begins : (q : Question) (lines : List Line) (text : List ℕ) → lines ≡ verdict observable ∷ [] → text ≡ second_text observable q.expectation
@@ -74,9 +78,6 @@ graph_begins q lines text are is = record {
     lines_are = ap (λ (ls : List Line). ls ++ second observable q.expectation ∷ []) are;
   };
 }
-
-clash : {b : Bool} → b ≡ true → b ≡ false → ⊥
-clash t f = (let e : true ≡ false = sym t ∙ f in cc)
 
 pub tree_begins : (q : Question) (lines : List Line) (text : List ℕ) (o : OpenTree) → o.is_new ≡ true → lines ≡ verdict unobservable ∷ []
     → text ≡ second_text unobservable q.expectation → Stands o.branches One q.tree (all_signed false (asserted q.tree 0) ∷ []) → GoesOn q lines text (Tree o)
@@ -97,11 +98,13 @@ tree_begins q lines text o is_new are is stands = record {
 }
 
 -- a line of a graph
-graph_next : (q : Question) (g : PlainGraph) (lines : List Line) (l : Line) → IsGraphSoFar q g lines → BeginsWell q (lines ++ l ∷ []) → GraphNext q g.nodes g.edges l
+graph_next : (q : Question) (g : PlainGraph) (lines : List Line) (l : Line) → IsGraphSoFar q g lines → BeginsWell q (lines ++ l ∷ [])
+    → GraphNext q g.nodes g.edges l
 graph_next q g lines l so_far begins =
     let P : List Line → Type 0 = λ ls. BeginsWell q (ls ++ l ∷ []) in next_in_graph q g.nodes g.edges l (subst P so_far.lines_are begins)
 
-pub graph_end_stuck : (q : Question) (g : PlainGraph) (lines : List Line) (text : List ℕ) → IsGraphSoFar q g lines → text ≡ codes "end" → (HasWorld q g.nodes g.edges → ⊥)
+pub graph_end_stuck : (q : Question) (g : PlainGraph) (lines : List Line) (text : List ℕ) → IsGraphSoFar q g lines → text ≡ codes "end"
+    → (HasWorld q g.nodes g.edges → ⊥)
     → IsStuck q lines text
 graph_end_stuck q g lines text so_far is none l same begins = go (graph_next q g lines l so_far begins)
   where
@@ -133,7 +136,8 @@ graph_ended q g lines text so_far is shown = record {
     go other same (edge_next a b at has_a has_b) = absurd (no_end_edge q.names a b (sym (ap (line_words q.names) at) ∙ sym same ∙ is))
     go other same (graph_end at shown) = at
 
-pub graph_stuck : (q : Question) (g : PlainGraph) (lines : List Line) (text : List ℕ) → IsGraphSoFar q g lines → (text ≡ codes "end" → ⊥) → Refuses q.names text g
+pub graph_stuck : (q : Question) (g : PlainGraph) (lines : List Line) (text : List ℕ) → IsGraphSoFar q g lines → (text ≡ codes "end" → ⊥)
+    → Refuses q.names text g
     → IsStuck q lines text
 graph_stuck q g lines text so_far no_end refuses l same begins = go (graph_next q g lines l so_far begins)
   where
@@ -145,7 +149,8 @@ graph_stuck q g lines text so_far no_end refuses l same begins = go (graph_next 
     go (edge_next a b at has_a has_b) = refuses (edge a b) (inside a has_a, inside b has_b) (has_a, has_b) (same ∙ ap (line_words q.names) at)
     go (graph_end at shown) = no_end (same ∙ ap (line_words q.names) at)
 
-pub graph_goes : (q : Question) → AreReadable q.names → (old new : PlainGraph) (lines : List Line) (text : List ℕ) → IsGraphSoFar q old lines → Takes q.names text old new
+pub graph_goes : (q : Question) → AreReadable q.names → (old new : PlainGraph) (lines : List Line) (text : List ℕ) → IsGraphSoFar q old lines
+    → Takes q.names text old new
     → All (IsNodeIn q.names) new.nodes → HasEnds new.nodes new.edges → GoesOn q lines text (Graph new)
 graph_goes q readable old new lines text so_far takes of_names ends = record {
   line = takes.line;
@@ -166,7 +171,8 @@ graph_goes q readable old new lines text so_far takes of_names ends = record {
     go other same (node_next a at no_edges within) =
         at ∙ is_node_line q.names readable takes.line a takes.of_names within (sym takes.text_is ∙ same ∙ ap (line_words q.names) at)
     go other same (edge_next a b at has_a has_b) =
-        at ∙ is_edge_line q.names readable takes.line a b takes.of_names (inside a has_a) (inside b has_b) (sym takes.text_is ∙ same ∙ ap (line_words q.names) at)
+        at ∙ is_edge_line q.names readable takes.line a b takes.of_names (inside a has_a) (inside b has_b)
+        (sym takes.text_is ∙ same ∙ ap (line_words q.names) at)
     go other same (graph_end at shown) = absurd (no_end_graph q.names takes.line takes.of_names (sym takes.text_is ∙ same ∙ ap (line_words q.names) at))
 
 -- a line of a refutation
@@ -189,7 +195,8 @@ pub closes_nodes : (t : GroundTree Node) (ls : List (Literal Node)) (l : Leaf No
 closes_nodes t ls l (a_contradiction c) = contradiction_nodes ls l c
 closes_nodes t ls l (a_falsity same) = tt
 
-pub run_line : (q : Question) → IsAsked q → (v : Version) (s : Step Node) (opens next : List Branch) → Runs v q.tree (s ∷ []) opens next → IsWithin q.tree s → HasLine s
+pub run_line : (q : Question) → IsAsked q → (v : Version) (s : Step Node) (opens next : List Branch) → Runs v q.tree (s ∷ []) opens next → IsWithin q.tree s
+    → HasLine s
 run_line q asked v s [] next r within = absurd r
 run_line q asked v (split n p) (ps ∷ opens) next r within = (let small = asked.small in omega arith)
 run_line q asked v (close l) (ps ∷ opens) next r within = closes_nodes q.tree (literals_of q.tree ps) l r.0
@@ -198,11 +205,14 @@ run_line q asked v (close l) (ps ∷ opens) next r within = closes_nodes q.tree 
 pub line_of_run : (q : Question) → IsAsked q → (v : Version) (s : Step Node) (opens next : List Branch) (text : List ℕ) → Runs v q.tree (s ∷ []) opens next
     → text ≡ line_words q.names (step s) → IsLineOf q.names text s
 line_of_run q asked v s opens next text run is =
-    let has = All-contains (StepHas (IsNodeIn q.names)) (s ∷ []) s (runs_have (IsNodeIn q.names) v q.tree (λ a i. asked.named a (contains_from_in a (nodes_of_tree q.tree) i)) (s ∷ []) opens next run) (contains_from_in s (s ∷ []) (inl refl)) in
+    let has = All-contains (StepHas (IsNodeIn q.names)) (s ∷ []) s
+    (runs_have (IsNodeIn q.names) v q.tree (λ a i. asked.named a (contains_from_in a (nodes_of_tree q.tree) i)) (s ∷ []) opens next run)
+    (contains_from_in s (s ∷ []) (inl refl)) in
     let within = All-contains (IsWithin q.tree) (s ∷ []) s (runs_within v q.tree (s ∷ []) opens next run) (contains_from_in s (s ∷ []) (inl refl)) in
     record { has_line = run_line q asked v s opens next run within; inside = step_in q.names s has; is = is }
 
-pub tree_end_stuck : (q : Question) (o : OpenTree) (lines : List Line) (text : List ℕ) (so_far : IsTreeSoFar q o lines) → text ≡ codes "end" → (so_far.opens ≡ [] → ⊥) → IsStuck q lines text
+pub tree_end_stuck : (q : Question) (o : OpenTree) (lines : List Line) (text : List ℕ) (so_far : IsTreeSoFar q o lines) → text ≡ codes "end"
+    → (so_far.opens ≡ [] → ⊥) → IsStuck q lines text
 tree_end_stuck q o lines text so_far is some l same begins = go (tree_next q o lines l so_far begins)
   where
     go : TreeNext q so_far.version so_far.steps so_far.opens l → ⊥
@@ -243,9 +253,11 @@ version_goes q o new lines text so_far is_new is_old is begin_two = record {
     version = Two;
     steps = [];
     opens = so_far.opens;
-    partial = (let P : List (Step Node) → Type 0 = λ ss. Runs so_far.version q.tree ss (all_signed false (asserted q.tree 0) ∷ []) so_far.opens in subst P fresh.1 so_far.partial);
+    partial = (let P : List (Step Node) → Type 0 = λ ss. Runs so_far.version q.tree ss (all_signed false (asserted q.tree 0) ∷ []) so_far.opens in subst P
+        fresh.1 so_far.partial);
     stands = begin_two so_far.version q.tree so_far.opens so_far.stands;
-    lines_are = ap (λ (ls : List Line). ls ++ version_two ∷ []) (so_far.lines_are ∙ ap (λ (v : Version). header q unobservable ++ tree_lines v so_far.steps) fresh.0
+    lines_are = ap (λ (ls : List Line). ls ++ version_two ∷ [])
+        (so_far.lines_are ∙ ap (λ (v : Version). header q unobservable ++ tree_lines v so_far.steps) fresh.0
         ∙ ap (λ (ss : List (Step Node)). header q unobservable ++ tree_lines One ss) fresh.1);
     fresh = λ yes. absurd (clash yes is_old);
     begun = λ old two none. two_one two;
@@ -299,7 +311,8 @@ tree_goes q asked o new lines text so_far is_other is_old s next is only run sta
     partial = runs_then so_far.version q.tree so_far.steps (s ∷ []) (all_signed false (asserted q.tree 0) ∷ []) so_far.opens next so_far.partial run;
     stands = stands;
     lines_are =
-        ap (λ (ls : List Line). ls ++ step s ∷ []) so_far.lines_are ∙ ap (λ (ls : List Line). header q unobservable ++ ls) (tree_snoc so_far.version so_far.steps s);
+        ap (λ (ls : List Line). ls ++ step s ∷ []) so_far.lines_are
+        ∙ ap (λ (ls : List Line). header q unobservable ++ ls) (tree_snoc so_far.version so_far.steps s);
     fresh = λ yes. absurd (clash yes is_old);
     begun = λ old one none. snoc_some so_far.steps s none;
   };
@@ -316,7 +329,8 @@ pub ended_stuck : (q : Question) (lines : List Line) (text : List ℕ) (v : Verd
 ended_stuck q lines text v certificate l same begins = no_more q (plain_verdict v) lines l certificate begins
 
 -- a line of a graph, judged where the graph is
-pub graph_advanced : (q : Question) → AreReadable q.names → (names : Names) → names ≡ q.names → (old new : PlainGraph) (lines : List Line) (text : List ℕ) → IsGraphSoFar q old lines
+pub graph_advanced : (q : Question) → AreReadable q.names → (names : Names) → names ≡ q.names → (old new : PlainGraph) (lines : List Line) (text : List ℕ)
+    → IsGraphSoFar q old lines
     → (text ≡ codes "end" → ⊥) → (All (IsNodeIn names) old.nodes → All (IsNodeIn names) new.nodes) → (taken : Bool)
     → MatchBool taken (Takes names text old new) (Refuses names text old × (new ≡ old)) → HasAdvanced q lines text (Graph new) taken
 graph_advanced q readable names same old new lines text so_far no_end of_names true takes =

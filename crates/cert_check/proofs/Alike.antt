@@ -7,9 +7,15 @@ use Rattle.pc_common.specs.Lines.{Names}
 use Rattle.std.specs.Prelude.{Bool}
 use Rattle.pc_ground.specs.Tree.{Tree}
 use Rattle.cert_check.specs.Certificates.{Question}
-use Rattle.cert_check.specs.Questions.{AskAlike}
 use Rattle.cert_check.specs.Verified.{Verified}
 use Rattle.cert_check.specs.declared.checked.Checked.{Checked}
+
+-- two questions ask one thing
+pub record AskAlike (q r : Question) : Type 0 where
+  pub names : q.names ≡ r.names
+  pub expectation : q.expectation ≡ r.expectation
+  pub tree : q.tree ≡ r.tree
+  pub satisfied : (w : World Node) → q.satisfied w ≡ r.satisfied w
 
 pub one_question : (q r : Question) → AskAlike q r → q ≡ r
 one_question q r alike =

@@ -19,7 +19,8 @@ pub one_node_line : (names : Names) → AreReadable names → (a b : Node) → I
 one_node_line names readable a b h k e = readable.apart a b h k (one_node_text names a b e)
 
 -- two words after a word and a space each
-same_tails : (a b c d : List ℕ) → codes "edge" ++ ((codes " " ++ a) ++ ((codes " " ++ b) ++ [])) ≡ codes "edge" ++ ((codes " " ++ c) ++ ((codes " " ++ d) ++ []))
+same_tails : (a b c d : List ℕ)
+    → codes "edge" ++ ((codes " " ++ a) ++ ((codes " " ++ b) ++ [])) ≡ codes "edge" ++ ((codes " " ++ c) ++ ((codes " " ++ d) ++ []))
     → a ++ 32 ∷ (b ++ []) ≡ c ++ 32 ∷ (d ++ [])
 same_tails a b c d e = cc
 

@@ -13,7 +13,7 @@ use Rattle.pc_ground.specs.NodeForm.{IsNodeIn, AreReadable}
 use Rattle.pc_ground.specs.NodeWords.{Lacks}
 use Rattle.pc_ground.proofs.Cuts.{decimal_lacks}
 use Rattle.pc_ground.proofs.Outside.{IsOutside, lacks_append, line_feed, form_lacks}
-use Rattle.cert_check.specs.Proper.{IsProper}
+use Rattle.cert_check.proofs.Propers.{IsProper}
 
 pub node_lacks : (m : ℕ) → IsOutside m → (names : Names) → AreReadable names → (a : Node) → IsNodeIn names a → Lacks m (node_text names a)
 node_lacks m out names readable a inside = form_lacks m out (node_text names a) (readable.form a inside)
@@ -50,9 +50,12 @@ verdict_lacks names observable = refl
 verdict_lacks names unobservable = refl
 
 leaf_lacks : (names : Names) → AreReadable names → (l : Leaf Node) → IsLeafIn names l → Lacks 10 (line_words names (step (close l)))
-leaf_lacks names readable (cycle nodes) h = lacks_append 10 (codes "cycle") (nodes_text names nodes) refl (nodes_lack names readable nodes (each_in names nodes h))
-leaf_lacks names readable (path nodes) h = lacks_append 10 (codes "path") (nodes_text names nodes) refl (nodes_lack names readable nodes (each_in names nodes h))
-leaf_lacks names readable (absent a) h = lacks_append 10 (codes "absent") (nodes_text names (a ∷ [])) refl (nodes_lack names readable (a ∷ []) (one_in names a h))
+leaf_lacks names readable (cycle nodes) h =
+    lacks_append 10 (codes "cycle") (nodes_text names nodes) refl (nodes_lack names readable nodes (each_in names nodes h))
+leaf_lacks names readable (path nodes) h =
+    lacks_append 10 (codes "path") (nodes_text names nodes) refl (nodes_lack names readable nodes (each_in names nodes h))
+leaf_lacks names readable (absent a) h =
+    lacks_append 10 (codes "absent") (nodes_text names (a ∷ [])) refl (nodes_lack names readable (a ∷ []) (one_in names a h))
 leaf_lacks names readable false_step h = refl
 
 sign_lacks : (negated : Bool) → Lacks 10 (sign_text negated)
@@ -64,7 +67,8 @@ words_lack names readable (verdict v) h = verdict_lacks names v
 words_lack names readable (second v e) h = second_lacks names v e
 words_lack names readable version_two h = refl
 words_lack names readable (node a) h = lacks_append 10 (codes "node") (nodes_text names (a ∷ [])) refl (nodes_lack names readable (a ∷ []) (one_in names a h))
-words_lack names readable (edge a b) h = lacks_append 10 (codes "edge") (nodes_text names (a ∷ b ∷ [])) refl (nodes_lack names readable (a ∷ b ∷ []) (two_in names a b h.0 h.1))
+words_lack names readable (edge a b) h =
+    lacks_append 10 (codes "edge") (nodes_text names (a ∷ b ∷ [])) refl (nodes_lack names readable (a ∷ b ∷ []) (two_in names a b h.0 h.1))
 words_lack names readable (step (split n p)) h =
     lacks_append 10 (codes "split ") (sign_text n ++ decimal p) refl
     (lacks_append 10 (sign_text n) (decimal p) (sign_lacks n) (decimal_lacks 10 (decimal p) refl (p, (h, refl))))

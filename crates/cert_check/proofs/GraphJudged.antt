@@ -7,11 +7,12 @@ use Rattle.cert_check.specs.Certificates.{Question}
 use Rattle.cert_check.specs.Stages.{is_end, IsStuck, HasAdvanced}
 use Rattle.cert_check.specs.RawLines.{RawBegins, RawStands}
 use Rattle.cert_check.specs.GraphStages.{as_stage, IsOther, HasGraphAdvanced}
-use Rattle.cert_check.specs.GraphLaws.{GraphFirst, GraphWhole, stage_other}
+use Rattle.cert_check.specs.GraphBegins.{GraphFirst, GraphWhole}
 use Rattle.cert_check.specs.declared.graph_stage.GraphStage.{GraphStage}
 use Rattle.cert_check.proofs.Advances.{start_stuck}
 use Rattle.cert_check.proofs.Raws.{raw_begins}
 use Rattle.cert_check.proofs.RawStages.{raw_goes_on, raw_stuck, raw_done}
+use Rattle.cert_check.specs.LawsOfJudges.{stage_other}
 
 -- no other first line begins well
 pub first_stuck : (q : Question) (lines : List Line) (text : List ℕ) → lines ≡ [] → (text ≡ codes "observable" → ⊥) → IsOther lines text → IsStuck q lines text
@@ -22,16 +23,19 @@ first_stuck q lines text none unseen is_other = start_stuck q lines text none of
     of_verdict unobservable is = is_other none is
 
 -- what came of any next line
-pub as_other : (q : Question) (lines : List Line) (text : List ℕ) (new : GraphStage) (good : Bool) → HasAdvanced q lines text (as_stage new) good → HasGraphAdvanced q lines text new good
+pub as_other : (q : Question) (lines : List Line) (text : List ℕ) (new : GraphStage) (good : Bool) → HasAdvanced q lines text (as_stage new) good
+    → HasGraphAdvanced q lines text new good
 as_other q lines text new true goes = goes
 as_other q lines text new false stuck = λ other. stuck
 
-pub graph_good : (q : Question) (old next : GraphStage) (raws : List (List ℕ)) (text : List ℕ) (st : RawStands q (as_stage old) raws) (good : Bool) → good ≡ true
+pub graph_good : (q : Question) (old next : GraphStage) (raws : List (List ℕ)) (text : List ℕ) (st : RawStands q (as_stage old) raws) (good : Bool)
+    → good ≡ true
     → HasGraphAdvanced q st.lines text next good → RawStands q (as_stage next) (raws ++ text ∷ [])
 graph_good q old next raws text st true e goes = raw_goes_on q (as_stage old) (as_stage next) raws text st goes
 graph_good q old next raws text st false e stuck = cc
 
-pub graph_refused : (q : Question) (old next : GraphStage) (raws : List (List ℕ)) (text : List ℕ) (st : RawStands q (as_stage old) raws) (good : Bool) → good ≡ false
+pub graph_refused : (q : Question) (old next : GraphStage) (raws : List (List ℕ)) (text : List ℕ) (st : RawStands q (as_stage old) raws) (good : Bool)
+    → good ≡ false
     → HasGraphAdvanced q st.lines text next good → GraphFirst q (raws ++ text ∷ []) → ⊥
 graph_refused q old next raws text st true e goes b = absurd (no e)
   where
@@ -43,7 +47,8 @@ graph_refused q old next raws text st false e stuck b = raw_stuck q (as_stage ol
     is_other none is =
         b.other ([], ap (λ (rs : List (List ℕ)). rs ++ text ∷ []) (st.are ∙ ap (map (line_words q.names)) none) ∙ ap (λ (t : List ℕ). t ∷ []) is)
 
-pub graph_done : (q : Question) (stage : GraphStage) (raws : List (List ℕ)) → RawStands q (as_stage stage) raws → (is_end (as_stage stage) ≡ true) ↔ GraphWhole q raws
+pub graph_done : (q : Question) (stage : GraphStage) (raws : List (List ℕ)) → RawStands q (as_stage stage) raws
+    → (is_end (as_stage stage) ≡ true) ↔ GraphWhole q raws
 graph_done q stage raws st =
     let done = raw_done q (as_stage stage) raws st in
     (λ e. record { whole = done.0 e; other = stage_other q stage raws st }, λ w. done.1 w.whole)

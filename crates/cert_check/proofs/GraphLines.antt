@@ -9,9 +9,6 @@ use Rattle.cert_check.proofs.Lasts.{last_of, last_map, map_same}
 abbrev edge_at : Edge → Line
 edge_at e = edge e.0 e.1
 
-same_node_line : (a b : Node) → node a ≡ node b → a ≡ b
-same_node_line a b e = cc
-
 same_edge_line : (e f : Edge) → edge_at e ≡ edge_at f → e ≡ f
 same_edge_line (a, b) (c, d) e = let first : a ≡ c = cc in let second : b ≡ d = cc in ap (λ (x : Node). (x, b)) first ∙ ap (λ (y : Node). (c, y)) second
 

@@ -8,18 +8,19 @@ use Rattle.pc_ground.specs.NodeForm.{AreReadable}
 use Rattle.line_judge.specs.Texts.{text_of_lines, IsMadeOf, FirstLinesBegin, IsRefusedAt}
 use Rattle.line_judge.specs.JudgedLines.{IsWhole}
 use Rattle.line_judge.specs.Feeds.{IsRefusedBy}
-use Rattle.cert_check.specs.Certificates.{Question, tree_lines}
-use Rattle.cert_check.specs.Verified.{IsCertificateText, Verified, too_long, refused}
+use Rattle.graph_text.proofs.WholeGraphs.{joined_lines}
+use Rattle.cert_check.specs.Certificates.{Question, tree_lines, IsCertificateText}
+use Rattle.cert_check.specs.Verified.{Verified, too_long, refused}
 use Rattle.cert_check.specs.Questions.{question_of_parts}
 use Rattle.cert_check.specs.Ends.{checked_of}
 use Rattle.cert_check.specs.RawLines.{RawBegins, RawWhole}
 use Rattle.cert_check.specs.GraphStages.{as_stage}
-use Rattle.cert_check.specs.GraphLaws.{SaysUnobservable, IsUnobservableFirst, GraphFirst, GraphWhole}
+use Rattle.cert_check.specs.GraphBegins.{SaysUnobservable, IsUnobservableFirst, GraphFirst, GraphWhole}
 use Rattle.cert_check.specs.GraphFed.{graph_judge_begins, graph_judge_whole, graph_judge_stands}
 use Rattle.cert_check.specs.declared.checked.Checked.TheVariants.{Refused}
 use Rattle.cert_check.specs.declared.graph_judge.GraphJudge.{GraphJudge}
 use Rattle.cert_check.proofs.Propers.{proper_seen}
-use Rattle.cert_check.proofs.Raws.{raw_lines, text_of_words, raw_begins, raw_first}
+use Rattle.cert_check.proofs.Raws.{raw_lines, raw_begins, raw_first}
 use Rattle.cert_check.proofs.GraphJudged.{graph_done}
 use Rattle.cert_check.proofs.Verified.{ended_verified}
 
@@ -32,7 +33,8 @@ other_lines lines rest text other is says =
     )
 
 -- the line that the judge refuses is the first that doesn't begin well
-to_refused : (q : Question) (text : List ℕ) (n : ℕ) → (SaysUnobservable text → ⊥) → IsRefusedAt (GraphFirst q) (GraphWhole q) text n → IsRefusedAt (RawBegins q) (RawWhole q) text n
+to_refused : (q : Question) (text : List ℕ) (n : ℕ) → (SaysUnobservable text → ⊥) → IsRefusedAt (GraphFirst q) (GraphWhole q) text n
+    → IsRefusedAt (RawBegins q) (RawWhole q) text n
 to_refused q text n other r = record {
   no_whole = λ made. r.no_whole (record {
     lines = made.lines;
@@ -70,14 +72,13 @@ no_certificate : (q : Question) → AreReadable q.names → (text : List ℕ) �
 no_certificate q readable text other none observable c = none (record {
   lines = map (line_words q.names) c.lines;
   are_lines = raw_lines q.names readable c.lines (proper_seen q c.lines c.certificate);
-  text_is = c.text_is ∙ sym (text_of_words q.names c.lines);
+  text_is = c.text_is ∙ sym (joined_lines q.names c.lines);
   accepted = record { verdict = observable; lines = c.lines; are = refl; certificate = c.certificate };
 })
 no_certificate q readable text other none unobservable c =
-    let version = c.certificate.0 in
     let tree = c.certificate.1 in
     other (
-      lines_text q.names (second unobservable q.expectation ∷ (tree_lines version tree.steps ++ end ∷ [])),
+      lines_text q.names (second unobservable q.expectation ∷ (tree_lines c.certificate.0 tree.steps ++ end ∷ [])),
       c.text_is ∙ ap (lines_text q.names) tree.lines_are,
     )
 
@@ -97,7 +98,8 @@ graph_verified q start judge asks text short is_whole =
     subst P asks (ended_verified own (question_of_parts judge.parts.now) text short (all_made own text made) (as_stage judge.stage) st ended)
 
 pub graph_refused_verified : (q : Question) → AreReadable q.names → (start : GraphJudge) → question_of_parts start.parts.now ≡ q → (text : List ℕ) (number : ℕ)
-    → (SaysUnobservable text → ⊥) → IsRefusedBy (graph_judge_begins start) (graph_judge_whole start) MAX_CERTIFICATE text number → Verified q text (Refused number)
+    → (SaysUnobservable text → ⊥) → IsRefusedBy (graph_judge_begins start) (graph_judge_whole start) MAX_CERTIFICATE text number
+    → Verified q text (Refused number)
 graph_refused_verified q readable start asks text zero other by = too_long (by.past refl)
 graph_refused_verified q readable start asks text (suc k) other by =
     let own = question_of_parts start.parts.now in

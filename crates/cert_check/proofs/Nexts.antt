@@ -62,7 +62,8 @@ next_in_graph q nodes edges l begins = go (body_begins q observable q.expectatio
     next : (ns : List Node) (es : List Edge) → All (IsNodeIn q.names) ns → HasEnds ns es → NextOfGraph nodes edges ns es l → GraphNext q nodes edges l
     next ns es of_names ends (next_node a at none more no_edges) =
         let P : List Node → Type 0 = λ ms. Contains ms a in
-        node_next a at none (All-contains (IsNodeIn q.names) ns a of_names (subst P (sym more) (Contains-append_right nodes (a ∷ []) a (contains_from_in a (a ∷ []) (inl refl)))))
+        node_next a at none (All-contains (IsNodeIn q.names) ns a of_names
+        (subst P (sym more) (Contains-append_right nodes (a ∷ []) a (contains_from_in a (a ∷ []) (inl refl)))))
     next ns es of_names ends (next_edge a b at same more) =
         let P : List Edge → Type 0 = λ fs. Contains fs (a, b) in
         let both = ends a b (subst P (sym more) (Contains-append_right edges ((a, b) ∷ []) (a, b) (contains_from_in (a, b) ((a, b) ∷ []) (inl refl)))) in

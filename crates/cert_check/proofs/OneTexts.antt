@@ -11,17 +11,19 @@ use Rattle.pc_ground.specs.declared.version.Version.{Version}
 use Rattle.pc_ground.specs.declared.version.Version.TheVariants.{One as version_one, Two}
 use Rattle.line_judge.specs.Texts.{text_of_lines, IsMadeOf, FirstLinesBegin, IsRefusedAt}
 use Rattle.line_judge.proofs.Refusals.{refused_at_line}
-use Rattle.cert_check.specs.Certificates.{Question, header, certificate_lines, IsTreeCertificate}
+use Rattle.graph_text.proofs.WholeGraphs.{joined_lines}
+use Rattle.graph_text.proofs.Spaces.{lacking_on_line}
+use Rattle.cert_check.specs.Certificates.{Question, header, certificate_lines, IsTreeCertificate, IsCertificateText}
 use Rattle.cert_check.specs.Proper.{IsAsked}
 use Rattle.cert_check.specs.RawLines.{RawBegins, RawWhole}
-use Rattle.cert_check.specs.Verified.{IsCertificateText, Verified, seen, unseen, too_long, refused}
+use Rattle.cert_check.specs.Verified.{Verified, seen, unseen, too_long, refused}
 use Rattle.cert_check.specs.Ones.{IsCertificateOne, BeginsOne, one_header, RawBeginsOne, RawWholeOne, IsTreeText, IsOne, shown, refuted, one_too_long, one_refused}
 use Rattle.cert_check.specs.StepTexts.{header_text, SaysTwo}
 use Rattle.cert_check.specs.declared.checked.Checked.TheVariants.{Observable, Unobservable, Refused as refused_at}
 use Rattle.cert_check.specs.declared.one.One.{One}
 use Rattle.cert_check.specs.declared.one.One.TheVariants.{Graph, Tree, Refused}
 use Rattle.cert_check.proofs.Propers.{proper_header, proper_certificate}
-use Rattle.cert_check.proofs.Raws.{line_from_lacks, raw_lines, text_of_words}
+use Rattle.cert_check.proofs.Raws.{raw_lines}
 use Rattle.cert_check.proofs.OneLines.{certificate_wide, HasTwo, one_or_two, raw_one_wide, raw_whole_wide, raw_one_first, raw_one_whole, raw_two_stuck}
 
 -- the header of a refutation and what stands after it, as a text
@@ -45,9 +47,10 @@ three_lines a b c rest =
 
 pub two_refused : (q : Question) → IsAsked q → (text : List ℕ) → SaysTwo q.expectation text → IsRefusedAt (RawBeginsOne q) (RawWholeOne q) text 3
 two_refused q asked text two =
-    refused_at_line (RawBeginsOne q) (RawWholeOne q) (raw_one_first q) (raw_one_whole q) (map (line_words q.names) (header q unobservable)) (codes "version 2") two.0 text
+    refused_at_line (RawBeginsOne q) (RawWholeOne q) (raw_one_first q) (raw_one_whole q) (map (line_words q.names) (header q unobservable))
+    (codes "version 2") two.0 text
     (raw_lines q.names asked.readable (header q unobservable) (proper_header q.names q unobservable))
-    (line_from_lacks (codes "version 2") refl)
+    (lacking_on_line (codes "version 2") refl)
     (two.1 ∙ three_lines (verdict_text unobservable ++ codes "\n") (second_text unobservable q.expectation ++ codes "\n") (codes "version 2\n") two.0)
     (record { lines = header q unobservable; are = refl; begins = one_header unobservable [] refl })
     (raw_two_stuck q)
@@ -56,19 +59,41 @@ two_refused q asked text two =
 pub same_refused : (q : Question) (text : List ℕ) (n : ℕ) → (SaysTwo q.expectation text → ⊥) → IsRefusedAt (RawBegins q) (RawWhole q) text n
     → IsRefusedAt (RawBeginsOne q) (RawWholeOne q) text n
 same_refused q text n none r = record {
-  no_whole = λ made. r.no_whole (record { lines = made.lines; are_lines = made.are_lines; text_is = made.text_is; accepted = raw_whole_wide q made.lines made.accepted });
+  no_whole = λ made. r.no_whole (record {
+    lines = made.lines;
+    are_lines = made.are_lines;
+    text_is = made.text_is;
+    accepted = raw_whole_wide q made.lines
+        made.accepted;
+  });
   before = λ k less. narrow k (r.before k less);
-  here = λ f. r.here (record { lines = f.lines; rest = f.rest; count = f.count; are_lines = f.are_lines; text_is = f.text_is; begin = raw_one_wide q f.lines f.begin });
+  here = λ f. r.here (record {
+    lines = f.lines;
+    rest = f.rest;
+    count = f.count;
+    are_lines = f.are_lines;
+    text_is = f.text_is;
+    begin = raw_one_wide q
+        f.lines f.begin;
+  });
 }
   where
     narrow : (k : ℕ) → FirstLinesBegin (RawBegins q) text k → FirstLinesBegin (RawBeginsOne q) text k
-    narrow k f = record { lines = f.lines; rest = f.rest; count = f.count; are_lines = f.are_lines; text_is = f.text_is; begin = begins (one_or_two q f.begin.lines f.begin.begins) }
+    narrow k f = record {
+      lines = f.lines;
+      rest = f.rest;
+      count = f.count;
+      are_lines = f.are_lines;
+      text_is = f.text_is;
+      begin = begins
+          (one_or_two q f.begin.lines f.begin.begins);
+    }
       where
         begins : BeginsOne q f.begin.lines ⊎ HasTwo q f.begin.lines → RawBeginsOne q f.lines
         begins (inl one) = record { lines = f.begin.lines; are = f.begin.are; begins = one }
         begins (inr two) =
             absurd (none (says_two q f.begin.lines f.rest text two (f.text_is ∙ ap (λ (raws : List (List ℕ)). text_of_lines raws ++ f.rest) f.begin.are
-            ∙ ap (λ (t : List ℕ). t ++ f.rest) (text_of_words q.names f.begin.lines))))
+            ∙ ap (λ (t : List ℕ). t ++ f.rest) (joined_lines q.names f.begin.lines))))
 
 -- a certificate of a refutation without that line is one of version 1
 pub tree_text : (q : Question) (text : List ℕ) → (SaysTwo q.expectation text → ⊥) → IsCertificateText q unobservable text
@@ -87,7 +112,7 @@ made_one : (q : Question) → IsAsked q → (text : List ℕ) (v : Verdict) (ls 
 made_one q asked text v ls certificate is = record {
   lines = map (line_words q.names) ls;
   are_lines = raw_lines q.names asked.readable ls (proper_certificate q asked v ls (certificate_wide q v ls certificate));
-  text_is = is ∙ sym (text_of_words q.names ls);
+  text_is = is ∙ sym (joined_lines q.names ls);
   accepted = record { verdict = v; lines = ls; are = refl; certificate = certificate };
 }
 
@@ -96,7 +121,8 @@ no_graph_text q asked text none c = none (made_one q asked text observable c.lin
 
 no_tree_text : (q : Question) → IsAsked q → (text : List ℕ) → (IsMadeOf (RawWholeOne q) text → ⊥) → (steps : List (Step Node)) → IsTreeText q text steps → ⊥
 no_tree_text q asked text none steps t =
-    none (made_one q asked text unobservable (certificate_lines q unobservable (map step steps)) (record { steps = steps; lines_are = refl; refutes = t.refutes }) t.text_is)
+    none (made_one q asked text unobservable (certificate_lines q unobservable (map step steps))
+    (record { steps = steps; lines_are = refl; refutes = t.refutes }) t.text_is)
 
 -- what the text is, by what came of its check
 pub one_two : (q : Question) → IsAsked q → (text : List ℕ) → length text ≤ MAX_CERTIFICATE → SaysTwo q.expectation text → IsOne q text (Refused 3)
@@ -110,14 +136,16 @@ pub tree_steps : (q : Question) (text : List ℕ) → (length text ≤ MAX_CERTI
     → (steps : List (Step Node)) × IsTreeText q text steps
 tree_steps q text none (unseen short c) = tree_text q text (none short) c
 
-pub one_unseen : (q : Question) (text : List ℕ) (read : List (Step Node)) → (length text ≤ MAX_CERTIFICATE → SaysTwo q.expectation text → ⊥) → Verified q text Unobservable
+pub one_unseen : (q : Question) (text : List ℕ) (read : List (Step Node)) → (length text ≤ MAX_CERTIFICATE → SaysTwo q.expectation text → ⊥)
+    → Verified q text Unobservable
     → ((steps : List (Step Node)) → IsTreeText q text steps → read ≡ steps) → IsOne q text (Tree read)
 one_unseen q text read none (unseen short c) only =
     let tree = tree_text q text (none short) c in
     let P : List (Step Node) → Type 0 = λ ss. IsTreeText q text ss in
     refuted read short (subst P (sym (only tree.0 tree.1)) tree.1)
 
-pub one_at : (q : Question) (text : List ℕ) (n : ℕ) → IsAsked q → (length text ≤ MAX_CERTIFICATE → SaysTwo q.expectation text → ⊥) → Verified q text (refused_at n)
+pub one_at : (q : Question) (text : List ℕ) (n : ℕ) → IsAsked q → (length text ≤ MAX_CERTIFICATE → SaysTwo q.expectation text → ⊥)
+    → Verified q text (refused_at n)
     → IsOne q text (Refused n)
 one_at q text n asked none (too_long long) = one_too_long long
 one_at q text n asked none (refused k short other is) =
@@ -134,7 +162,8 @@ graph_tree q text steps c t = clash (ap is_o (sym (c.text_is ∙ ap (lines_text 
     clash : true ≡ false → ⊥
     clash e = cc
 
-one_line : (q : Question) (text : List ℕ) (n k : ℕ) → IsRefusedAt (RawBeginsOne q) (RawWholeOne q) text n → IsRefusedAt (RawBeginsOne q) (RawWholeOne q) text k → n ≡ k
+one_line : (q : Question) (text : List ℕ) (n k : ℕ) → IsRefusedAt (RawBeginsOne q) (RawWholeOne q) text n
+    → IsRefusedAt (RawBeginsOne q) (RawWholeOne q) text k → n ≡ k
 one_line q text n k x y = go (cases_order n k)
   where
     go : (n ≡ k) ⊎ ((n < k) ⊎ (k < n)) → n ≡ k

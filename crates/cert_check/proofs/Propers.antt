@@ -1,6 +1,6 @@
 -- Lines that begin well can be written and read again.
 use Rattle.std.proofs.Common.{inl, inr, suc, ◌<◌, false, List, [], ◌∷◌, map, refl, sym, subst, arith}
-use Rattle.std.specs.Prelude.{All}
+use Rattle.std.specs.Prelude.{All, ◌≤◌}
 use Rattle.std.proofs.lemmas.List.Elements.{All-contains, All-nil, All-cons, All-append}
 use Rattle.pc_common.specs.World.{Node, Edge}
 use Rattle.pc_common.specs.Generated.{HasEnds}
@@ -17,9 +17,10 @@ use Rattle.pc_ground.specs.Numbers.{nodes_of_tree}
 use Rattle.pc_ground.specs.Refutes.{all_signed, Branch, Runs, IsPartial, asserted}
 use Rattle.pc_ground.proofs.FlatRows.{subtree_size, size_pos}
 use Rattle.pc_ground.proofs.Turned.{size_turned}
+use Rattle.refutation.specs.Steps.{IsLeafIn}
 use Rattle.graph_text.specs.Graphs.{graph_lines}
 use Rattle.cert_check.specs.Certificates.{Question, header, tree_lines, IsGraphCertificate, IsCertificate, BeginsWell, in_header, in_graph, in_tree, whole}
-use Rattle.cert_check.specs.Proper.{IsProper, IsAsked}
+use Rattle.cert_check.specs.Proper.{IsAsked}
 use Rattle.cert_check.proofs.Firsts.{all_front}
 use Rattle.cert_check.proofs.StepNodes.{StepHas, runs_have, step_in}
 
@@ -28,13 +29,25 @@ abbrev pub IsWithin : {N : Type 0} → Tree N → Step N → Type 0
 IsWithin t (split negated p) = p < size_of t
 IsWithin t (close l) = Unit {0}
 
-pub runs_within : {N : Type 0} (v : Version) (t : Tree N) (steps : List (Step N)) (opens rest : List Branch) → Runs v t steps opens rest → All (IsWithin t) steps
+pub runs_within : {N : Type 0} (v : Version) (t : Tree N) (steps : List (Step N)) (opens rest : List Branch) → Runs v t steps opens rest
+    → All (IsWithin t) steps
 runs_within v t [] opens rest r = All-nil (IsWithin t)
 runs_within v t (s ∷ ss) [] rest r = absurd r
 runs_within v t (split n p ∷ ss) (ps ∷ opens) rest r =
     let size = subtree_size (turned n t) p (either r.0 r.1) r.2.1 in
     All-cons (IsWithin t) (split n p) ss (omega (arith, size, size_pos (either r.0 r.1), size_turned n t)) (runs_within v t ss _ rest r.3)
 runs_within v t (close l ∷ ss) (ps ∷ opens) rest r = All-cons (IsWithin t) (close l) ss tt (runs_within v t ss opens rest r.1)
+
+-- the line's nodes are of these names, and its position has at most 64 bits
+abbrev pub IsProper : Names → Line → Type 0
+IsProper names (verdict v) = Unit {0}
+IsProper names (second v e) = Unit {0}
+IsProper names version_two = Unit {0}
+IsProper names (node a) = IsNodeIn names a
+IsProper names (edge a b) = IsNodeIn names a × IsNodeIn names b
+IsProper names (step (split negated p)) = p ≤ 18446744073709551615
+IsProper names (step (close l)) = IsLeafIn names l
+IsProper names end = Unit {0}
 
 -- a step of a question's tree has a proper line
 pub proper_step : (q : Question) → IsAsked q → (s : Step Node) → StepHas (IsNodeIn q.names) s → IsWithin q.tree s → IsProper q.names (step s)
@@ -46,25 +59,29 @@ proper_steps : (q : Question) → IsAsked q → (v : Version) (steps : List (Ste
 proper_steps q asked v steps opens run =
     of_version v
     (each steps
-    (runs_have (IsNodeIn q.names) v q.tree (λ a i. asked.named a (contains_from_in a (nodes_of_tree q.tree) i)) steps (all_signed false (asserted q.tree 0) ∷ []) opens run)
+    (runs_have (IsNodeIn q.names) v q.tree (λ a i. asked.named a (contains_from_in a (nodes_of_tree q.tree) i)) steps
+    (all_signed false (asserted q.tree 0) ∷ []) opens run)
     (runs_within v q.tree steps (all_signed false (asserted q.tree 0) ∷ []) opens run))
   where
     each : (ss : List (Step Node)) → All (StepHas (IsNodeIn q.names)) ss → All (IsWithin q.tree) ss → All (IsProper q.names) (map step ss)
     each [] h within = All-nil (IsProper q.names)
     each (s ∷ ss) h within =
         All-cons (IsProper q.names) (step s) (map step ss)
-        (proper_step q asked s (All-contains (StepHas (IsNodeIn q.names)) (s ∷ ss) s h (contains_from_in s (s ∷ ss) (inl refl))) (All-contains (IsWithin q.tree) (s ∷ ss) s within (contains_from_in s (s ∷ ss) (inl refl))))
+        (proper_step q asked s (All-contains (StepHas (IsNodeIn q.names)) (s ∷ ss) s h (contains_from_in s (s ∷ ss) (inl refl)))
+        (All-contains (IsWithin q.tree) (s ∷ ss) s within (contains_from_in s (s ∷ ss) (inl refl))))
         (each ss (λ k d inside. h (suc k) d (omega (arith, inside))) (λ k d inside. within (suc k) d (omega (arith, inside))))
 
     of_version : (w : Version) → All (IsProper q.names) (map step steps) → All (IsProper q.names) (tree_lines w steps)
     of_version One all = all
     of_version Two all = All-cons (IsProper q.names) version_two (map step steps) tt all
 
-proper_graph : (names : Names) (nodes : List Node) (edges : List Edge) → All (IsNodeIn names) nodes → HasEnds nodes edges → All (IsProper names) (graph_lines nodes edges)
+proper_graph : (names : Names) (nodes : List Node) (edges : List Edge) → All (IsNodeIn names) nodes → HasEnds nodes edges
+    → All (IsProper names) (graph_lines nodes edges)
 proper_graph names nodes edges all ends =
     All-append (IsProper names) (map node nodes) (map (λ (e : Edge). edge e.0 e.1) edges)
     (each_node nodes (λ a i. All-contains (IsNodeIn names) nodes a all (contains_from_in a nodes i)))
-    (each_edge edges (λ e i. let both = ends e.0 e.1 (contains_from_in (e.0, e.1) edges i) in (All-contains (IsNodeIn names) nodes e.0 all both.0, All-contains (IsNodeIn names) nodes e.1 all both.1)))
+    (each_edge edges (λ e i. let both = ends e.0 e.1
+    (contains_from_in (e.0, e.1) edges i) in (All-contains (IsNodeIn names) nodes e.0 all both.0, All-contains (IsNodeIn names) nodes e.1 all both.1)))
   where
     each_node : (ns : List Node) → ((a : Node) → In a ns → IsNodeIn names a) → All (IsProper names) (map node ns)
     each_node [] h = All-nil (IsProper names)
@@ -104,8 +121,10 @@ begins_proper q asked ls (in_header v more is) =
     let P : List Line → Type 0 = λ xs. All (IsProper q.names) xs in all_front (IsProper q.names) ls more (subst P (sym is) (proper_header q.names q v))
 begins_proper q asked ls (in_graph nodes edges of_names ends is) =
     let P : List Line → Type 0 = λ xs. All (IsProper q.names) xs in
-    subst P (sym is) (All-append (IsProper q.names) (header q observable) (graph_lines nodes edges) (proper_header q.names q observable) (proper_graph q.names nodes edges of_names ends))
+    subst P (sym is) (All-append (IsProper q.names) (header q observable) (graph_lines nodes edges) (proper_header q.names q observable)
+    (proper_graph q.names nodes edges of_names ends))
 begins_proper q asked ls (in_tree v steps opens run is) =
     let P : List Line → Type 0 = λ xs. All (IsProper q.names) xs in
-    subst P (sym is) (All-append (IsProper q.names) (header q unobservable) (tree_lines v steps) (proper_header q.names q unobservable) (proper_steps q asked v steps opens run))
+    subst P (sym is) (All-append (IsProper q.names) (header q unobservable) (tree_lines v steps) (proper_header q.names q unobservable)
+    (proper_steps q asked v steps opens run))
 begins_proper q asked ls (whole v certificate) = proper_certificate q asked v ls certificate

@@ -80,7 +80,8 @@ raw_refused q old next raws text st true e goes = cc
 raw_refused q old next raws text st false e stuck = raw_stuck q old raws text st stuck
 
 -- a certificate is read to its last line
-graph_whole : (q : Question) (nodes : List Node) (edges : List Edge) (v : PlainVerdict) (lines : List Line) → lines ≡ header q observable ++ graph_lines nodes edges
+graph_whole : (q : Question) (nodes : List Node) (edges : List Edge) (v : PlainVerdict) (lines : List Line)
+    → lines ≡ header q observable ++ graph_lines nodes edges
     → IsCertificate q v lines → ⊥
 graph_whole q nodes edges observable lines is graph =
     let other = graph.lines_are in
@@ -90,7 +91,8 @@ graph_whole q nodes edges unobservable lines is (u, tree) =
     let other = tree.lines_are in
     let same : observable ≡ unobservable = cc in unequal same
 
-tree_whole : (q : Question) (w : Version) (steps : List (Step Node)) (v : PlainVerdict) (lines : List Line) → lines ≡ header q unobservable ++ tree_lines w steps
+tree_whole : (q : Question) (w : Version) (steps : List (Step Node)) (v : PlainVerdict) (lines : List Line)
+    → lines ≡ header q unobservable ++ tree_lines w steps
     → IsCertificate q v lines → ⊥
 tree_whole q w steps observable lines is graph =
     let other = graph.lines_are in

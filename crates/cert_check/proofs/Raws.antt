@@ -1,51 +1,27 @@
 -- A text of lines as bytes is a text of a certificate's lines.
-use Rattle.std.proofs.Common.{◌≡◌, ◌≢◌, inl, ℕ, suc, arith, ◌==◌, ◌||◌, Bool, true, false, List, [], ◌∷◌, ◌++◌, map, length, refl, sym, ◌∙◌, ap, subst, eq-eqb}
-use Rattle.std.specs.Prelude.{codes}
-use Rattle.std.specs.List.{All, list_any}
+use Rattle.std.proofs.Common.{◌≡◌, inl, ℕ, suc, arith, List, [], ◌∷◌, ◌++◌, map, refl, sym, ◌∙◌, ap, subst}
+use Rattle.std.specs.List.{All}
 use Rattle.std.proofs.lemmas.List.{append-nil}
 use Rattle.std.proofs.lemmas.List.Elements.{All-nil, All-cons, All-contains}
 use Rattle.pc_common.proofs.Elements.{contains_from_in}
-use Rattle.pc_common.specs.Lines.{Names, Line, Verdict, line_words, lines_text}
-use Rattle.pc_ground.specs.NodeWords.{Lacks}
+use Rattle.pc_common.specs.Lines.{Names, Line, Verdict, line_words}
 use Rattle.pc_ground.specs.NodeForm.{AreReadable}
 use Rattle.line_judge.specs.Texts.{IsLine, text_of_lines, IsMadeOf, FirstLinesBegin, IsRefusedAt, HoldsRefused}
-use Rattle.cert_check.specs.Certificates.{Question, BeginsWell, whole}
-use Rattle.cert_check.specs.Proper.{IsProper, IsAsked}
+use Rattle.graph_text.proofs.WholeGraphs.{joined_lines}
+use Rattle.graph_text.proofs.Spaces.{lacking_on_line}
+use Rattle.cert_check.specs.Certificates.{Question, BeginsWell, whole, IsCertificateText}
+use Rattle.cert_check.specs.Proper.{IsAsked}
 use Rattle.cert_check.specs.RawLines.{RawBegins, RawWhole, RawFirst}
-use Rattle.cert_check.specs.Verified.{IsCertificateText}
 use Rattle.cert_check.proofs.Firsts.{begins_first}
 use Rattle.cert_check.proofs.Bytes.{words_lack}
-use Rattle.cert_check.proofs.Propers.{begins_proper}
-
-pub line_from_lacks : (bs : List ℕ) → Lacks 10 bs → IsLine bs
-line_from_lacks [] h = All-nil (λ b. b ≢ 10)
-line_from_lacks (b ∷ bs) h =
-    All-cons (λ c. c ≢ 10) b bs (λ same. absurd (first (b == 10) (list_any (λ c. c == 10) bs) h (eq-eqb b 10 same)))
-    (line_from_lacks bs (rest (b == 10) (list_any (λ c. c == 10) bs) h))
-  where
-    first : (x y : Bool) → (x || y) ≡ false → x ≡ true → ⊥
-    first true y e t = cc
-    first false y e t = cc
-
-    rest : (x y : Bool) → (x || y) ≡ false → y ≡ false
-    rest true y e = cc
-    rest false y e = e
-
--- the lines one after another are the lines' text
-pub text_of_words : (names : Names) (ls : List Line) → text_of_lines (map (line_words names) ls) ≡ lines_text names ls
-text_of_words names [] = refl
-text_of_words names (l ∷ ls) = ap (λ (t : List ℕ). (line_words names l ++ codes "\n") ++ t) (text_of_words names ls)
+use Rattle.cert_check.proofs.Propers.{begins_proper, IsProper}
 
 pub raw_lines : (names : Names) → AreReadable names → (ls : List Line) → All (IsProper names) ls → All IsLine (map (line_words names) ls)
 raw_lines names readable [] all = All-nil IsLine
 raw_lines names readable (l ∷ ls) all =
     All-cons IsLine (line_words names l) (map (line_words names) ls)
-    (line_from_lacks (line_words names l) (words_lack names readable l (All-contains (IsProper names) (l ∷ ls) l all (contains_from_in l (l ∷ ls) (inl refl)))))
+    (lacking_on_line (line_words names l) (words_lack names readable l (All-contains (IsProper names) (l ∷ ls) l all (contains_from_in l (l ∷ ls) (inl refl)))))
     (raw_lines names readable ls (λ k d inside. all (suc k) d (omega (arith, inside))))
-
-length_map : {X Y : Type 0} (f : X → Y) (xs : List X) → length (map f xs) ≡ length xs
-length_map f [] = refl
-length_map f (x ∷ xs) = ap suc (length_map f xs)
 
 -- a first part of lines as bytes
 pub map_front : {X Y : Type 0} (f : X → Y) (xs : List X) (ys zs : List Y) → ys ++ zs ≡ map f xs
@@ -73,7 +49,7 @@ to_certificate q text made =
     let w = made.accepted in
     record {
       lines = w.lines;
-      text_is = made.text_is ∙ ap text_of_lines w.are ∙ text_of_words q.names w.lines;
+      text_is = made.text_is ∙ ap text_of_lines w.are ∙ joined_lines q.names w.lines;
       certificate = w.certificate;
     }
 
@@ -82,7 +58,7 @@ pub from_certificate : (q : Question) → IsAsked q → (text : List ℕ) (v : V
 from_certificate q asked text v c = record {
   lines = map (line_words q.names) c.lines;
   are_lines = raw_lines q.names asked.readable c.lines (begins_proper q asked c.lines (whole v c.certificate));
-  text_is = c.text_is ∙ sym (text_of_words q.names c.lines);
+  text_is = c.text_is ∙ sym (joined_lines q.names c.lines);
   accepted = record { verdict = v; lines = c.lines; are = refl; certificate = c.certificate };
 }
 

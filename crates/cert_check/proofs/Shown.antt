@@ -24,15 +24,18 @@ use Rattle.cert_check.proofs.Nexts.{HasWorld}
 abbrev pub parts_of : Front → Parts
 parts_of front = record { case = front.case; stages = front.stages; axioms = front.axioms; named = front.named; within = front.within }
 
-shown_world : (parts : Parts) (g : Graph) → All (IsNodeIn (names_of_parts parts)) (graph_nodes g) → IsShownOf parts.case (plain_axioms parts.axioms) g → HasWorld (question_of_parts parts) (graph_nodes g) (graph_edges g)
+shown_world : (parts : Parts) (g : Graph) → All (IsNodeIn (names_of_parts parts)) (graph_nodes g)
+    → IsShownOf parts.case (plain_axioms parts.axioms) g → HasWorld (question_of_parts parts) (graph_nodes g) (graph_edges g)
 shown_world parts g all shown =
     let P : List Node → Type 0 = λ ns. All (IsNodeOf (numbers_of (map plain_stage parts.stages)) parts.case.ops) ns in
     (shown.world, shown.generated, (shown.is_world, subst P (sym shown.generated.nodes_are) all), shown.satisfied)
 
-world_shown : (parts : Parts) (g : Graph) → HasWorld (question_of_parts parts) (graph_nodes g) (graph_edges g) → IsShownOf parts.case (plain_axioms parts.axioms) g
+world_shown : (parts : Parts) (g : Graph) → HasWorld (question_of_parts parts) (graph_nodes g) (graph_edges g)
+    → IsShownOf parts.case (plain_axioms parts.axioms) g
 world_shown parts g has = record { world = has.0; generated = has.1; is_world = has.2.0; satisfied = has.3 }
 
-pub no_world : (parts : Parts) (g : Graph) (p : PlainGraph) → graph_nodes g ≡ p.nodes → graph_edges g ≡ p.edges → (b : Bool) → ((b ≡ true) ↔ IsShownOf parts.case (plain_axioms parts.axioms) g)
+pub no_world : (parts : Parts) (g : Graph) (p : PlainGraph) → graph_nodes g ≡ p.nodes → graph_edges g ≡ p.edges → (b : Bool)
+    → ((b ≡ true) ↔ IsShownOf parts.case (plain_axioms parts.axioms) g)
     → b ≡ false → HasWorld (question_of_parts parts) p.nodes p.edges → ⊥
 no_world parts g p nodes edges b is not has =
     let P : List Node → Type 0 = λ ns. HasWorld (question_of_parts parts) ns p.edges in
@@ -42,7 +45,8 @@ no_world parts g p nodes edges b is not has =
     clash : b ≡ true → b ≡ false → ⊥
     clash t f = (let e : true ≡ false = sym t ∙ f in cc)
 
-pub some_world : (parts : Parts) (g : Graph) (p : PlainGraph) → graph_nodes g ≡ p.nodes → graph_edges g ≡ p.edges → (b : Bool) → ((b ≡ true) ↔ IsShownOf parts.case (plain_axioms parts.axioms) g)
+pub some_world : (parts : Parts) (g : Graph) (p : PlainGraph) → graph_nodes g ≡ p.nodes → graph_edges g ≡ p.edges
+    → (b : Bool) → ((b ≡ true) ↔ IsShownOf parts.case (plain_axioms parts.axioms) g)
     → b ≡ true → All (IsNodeIn (names_of_parts parts)) p.nodes → HasWorld (question_of_parts parts) p.nodes p.edges
 some_world parts g p nodes edges b is true_now all =
     let P : List Node → Type 0 = λ ns. HasWorld (question_of_parts parts) ns p.edges in
@@ -50,11 +54,13 @@ some_world parts g p nodes edges b is true_now all =
     let R : List Node → Type 0 = λ ns. All (IsNodeIn (names_of_parts parts)) ns in
     subst P nodes (subst Q edges (shown_world parts g (subst R (sym nodes) all) (is.0 true_now)))
 
-pub asked_of : (front : Front) → AreReadable (names_of front) → AreMicroOps front.case.ops → length front.tree < 9223372036854775808 → IsAsked (question_of front)
+pub asked_of : (front : Front) → AreReadable (names_of front) → AreMicroOps front.case.ops → length front.tree < 9223372036854775808
+    → IsAsked (question_of front)
 asked_of front readable are_ops small = record {
   readable = readable;
   named = λ a has. nodes_are_of front.case (numbers_of (map plain_stage front.stages)) front.axioms are_ops front.within a has;
   small =
-      let rows : length front.tree ≡ size_of (closed_ground_tree front.case (plain_axioms front.axioms)) = ap length front.grounded ∙ length_rows (closed_ground_tree front.case (plain_axioms front.axioms)) in
+      let rows : length front.tree ≡ size_of (closed_ground_tree front.case (plain_axioms front.axioms)) = ap length front.grounded
+      ∙ length_rows (closed_ground_tree front.case (plain_axioms front.axioms)) in
       omega arith;
 }

@@ -50,7 +50,8 @@ turned_nodes false t = refl
 turned_nodes true t = negation_nodes t
 
 -- the literal at one of two positions
-literal_either : {N : Type 0} (b : Bool) (o q : Option (Tree N)) (l : Literal N) → In l (literal_of (if b then o else q)) → In l (literal_of o) ⊎ In l (literal_of q)
+literal_either : {N : Type 0} (b : Bool) (o q : Option (Tree N)) (l : Literal N) → In l (literal_of (if b then o else q))
+    → In l (literal_of o) ⊎ In l (literal_of q)
 literal_either true o q l i = inl i
 literal_either false o q l i = inr i
 
@@ -92,14 +93,16 @@ abbrev AllHave : {N : Type 0} → (N → Type 0) → List (Literal N) → Type 0
 AllHave {N} P ls = (l : Literal N) → Contains ls l → (a : N) → In a (nodes_of_literal l) → P a
 
 -- the nodes of a chain of asserted edges, but for its last
-chain_has : {N : Type 0} (P : N → Type 0) (ls : List (Literal N)) → AllHave P ls → (a : N) (via : List N) (b : N) → Leads (Joins ls) a via b → (x : N) → In x (a ∷ via) → P x
+chain_has : {N : Type 0} (P : N → Type 0) (ls : List (Literal N)) → AllHave P ls → (a : N) (via : List N) (b : N) → Leads (Joins ls) a via b → (x : N)
+    → In x (a ∷ via) → P x
 chain_has P ls h a [] b joins x (inl e) = subst P e (h (Edge a b) joins a (inl refl))
 chain_has P ls h a [] b joins x (inr i) = elim i [ ]
 chain_has P ls h a (y ∷ ys) b leads x (inl e) = subst P e (h (Edge a y) leads.0 a (inl refl))
 chain_has P ls h a (y ∷ ys) b leads x (inr i) = chain_has P ls h y ys b leads.1 x i
 
 -- a chain with its last node, which a denied edge names
-path_has : {N : Type 0} (P : N → Type 0) (ls : List (Literal N)) → AllHave P ls → (a : N) (via : List N) (b : N) → Leads (Joins ls) a via b → Contains ls (NoEdge a b)
+path_has : {N : Type 0} (P : N → Type 0) (ls : List (Literal N)) → AllHave P ls → (a : N) (via : List N) (b : N) → Leads (Joins ls) a via b
+    → Contains ls (NoEdge a b)
     → (x : N) → In x (a ∷ (via ++ b ∷ [])) → P x
 path_has P ls h a via b leads has x (inl e) = chain_has P ls h a via b leads x (inl e)
 path_has P ls h a via b leads has x (inr i) =
@@ -118,13 +121,15 @@ closes_has : {N : Type 0} (P : N → Type 0) (t : Tree N) (ls : List (Literal N)
 closes_has P t ls h s (a_contradiction c) = contradicts_has P ls h s c
 closes_has P t ls h s (a_falsity same) = tt
 
-pub runs_have : {N : Type 0} (P : N → Type 0) (v : Version) (t : Tree N) → ((a : N) → In a (nodes_of_tree t) → P a) → (steps : List (Step N)) (opens rest : List Branch)
+pub runs_have : {N : Type 0} (P : N → Type 0) (v : Version) (t : Tree N) → ((a : N) → In a (nodes_of_tree t) → P a)
+    → (steps : List (Step N)) (opens rest : List Branch)
     → Runs v t steps opens rest → All (StepHas P) steps
 runs_have P v t each [] opens rest r = All-nil (StepHas P)
 runs_have P v t each (s ∷ ss) [] rest r = absurd r
 runs_have P v t each (split n p ∷ ss) (ps ∷ opens) rest r = All-cons (StepHas P) (split n p) ss tt (runs_have P v t each ss _ rest r.3)
 runs_have P v t each (close l ∷ ss) (ps ∷ opens) rest r =
-    All-cons (StepHas P) (close l) ss (closes_has P t (literals_of t ps) (λ m has a i. each a (node_on t ps m has a i)) l r.0) (runs_have P v t each ss opens rest r.1)
+    All-cons (StepHas P) (close l) ss (closes_has P t (literals_of t ps) (λ m has a i. each a (node_on t ps m has a i)) l r.0)
+    (runs_have P v t each ss opens rest r.1)
 
 -- what each node of the tree has, each node has that a refutation's steps name
 pub refutation_nodes : {N : Type 0} (v : Version) (t : Tree N) (steps : List (Step N)) → IsRefutation v t steps → (P : N → Type 0)

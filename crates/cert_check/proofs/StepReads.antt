@@ -13,16 +13,17 @@ use Rattle.pc_ground.specs.Refutes.{all_signed, asserted, left_branch, right_bra
 use Rattle.line_judge.specs.Texts.{IsLine, IsFirstLine}
 use Rattle.line_judge.proofs.Cuts.{same_first}
 use Rattle.refutation.specs.Steps.{HasLine, IsStepIn, open_after, open_branches}
-use Rattle.refutation.specs.Reading.{IsLineOf, head_of, nodes_of}
+use Rattle.refutation.specs.Reading.{IsLineOf}
+use Rattle.graph_text.proofs.Spaces.{lacking_on_line}
 use Rattle.cert_check.specs.Certificates.{Question}
-use Rattle.cert_check.specs.Proper.{IsProper, IsAsked}
+use Rattle.cert_check.specs.Proper.{IsAsked}
 use Rattle.cert_check.specs.Ones.{IsTreeText}
 use Rattle.cert_check.specs.StepTexts.{header_text, IsReadable, IsAhead, HasRead}
 use Rattle.cert_check.proofs.Advances.{line_of_run}
 use Rattle.cert_check.proofs.Bytes.{words_lack}
 use Rattle.cert_check.proofs.OneTexts.{header_lines}
-use Rattle.cert_check.proofs.Raws.{line_from_lacks}
-use Rattle.cert_check.proofs.Words.{no_end_step, same_step}
+use Rattle.cert_check.proofs.Words.{no_end_step}
+use Rattle.cert_check.proofs.Propers.{IsProper}
 
 proper_of : (names : Names) (s : Step Node) → HasLine s → IsStepIn names s → IsProper names (step s)
 proper_of names (split n p) has inside = has
@@ -32,11 +33,12 @@ readable_of : (q : Question) → IsAsked q → (s : Step Node) → IsLineOf q.na
 readable_of q asked s here = record {
   has_line = here.has_line;
   inside = here.inside;
-  is_line = line_from_lacks (step_words q.names s) (words_lack q.names asked.readable (step s) (proper_of q.names s here.has_line here.inside));
+  is_line = lacking_on_line (step_words q.names s) (words_lack q.names asked.readable (step s) (proper_of q.names s here.has_line here.inside));
 }
 
 -- steps that lead on have lines
-runs_readable : (q : Question) → IsAsked q → (v : Version) (steps : List (Step Node)) (opens rest : List Branch) → Runs v q.tree steps opens rest → All (IsReadable q.names) steps
+runs_readable : (q : Question) → IsAsked q → (v : Version) (steps : List (Step Node)) (opens rest : List Branch) → Runs v q.tree steps opens rest
+    → All (IsReadable q.names) steps
 runs_readable q asked v [] opens rest r = All-nil (IsReadable q.names)
 runs_readable q asked v (s ∷ ss) [] rest r = absurd r
 runs_readable q asked v (split n p ∷ ss) (ps ∷ opens) rest r =
@@ -50,7 +52,8 @@ runs_readable q asked v (close l ∷ ss) (ps ∷ opens) rest r =
     (runs_readable q asked v ss opens rest r.1)
 
 -- after the header all steps are ahead
-pub ahead_start : (q : Question) → IsAsked q → (text left : List ℕ) (steps : List (Step Node)) → IsTreeText q text steps → text ≡ header_text q.expectation ++ left
+pub ahead_start : (q : Question) → IsAsked q → (text left : List ℕ) (steps : List (Step Node)) → IsTreeText q text steps
+    → text ≡ header_text q.expectation ++ left
     → IsAhead q.names q.tree [] steps left
 ahead_start q asked text left steps t is = record {
   text_is = append_cancel_left (header_text q.expectation) left (lines_text q.names (map step steps ++ end ∷ []))
@@ -82,7 +85,8 @@ never_one_line {names} {t} {done} {more} {text} ahead line = go more ahead.text_
     go : (ss : List (Step Node)) → text ≡ lines_text names (map step ss ++ end ∷ []) → ⊥
     go [] is = feed_inside (codes "end") [] (subst IsLine is line)
     go (s ∷ ss) is =
-        feed_inside (step_words names s) (lines_text names (map step ss ++ end ∷ [])) (subst IsLine (is ∙ lines_cons names (step s) (map step ss ++ end ∷ [])) line)
+        feed_inside (step_words names s) (lines_text names (map step ss ++ end ∷ []))
+        (subst IsLine (is ∙ lines_cons names (step s) (map step ss ++ end ∷ [])) line)
 
 -- a step's line has that step's bytes
 line_of : {names : Names} {s : Step Node} {line : List ℕ} → IsReadable names s → line ≡ step_words names s → IsLineOf names line s
@@ -96,36 +100,43 @@ record FirstStep (names : Names) (more : List (Step Node)) (line rest : List ℕ
   line_is : line ≡ step_words names first
   rest_is : rest ≡ lines_text names (map step others ++ end ∷ [])
 
-first_step : {names : Names} {t : GroundTree Node} {done more : List (Step Node)} {text line rest : List ℕ} → IsAhead names t done more text → IsFirstLine text line rest
+first_step : {names : Names} {t : GroundTree Node} {done more : List (Step Node)} {text line rest : List ℕ} → IsAhead names t done more text
+    → IsFirstLine text line rest
     → (line ≡ codes "end" → ⊥) → FirstStep names more line rest
 first_step {names} {t} {done} {more} {text} {line} {rest} ahead first other = go more ahead.text_is ahead.each
   where
     go : (ss : List (Step Node)) → text ≡ lines_text names (map step ss ++ end ∷ []) → All (IsReadable names) ss → FirstStep names ss line rest
     go [] is each =
-        absurd (other (same_first line (codes "end") rest [] first.is_line (line_from_lacks (codes "end") refl) (sym (first.text_is ∙ first_cons line rest) ∙ is)).0)
+        absurd (other (same_first line (codes "end") rest [] first.is_line (lacking_on_line (codes "end") refl)
+        (sym (first.text_is ∙ first_cons line rest) ∙ is)).0)
     go (s ∷ ss) is each =
-        let same = same_first line (step_words names s) rest (lines_text names (map step ss ++ end ∷ [])) first.is_line (All-head (IsReadable names) s ss each).is_line
+        let same = same_first line (step_words names s) rest (lines_text names (map step ss ++ end ∷ [])) first.is_line
+        (All-head (IsReadable names) s ss each).is_line
         (sym (first.text_is ∙ first_cons line rest) ∙ is ∙ lines_cons names (step s) (map step ss ++ end ∷ [])) in
         record { first = s; others = ss; more_is = refl; line_is = same.0; rest_is = same.1 }
 
 -- the last line stands after the last step
-pub last_ahead : {names : Names} {t : GroundTree Node} {done more : List (Step Node)} {text line rest : List ℕ} → IsAhead names t done more text → IsFirstLine text line rest
+pub last_ahead : {names : Names} {t : GroundTree Node} {done more : List (Step Node)} {text line rest : List ℕ} → IsAhead names t done more text
+    → IsFirstLine text line rest
     → line ≡ codes "end" → more ≡ []
 last_ahead {names} {t} {done} {more} {text} {line} {rest} ahead first is_end = go more ahead.text_is ahead.each
   where
     go : (ss : List (Step Node)) → text ≡ lines_text names (map step ss ++ end ∷ []) → All (IsReadable names) ss → ss ≡ []
     go [] is each = refl
     go (s ∷ ss) is each =
-        let same = same_first line (step_words names s) rest (lines_text names (map step ss ++ end ∷ [])) first.is_line (All-head (IsReadable names) s ss each).is_line
+        let same = same_first line (step_words names s) rest (lines_text names (map step ss ++ end ∷ [])) first.is_line
+        (All-head (IsReadable names) s ss each).is_line
         (sym (first.text_is ∙ first_cons line rest) ∙ is ∙ lines_cons names (step s) (map step ss ++ end ∷ [])) in
         absurd (no_end_step names s (sym same.0 ∙ is_end))
 
 -- a branch is open before a step
-some_open : (v : Version) (t : GroundTree Node) (s : Step Node) (ss : List (Step Node)) (opens rest : List Branch) → Runs v t (s ∷ ss) opens rest → 0 < length opens
+some_open : (v : Version) (t : GroundTree Node) (s : Step Node) (ss : List (Step Node)) (opens rest : List Branch) → Runs v t (s ∷ ss) opens rest
+    → 0 < length opens
 some_open v t s ss [] rest r = absurd r
 some_open v t s ss (ps ∷ opens) rest r = omega arith
 
-pub is_open : {names : Names} {t : GroundTree Node} {done more : List (Step Node)} {text line rest : List ℕ} → IsAhead names t done more text → IsFirstLine text line rest
+pub is_open : {names : Names} {t : GroundTree Node} {done more : List (Step Node)} {text line rest : List ℕ} → IsAhead names t done more text
+    → IsFirstLine text line rest
     → (line ≡ codes "end" → ⊥) → 0 < open_branches done
 is_open {names} {t} {done} ahead first other =
     let f = first_step ahead first other in
@@ -133,7 +144,8 @@ is_open {names} {t} {done} ahead first other =
     let some = some_open version_one t f.first f.others ahead.opens [] (subst P f.more_is ahead.runs) in
     let count = ahead.count in omega (arith, some, count)
 
-pub is_step : {names : Names} {t : GroundTree Node} {done more : List (Step Node)} {text line rest : List ℕ} → IsAhead names t done more text → IsFirstLine text line rest
+pub is_step : {names : Names} {t : GroundTree Node} {done more : List (Step Node)} {text line rest : List ℕ} → IsAhead names t done more text
+    → IsFirstLine text line rest
     → (line ≡ codes "end" → ⊥) → (s : Step Node) × IsLineOf names line s
 is_step {names} {t} {done} {more} ahead first other =
     let f = first_step ahead first other in
@@ -150,15 +162,18 @@ record StepsTo (t : GroundTree Node) (s : Step Node) (ss : List (Step Node)) (n 
   count : open_after n s ≡ length opens
   runs : Runs version_one t ss opens []
 
-steps_to : (t : GroundTree Node) (s : Step Node) (ss : List (Step Node)) (n : ℕ) (opens : List Branch) → n ≡ length opens → Runs version_one t (s ∷ ss) opens [] → StepsTo t s ss n
+steps_to : (t : GroundTree Node) (s : Step Node) (ss : List (Step Node)) (n : ℕ) (opens : List Branch) → n ≡ length opens
+    → Runs version_one t (s ∷ ss) opens [] → StepsTo t s ss n
 steps_to t s ss n [] is r = absurd r
 steps_to t (split m p) ss n (ps ∷ opens) is r =
     record { opens = left_branch ps m p r.0 ∷ right_branch version_one ps m p r.0 r.1 ∷ opens; count = omega (arith, is); runs = r.3 }
 steps_to t (close l) ss n (ps ∷ opens) is r = record { opens = opens; count = omega (arith, is); runs = r.1 }
 
 -- the first step was put last
-pub has_read : {names : Names} {t : GroundTree Node} {done more : List (Step Node)} {text line rest : List ℕ} (new : List (Step Node)) → IsAhead names t done more text
-    → IsFirstLine text line rest → (line ≡ codes "end" → ⊥) → ((s : Step Node) → IsLineOf names line s → new ≡ done ++ s ∷ []) → HasRead names t done more new rest
+pub has_read : {names : Names} {t : GroundTree Node} {done more : List (Step Node)} {text line rest : List ℕ} (new : List (Step Node))
+    → IsAhead names t done more text
+    → IsFirstLine text line rest → (line ≡ codes "end" → ⊥) → ((s : Step Node) → IsLineOf names line s → new ≡ done ++ s ∷ [])
+    → HasRead names t done more new rest
 has_read {names} {t} {done} {more} {text} {line} {rest} new ahead first other put =
     let f = first_step ahead first other in
     let P : List (Step Node) → Type 0 = λ ss. All (IsReadable names) ss in
@@ -180,13 +195,6 @@ has_read {names} {t} {done} {more} {text} {line} {rest} new ahead first other pu
       };
     }
 
--- the step with this head and these nodes
-pub leaf_is : (r s : Step Node) → head_of r ≡ head_of s → nodes_of r ≡ nodes_of s → HasLine s → HasLine r
-leaf_is r s heads nodes has = subst HasLine (sym (same_step r s heads nodes)) has
-
-pub put_is : (old new : List (Step Node)) (r s : Step Node) → head_of r ≡ head_of s → nodes_of r ≡ nodes_of s → new ≡ old ++ r ∷ [] → new ≡ old ++ s ∷ []
-put_is old new r s heads nodes is = is ∙ ap (λ (x : Step Node). old ++ x ∷ []) (same_step r s heads nodes)
-
 -- while steps are read, those before and those ahead are all of them
 pub record AllSteps (names : Names) (t : GroundTree Node) (steps done : List (Step Node)) (text : List ℕ) : Type 0 where
   pub more : List (Step Node)
@@ -202,7 +210,8 @@ all_read {names} {t} {steps} {done} new rest a r = record {
       ∙ ap (λ (xs : List (Step Node)). done ++ xs) (sym r.more_is) ∙ a.all;
 }
 
-pub none_ahead : {names : Names} {t : GroundTree Node} {steps done : List (Step Node)} {text : List ℕ} (new : List (Step Node)) → (a : AllSteps names t steps done text)
+pub none_ahead : {names : Names} {t : GroundTree Node} {steps done : List (Step Node)} {text : List ℕ} (new : List (Step Node))
+    → (a : AllSteps names t steps done text)
     → (a.more ≡ []) × (new ≡ done) → new ≡ steps
 none_ahead {done = done} new a none = none.1 ∙ sym (append-nil done) ∙ ap (λ (xs : List (Step Node)). done ++ xs) (sym none.0) ∙ a.all
 

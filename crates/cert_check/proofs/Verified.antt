@@ -5,8 +5,8 @@ use Rattle.pc_common.specs.declared.limits.TheConstants.{MAX_CERTIFICATE}
 use Rattle.line_judge.specs.Texts.{IsMadeOf}
 use Rattle.line_judge.specs.JudgedLines.{IsWhole}
 use Rattle.line_judge.specs.Feeds.{IsRefusedBy}
-use Rattle.cert_check.specs.Certificates.{Question, IsCertificate}
-use Rattle.cert_check.specs.Verified.{IsCertificateText, Verified, seen, unseen, too_long, refused}
+use Rattle.cert_check.specs.Certificates.{Question, IsCertificate, IsCertificateText}
+use Rattle.cert_check.specs.Verified.{Verified, seen, unseen, too_long, refused}
 use Rattle.cert_check.specs.Proper.{IsAsked}
 use Rattle.cert_check.specs.Questions.{question_of}
 use Rattle.cert_check.specs.Ends.{checked_of}
@@ -23,7 +23,8 @@ use Rattle.cert_check.proofs.RawStages.{raw_done}
 use Rattle.cert_check.proofs.Words.{one_verdict}
 
 -- a certificate's first line as bytes is its verdict
-first_is : (q : Question) (v : PlainVerdict) (ls : List Line) → IsCertificate q v ls → (rest : List (List ℕ)) × (map (line_words q.names) ls ≡ verdict_text v ∷ rest)
+first_is : (q : Question) (v : PlainVerdict) (ls : List Line) → IsCertificate q v ls → (rest : List (List ℕ))
+    × (map (line_words q.names) ls ≡ verdict_text v ∷ rest)
 first_is q observable ls graph = (_, ap (map (line_words q.names)) graph.lines_are)
 first_is q unobservable ls (v, tree) = (_, ap (map (line_words q.names)) tree.lines_are)
 
@@ -31,7 +32,8 @@ heads_same : {x y : List ℕ} {xs ys : List (List ℕ)} → x ∷ xs ≡ y ∷ y
 heads_same e = cc
 
 -- two questions' certificates of the same bytes are of one verdict
-same_verdict : (q r : Question) (v w : PlainVerdict) (raws : List (List ℕ)) (ls ms : List Line) → raws ≡ map (line_words q.names) ls → raws ≡ map (line_words r.names) ms
+same_verdict : (q r : Question) (v w : PlainVerdict) (raws : List (List ℕ)) (ls ms : List Line) → raws ≡ map (line_words q.names) ls
+    → raws ≡ map (line_words r.names) ms
     → IsCertificate q v ls → IsCertificate r w ms → v ≡ w
 same_verdict q r v w raws ls ms is are c d =
     let one = first_is q v ls c in
@@ -53,11 +55,13 @@ ended_verified q r text short made (Tree o) st e = cc
 ended_verified q r text short made (Ended Observable) st e =
     let w = made.accepted in
     let c = to_certificate q text made in
-    seen short (of_verdict q text observable w.verdict (same_verdict r q observable w.verdict made.lines st.lines w.lines st.are w.are st.stands w.certificate) c)
+    seen short (of_verdict q text observable w.verdict
+    (same_verdict r q observable w.verdict made.lines st.lines w.lines st.are w.are st.stands w.certificate) c)
 ended_verified q r text short made (Ended Unobservable) st e =
     let w = made.accepted in
     let c = to_certificate q text made in
-    unseen short (of_verdict q text unobservable w.verdict (same_verdict r q unobservable w.verdict made.lines st.lines w.lines st.are w.are st.stands w.certificate) c)
+    unseen short (of_verdict q text unobservable w.verdict
+    (same_verdict r q unobservable w.verdict made.lines st.lines w.lines st.are w.are st.stands w.certificate) c)
 
 pub whole_verified : (q : Question) (start judge : CertificateJudge) → question_of start.front.now ≡ q → (text : List ℕ) → length text ≤ MAX_CERTIFICATE
     → IsWhole judge_begins judge_whole judge_stands start text judge → Verified q text (checked_of judge.stage)
@@ -78,4 +82,5 @@ refused_verified q asked start asks text (suc k) by =
     let P : Question → Type 0 = λ p. Verified p text (Refused (suc k)) in
     let some : 0 < suc k = omega arith in
     let at = by.line some in
-    subst P asks (refused (suc k) (by.within some) (λ v c. at.no_whole (from_certificate own (subst A (sym asks) asked) text v c)) (to_refused own text (suc k) at))
+    subst P asks (refused (suc k) (by.within some) (λ v c. at.no_whole (from_certificate own (subst A (sym asks) asked) text v c))
+    (to_refused own text (suc k) at))

@@ -1,11 +1,11 @@
 -- What a certificate is: a graph whose world satisfies, or a refutation of the ground tree. And what one may begin
 -- with.
-use Rattle.std.specs.Prelude.{◌≡◌, Bool, List, [], ◌∷◌, ◌++◌, map, All, IsTrue}
+use Rattle.std.specs.Prelude.{◌≡◌, Bool, List, [], ◌∷◌, ◌++◌, map, All, IsTrue, ℕ}
 use Rattle.pc_common.specs.Case.{Expectation}
 use Rattle.pc_common.specs.World.{Node, Edge, World}
 use Rattle.pc_common.specs.Generated.{HasEnds, IsGenerated}
 use Rattle.pc_common.specs.Steps.{Step}
-use Rattle.pc_common.specs.Lines.{Names, Line, Verdict, observable, unobservable, verdict, second, version_two, step, end}
+use Rattle.pc_common.specs.Lines.{Names, Line, Verdict, observable, unobservable, verdict, second, version_two, step, end, lines_text}
 use Rattle.pc_syntax.specs.Observable.{IsWorldOf}
 use Rattle.pc_ground.specs.NodeForm.{IsNodeIn}
 use Rattle.pc_ground.specs.Stages.{numbers_of}
@@ -65,3 +65,9 @@ pub data BeginsWell (q : Question) (lines : List Line) : Type 0 where
   in_tree : (version : Version) (steps : List (Step Node)) (opens : List Branch) → IsPartial version q.tree steps opens
       → lines ≡ header q unobservable ++ tree_lines version steps → BeginsWell q lines
   whole : (v : Verdict) → IsCertificate q v lines → BeginsWell q lines
+
+-- the text is that of a certificate of this verdict
+pub record IsCertificateText (q : Question) (v : Verdict) (text : List ℕ) : Type 0 where
+  pub lines : List Line
+  pub text_is : text ≡ lines_text q.names lines
+  pub certificate : IsCertificate q v lines

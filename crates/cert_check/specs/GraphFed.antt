@@ -7,7 +7,7 @@ use Rattle.cert_check.specs.Certificates.{Question}
 use Rattle.cert_check.specs.Questions.{question_of_parts}
 use Rattle.cert_check.specs.RawLines.{RawStands}
 use Rattle.cert_check.specs.GraphStages.{as_stage}
-use Rattle.cert_check.specs.GraphLaws.{GraphFirst, GraphWhole}
+use Rattle.cert_check.specs.GraphBegins.{GraphFirst, GraphWhole}
 use Rattle.cert_check.specs.declared.graph_judge.GraphJudge.{GraphJudge}
 use Rattle.cert_check.specs.declared.graph_checker.GraphChecker.{GraphChecker}
 

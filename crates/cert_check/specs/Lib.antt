@@ -11,5 +11,6 @@ pub mod Fed
 pub mod Ones
 pub mod StepTexts
 pub mod GraphStages
-pub mod GraphLaws
+pub mod GraphBegins
 pub mod GraphFed
+pub mod LawsOfJudges

@@ -10,8 +10,7 @@ use Rattle.pc_ground.specs.declared.version.Version.TheVariants.{One as version_
 use Rattle.pc_ground.specs.Refutes.{Branch, IsPartial, IsRefutation}
 use Rattle.graph_text.specs.Graphs.{graph_lines}
 use Rattle.line_judge.specs.Texts.{IsRefusedAt}
-use Rattle.cert_check.specs.Certificates.{Question, header, certificate_lines, IsGraphCertificate, IsTreeCertificate}
-use Rattle.cert_check.specs.Verified.{IsCertificateText}
+use Rattle.cert_check.specs.Certificates.{Question, header, certificate_lines, IsGraphCertificate, IsTreeCertificate, IsCertificateText}
 use Rattle.cert_check.specs.declared.one.One.{One}
 use Rattle.cert_check.specs.declared.one.One.TheVariants.{Graph, Tree, Refused}
 

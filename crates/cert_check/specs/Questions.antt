@@ -1,6 +1,4 @@
 -- The question that a front asks, and that its parts ask.
-use Rattle.std.specs.Prelude.{◌≡◌}
-use Rattle.pc_common.specs.World.{Node, World}
 use Rattle.pc_syntax.specs.Closed.{closed_satisfies}
 use Rattle.pc_ground.specs.declared.front.Front.{Front}
 use Rattle.pc_ground.specs.declared.parts.Parts.{Parts}
@@ -26,10 +24,3 @@ question_of_parts parts = record {
   tree = closed_ground_tree parts.case (plain_axioms parts.axioms);
   satisfied = closed_satisfies (plain_axioms parts.axioms) parts.case;
 }
-
--- two questions ask one thing
-pub record AskAlike (q r : Question) : Type 0 where
-  pub names : q.names ≡ r.names
-  pub expectation : q.expectation ≡ r.expectation
-  pub tree : q.tree ≡ r.tree
-  pub satisfied : (w : World Node) → q.satisfied w ≡ r.satisfied w

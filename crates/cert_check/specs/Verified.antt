@@ -1,18 +1,12 @@
 -- What a text is to a question: its certificate, or a text that is refused at a line.
-use Rattle.std.specs.Prelude.{◌≡◌, ℕ, ◌<◌, ◌≤◌, List, length}
+use Rattle.std.specs.Prelude.{ℕ, ◌<◌, ◌≤◌, List, length}
 use Rattle.pc_common.specs.declared.limits.TheConstants.{MAX_CERTIFICATE}
-use Rattle.pc_common.specs.Lines.{Verdict, observable, unobservable, Line, lines_text}
+use Rattle.pc_common.specs.Lines.{Verdict, observable, unobservable}
 use Rattle.line_judge.specs.Texts.{IsRefusedAt}
-use Rattle.cert_check.specs.Certificates.{Question, IsCertificate}
+use Rattle.cert_check.specs.Certificates.{Question, IsCertificateText}
 use Rattle.cert_check.specs.RawLines.{RawBegins, RawWhole}
 use Rattle.cert_check.specs.declared.checked.Checked.{Checked}
 use Rattle.cert_check.specs.declared.checked.Checked.TheVariants.{Observable, Unobservable, Refused}
-
--- the text is that of a certificate of this verdict
-pub record IsCertificateText (q : Question) (v : Verdict) (text : List ℕ) : Type 0 where
-  pub lines : List Line
-  pub text_is : text ≡ lines_text q.names lines
-  pub certificate : IsCertificate q v lines
 
 -- the verdict whose certificate the text is; or, where it is none's, the first line with which it doesn't begin well
 -- any more; or 0 where it is longer than the limit

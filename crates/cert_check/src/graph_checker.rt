@@ -5,7 +5,7 @@ ghost use Rattle.cert_check.specs.Certificates.{Question};
 ghost use Rattle.cert_check.specs.Questions.{question_of_parts};
 ghost use Rattle.cert_check.specs.Verified.{Verified};
 ghost use Rattle.cert_check.specs.RawLines.{RawBegins};
-ghost use Rattle.cert_check.specs.GraphLaws.{SaysUnobservable};
+ghost use Rattle.cert_check.specs.GraphBegins.{SaysUnobservable};
 ghost use Rattle.cert_check.specs.GraphFed.{IsGraphFed};
 
 use super::checked::Checked;

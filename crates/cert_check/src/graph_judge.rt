@@ -4,7 +4,8 @@ ghost use Rattle.cert_check.specs.Questions.{question_of_parts};
 ghost use Rattle.cert_check.specs.Ends.{checked_of};
 ghost use Rattle.cert_check.specs.RawLines.{RawStands};
 ghost use Rattle.cert_check.specs.GraphStages.{as_stage};
-ghost use Rattle.cert_check.specs.GraphLaws.{GraphFirst, GraphWhole, graph_first, graph_taken, graph_whole};
+ghost use Rattle.cert_check.specs.GraphBegins.{GraphFirst, GraphWhole};
+ghost use Rattle.cert_check.specs.LawsOfJudges.{graph_first, graph_taken, graph_whole};
 
 use super::checked::Checked;
 use super::graph_next::advance_graph;
@@ -22,7 +23,7 @@ pub(crate) struct GraphJudge<'a> {
     stage: GraphStage,
 }
 
-// Written out, so that a proof of what drops the value meets one call and no field.
+// By hand: docs/DECISIONS.md, "Drops are written by hand".
 impl Drop for GraphJudge<'_> {
     fn drop(self) {
         let GraphJudge {

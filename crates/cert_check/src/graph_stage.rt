@@ -18,7 +18,7 @@ pub(crate) enum GraphStage {
     Ended,
 }
 
-// Written out, so that a proof of what drops the value meets one call and no variant.
+// By hand: docs/DECISIONS.md, "Drops are written by hand".
 impl Drop for GraphStage {
     fn drop(self) {
         match self {

@@ -3,7 +3,8 @@ ghost use Rattle.pc_ground.specs.NodeForm.{names_of};
 ghost use Rattle.cert_check.specs.Questions.{question_of};
 ghost use Rattle.cert_check.specs.Proper.{IsAsked};
 ghost use Rattle.cert_check.specs.Ends.{checked_of};
-ghost use Rattle.cert_check.specs.RawLines.{RawFirst, RawWhole, RawStands, first_begins, taken_begins, whole_begins};
+ghost use Rattle.cert_check.specs.RawLines.{RawFirst, RawWhole, RawStands};
+ghost use Rattle.cert_check.specs.LawsOfJudges.{first_begins, taken_begins, whole_begins};
 
 use super::checked::Checked;
 use super::next::{advance, show_asked};
@@ -23,7 +24,7 @@ pub(crate) struct CertificateJudge<'a> {
     stage: Stage<'a>,
 }
 
-// Written out, so that a proof of what drops the value meets one call and no field.
+// By hand: docs/DECISIONS.md, "Drops are written by hand".
 impl Drop for CertificateJudge<'_> {
     fn drop(self) {
         let CertificateJudge {

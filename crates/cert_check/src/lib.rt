@@ -1,5 +1,9 @@
 //! An independent check of certificates: it judges any text against a model and a test, whoever made it.
 //!
+//! Clause: `Checker` and `check_text` return the verdict whose certificate a text is, or its refused line, and
+//! `GraphChecker` does so without a ground tree of a text that is no refutation (`verified`, `outcome`; the clause of
+//! `finish`); `check_one` does so by the rules of version 1, with a refutation's steps (`is`, `only`).
+//!
 //! ```rust
 //! use pc_front::front;
 //!

@@ -30,7 +30,7 @@ pub(crate) struct OpenTree<'a> {
     pub(crate) is_new: bool,
 }
 
-// Written out, so that a proof of what drops the value meets one call and no field.
+// By hand: docs/DECISIONS.md, "Drops are written by hand".
 impl Drop for OpenTree<'_> {
     fn drop(self) {
         let OpenTree {

@@ -31,7 +31,8 @@ module _ {F : Type 0} {view : F → FilesView} {old new : F}
       (verdict_certified f.m f.c v f.kept is))
 
 module _ {case_of : List ℕ → Case → Type 0} {first_fault : List ℕ → List ℕ → InputFault → Type 0} (form : IsForm case_of first_fault)
-    {holds : Contents} {i : Inputs} {version : Version} {status : Status} {text : List ℕ} (a : AnswersCheck case_of first_fault holds i version status text) where
+    {holds : Contents} {i : Inputs} {version : Version} {status : Status} {text : List ℕ}
+    (a : AnswersCheck case_of first_fault holds i version status text) where
   pub check_true : (m : WrittenModel) (c : Case) → Says case_of holds i m c → IsTrueStatus m c status
   check_true m c says = certified_true (found_of form a m c says)
 

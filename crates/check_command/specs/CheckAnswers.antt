@@ -6,7 +6,7 @@ use Rattle.pc_common.specs.declared.status.Status.{Status}
 use Rattle.pc_ground.specs.declared.version.Version.{Version}
 use Rattle.command_base.specs.Inputs.{Inputs, Contents}
 use Rattle.command_base.specs.VerdictStatus.{IsDueStatus}
-use Rattle.command_base.specs.Outcomes.{AnswersFiles, IsDueOfFiles}
+use Rattle.command_base.specs.FileAnswers.{AnswersFiles, IsDueOfFiles}
 use Rattle.verdicts.specs.Certified.{IsCertified}
 
 module _ (case_of : List ℕ → Case → Type 0) (first_fault : List ℕ → List ℕ → InputFault → Type 0) (holds : Contents)

@@ -1,5 +1,7 @@
 //! The command `check MODEL TEST`: is the outcome of the test observable on the model?
 //!
+//! Clause: `check` returns the verdict on two files, or how the command ends before one (`outcome`).
+//!
 //! ```rust
 //! use verdicts::verdict_status;
 //!

@@ -151,7 +151,7 @@ const FAILS: &[(
     Status,
     &'static str,
 )] = &[
-    // a missing name, and so the test is never started
+    // a missing name; `opening` counts what is opened
     ("check model none", &[], &[], Status::ReadFault, ""),
     ("check none test", &[], &[], Status::ReadFault, ""),
     ("check none bad", &[], &[], Status::ReadFault, ""),
@@ -161,7 +161,7 @@ const FAILS: &[(
     ("check model test", &[3], &[], Status::ReadFault, ""),
     // the start of the test
     ("check model test", &[4], &[], Status::ReadFault, ""),
-    // no word is a command, and no file is started
+    // the words are no command, and the call of the files that would fail is never made
     ("check model", &[1], &[], Status::Usage, USAGE),
     ("check model test", &[], &[1], Status::WriteFault, ""),
     (

@@ -12,6 +12,8 @@ mod conflicts;
 #[cfg(test)]
 mod laws;
 #[cfg(test)]
+mod opening;
+#[cfg(test)]
 mod ties;
 #[cfg(test)]
 mod translation;

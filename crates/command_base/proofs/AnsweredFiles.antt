@@ -8,11 +8,12 @@ use Rattle.pc_common.specs.declared.status.Status.TheVariants.{Usage, Refused, R
 use Rattle.pc_syntax.specs.Written.{WrittenModel}
 use Rattle.pc_ground.specs.declared.front.Front.{Front}
 use Rattle.command_base.specs.declared.ending.Ending.{Ending}
-use Rattle.command_base.specs.Inputs.{Inputs, Contents, Says, IsFirstFault}
+use Rattle.command_base.specs.Inputs.{Inputs, Contents, Says, IsFirstInputFault}
 use Rattle.command_base.specs.SecondFiles.{IsForm}
 use Rattle.command_base.specs.Refusals.{refusal}
 use Rattle.command_base.specs.Endings.{ending_status, ending_text}
-use Rattle.command_base.specs.Outcomes.{HasFront, IsInputsEnding, IsFilesOutcome, AnswersFiles, refused, found, IsDueOfFiles}
+use Rattle.command_base.specs.Outcomes.{HasFront, IsInputsEnding, IsFilesOutcome}
+use Rattle.command_base.specs.FileAnswers.{AnswersFiles, IsDueOfFiles, refused, found}
 use Rattle.command_base.proofs.OneCase.{one_said, no_fault_said}
 
 module _ {case_of : List ℕ → Case → Type 0} {first_fault : List ℕ → List ℕ → InputFault → Type 0} (form : IsForm case_of first_fault)
@@ -28,7 +29,7 @@ module _ {case_of : List ℕ → Case → Type 0} {first_fault : List ℕ → Li
       subst Q one.1 (subst P one.0 is)
 
   pub refused_of : {status : Status} {text : List ℕ} → AnswersFiles case_of first_fault holds i finds status text
-      → (f : InputFault) → IsFirstFault first_fault holds i f → status ≡ Refused
+      → (f : InputFault) → IsFirstInputFault first_fault holds i f → status ≡ Refused
   refused_of (refused (refusal first held)) f fault = refl
   refused_of (found {m = m} {c = c} says is) f fault = absurd (no_fault_said form holds i m c f says fault)
 

@@ -11,7 +11,8 @@ use Rattle.pc_ground.specs.Stages.{plain_stage, plain_axioms, numbers_of}
 use Rattle.pc_ground.proofs.FlatRows.{rows_injective}
 use Rattle.pc_front.specs.ModelFront.{written_stage}
 use Rattle.pc_front.specs.Front.{IsFrontOf}
-use Rattle.cert_check.specs.Questions.{question_of, AskAlike}
+use Rattle.cert_check.specs.Questions.{question_of}
+use Rattle.cert_check.proofs.Alike.{AskAlike}
 use Rattle.command_base.specs.Questions.{names_by, question_by}
 
 pub numbers_same : (ss : List StageItem) → numbers_of (map written_stage ss) ≡ stage_numbers ss

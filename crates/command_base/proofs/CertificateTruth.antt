@@ -7,7 +7,7 @@ use Rattle.pc_syntax.specs.Observable.{Observable, IsWorldOf}
 use Rattle.pc_ground.specs.GroundTree.{ground_tree}
 use Rattle.pc_ground.proofs.UnfoldedTruth.{ground_tree_true}
 use Rattle.pc_ground.proofs.Refuted.{refutation_sound}
-use Rattle.cert_check.specs.Verified.{IsCertificateText}
+use Rattle.cert_check.specs.Certificates.{IsCertificateText}
 use Rattle.command_base.specs.Questions.{question_by}
 use Rattle.command_base.proofs.AskedAlike.{numbers_same}
 

@@ -12,6 +12,7 @@ use Rattle.pc_common.specs.declared.fault.Which.{Which}
 use Rattle.pc_common.specs.declared.fault.Which.TheVariants.{Model, Test, Query}
 use Rattle.pc_common.specs.declared.reading.ReadEnd.{ReadEnd}
 use Rattle.pc_common.specs.declared.reading.ReadEnd.TheVariants.{ReadFault as an_outside_fault, TooLarge as past_limit, Memory as no_memory}
+use Rattle.pc_common.specs.declared.status.Status.{Status}
 use Rattle.pc_common.specs.declared.status.Status.TheVariants.{Usage, Refused, ReadFault, Memory}
 use Rattle.pc_syntax.specs.Written.{WrittenModel}
 use Rattle.pc_ground.specs.declared.front.Front.{Front}
@@ -21,11 +22,11 @@ use Rattle.command_base.specs.declared.refusal.Refusal.{Refusal}
 use Rattle.command_base.specs.declared.ending.Ending.{Ending}
 use Rattle.command_base.specs.declared.ending.Ending.TheVariants.{ReadFault as a_read_fault, Memory as a_memory, Refused as a_refusal}
 use Rattle.command_base.specs.Words.{fault_word, file_word}
-use Rattle.command_base.specs.Inputs.{Inputs, Contents, IsRead, IsTooLarge, IsFirstFault, large_model, large_test, in_bytes, too_large, LacksInput, Says}
-use Rattle.command_base.specs.SecondFiles.{IsOfTwo, SaysFront, SaysNone}
-use Rattle.command_base.specs.Refusals.{IsRefusal, refusal, refused_text, name_of}
+use Rattle.command_base.specs.Inputs.{Inputs, Contents, IsRead, IsTooLarge, IsFirstInputFault, large_model, large_test, in_bytes, too_large, LacksInput, Says}
+use Rattle.command_base.specs.SecondFiles.{IsOfTwo, SaysFront, SaysNone, AnyCase, NoFault}
+use Rattle.command_base.specs.Refusals.{IsInputRefusal, refusal, refused_text, name_of}
 use Rattle.command_base.specs.Endings.{refusal_text, bytes_of, IsBytesEnding, IsUnread}
-use Rattle.command_base.specs.Outcomes.{HasFront, IsInputsEnding}
+use Rattle.command_base.specs.Outcomes.{HasFront, IsInputsEnding, IsUnreadEnding}
 use Rattle.command_base.proofs.OneCase.{never_both, one_held}
 
 some_none : {X : Type 0} {x : X} → Some x ≡ None → ⊥
@@ -81,11 +82,11 @@ rose_later before rose = λ below. (let later = rose below in omega arith)
 
 -- a refusal of one of the two files
 refusal_of : {first_fault : List ℕ → List ℕ → InputFault → Type 0} (holds : Contents) (i : Inputs) (bytes : List ℕ) (f : InputFault) (r : Refusal)
-    → IsFirstFault first_fault holds i f → holds (name_of f.file i) ≡ Some bytes
+    → IsFirstInputFault first_fault holds i f → holds (name_of f.file i) ≡ Some bytes
     → r.fault ≡ f → r.line ≡ line_of bytes f.place.offset → r.column ≡ column_of bytes f.place.offset
-    → IsRefusal first_fault holds i Refused (refusal_text r)
+    → IsInputRefusal first_fault holds i Refused (refusal_text r)
 refusal_of {first_fault} holds i bytes f r first held e l c =
-    let Q : List ℕ → Type 0 = λ t. IsRefusal first_fault holds i Refused t in
+    let Q : List ℕ → Type 0 = λ t. IsInputRefusal first_fault holds i Refused t in
     subst Q (refusal_is bytes f r e l c) (refusal first held)
 
 -- a file past the limit is held, and says nothing
@@ -104,8 +105,9 @@ large_says_none holds i Test two l m c says = never_both holds i.test says.test_
 large_says_none holds i Query two l m c says = absurd two
 
 -- the first fault of a file past the limit
-large_first : {first_fault : List ℕ → List ℕ → InputFault → Type 0} (holds : Contents) (i : Inputs) (file : Which) → IsOfTwo file → IsTooLarge holds (name_of file i)
-    → (file ≡ Test → (bytes : List ℕ) × IsRead holds i.model bytes) → IsFirstFault first_fault holds i (too_large file)
+large_first : {first_fault : List ℕ → List ℕ → InputFault → Type 0} (holds : Contents) (i : Inputs) (file : Which)
+    → IsOfTwo file → IsTooLarge holds (name_of file i)
+    → (file ≡ Test → (bytes : List ℕ) × IsRead holds i.model bytes) → IsFirstInputFault first_fault holds i (too_large file)
 large_first holds i Model two l read = large_model l
 large_first holds i Test two l read = (let model = read refl in large_test model.1 l)
 large_first holds i Query two l read = absurd two
@@ -177,7 +179,7 @@ module _ {F : Type 0} {view : F → FilesView} {old new : F}
     answers = λ t no_fault memory. absurd (memory refl);
   }
 
-  refusal_ends : (r : Refusal) → (IsTrue (view old).modelled → IsRefusal first_fault (view old).holds i Refused (refusal_text r))
+  refusal_ends : (r : Refusal) → (IsTrue (view old).modelled → IsInputRefusal first_fault (view old).holds i Refused (refusal_text r))
       → (IsTrue (view old).modelled → (m : WrittenModel) (c : Case) → Says case_of (view old).holds i m c → ⊥)
       → (IsTrue (view old).only_missing_fail → LacksInput (view old).holds i → ⊥)
       → IsInputsEnding view case_of first_fault i old new (a_refusal r)
@@ -204,7 +206,8 @@ module _ {F : Type 0} {view : F → FilesView} {old new : F}
       let P : Ending → Type 0 = λ a. IsInputsEnding view case_of first_fault i old new a in
       subst P (sym is) memory_ends
   unread_ends file two past_limit (a_refusal r) is rose lacking large read = refusal_ends r
-      (λ t. let l = large t refl in refusal_of (view old).holds i l.bytes (too_large file) r (large_first (view old).holds i file two l (read t)) (held_large l) is.0 is.1 is.2)
+      (λ t. let l = large t refl in refusal_of (view old).holds i l.bytes (too_large file) r (large_first (view old).holds i file two l (read t))
+      (held_large l) is.0 is.1 is.2)
       (λ t. large_says_none (view old).holds i file two (large t refl))
       (λ c l. large_held (view old).holds i file two (large (failing_modelled c) refl) l (read (failing_modelled c)))
     where
@@ -223,3 +226,33 @@ module _ {F : Type 0} {view : F → FilesView} {old new : F}
       (λ c. both_held (view old).holds i mb tb (read (failing_modelled c)))
   bytes_end mb tb read a_memory is = memory_ends
   bytes_end mb tb read a_read_fault is = absurd is
+
+-- a file that is not read whole ends each command alike, whatever the form of the second one
+size_refusal : {first_fault : List ℕ → List ℕ → InputFault → Type 0} {holds : Contents} {i : Inputs} {status : Status} {text : List ℕ}
+    → IsInputRefusal NoFault holds i status text → IsInputRefusal first_fault holds i status text
+size_refusal (refusal (large_model l) held) = refusal (large_model l) held
+size_refusal (refusal (large_test r l) held) = refusal (large_test r l) held
+size_refusal (refusal (in_bytes rm rt is) held) = absurd is
+
+says_any : {case_of : List ℕ → Case → Type 0} {holds : Contents} {i : Inputs} (m : WrittenModel) (c : Case)
+    → Says case_of holds i m c → Says AnyCase holds i m c
+says_any m c says = record {
+  model_bytes = says.model_bytes;
+  test_bytes = says.test_bytes;
+  model_read = says.model_read;
+  test_read = says.test_read;
+  says_model = says.says_model;
+  says_case = tt;
+}
+
+pub ended_unread : {F : Type 0} {view : F → FilesView} {old new : F} {case_of : List ℕ → Case → Type 0}
+    {first_fault : List ℕ → List ℕ → InputFault → Type 0} {i : Inputs}
+    (e : Ending) → IsUnreadEnding view i old new e → IsInputsEnding view case_of first_fault i old new e
+ended_unread e d = record {
+  keeps = d.keeps;
+  usage_only = d.usage_only;
+  cause = d.cause;
+  missing_only = d.missing_only;
+  missing_due = d.missing_due;
+  answers = λ t no_fault memory. let a = d.answers t no_fault memory in (size_refusal a.0, λ m c says. a.1 m c (says_any m c says));
+}

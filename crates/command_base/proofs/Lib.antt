@@ -1,4 +1,5 @@
 pub mod EndOfText
+pub mod Forms
 pub mod TestForm
 pub mod OneCase
 pub mod InputsRead

@@ -5,7 +5,7 @@ use Rattle.pc_common.specs.declared.fault.InputFault.{InputFault}
 use Rattle.pc_syntax.specs.Written.{WrittenModel}
 use Rattle.pc_front.specs.Front.{SaysModel}
 use Rattle.pc_front.proofs.OneModel.{one_whole_model}
-use Rattle.command_base.specs.Inputs.{Inputs, Contents, IsRead, IsTooLarge, IsFirstFault, large_model, large_test, in_bytes, Says}
+use Rattle.command_base.specs.Inputs.{Inputs, Contents, IsRead, IsTooLarge, IsFirstInputFault, large_model, large_test, in_bytes, Says}
 use Rattle.command_base.specs.SecondFiles.{IsForm}
 
 value_of : List ℕ → Option (List ℕ) → List ℕ
@@ -26,7 +26,8 @@ never_both holds name bytes r l =
 moved : (P : List ℕ → Type 0) (holds : Contents) (name a b : List ℕ) → holds name ≡ Some a → holds name ≡ Some b → P b → P a
 moved P holds name a b x y is = subst P (one_held holds name b a y x) is
 
-module _ {case_of : List ℕ → Case → Type 0} {first_fault : List ℕ → List ℕ → InputFault → Type 0} (form : IsForm case_of first_fault) (holds : Contents) (i : Inputs) where
+module _ {case_of : List ℕ → Case → Type 0} {first_fault : List ℕ → List ℕ → InputFault → Type 0} (form : IsForm case_of first_fault)
+    (holds : Contents) (i : Inputs) where
   pub one_said : (m n : WrittenModel) (c d : Case) → Says case_of holds i m c → Says case_of holds i n d → (m ≡ n) × (c ≡ d)
   one_said m n c d x y = (
     one_whole_model x.model_bytes m n x.says_model.model
@@ -35,7 +36,7 @@ module _ {case_of : List ℕ → Case → Type 0} {first_fault : List ℕ → Li
         (moved (λ b. case_of b d) holds i.test x.test_bytes y.test_bytes x.test_read.held y.test_read.held y.says_case),
   )
 
-  pub no_fault_said : (m : WrittenModel) (c : Case) (f : InputFault) → Says case_of holds i m c → IsFirstFault first_fault holds i f → ⊥
+  pub no_fault_said : (m : WrittenModel) (c : Case) (f : InputFault) → Says case_of holds i m c → IsFirstInputFault first_fault holds i f → ⊥
   no_fault_said m c _ says (large_model l) = never_both holds i.model says.model_bytes says.model_read l
   no_fault_said m c _ says (large_test r l) = never_both holds i.test says.test_bytes says.test_read l
   no_fault_said m c f says (in_bytes {mb = mb} {tb = tb} rm rt is) =
@@ -43,7 +44,7 @@ module _ {case_of : List ℕ → Case → Type 0} {first_fault : List ℕ → Li
       (moved (λ b. SaysModel b m) holds i.model mb says.model_bytes rm.held says.model_read.held says.says_model)
       (moved (λ b. case_of b c) holds i.test tb says.test_bytes rt.held says.test_read.held says.says_case)
 
-  pub one_first_fault : (f g : InputFault) → IsFirstFault first_fault holds i f → IsFirstFault first_fault holds i g → f ≡ g
+  pub one_first_fault : (f g : InputFault) → IsFirstInputFault first_fault holds i f → IsFirstInputFault first_fault holds i g → f ≡ g
   one_first_fault _ _ (large_model l) (large_model l2) = refl
   one_first_fault _ _ (large_model l) (large_test {mb = mb} rm l2) = absurd (never_both holds i.model mb rm l)
   one_first_fault _ _ (large_model l) (in_bytes {mb = mb} rm rt is) = absurd (never_both holds i.model mb rm l)
@@ -57,11 +58,11 @@ module _ {case_of : List ℕ → Case → Type 0} {first_fault : List ℕ → Li
       (moved (λ b. first_fault mb b g) holds i.test tb tb2 rt.held rt2.held (moved (λ b. first_fault b tb2 g) holds i.model mb mb2 rm.held rm2.held y))
 
   pub case_or_first_fault : (mb tb : List ℕ) → IsRead holds i.model mb → IsRead holds i.test tb
-      → ((m : WrittenModel) × (c : Case) × Says case_of holds i m c) ⊎ ((f : InputFault) × IsFirstFault first_fault holds i f)
+      → ((m : WrittenModel) × (c : Case) × Says case_of holds i m c) ⊎ ((f : InputFault) × IsFirstInputFault first_fault holds i f)
   case_or_first_fault mb tb rm rt = go (form.some mb tb)
     where
       go : ((m : WrittenModel) × (c : Case) × SaysModel mb m × case_of tb c) ⊎ ((f : InputFault) × first_fault mb tb f)
-          → ((m : WrittenModel) × (c : Case) × Says case_of holds i m c) ⊎ ((f : InputFault) × IsFirstFault first_fault holds i f)
+          → ((m : WrittenModel) × (c : Case) × Says case_of holds i m c) ⊎ ((f : InputFault) × IsFirstInputFault first_fault holds i f)
       go (inl (m, c, says, is)) =
           inl (m, c, record { model_bytes = mb; test_bytes = tb; model_read = rm; test_read = rt; says_model = says; says_case = is })
       go (inr (f, is)) = inr (f, in_bytes rm rt is)

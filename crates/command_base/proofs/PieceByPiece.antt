@@ -32,7 +32,8 @@ module _ {C Q : Type 0} (is_fed : C → Q → List ℕ → Type 0) where
   }
 
   pub took_more : {old mid new : C} {limit : ℕ} {before at after : List ℕ} {left : ℕ} → TookSome is_fed old mid limit before at left
-      → (piece : List ℕ) (n : ℕ) → at ≡ piece ++ after → length piece ≡ n → n ≤ left → Took is_fed mid new piece → TookSome is_fed old new limit before after (left - n)
+      → (piece : List ℕ) (n : ℕ) → at ≡ piece ++ after → length piece ≡ n → n ≤ left → Took is_fed mid new piece
+      → TookSome is_fed old new limit before after (left - n)
   took_more {old} {mid} {new} {limit} {before} {at} {after} {left} t piece n is long fits took = record {
     bytes = t.bytes ++ piece;
     are_first = t.are_first ∙ ap (λ (xs : List ℕ). t.bytes ++ xs) is ∙ sym (append_assoc t.bytes piece after);
@@ -42,11 +43,14 @@ module _ {C Q : Type 0} (is_fed : C → Q → List ℕ → Type 0) where
 
   -- so with the first bytes of a buffer that a read filled
   pub took_read : {old mid new : C} {limit : ℕ} {before at after : List ℕ} {left : ℕ} → TookSome is_fed old mid limit before at left
-      → (n : ℕ) (filled rest : List ℕ) → at ≡ take n filled ++ after → n ≤ length filled → n ≤ left → Took is_fed mid new (take n (filled ++ rest)) → TookSome is_fed old new limit before after (left - n)
+      → (n : ℕ) (filled rest : List ℕ) → at ≡ take n filled ++ after → n ≤ length filled → n ≤ left
+      → Took is_fed mid new (take n (filled ++ rest)) → TookSome is_fed old new limit before after (left - n)
   took_read {mid = mid} {new = new} t n filled rest is short fits took =
-      took_more t (take n filled) n is (length-take-le n filled short) fits (subst (λ (piece : List ℕ). Took is_fed mid new piece) (take-append-le n filled rest short) took)
+      took_more t (take n filled) n is (length-take-le n filled short) fits
+      (subst (λ (piece : List ℕ). Took is_fed mid new piece) (take-append-le n filled rest short) took)
 
-  pub took_all : {old new : C} {limit : ℕ} {before at after : List ℕ} {left : ℕ} → TookSome is_fed old new limit before at left → (piece : List ℕ) → at ≡ piece ++ after → at ≡ []
+  pub took_all : {old new : C} {limit : ℕ} {before at after : List ℕ} {left : ℕ} → TookSome is_fed old new limit before at left
+      → (piece : List ℕ) → at ≡ piece ++ after → at ≡ []
       → TookFirst is_fed old new limit before after
   took_all {before = before} {after = after} t piece is none = record {
     bytes = t.bytes;
@@ -57,7 +61,8 @@ module _ {C Q : Type 0} (is_fed : C → Q → List ℕ → Type 0) where
   }
 
   -- no more is taken
-  pub took_most : {old new : C} {limit : ℕ} {before after : List ℕ} {left : ℕ} → TookSome is_fed old new limit before after left → left ≤ 0 → TookFirst is_fed old new limit before after
+  pub took_most : {old new : C} {limit : ℕ} {before after : List ℕ} {left : ℕ} → TookSome is_fed old new limit before after left
+      → left ≤ 0 → TookFirst is_fed old new limit before after
   took_most t none = record {
     bytes = t.bytes;
     are_first = t.are_first;

@@ -11,9 +11,10 @@ use Rattle.pc_common.specs.declared.status.Status.TheVariants.{Observable, Unobs
 use Rattle.pc_syntax.specs.Written.{WrittenModel}
 use Rattle.pc_ground.specs.declared.front.Front.{Front}
 use Rattle.command_base.specs.declared.ending.Ending.{Ending}
+use Rattle.command_base.specs.FileAnswers.{refused, found}
 use Rattle.command_base.specs.Inputs.{Inputs, Contents, LacksInput}
 use Rattle.command_base.specs.Endings.{ending_status, ending_text}
-use Rattle.command_base.specs.Outcomes.{HasFront, IsInputsEnding, IsThirdOutcome, refused, found, LacksThird}
+use Rattle.command_base.specs.Outcomes.{HasFront, IsInputsEnding, IsThirdOutcome, LacksThirdFile}
 use Rattle.command_base.proofs.InputsRead.{reads_then, rose_later}
 
 some_none : {x : List ℕ} → Some x ≡ None → ⊥
@@ -55,20 +56,22 @@ module _ {F : Type 0} {view : F → FilesView} {old mid : F}
     answers = λ t no_fault memory. refused (d.answers t no_fault memory).0;
   }
     where
-      lacking : IsTrue (view old).only_missing_fail → LacksThird case_of (view old).holds i third
+      lacking : IsTrue (view old).only_missing_fail → LacksThirdFile case_of (view old).holds i third
           → ((ending_status e ≡ ReadFault) ⊎ (ending_status e ≡ Memory)) ⊎ ((ending_status e ≢ ReadFault) × (ending_status e ≢ Memory))
           → (ending_status e ≡ ReadFault) ⊎ (ending_status e ≡ Memory)
       lacking c l (inl s) = s
       lacking c l (inr others) = absurd ((d.answers (failing_modelled c) others.0 others.1).1 l.m l.c l.says)
 
-      due : IsTrue (view old).only_missing_fail → LacksInput (view old).holds i ⊎ LacksThird case_of (view old).holds i third → (ending_status e ≡ ReadFault) ⊎ (ending_status e ≡ Memory)
+      due : IsTrue (view old).only_missing_fail → LacksInput (view old).holds i ⊎ LacksThirdFile case_of (view old).holds i third
+          → (ending_status e ≡ ReadFault) ⊎ (ending_status e ≡ Memory)
       due c (inl l) = d.missing_due c l
       due c (inr l) = lacking c l (outside_or (ending_status e))
 
   module _ {new : F} {front : Front} (f : HasFront view case_of i old mid front) (keeps : Reads view mid new) where
     -- the command finds this of the front and of what the third file holds
     pub third_found : (status : Status) (text : List ℕ) → status ≢ Usage → status ≢ ReadFault
-        → (IsTrue (view mid).modelled → (bytes : List ℕ) × ((view mid).holds third ≡ Some bytes) × ((view old).holds third ≡ Some bytes → finds f.m f.c status text))
+        → (IsTrue (view mid).modelled → (bytes : List ℕ) × ((view mid).holds third ≡ Some bytes)
+        × ((view old).holds third ≡ Some bytes → finds f.m f.c status text))
         → IsThirdOutcome view case_of first_fault i third finds old new status text
     third_found status text no_usage no_fault is = record {
       keeps = reads_then f.keeps keeps;
@@ -79,7 +82,8 @@ module _ {F : Type 0} {view : F → FilesView} {old mid : F}
       answers = λ t other memory. let held = is (told_mid f t) in found (f.says t) (held.2 (held_old f third held.0 held.1));
     }
       where
-        due : IsTrue (view old).only_missing_fail → LacksInput (view old).holds i ⊎ LacksThird case_of (view old).holds i third → (status ≡ ReadFault) ⊎ (status ≡ Memory)
+        due : IsTrue (view old).only_missing_fail → LacksInput (view old).holds i ⊎ LacksThirdFile case_of (view old).holds i third
+            → (status ≡ ReadFault) ⊎ (status ≡ Memory)
         due c (inl l) = absurd (f.held c l)
         due c (inr l) = (let held = is (told_mid f (failing_modelled c)) in absurd (some_none (sym (held_old f third held.0 held.1) ∙ l.missing)))
 

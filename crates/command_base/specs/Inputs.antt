@@ -42,14 +42,14 @@ abbrev pub too_large : Which → InputFault
 too_large file = fault_at file (TooLarge MAX_FILE) start
 
 -- the first fault: size as the files are read, the model's first; then that of the bytes of the two
-pub data IsFirstFault (first_fault : List ℕ → List ℕ → InputFault → Type 0) (holds : Contents) (i : Inputs)
+pub data IsFirstInputFault (first_fault : List ℕ → List ℕ → InputFault → Type 0) (holds : Contents) (i : Inputs)
     : InputFault → Type 0 where
-  large_model : IsTooLarge holds i.model → IsFirstFault first_fault holds i (too_large Model)
+  large_model : IsTooLarge holds i.model → IsFirstInputFault first_fault holds i (too_large Model)
   large_test : {mb : List ℕ} → IsRead holds i.model mb → IsTooLarge holds i.test
-      → IsFirstFault first_fault holds i (too_large Test)
+      → IsFirstInputFault first_fault holds i (too_large Test)
   in_bytes : {mb tb : List ℕ} {fault : InputFault} → IsRead holds i.model mb → IsRead holds i.test tb
       → first_fault mb tb fault
-      → IsFirstFault first_fault holds i fault
+      → IsFirstInputFault first_fault holds i fault
 
 -- the model and the case that the two files say
 pub record Says (case_of : List ℕ → Case → Type 0) (holds : Contents) (i : Inputs) (m : WrittenModel)

@@ -3,21 +3,21 @@ use Rattle.std.specs.Prelude.{◌≡◌, ◌⊎◌, List, ℕ}
 use Rattle.pc_common.specs.Case.{Case}
 use Rattle.pc_common.specs.declared.fault.InputFault.{InputFault}
 use Rattle.pc_syntax.specs.Written.{WrittenModel}
-use Rattle.command_base.specs.Inputs.{Inputs, Contents, IsRead, Says, IsFirstFault}
+use Rattle.command_base.specs.Inputs.{Inputs, Contents, IsRead, Says, IsFirstInputFault}
 
 module _ (case_of : List ℕ → Case → Type 0) (first_fault : List ℕ → List ℕ → InputFault → Type 0)
     (holds : Contents) where
   -- the two files have one first fault
   abbrev pub HasOneFirstFault : Type 0
-  HasOneFirstFault = (i : Inputs) (f g : InputFault) → IsFirstFault first_fault holds i f
-      → IsFirstFault first_fault holds i g → f ≡ g
+  HasOneFirstFault = (i : Inputs) (f g : InputFault) → IsFirstInputFault first_fault holds i f
+      → IsFirstInputFault first_fault holds i g → f ≡ g
 
   -- two files that are read say a model and a case, or have a first fault
   abbrev pub HasCaseOrFault : Type 0
   HasCaseOrFault =
       (i : Inputs) (model_bytes test_bytes : List ℕ) → IsRead holds i.model model_bytes → IsRead holds i.test test_bytes
       → ((m : WrittenModel) × (c : Case) × Says case_of holds i m c)
-      ⊎ ((f : InputFault) × IsFirstFault first_fault holds i f)
+      ⊎ ((f : InputFault) × IsFirstInputFault first_fault holds i f)
 
   -- two files say one model and one case
   abbrev pub HasOneCase : Type 0
@@ -26,7 +26,7 @@ module _ (case_of : List ℕ → Case → Type 0) (first_fault : List ℕ → Li
       → (m ≡ n) × (c ≡ d)
 
   -- never both
-  abbrev pub HasNoFaultBeside : Type 0
-  HasNoFaultBeside =
+  abbrev pub InputsExcludeFault : Type 0
+  InputsExcludeFault =
       (i : Inputs) (m : WrittenModel) (c : Case) (f : InputFault) → Says case_of holds i m c
-      → IsFirstFault first_fault holds i f → ⊥
+      → IsFirstInputFault first_fault holds i f → ⊥

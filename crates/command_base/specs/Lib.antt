@@ -5,8 +5,10 @@ pub mod SecondFiles
 pub mod Refusals
 pub mod Endings
 pub mod Outcomes
+pub mod FileAnswers
 pub mod VerdictStatus
 pub mod Questions
+pub mod LiftedQuestions
 pub mod CheckedTexts
 pub mod Laws
 pub mod Feeding

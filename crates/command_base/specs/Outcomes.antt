@@ -6,16 +6,18 @@ use Rattle.pc_common.specs.Faults.{Rose}
 use Rattle.pc_common.specs.Reads.{Reads}
 use Rattle.pc_common.specs.declared.fault.InputFault.{InputFault}
 use Rattle.pc_common.specs.declared.status.Status.{Status}
-use Rattle.pc_common.specs.declared.status.Status.TheVariants.{Usage, Refused, ReadFault, Memory}
+use Rattle.pc_common.specs.declared.status.Status.TheVariants.{Usage, ReadFault, Memory}
 use Rattle.pc_case.specs.MicroOps.{AreMicroOps}
 use Rattle.pc_syntax.specs.Written.{WrittenModel}
 use Rattle.pc_ground.specs.declared.front.Front.{Front}
 use Rattle.pc_front.specs.declared.limits.TheConstants.{MAX_FILE}
 use Rattle.pc_front.specs.Front.{IsFrontOf}
 use Rattle.command_base.specs.declared.ending.Ending.{Ending}
-use Rattle.command_base.specs.Inputs.{Inputs, Contents, IsRead, Says, IsFirstFault, LacksInput}
-use Rattle.command_base.specs.Refusals.{IsRefusal}
+use Rattle.command_base.specs.Inputs.{Inputs, Contents, IsRead, Says, LacksInput}
+use Rattle.command_base.specs.SecondFiles.{AnyCase, NoFault}
+use Rattle.command_base.specs.Refusals.{IsInputRefusal}
 use Rattle.command_base.specs.Endings.{ending_status, ending_text}
+use Rattle.command_base.specs.FileAnswers.{AnswersFiles}
 
 -- the bytes of the two files, of at most the limit, which (view files).modelled hold
 pub record HasBytes {F : Type 0} (view : F → FilesView) (i : Inputs) (old new : F) (model second : List ℕ) : Type 0 where
@@ -48,27 +50,8 @@ pub record IsOutcome {F : Type 0} (view : F → FilesView)
   pub missing_due : IsTrue (view old).only_missing_fail → lacks → (status ≡ ReadFault) ⊎ (status ≡ Memory)
   pub answers : known → status ≢ ReadFault → status ≢ Memory → says status text
 
--- the answer to a command on two files: the refusal by their first fault, or what the command finds of the model and
--- the case
-pub data AnswersFiles (case_of : List ℕ → Case → Type 0) (first_fault : List ℕ → List ℕ → InputFault → Type 0)
-    (holds : Contents) (i : Inputs)
-    (finds : WrittenModel → Case → Status → List ℕ → Type 0) : Status → List ℕ → Type 0 where
-  refused : {status : Status} {text : List ℕ} → IsRefusal first_fault holds i status text
-      → AnswersFiles case_of first_fault holds i finds status text
-  found : {m : WrittenModel} {c : Case} {status : Status} {text : List ℕ} → Says case_of holds i m c
-      → finds m c status text
-      → AnswersFiles case_of first_fault holds i finds status text
-
--- the status that is due: Refused wherever the files have a fault, and what is due of the model and the case that they
--- say
-pub record IsDueOfFiles (case_of : List ℕ → Case → Type 0) (first_fault : List ℕ → List ℕ → InputFault → Type 0)
-    (holds : Contents) (i : Inputs)
-    (due : WrittenModel → Case → Status → Type 0) (status : Status) : Type 0 where
-  pub found : (m : WrittenModel) (c : Case) → Says case_of holds i m c → due m c status
-  pub fault : (f : InputFault) → IsFirstFault first_fault holds i f → status ≡ Refused
-
 -- two files have no fault, and the third is not held
-pub record LacksThird (case_of : List ℕ → Case → Type 0) (holds : Contents) (i : Inputs) (third : List ℕ) : Type 0 where
+pub record LacksThirdFile (case_of : List ℕ → Case → Type 0) (holds : Contents) (i : Inputs) (third : List ℕ) : Type 0 where
   pub m : WrittenModel
   pub c : Case
   pub says : Says case_of holds i m c
@@ -81,7 +64,7 @@ module _ {F : Type 0} (view : F → FilesView)
   abbrev pub IsInputsEnding : F → F → Ending → Type 0
   IsInputsEnding old new e =
       IsOutcome view ⊥ (IsTrue (view old).modelled) (LacksInput (view old).holds i)
-      (λ status text. IsRefusal first_fault (view old).holds i status text
+      (λ status text. IsInputRefusal first_fault (view old).holds i status text
       × ((m : WrittenModel) (c : Case) → Says case_of (view old).holds i m c → ⊥))
       old new (ending_status e) (ending_text e)
 
@@ -96,5 +79,10 @@ module _ {F : Type 0} (view : F → FilesView)
       → Type 0
   IsThirdOutcome third finds old new status text =
       IsOutcome view ⊥ (IsTrue (view old).modelled)
-      (LacksInput (view old).holds i ⊎ LacksThird case_of (view old).holds i third)
+      (LacksInput (view old).holds i ⊎ LacksThirdFile case_of (view old).holds i third)
       (AnswersFiles case_of first_fault (view old).holds i finds) old new status text
+
+-- the ending where one of the two files could not be read whole: over (view files).modelled a refusal for its size, if it
+-- is no fault of the outside
+abbrev pub IsUnreadEnding : {F : Type 0} → (F → FilesView) → Inputs → F → F → Ending → Type 0
+IsUnreadEnding view i old new e = IsInputsEnding view AnyCase NoFault i old new e

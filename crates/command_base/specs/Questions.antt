@@ -4,11 +4,10 @@ use Rattle.std.specs.Prelude.{map}
 use Rattle.pc_common.specs.Case.{Case}
 use Rattle.pc_common.specs.Lines.{Names}
 use Rattle.pc_syntax.specs.Written.{WrittenModel}
-use Rattle.pc_syntax.specs.Observable.{axioms_of, satisfies}
+use Rattle.pc_syntax.specs.Observable.{satisfies}
 use Rattle.pc_ground.specs.GroundTree.{ground_tree}
-use Rattle.pc_front.specs.ModelFront.{closed_axiom, written_stage}
+use Rattle.pc_front.specs.ModelFront.{written_stage}
 use Rattle.cert_check.specs.Certificates.{Question}
-use Rattle.lifted_check.specs.LiftedTexts.{Question as LiftedQuestion}
 
 -- what nodes are written by
 abbrev pub names_by : WrittenModel → Case → Names
@@ -22,7 +21,3 @@ question_by m c = record {
   tree = ground_tree m c;
   satisfied = satisfies m c;
 }
-
--- a lifted refutation of them, over the case and the model's axioms, expanded and closed
-abbrev pub lifted_question : WrittenModel → Case → LiftedQuestion
-lifted_question m c = record { case = c; axioms = map (closed_axiom m) (axioms_of m) }

@@ -8,7 +8,7 @@ use Rattle.pc_common.specs.declared.fault.Which.TheVariants.{Model, Test, Query}
 use Rattle.pc_common.specs.declared.fault.InputFault.{InputFault}
 use Rattle.pc_common.specs.LineColumn.{line_of, column_of}
 use Rattle.command_base.specs.Words.{fault_word, file_word}
-use Rattle.command_base.specs.Inputs.{Inputs, Contents, IsFirstFault}
+use Rattle.command_base.specs.Inputs.{Inputs, Contents, IsFirstInputFault}
 
 -- a fault of a file with these bytes: the file, the word, the line and the column
 abbrev pub refused_text : List ℕ → InputFault → List ℕ
@@ -22,8 +22,8 @@ name_of Test i = i.test
 name_of Query i = []  -- no query is read
 
 -- the two files are refused by their first fault
-pub data IsRefusal (first_fault : List ℕ → List ℕ → InputFault → Type 0) (holds : Contents) (i : Inputs)
+pub data IsInputRefusal (first_fault : List ℕ → List ℕ → InputFault → Type 0) (holds : Contents) (i : Inputs)
     : Status → List ℕ → Type 0 where
-  refusal : {bytes : List ℕ} {fault : InputFault} → IsFirstFault first_fault holds i fault
+  refusal : {bytes : List ℕ} {fault : InputFault} → IsFirstInputFault first_fault holds i fault
       → holds (name_of fault.file i) ≡ Some bytes
-      → IsRefusal first_fault holds i Refused (refused_text bytes fault)
+      → IsInputRefusal first_fault holds i Refused (refused_text bytes fault)

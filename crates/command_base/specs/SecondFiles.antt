@@ -1,15 +1,18 @@
 -- What the bytes of a model and of a second file say together, and what a form of second files has to be.
-use Rattle.std.specs.Prelude.{◌≡◌, ◌⊎◌, ⊤, ℕ, List}
+use Rattle.std.specs.Prelude.{◌≡◌, ◌⊎◌, ⊤, ℕ, List, Option, Some}
 use Rattle.pc_common.specs.Case.{Case}
+use Rattle.pc_common.specs.declared.fault.FaultKind.{FaultKind}
 use Rattle.pc_common.specs.declared.fault.InputFault.{InputFault}
 use Rattle.pc_common.specs.declared.fault.Which.{Which}
 use Rattle.pc_common.specs.declared.fault.Which.TheVariants.{Model, Test, Query}
+use Rattle.pc_common.specs.declared.place.Place.{Place}
 use Rattle.pc_case.specs.MicroOps.{AreMicroOps}
 use Rattle.pc_syntax.specs.Written.{WrittenModel}
 use Rattle.pc_ground.specs.declared.front.Front.{Front}
 use Rattle.pc_front.specs.declared.model_front.FrontEnd.{FrontEnd}
 use Rattle.pc_front.specs.declared.model_front.FrontEnd.TheVariants.{Refused, Memory}
-use Rattle.pc_front.specs.Front.{SaysModel, IsFrontOf}
+use Rattle.pc_front.specs.ModelFront.{IsModelFault}
+use Rattle.pc_front.specs.Front.{fault_at, SaysModel, IsFrontOf}
 
 -- the bytes of a model and of a second file say this front
 pub record SaysFront (case_of : List ℕ → Case → Type 0) (model second : List ℕ) (front : Front) : Type 0 where
@@ -47,3 +50,24 @@ pub record IsForm (case_of : List ℕ → Case → Type 0)
   pub some : (model second : List ℕ)
       → ((m : WrittenModel) × (c : Case) × SaysModel model m × case_of second c)
       ⊎ ((f : InputFault) × first_fault model second f)
+
+-- the first fault of a second file's bytes, as its reader names it and as it is told; want of memory is not told
+pub record IsToldFault {T : Type 0} (is_fault : List ℕ → T → Type 0) (told : T → Option InputFault) (bytes : List ℕ)
+    (fault : InputFault) : Type 0 where
+  pub found : T
+  pub first : is_fault bytes found
+  pub fault_is : told found ≡ Some fault
+
+-- the first fault of two files: the model's, and where it has none, the second file's
+pub data IsFaultOfTwo (second_fault : List ℕ → InputFault → Type 0) (model second : List ℕ) : InputFault → Type 0 where
+  in_model : {kind : FaultKind} {at : Place} → IsModelFault model kind at
+      → IsFaultOfTwo second_fault model second (fault_at Model kind at)
+  in_second : {m : WrittenModel} {fault : InputFault} → SaysModel model m → second_fault second fault
+      → IsFaultOfTwo second_fault model second fault
+
+-- a second file of which nothing is known but its size: it may say any case, and has no fault
+abbrev pub AnyCase : List ℕ → Case → Type 0
+AnyCase bytes c = ⊤
+
+abbrev pub NoFault : List ℕ → List ℕ → InputFault → Type 0
+NoFault model second fault = ⊥

@@ -5,7 +5,7 @@ ghost use Rattle.command_base.specs.Inputs.{plain_inputs, start};
 ghost use Rattle.command_base.specs.Fronts.{front_of_parts};
 ghost use Rattle.command_base.specs.SecondFiles.{SaysFront};
 ghost use Rattle.command_base.specs.Endings.{bytes_of as bytes_in, IsUnread, IsBytesEnding};
-ghost use Rattle.command_base.specs.Outcomes.{HasBytes, HasFront, IsInputsEnding};
+ghost use Rattle.command_base.specs.Outcomes.{HasBytes, HasFront, IsInputsEnding, IsUnreadEnding};
 
 use super::ending::Ending;
 use super::refusal::placed;
@@ -91,15 +91,16 @@ fn parts_of<S: SecondFile>(alloc: Global, model: &[u8], second: &[u8]) -> Result
     }
 }
 
-/// The bytes of the model, and then of the second file, at most 1,048,576 each.
-fn two_files<S: SecondFile, F: Files>(
+/// The bytes of the model, and then of the second file, at most 1,048,576 each; or how the command ends, which is a
+/// failed call, refused memory, or a file that is too large.
+pub fn two_files<F: Files>(
     alloc: Global,
     inputs: Inputs<'_>,
     files: &mut F,
 ) -> Result<(Vec<u8>, Vec<u8>), Ending>
     ensures { MatchResult result
         (λ both. HasBytes F.view (plain_inputs inputs.entry) files.old files.new both.0.items both.1.items)
-        (IsInputsEnding F.view S.case_of S.first_fault (plain_inputs inputs.entry) files.old files.new) }
+        (IsUnreadEnding F.view (plain_inputs inputs.entry) files.old files.new) }
 {
     let model = match read_all(alloc, files, inputs.model, MAX_FILE) {
         Ok(bytes) => bytes,
@@ -123,7 +124,7 @@ pub fn read_inputs<S: SecondFile, F: Files>(
         (HasFront F.view S.case_of (plain_inputs inputs.entry) files.old files.new)
         (IsInputsEnding F.view S.case_of S.first_fault (plain_inputs inputs.entry) files.old files.new) }
 {
-    match two_files::<S, F>(alloc, inputs, files) {
+    match two_files(alloc, inputs, files) {
         Ok((model, second)) => front_of::<S>(alloc, &model, &second),
         Err(ending) => Err(ending),
     }
@@ -139,7 +140,7 @@ pub fn read_parts<S: SecondFile, F: Files>(
         (λ parts. HasFront F.view S.case_of (plain_inputs inputs.entry) files.old files.new (front_of_parts parts))
         (IsInputsEnding F.view S.case_of S.first_fault (plain_inputs inputs.entry) files.old files.new) }
 {
-    match two_files::<S, F>(alloc, inputs, files) {
+    match two_files(alloc, inputs, files) {
         Ok((model, second)) => parts_of::<S>(alloc, &model, &second),
         Err(ending) => Err(ending),
     }

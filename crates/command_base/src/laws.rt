@@ -1,8 +1,8 @@
 // Laws of the definitions in specs/. Each function does nothing: its contract is the law.
 ghost use Rattle.litmus_reader.specs.Answer.{CaseOf};
-ghost use Rattle.pc_front.specs.Front.{IsFirstFault as IsTestFault};
+ghost use Rattle.pc_front.specs.Front.{IsFirstFrontFault as IsTestFault};
 ghost use Rattle.command_base.specs.Inputs.{Contents};
-ghost use Rattle.command_base.specs.Laws.{HasOneFirstFault, HasCaseOrFault, HasOneCase, HasNoFaultBeside};
+ghost use Rattle.command_base.specs.Laws.{HasOneFirstFault, HasCaseOrFault, HasOneCase, InputsExcludeFault};
 
 /// A model's and a test's file have one first fault at most.
 pub fn one_first_fault()
@@ -21,5 +21,5 @@ pub fn one_model_and_case()
 
 /// A model's and a test's file that say a model and a case have no first fault.
 pub fn no_first_fault()
-    ensures { (holds : Contents) → HasNoFaultBeside CaseOf IsTestFault holds }
+    ensures { (holds : Contents) → InputsExcludeFault CaseOf IsTestFault holds }
 {}

@@ -3,10 +3,11 @@ ghost use Rattle.pc_common.specs.Case.{Case};
 ghost use Rattle.pc_common.specs.declared.fault.InputFault.{InputFault};
 ghost use Rattle.pc_front.specs.declared.limits.TheConstants.{MAX_FILE};
 ghost use Rattle.litmus_reader.specs.Answer.{CaseOf};
-ghost use Rattle.pc_front.specs.Front.{IsFirstFault as IsTestFault};
+ghost use Rattle.pc_front.specs.Front.{IsFirstFrontFault as IsTestFault};
 ghost use Rattle.command_base.specs.Fronts.{front_of_parts};
 ghost use Rattle.command_base.specs.SecondFiles.{SaysFront, IsFrontEnd};
 
+use front_maker::front_of;
 use pc_front::{FrontEnd, MAX_FILE, read_parts};
 use pc_ground::{Front, Parts};
 use std::alloc::Global;
@@ -26,7 +27,11 @@ pub trait SecondFile {
         requires model_short { length model.now ≤ MAX_FILE }
         requires short { length bytes.now ≤ MAX_FILE }
         ensures ok { IfOk result (SaysFront case_of model.now bytes.now) }
-        ensures err { IfErr result (IsFrontEnd case_of first_fault model.now bytes.now) };
+        ensures err { IfErr result (IsFrontEnd case_of first_fault model.now bytes.now) }
+    {
+        let parts = Self::parts(alloc, model, bytes)?;
+        Ok(front_of(alloc, parts)?)
+    }
 
     /// The same without a ground tree.
     fn parts(alloc: Global, model: &[u8], bytes: &[u8]) -> Result<Parts, FrontEnd>
@@ -43,10 +48,6 @@ impl SecondFile for TestFile {
     ghost case_of = { λ bytes c. CaseOf bytes c };
 
     ghost first_fault = { λ model bytes fault. IsTestFault model bytes fault };
-
-    fn front(alloc: Global, model: &[u8], bytes: &[u8]) -> Result<Front, FrontEnd> {
-        pc_front::front(alloc, model, bytes)
-    }
 
     fn parts(alloc: Global, model: &[u8], bytes: &[u8]) -> Result<Parts, FrontEnd> {
         read_parts(alloc, model, bytes)

@@ -1,4 +1,4 @@
-pub mod WordsOutcomes
-pub mod WrittenStatus
-pub mod Headline
-pub mod OneVerdict
+pub mod ThreeWords
+pub mod FourWords
+pub mod GenWords
+pub mod OneCommand

@@ -1,5 +1,2 @@
-pub mod Answers
-pub mod Headline
-pub mod AnswerTexts
-pub mod Decides
+pub mod Command
 pub mod Laws

@@ -1,9 +1,8 @@
 // Laws of the definitions in specs/. Each function does nothing: its contract is the law.
-ghost use Rattle.command_base.specs.Inputs.{Contents};
-ghost use Rattle.command_line.specs.Laws.{HasOneStatus};
+ghost use Rattle.std.specs.Prelude.{List, ℕ};
+ghost use Rattle.command_line.specs.Laws.{IsOneCommand};
 
-/// A certificate that `check` or `check2` writes, `verify` takes, and one that `check86` writes, `verify86` takes, with
-/// the same verdict, unless it is too long.
-pub fn written_is_verified()
-    ensures { (holds later : Contents) → HasOneStatus holds later }
+/// Words are one command at most: the first word tells which.
+pub fn one_command()
+    ensures { (words : List (List ℕ)) → IsOneCommand words }
 {}

@@ -1,23 +1,22 @@
-//! The top call: from the words of a command and the bytes of its files to the bytes of the answer.
+//! The words of a command line, and the command that they are.
+//!
+//! Clause: `parse` returns the command that arguments are, or None exactly where they are none (its clause).
 //!
 //! ```rust
-//! // the words are `gen` and `2`, and `sink` is empty
-//! assert!(rt; run(alloc, &words, &mut files, &mut sink) == Status::Done);
-//! let text = b"gen 2\nunobservable\nnodes 4\nsplits 2\nleaves 3\nend\n";
-//! assert!(rt; sink.taken() == text.as_slice());
+//! // the words are `verify`, `m.uspec`, `t.test` and `t.cert`
+//! let command = parse(&words);
+//! assert!(rt; matches!(command, Some(Command::Verify { certificate: "t.cert", .. })));
 //! ```
 //!
-//! `parse` of `command_words` takes the words, `answer_to` hands a command to the crate of its own, and `tell` writes
-//! the text of what that returned. A command's crate says what it reads and what it returns; here is a line for each
-//! command in each table. `pipecheck_run` hands `run` on, beside the other public calls of the top: a crate that
-//! hands on `front` carries all that is said of what it returns, and the program, which waits for this one, needs
-//! nothing of that.
+//! `parse` takes the words after the program's name. It returns the command that they are, or `None` where they are
+//! none, and touches no file. The first word tells which command it is, so words are one command at most; the law
+//! `one_command` says so. What a command answers is said elsewhere: this crate stands on no crate of a command, so that
+//! it is proved beside them and not after them.
 #![tactic(auto)]
 
-mod answer;
+mod command;
+mod cores;
 mod laws;
-mod top;
 
-pub use command_words::one_command;
-pub use laws::written_is_verified;
-pub use top::run;
+pub use command::{Command, parse};
+pub use laws::one_command;

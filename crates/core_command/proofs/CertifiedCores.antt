@@ -111,7 +111,8 @@ module _ (m : WrittenModel) (c : Case) (kept : AreMicroOps c.ops) (front : Front
   pub core_writable : (core : Core) → IsCoreOf front core → CanBeWritten front core
   core_writable (no_axioms graph) f = found_writable m c kept front is (a_graph graph) f
   core_writable (Minimal numbers refuted without) core = (
-    found_writable (model_with (among numbers) m) c kept refuted.0 (part_front m c front is (among numbers) refuted.0 core.refuted.0) (a_refutation refuted.1) core.refuted.1,
+    found_writable (model_with (among numbers) m) c kept refuted.0 (part_front m c front is (among numbers) refuted.0 core.refuted.0)
+        (a_refutation refuted.1) core.refuted.1,
     each_element (λ s. IsWritable (names_of s.0) (a_graph s.1)) without (shown_writable (among numbers) numbers without core.without),
     as_many (among numbers) numbers without core.without,
   )

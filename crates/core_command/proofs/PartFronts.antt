@@ -24,7 +24,7 @@ use Rattle.solver.specs.Answers.{IsAnswer}
 use Rattle.solver.specs.declared.answer.Answer.{Answer}
 use Rattle.axiom_core.specs.Chosen.{Choice, taken}
 use Rattle.axiom_core.specs.ModelWith.{model_with}
-use Rattle.front_search.specs.Found.{IsFound}
+use Rattle.search_trait.specs.Found.{IsFound}
 use Rattle.axiom_core.specs.Cores.{IsFrontWith}
 use Rattle.axiom_core.proofs.Taking.{map_taken}
 use Rattle.axiom_core.proofs.AxiomsWith.{axioms_with, macros_with}

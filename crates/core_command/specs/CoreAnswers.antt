@@ -10,7 +10,7 @@ use Rattle.pc_ground.specs.declared.version.Version.TheVariants.{One}
 use Rattle.axiom_core.specs.Chosen.{Choice, among, less, AreRising}
 use Rattle.axiom_core.specs.ModelWith.{model_with}
 use Rattle.command_base.specs.Inputs.{Inputs, Contents}
-use Rattle.command_base.specs.Outcomes.{AnswersFiles, IsDueOfFiles}
+use Rattle.command_base.specs.FileAnswers.{AnswersFiles, IsDueOfFiles}
 use Rattle.verdicts.specs.Certified.{IsCertified}
 use Rattle.core_command.specs.CoreTexts.{no_core_text, core_text}
 

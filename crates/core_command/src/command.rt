@@ -8,9 +8,9 @@ ghost use Rattle.core_command.specs.Found.{found_text, IsCoreWritable};
 
 use axiom_core::{Core, core};
 use command_base::{Ending, Inputs, SecondFile, read_inputs};
-use front_search::Search;
 use pc_common::{Files, Memory};
 use pc_ground::Front;
+use search_trait::Search;
 use std::alloc::Global;
 
 /// What `core` finds of a model and a test: their front, and which of its axioms forbid the outcome.
@@ -19,7 +19,7 @@ pub struct FoundCore {
     pub core: Core,
 }
 
-// Written out, so that a proof of what drops the value meets one call and no field.
+// By hand: docs/DECISIONS.md, "Drops are written by hand".
 impl Drop for FoundCore {
     fn drop(self) {
         let FoundCore { front: _, core: _ } = self;

@@ -1,5 +1,8 @@
 //! The command `core MODEL TEST`: which axioms of the model forbid the outcome of the test?
 //!
+//! Clause: `find_core` returns which axioms of two files forbid the outcome, or how the command ends before that
+//! (`outcome`).
+//!
 //! ```rust
 //! // m.uspec is `Axiom "x": exists microop "i", True.`, and t.test is `Litmus "e".`
 //! let inputs = Inputs { model: "m.uspec", test: "t.test" };

@@ -7,7 +7,7 @@ use Rattle.pc_common.specs.declared.status.Status.{Status}
 use Rattle.pc_common.specs.declared.status.Status.TheVariants.{Done, Usage, Refused, ReadFault, Memory}
 use Rattle.pc_syntax.specs.Written.{WrittenModel}
 use Rattle.litmus_reader.specs.Answer.{CaseOf}
-use Rattle.pc_front.specs.Front.{IsFirstFault as IsTestFault}
+use Rattle.pc_front.specs.Front.{IsFirstFrontFault as IsTestFault}
 use Rattle.cert_check.specs.Verdicts.{plain_verdict}
 use Rattle.gen_command.specs.Ring.{ring_model, ring_test}
 use Rattle.command_base.specs.declared.ending.Ending.{Ending}

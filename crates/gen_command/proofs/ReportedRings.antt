@@ -11,7 +11,7 @@ use Rattle.pc_syntax.specs.Written.{WrittenModel}
 use Rattle.pc_ground.specs.declared.front.Front.{Front}
 use Rattle.pc_ground.specs.GroundTree.{ground_tree}
 use Rattle.litmus_reader.specs.Answer.{CaseOf}
-use Rattle.pc_front.specs.Front.{IsFrontOf, IsFirstFault as IsTestFault}
+use Rattle.pc_front.specs.Front.{IsFrontOf, IsFirstFrontFault as IsTestFault}
 use Rattle.pc_ground.specs.declared.version.Version.{Version}
 use Rattle.pc_ground.specs.declared.version.Version.TheVariants.{One}
 use Rattle.pc_ground.specs.Refutes.{IsRefutation}
@@ -28,12 +28,13 @@ use Rattle.verdicts.specs.declared.verdict.Verdict.{Verdict}
 use Rattle.gen_command.specs.declared.report.Report.{Report}
 use Rattle.command_base.specs.Questions.{question_by}
 use Rattle.verdicts.specs.Certified.{IsCertified, seen, unseen}
-use Rattle.verdicts.specs.Verdicts.{IsVerdict, status_of, kind_of, verdict_text}
+use Rattle.verdicts.specs.Verdicts.{IsVerdict, status_of, kind_of_found, verdict_text}
 use Rattle.gen_command.specs.Summaries.{IsTrueVerdict, IsCounted, of_graph, of_tree, IsSummary}
-use Rattle.gen_command.specs.Reports.{IsReport, splits_found, leaves_found}
+use Rattle.verdicts.specs.StepCounts.{splits_found, leaves_found}
+use Rattle.gen_command.specs.Reports.{IsReport}
 use Rattle.gen_command.specs.GenAnswers.{IsRingReport}
 use Rattle.verdicts.proofs.CertifiedTruth.{certified_true}
-use Rattle.verdicts.proofs.Fronts.{front_numbered}
+use Rattle.search_trait.proofs.FoundFronts.{front_numbered}
 use Rattle.verdicts.proofs.VerdictTexts.{verdict_certified}
 
 -- what is said of these bytes is said of those
@@ -46,20 +47,22 @@ front_moved r mb tb model test em et h =
     subst Q et (subst P em h)
 
 true_kind : (version : Version) (m : WrittenModel) (c : Case) (text : List ℕ) (found : Found) → IsCertified version m c (status_of found) text
-    → IsTrueVerdict m c (kind_of found)
+    → IsTrueVerdict m c (kind_of_found found)
 true_kind version m c text (a_graph g) is = (certified_true is).0 refl
 true_kind version m c text (a_refutation r) is = (certified_true is).1 refl
 
 unlike : is_unobservable ≡ is_observable → ⊥
 unlike e = cc
 
-graph_counted : {version : Version} {m : WrittenModel} {c : Case} {text : List ℕ} {status : Status} → IsCertified version m c status text → status ≡ is_observable
+graph_counted : {version : Version} {m : WrittenModel} {c : Case} {text : List ℕ} {status : Status} → IsCertified version m c status text
+    → status ≡ is_observable
     → IsCounted m c observable 0 0
 graph_counted (seen is) e = of_graph {lines = is.lines} is.certificate
 graph_counted (unseen lines is tree) e = absurd (unlike e)
 
 counted_kind : (version : Version) → version ≡ One → (m : WrittenModel) (c : Case) (text : List ℕ) (nodes : List Node) (found : Found)
-    → IsAnswer version nodes (ground_tree m c) found → IsCertified version m c (status_of found) text → IsCounted m c (kind_of found) (splits_found found) (leaves_found found)
+    → IsAnswer version nodes (ground_tree m c) found → IsCertified version m c (status_of found) text
+    → IsCounted m c (kind_of_found found) (splits_found found) (leaves_found found)
 counted_kind version one m c text nodes (a_graph g) w is = graph_counted is refl
 counted_kind version one m c text nodes (a_refutation r) refuted is =
     let P : Version → Type 0 = λ v. IsRefutation v (ground_tree m c) r in

@@ -1,26 +1,16 @@
 -- The code's report, what it is of, and its text.
 use Rattle.std.specs.Prelude.{◌≡◌, ℕ, List, length}
-use Rattle.solver.specs.declared.answer.Answer.{Answer as Found}
-use Rattle.solver.specs.declared.answer.Answer.TheVariants.{Observable as a_graph, Unobservable as a_refutation}
 use Rattle.cert_check.specs.Verdicts.{plain_verdict}
 use Rattle.verdicts.specs.declared.verdict.Verdict.{Verdict}
 use Rattle.gen_command.specs.declared.report.Report.{Report}
-use Rattle.verdicts.specs.Verdicts.{kind_of}
+use Rattle.verdicts.specs.Verdicts.{kind_of_found}
+use Rattle.verdicts.specs.StepCounts.{splits_found, leaves_found}
 use Rattle.gen_command.specs.Texts.{ring_text}
-use Rattle.gen_command.specs.Summaries.{splits_of, leaves_of}
-
-abbrev pub splits_found : Found → ℕ
-splits_found (a_graph g) = 0
-splits_found (a_refutation r) = splits_of r
-
-abbrev pub leaves_found : Found → ℕ
-leaves_found (a_graph g) = 0
-leaves_found (a_refutation r) = leaves_of r
 
 -- the report of what was found of the ring of n cores
 pub record IsReport (n : ℕ) (v : Verdict) (r : Report) : Type 0 where
   pub cores : r.cores ≡ n
-  pub verdict : plain_verdict r.verdict ≡ kind_of v.found
+  pub verdict : plain_verdict r.verdict ≡ kind_of_found v.found
   pub nodes : r.nodes ≡ length v.front.numbering
   pub splits : r.splits ≡ splits_found v.found
   pub leaves : r.leaves ≡ leaves_found v.found

@@ -1,10 +1,7 @@
 -- What is reported of a model and a case: the verdict, the number of nodes, and the numbers of lines of one
 -- certificate.
-use Rattle.std.specs.Prelude.{◌≡◌, ℕ, Bool, true, false, not, List, length}
-use Rattle.std.specs.List.{filter}
+use Rattle.std.specs.Prelude.{◌≡◌, ℕ, List, length}
 use Rattle.pc_common.specs.Case.{Case}
-use Rattle.pc_common.specs.World.{Node}
-use Rattle.pc_common.specs.Steps.{Step, split, close}
 use Rattle.pc_common.specs.Lines.{Line, Verdict, observable, unobservable}
 use Rattle.pc_syntax.specs.Written.{WrittenModel}
 use Rattle.pc_syntax.specs.Observable.{Observable}
@@ -13,19 +10,7 @@ use Rattle.pc_ground.specs.Numbers.{numbered}
 use Rattle.pc_ground.specs.declared.version.Version.TheVariants.{One}
 use Rattle.cert_check.specs.Certificates.{IsGraphCertificate, IsTreeCertificate}
 use Rattle.command_base.specs.Questions.{question_by}
-
--- the step's line is a `split` line
-abbrev pub splits : Step Node → Bool
-splits (split negated p) = true
-splits (close l) = false
-
--- how many `split` lines the steps have
-abbrev pub splits_of : List (Step Node) → ℕ
-splits_of steps = length (filter splits steps)
-
--- how many other lines they have
-abbrev pub leaves_of : List (Step Node) → ℕ
-leaves_of steps = length (filter (λ s. not (splits s)) steps)
+use Rattle.verdicts.specs.StepCounts.{splits_of, leaves_of}
 
 -- observable where some choice of nodes with some strict order makes every axiom true of the case, unobservable where
 -- none does

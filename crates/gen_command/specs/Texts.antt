@@ -6,7 +6,7 @@ use Rattle.pc_common.specs.Lines.{Verdict, verdict_text}
 use Rattle.pc_common.specs.declared.fault.InputFault.{InputFault}
 use Rattle.pc_syntax.specs.Written.{WrittenModel}
 use Rattle.litmus_reader.specs.Answer.{CaseOf}
-use Rattle.pc_front.specs.Front.{SaysModel, IsFirstFault as IsFaultOf}
+use Rattle.pc_front.specs.Front.{SaysModel, IsFirstFrontFault as IsFaultOf}
 use Rattle.gen_command.specs.Ring.{ring_model, ring_test}
 
 -- the model and the case that the two texts say

@@ -1,7 +1,7 @@
 ghost use Rattle.std.specs.Prelude.{◌≤◌, MatchResult};
 ghost use Rattle.pc_common.specs.declared.status.Status.TheVariants.{Done};
 ghost use Rattle.litmus_reader.specs.Answer.{CaseOf};
-ghost use Rattle.pc_front.specs.Front.{IsFirstFault as IsTestFault};
+ghost use Rattle.pc_front.specs.Front.{IsFirstFrontFault as IsTestFault};
 ghost use Rattle.gen_command.specs.Ring.{ring_model, ring_test};
 ghost use Rattle.command_base.specs.SecondFiles.{SaysFront};
 ghost use Rattle.command_base.specs.Endings.{IsBytesEnding, returned_status, returned_text};

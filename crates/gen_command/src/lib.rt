@@ -1,5 +1,8 @@
 //! The command `gen N`: what is found of the ring of N cores?
 //!
+//! Clause: `gen_texts` returns the two texts of a ring of N cores; `generate` the verdict on them with counts, or their
+//! refusal (their clauses).
+//!
 //! ```rust
 //! let report = generate(alloc, 2)?;
 //! assert!(rt; report.verdict == Verdict::Unobservable);

@@ -1,18 +1,18 @@
 -- The edges of a graph by the numbers of their ends: one more of them, and their chains.
-use Rattle.std.proofs.Common.{◌≡◌, ℕ, zero, suc, ◌+◌, ◌<◌, ◌⊎◌, inl, inr, List, [], ◌∷◌, ◌++◌, Some, length, map, take, slice_get, sym, ◌∙◌, ap, subst, arith}
-use Rattle.std.specs.Prelude.{Contains, ◌↔◌, unwrap_or}
+use Rattle.std.proofs.Common.{◌≡◌, ℕ, ◌+◌, ◌<◌, ◌⊎◌, inl, inr, List, [], ◌∷◌, ◌++◌, Some, length, map, take, slice_get, sym, ◌∙◌, ap, subst, arith}
+use Rattle.std.specs.Prelude.{Contains, ◌↔◌}
 use Rattle.std.proofs.lemmas.Option.{slice_get_within, slice_get-get_or, get_or_from_slice_get}
 use Rattle.pc_common.specs.World.{Node, Edge}
 use Rattle.pc_common.specs.Chain.{Leads, Chain, Acyclic}
 use Rattle.pc_common.specs.Generated.{IsListed, HasEnds}
 use Rattle.pc_common.proofs.Elements.{in_from_contains}
+use Rattle.pc_common.proofs.Places.{at_map, one_item}
 use Rattle.pc_ground.specs.declared.node_key.NodeKey.{NodeKey}
 use Rattle.pc_ground.specs.Numbers.{IsNumberOf, AreDistinct}
 use Rattle.graph_text.specs.Graphs.{key_edge}
 use Rattle.static_preds.proofs.Walked.{map_take}
 use Rattle.graph_check.specs.Arcs.{Arcs, Joins, AreLinked}
 use Rattle.graph_check.specs.Orders.{AreNotNumbered, AreArcsOf}
-use Rattle.graph_check.proofs.Links.{one_item}
 use Rattle.graph_check.proofs.Numbers.{numbered_there, number_of, one_more}
 
 -- the edges of es and the one from a to b
@@ -75,11 +75,6 @@ more_arcs nodes es v u i j a b s linked sized ia jb more = record {
 pub next_arcs : (nodes : List Node) (keys : List (NodeKey × NodeKey)) (k : ℕ) (e : NodeKey × NodeKey) (u : Arcs) → slice_get keys k ≡ Some e
     → AreArcsOf nodes (map key_edge (take k keys) ++ key_edge e ∷ []) u → AreArcsOf nodes (map key_edge (take (k + 1) keys)) u
 next_arcs nodes keys k e u there s = (let P : List Edge → Type 0 = λ es. AreArcsOf nodes es u in subst P (sym (map_take key_edge keys k e there)) s)
-
-at_map : {X Y : Type 0} (f : X → Y) (xs : List X) (k : ℕ) (x : X) → slice_get xs k ≡ Some x → slice_get (map f xs) k ≡ Some (f x)
-at_map f [] k x e = cc
-at_map f (y ∷ xs) zero x e = ap (λ o. Some (f (unwrap_or o y))) e
-at_map f (y ∷ xs) (suc k) x e = at_map f xs k x e
 
 -- an edge with an end that has no number
 pub no_ends : (nodes : List Node) (keys : List (NodeKey × NodeKey)) (k : ℕ) (e : NodeKey × NodeKey) → slice_get keys k ≡ Some e

@@ -1,18 +1,19 @@
 -- The flags of what leads to a node, worked out in a topological order, and the columns that are kept.
-use Rattle.std.proofs.Common.{◌≡◌, ℕ, zero, suc, ◌+◌, ◌-◌, ◌<◌, ◌≤◌, ◌⊎◌, inl, inr, Bool, true, false, List, [], ◌∷◌, ◌++◌, Some, length, set, take, replicate, get_or, slice_get, refl, sym, ◌∙◌, ap, subst, arith}
+use Rattle.std.proofs.Common.{◌≡◌, ℕ, zero, suc, ◌+◌, ◌-◌, ◌<◌, ◌≤◌, ◌⊎◌, inl, inr, Bool, true, false, List, [], ◌∷◌, ◌++◌, Some, length, set, take, get_or, slice_get, refl, sym, ◌∙◌, ap, subst, arith}
 use Rattle.std.specs.Prelude.{◌↔◌, slice_index}
 use Rattle.std.specs.Global.{Vec}
-use Rattle.std.proofs.lemmas.Bool.{cases_eq, cases_lt}
-use Rattle.std.proofs.lemmas.List.{get_or-set_same, get_or-set_other, get_or-replicate, get_or_past, length-replicate, length-set, take_all}
+use Rattle.std.proofs.lemmas.Bool.{cases_eq}
+use Rattle.std.proofs.lemmas.List.{get_or-set_same, get_or-set_other, length-set, take_all}
 use Rattle.std.proofs.lemmas.Option.{slice_get_read, get_or_from_slice_get}
 use Rattle.std.proofs.lemmas.Grind.{get_or_default_zero}
 use Rattle.pc_common.specs.Chain.{Leads, Chain, Acyclic}
 use Rattle.pc_common.proofs.Elements.{In}
+use Rattle.pc_common.proofs.Bools.{not_both}
+use Rattle.pc_common.proofs.Places.{slice_get-more, get_last, one_item}
 use Rattle.graph_check.specs.Arcs.{Arcs, Joins}
 use Rattle.graph_check.specs.Searches.{IsTopological}
 use Rattle.graph_check.specs.Columns.{is_set, IsColumn, AreColumns}
 use Rattle.graph_check.specs.declared.columns.Columns.{Columns}
-use Rattle.graph_check.proofs.Links.{at_front, at_last, one_item, not_both}
 
 -- a chain is one edge, or an edge and a chain
 first_step : (v : Arcs) (a b : ℕ) → Chain (Joins v) a b → (c : ℕ) × Joins v a c × ((c ≡ b) ⊎ Chain (Joins v) c b)
@@ -37,34 +38,14 @@ first_more xs k x y at i = go xs k at (let P : ℕ → Type 0 = λ n. In y (take
     go (z ∷ zs) (suc k) at (inl e) = inl (inl e)
     go (z ∷ zs) (suc k) at (inr i) = elim (go zs k at i) [ inl j ↦ inl (inr j) | inr e ↦ inr e ]
 
-pub in_place : (xs : List ℕ) (k x : ℕ) → slice_get xs k ≡ Some x → In x xs
-in_place [] k x at = cc
-in_place (y ∷ ys) zero x at = inl (one_item y x at)
-in_place (y ∷ ys) (suc k) x at = inr (in_place ys k x at)
-
 -- the flags of the first nodes in order: what is set leads to b, and of the first k all that do are set
 pub record AreFlags (v : Arcs) (b : ℕ) (order : List ℕ) (column : List Bool) (k : ℕ) : Type 0 where
   pub sized : length column ≡ length v.heads
   pub sound : (x : ℕ) → is_set column x ≡ true → Chain (Joins v) x b
   pub whole : (x : ℕ) → In x (take k order) → Chain (Joins v) x b → is_set column x ≡ true
 
-flags_clear : (n x : ℕ) → is_set (replicate n false) x ≡ false
-flags_clear n x = elim (cases_lt x n) [
-  | inl below ↦ get_or-replicate n x false false below
-  | inr past ↦ get_or_past clear x false (let l : length clear ≡ n = length-replicate n false in omega (arith, l, past))
-]
-  where
-    clear : List Bool
-    clear = replicate n false
-
-pub begun_first : (v : Arcs) (b : ℕ) (order : List ℕ) (column : List Bool) → column ≡ replicate (length v.heads) false → AreFlags v b order column 0
-begun_first v b order column is = record {
-  sized = ap length is ∙ length-replicate (length v.heads) false;
-  sound = λ x set_x. absurd (not_both (is_set column x) set_x (ap (λ xs. is_set xs x) is ∙ flags_clear (length v.heads) x));
-  whole = λ x i chain. absurd i;
-}
-
-module _ (v : Arcs) (b : ℕ) (order : List ℕ) (column : List Bool) (k a : ℕ) (t : IsTopological v order) (at : slice_get order k ≡ Some a) (h : AreFlags v b order column k) where
+module _ (v : Arcs) (b : ℕ) (order : List ℕ) (column : List Bool) (k a : ℕ) (t : IsTopological v order) (at : slice_get order k ≡ Some a)
+    (h : AreFlags v b order column k) where
   -- a node leads to b by an edge to it, or to a node whose flag is set
   leads_by : (c : ℕ) → Joins v a c → (c ≡ b) ⊎ (is_set column c ≡ true) → Chain (Joins v) a b
   leads_by c joins how = with_step v a b c joins (elim how [ inl e ↦ inl e | inr set_c ↦ inr (h.sound c set_c) ])
@@ -102,7 +83,8 @@ module _ (v : Arcs) (b : ℕ) (order : List ℕ) (column : List Bool) (k a : ℕ
     ];
   }
 
-pub column_done : (v : Arcs) (b : ℕ) (order : List ℕ) (column : List Bool) (k : ℕ) → IsTopological v order → AreFlags v b order column k → length order ≤ k → IsColumn v b column
+pub column_done : (v : Arcs) (b : ℕ) (order : List ℕ) (column : List Bool) (k : ℕ) → IsTopological v order → AreFlags v b order column k → length order ≤ k
+    → IsColumn v b column
 column_done v b order column k t h past = record {
   sized = h.sized;
   flags = λ x low. (
@@ -146,8 +128,9 @@ columns_more v c d b column h low is slots columns = record {
   sized = ap length slots ∙ length-set c.slots.items b (length c.columns.items + 1) ∙ h.sized;
   known = λ x k e. elim (cases_eq x b) [
     | inl same ↦ (column, new_slot x k same e, (let P : ℕ → Type 0 = λ n. IsColumn v n column.items in subst P (sym same) is))
-    | inr other ↦ (let old = h.known x k (sym (get_or-set_other c.slots.items b x (length c.columns.items + 1) 0 other) ∙ sym (ap (λ xs. slice_index xs x) slots) ∙ e) in
-        (old.0, ap (λ xs. slice_get xs k) columns ∙ at_front c.columns.items (column ∷ []) k old.0 old.1, old.2))
+    | inr other ↦ (let old = h.known x k (sym (get_or-set_other c.slots.items b x (length c.columns.items + 1) 0 other)
+        ∙ sym (ap (λ xs. slice_index xs x) slots) ∙ e) in
+        (old.0, ap (λ xs. slice_get xs k) columns ∙ slice_get-more c.columns.items (column ∷ []) k old.0 old.1, old.2))
   ];
 }
   where
@@ -157,9 +140,10 @@ columns_more v c d b column h low is slots columns = record {
     new_slot : (x k : ℕ) → x ≡ b → slice_index d.slots.items x ≡ suc k → slice_get d.columns.items k ≡ Some column
     new_slot x k same e =
         let slot : slice_index d.slots.items x ≡ length c.columns.items + 1 =
-        ap (λ xs. slice_index xs x) slots ∙ ap (slice_index (set c.slots.items b (length c.columns.items + 1))) same ∙ get_or-set_same c.slots.items b (length c.columns.items + 1) 0 inside in
+        ap (λ xs. slice_index xs x) slots ∙ ap (slice_index (set c.slots.items b (length c.columns.items + 1))) same
+        ∙ get_or-set_same c.slots.items b (length c.columns.items + 1) 0 inside in
         let last : k ≡ length c.columns.items = omega (arith, slot, e) in
-        ap (slice_get d.columns.items) last ∙ ap (λ xs. slice_get xs (length c.columns.items)) columns ∙ at_last c.columns.items column
+        ap (slice_get d.columns.items) last ∙ ap (λ xs. slice_get xs (length c.columns.items)) columns ∙ get_last c.columns.items column
 
 -- with the same columns
 pub columns_same : (v : Arcs) (c d : Columns) → AreColumns v c → d.slots.items ≡ c.slots.items → d.columns.items ≡ c.columns.items → AreColumns v d
@@ -173,7 +157,8 @@ flag_read column a flag low is = sym (get_or_from_slice_get column a flag false 
 
 -- in a topological order nothing leads to itself
 pub topological_acyclic : (v : Arcs) (order : List ℕ) → IsTopological v order → ((a b : ℕ) → Joins v a b → a < length v.heads) → Acyclic (Joins v)
-topological_acyclic v order t within a chain = (let place = place_of order a (t.all a (starts chain)) in none (place.0 + 1) place.0 a (omega arith) place.1 chain)
+topological_acyclic v order t within a chain =
+    (let place = place_of order a (t.all a (starts chain)) in none (place.0 + 1) place.0 a (omega arith) place.1 chain)
   where
     starts : Chain (Joins v) a a → a < length v.heads
     starts c = (let step = first_step v a a c in within a step.0 step.1)

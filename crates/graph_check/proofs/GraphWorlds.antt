@@ -60,7 +60,8 @@ edge_is ns es a b told is w g = alike told (has_edge w a b)
     (λ h. is.1 ((g.order_is a b).0 ((has_edge_is w a b).0 h)))
 
 -- the same of an answer by numbers
-pub edge_answer : {E : Type 0} (ns nodes : List Node) (es : List Edge) (v : Arcs) → AreArcsOf nodes es v → (i j : ℕ) (a b : Node) → IsNumberOf nodes i a → IsNumberOf nodes j b
+pub edge_answer : {E : Type 0} (ns nodes : List Node) (es : List Edge) (v : Arcs) → AreArcsOf nodes es v → (i j : ℕ) (a b : Node)
+    → IsNumberOf nodes i a → IsNumberOf nodes j b
     → (result : Result Bool E) → IfOk result (λ told. (told ≡ true) ↔ Chain (Joins v) i j)
     → IfOk result (λ told. (w : World Node) → IsGenerated ns es w → told ≡ has_edge w a b)
 edge_answer ns nodes es v s i j a b ia jb (Ok told) is =
@@ -68,7 +69,8 @@ edge_answer ns nodes es v s i j a b ia jb (Ok told) is =
 edge_answer ns nodes es v s i j a b ia jb (Err fault) is = is
 
 -- and not where one of them has no number
-pub edge_is_none : (ns nodes : List Node) (es : List Edge) (a b : Node) → ((c : Node) → Contains nodes c ↔ Contains ns c) → IsOrdered ns es → AreNotNumbered nodes a b
+pub edge_is_none : (ns nodes : List Node) (es : List Edge) (a b : Node) → ((c : Node) → Contains nodes c ↔ Contains ns c)
+    → IsOrdered ns es → AreNotNumbered nodes a b
     → (w : World Node) → IsGenerated ns es w → false ≡ has_edge w a b
 edge_is_none ns nodes es a b same o none w g = false_where_not (has_edge w a b) (λ h.
     let world = generated_world ns es w o.ends o.acyclic g in
@@ -80,7 +82,8 @@ edge_is_none ns nodes es a b same o none w g = false_where_not (has_edge w a b) 
 -- a graph that generates a world is ordered
 ordered : (g : Graph) (w : World Node) → IsGenerated (graph_nodes g) (graph_edges g) w → IsWorld w → IsOrdered (graph_nodes g) (graph_edges g)
 ordered g w is world = record {
-  ends = λ a b h. (let both = world.ends a b ((is.order_is a b).1 ([], h)) in ((there_in (graph_nodes g) (graph_edges g) w is a).0 both.0, (there_in (graph_nodes g) (graph_edges g) w is b).0 both.1));
+  ends = λ a b h. (let both = world.ends a b ((is.order_is a b).1 ([], h)) in
+      ((there_in (graph_nodes g) (graph_edges g) w is a).0 both.0, (there_in (graph_nodes g) (graph_edges g) w is b).0 both.1));
   acyclic = λ a c. world.irreflexive a ((is.order_is a a).1 c);
 }
 
@@ -100,8 +103,10 @@ shown c axioms g b o true_in = (
 )
 
 -- the same of an answer
-pub shown_answer : {E : Type 0} (c : Case) (axioms : List PlainClosed) (g : Graph) (h : PlainGraph) → h ≡ plain_graph g → IsOrdered h.nodes h.edges → (result : Result Bool E)
-    → IfOk result (λ b. (w : World Node) → IsGenerated h.nodes h.edges w → b ≡ closed_satisfies axioms c w) → IfOk result (λ b. (b ≡ true) ↔ IsShownOf c axioms g)
+pub shown_answer : {E : Type 0} (c : Case) (axioms : List PlainClosed) (g : Graph) (h : PlainGraph) → h ≡ plain_graph g
+    → IsOrdered h.nodes h.edges → (result : Result Bool E)
+    → IfOk result (λ b. (w : World Node) → IsGenerated h.nodes h.edges w → b ≡ closed_satisfies axioms c w)
+    → IfOk result (λ b. (b ≡ true) ↔ IsShownOf c axioms g)
 shown_answer c axioms g h same o (Ok b) is =
     let P : PlainGraph → Type 0 = λ x. IsOrdered x.nodes x.edges in
     shown c axioms g b (subst P same o) (λ w made. is w (generated_at w h (plain_graph g) same made))

@@ -1,32 +1,21 @@
 -- Edges that are linked to the one before them from the same node: one more, and a walk over those from one node.
-use Rattle.std.proofs.Common.{◌≡◌, ℕ, Bool, true, false, zero, suc, ◌+◌, ◌-◌, ◌<◌, ◌≤◌, ◌⊎◌, inl, inr, List, [], ◌∷◌, ◌++◌, Some, length, set, replicate, get_or, slice_get, refl, sym, ◌∙◌, ap, subst, arith}
-use Rattle.std.specs.Prelude.{◌↔◌, slice_index, unwrap_or}
+use Rattle.std.proofs.Common.{◌≡◌, ℕ, zero, suc, ◌+◌, ◌-◌, ◌<◌, ◌≤◌, ◌⊎◌, inl, inr, List, [], ◌∷◌, ◌++◌, Some, length, set, slice_get, refl, sym, ◌∙◌, ap, subst, arith}
+use Rattle.std.specs.Prelude.{◌↔◌, slice_index}
 use Rattle.std.proofs.lemmas.Bool.{cases_lt, cases_eq}
-use Rattle.std.proofs.lemmas.List.{length-append, get_or-set_same, get_or-set_other, get_or-replicate, get_or_past, length-replicate, length-set}
+use Rattle.std.proofs.lemmas.List.{length-append, get_or-set_same, get_or-set_other, length-set}
 use Rattle.std.proofs.lemmas.Option.{slice_get_within}
+use Rattle.pc_common.proofs.Places.{slice_get-more, get_last, one_item}
 use Rattle.graph_check.specs.declared.adjacency.Arc.{Arc}
 use Rattle.graph_check.specs.Arcs.{Arcs, Joins, IsOn, here, earlier, IsWalk, ComesTo, AreLinked}
-
-pub at_front : {X : Type 0} (xs ys : List X) (k : ℕ) (x : X) → slice_get xs k ≡ Some x → slice_get (xs ++ ys) k ≡ Some x
-at_front [] ys k x e = cc
-at_front (z ∷ zs) ys zero x e = e
-at_front (z ∷ zs) ys (suc k) x e = at_front zs ys k x e
-
-pub at_last : {X : Type 0} (xs : List X) (y : X) → slice_get (xs ++ y ∷ []) (length xs) ≡ Some y
-at_last [] y = refl
-at_last (z ∷ zs) y = at_last zs y
 
 pub at_old : {X : Type 0} (xs : List X) (y : X) (k : ℕ) (x : X) → k < length xs → slice_get (xs ++ y ∷ []) k ≡ Some x → slice_get xs k ≡ Some x
 at_old [] y k x low e = absurd (omega (arith, low))
 at_old (z ∷ zs) y zero x low e = e
 at_old (z ∷ zs) y (suc k) x low e = at_old zs y k x (omega (arith, low)) e
 
-pub one_item : {X : Type 0} (x y : X) → Some x ≡ Some y → x ≡ y
-one_item x y e = ap (λ o. unwrap_or o x) e
-
 on_front : (xs ys : List Arc) (h k : ℕ) → IsOn xs h k → IsOn (xs ++ ys) h k
 on_front xs ys _ _ (here k) = here k
-on_front xs ys _ _ (earlier e k x at rest) = earlier e k x (at_front xs ys e x at) (on_front xs ys x.before k rest)
+on_front xs ys _ _ (earlier e k x at rest) = earlier e k x (slice_get-more xs ys e x at) (on_front xs ys x.before k rest)
 
 -- links fall, so that a walk from an old edge comes to no new one
 on_old : (xs : List Arc) (y : Arc) (h k : ℕ) → ((e : ℕ) (x : Arc) → slice_get xs e ≡ Some x → x.before ≤ e) → h ≤ length xs
@@ -41,30 +30,6 @@ on_low : (xs : List Arc) (h k : ℕ) → ((e : ℕ) (x : Arc) → slice_get xs e
 on_low xs _ _ falling low (here k) = omega (arith, low)
 on_low xs _ _ falling low (earlier e k x at rest) =
     let falls = falling e x at in on_low xs x.before k falling (omega (arith, low, falls)) rest
-
-none_listed : (e : ℕ) (x : Arc) → slice_get {X = Arc} [] e ≡ Some x → ⊥
-none_listed e x at = cc
-
-pub linked_clear : (n : ℕ) → AreLinked (record { heads = replicate n 0; arcs = [] })
-linked_clear n = record {
-  low = λ a. zero_low a;
-  falling = λ e x at. absurd (none_listed e x at);
-  within = λ e x at. absurd (none_listed e x at);
-  listed = λ e x at. absurd (none_listed e x at);
-  only = λ a e x on at. absurd (none_listed e x at);
-}
-  where
-    clear : List ℕ
-    clear = replicate n 0
-
-    zero_at : (a : ℕ) → get_or clear a 0 ≡ 0
-    zero_at a = elim (cases_lt a n) [
-      | inl below ↦ get_or-replicate n a 0 0 below
-      | inr past ↦ get_or_past clear a 0 (let l : length clear ≡ n = length-replicate n 0 in omega (arith, l, past))
-    ]
-
-    zero_low : (a : ℕ) → get_or clear a 0 ≤ 0
-    zero_low a = (let z = zero_at a in omega (arith, z))
 
 -- with one edge more
 module _ (v : Arcs) (from to : ℕ) (from_in : from < length v.heads) (to_in : to < length v.heads) where
@@ -88,7 +53,7 @@ module _ (v : Arcs) (from to : ℕ) (from_in : from < length v.heads) (to_in : t
         let low = slice_get_within with_arc.arcs e x at in
         let longer = length-append v.arcs (new_arc ∷ []) in
         let last : e ≡ length v.arcs = omega (arith, low, longer, past) in
-        inr (last, one_item x new_arc (sym at ∙ ap (slice_get with_arc.arcs) last ∙ at_last v.arcs new_arc))
+        inr (last, one_item x new_arc (sym at ∙ ap (slice_get with_arc.arcs) last ∙ get_last v.arcs new_arc))
   ]
 
   pub linked_more : AreLinked v → AreLinked with_arc
@@ -99,7 +64,8 @@ module _ (v : Arcs) (from to : ℕ) (from_in : from < length v.heads) (to_in : t
     ]);
     falling = λ e x at. elim (either_arc e x at) [
       | inl old ↦ l.falling e x old
-      | inr new ↦ (let before : x.before ≡ slice_index v.heads from = ap (λ (y : Arc). y.before) new.1 in let low = l.low from in let last = new.0 in omega (arith, before, low, last))
+      | inr new ↦ (let before : x.before ≡ slice_index v.heads from = ap (λ (y : Arc). y.before) new.1 in let low = l.low from in let last = new.0 in omega
+          (arith, before, low, last))
     ];
     within = λ e x at. (let same = length-set v.heads from (length v.arcs + 1) in elim (either_arc e x at) [
       | inl old ↦ (let w = l.within e x old in let a = w.0 in let b = w.1 in (omega (arith, a, same), omega (arith, b, same)))
@@ -111,7 +77,7 @@ module _ (v : Arcs) (from to : ℕ) (from_in : from < length v.heads) (to_in : t
         | inl same ↦
             let P : ℕ → Type 0 = λ h. IsOn with_arc.arcs h e in
             subst P (sym (ap (slice_index with_arc.heads) same ∙ head_same ∙ plus_one (length v.arcs)))
-            (earlier (length v.arcs) e new_arc (at_last v.arcs new_arc)
+            (earlier (length v.arcs) e new_arc (get_last v.arcs new_arc)
             (on_front v.arcs (new_arc ∷ []) (slice_index v.heads from) e (subst (λ a. IsOn v.arcs (slice_index v.heads a) e) same (l.listed e x old))))
         | inr other ↦
             let P : ℕ → Type 0 = λ h. IsOn with_arc.arcs h e in
@@ -142,10 +108,10 @@ module _ (v : Arcs) (from to : ℕ) (from_in : from < length v.heads) (to_in : t
 
       of_from : (a : ℕ) → a ≡ from → (e : ℕ) (x : Arc) → IsOn with_arc.arcs (suc (length v.arcs)) e → slice_get with_arc.arcs e ≡ Some x → x.from ≡ a
       of_from a same _ x (here e) at =
-          let is : x ≡ new_arc = one_item x new_arc (sym at ∙ at_last v.arcs new_arc) in
+          let is : x ≡ new_arc = one_item x new_arc (sym at ∙ get_last v.arcs new_arc) in
           ap (λ (y : Arc). y.from) is ∙ sym same
       of_from a same _ x (earlier f e y there rest) at =
-          let is : y ≡ new_arc = one_item y new_arc (sym there ∙ at_last v.arcs new_arc) in
+          let is : y ≡ new_arc = one_item y new_arc (sym there ∙ get_last v.arcs new_arc) in
           let P : Arc → Type 0 = λ z. IsOn with_arc.arcs z.before e in
           of_old from e x (subst P is rest) at ∙ sym same
 
@@ -159,8 +125,8 @@ module _ (v : Arcs) (from to : ℕ) (from_in : from < length v.heads) (to_in : t
       ]
 
       back : Joins v a b ⊎ ((a ≡ from) × (b ≡ to)) → Joins with_arc a b
-      back (inl (e, x, at, is_from, is_to)) = (e, x, at_front v.arcs (new_arc ∷ []) e x at, is_from, is_to)
-      back (inr (is_from, is_to)) = (length v.arcs, new_arc, at_last v.arcs new_arc, sym is_from, sym is_to)
+      back (inl (e, x, at, is_from, is_to)) = (e, x, slice_get-more v.arcs (new_arc ∷ []) e x at, is_from, is_to)
+      back (inr (is_from, is_to)) = (length v.arcs, new_arc, get_last v.arcs new_arc, sym is_from, sym is_to)
 
 -- the same, as the code enters it
 pub entered_so : (P : Arcs → Type 0) (v : Arcs) (from to before h : ℕ) (arcs : List Arc) → before ≡ slice_index v.heads from → h ≡ length v.arcs + 1
@@ -170,16 +136,12 @@ pub entered_so : (P : Arcs → Type 0) (v : Arcs) (from to before h : ℕ) (arcs
 entered_so P v from to before h arcs is_before is_head are p =
     let A : List Arc → Type 0 = λ xs. P (record { heads = set v.heads from h; arcs = xs }) in
     let B : ℕ → Type 0 = λ n. P (record { heads = set v.heads from h; arcs = v.arcs ++ record { from = from; to = to; before = n } ∷ [] }) in
-    let H : ℕ → Type 0 = λ n. P (record { heads = set v.heads from n; arcs = v.arcs ++ record { from = from; to = to; before = slice_index v.heads from } ∷ [] }) in
+    let H : ℕ → Type 0 = λ n. P (record {
+      heads = set v.heads from n;
+      arcs = v.arcs ++ record
+          { from = from; to = to; before = slice_index v.heads from } ∷ [];
+    }) in
     subst A (sym are) (subst B (sym is_before) (subst H (sym is_head) p))
-
--- the walk from a node's head
-pub walk_first : (v : Arcs) (a : ℕ) → AreLinked v → IsWalk v a (slice_index v.heads a)
-walk_first v a l = record { low = l.low a; only = λ e x on at. l.only a e x on at }
-
-pub walk_all : (v : Arcs) (a b : ℕ) → AreLinked v → Joins v a b → ComesTo v (slice_index v.heads a) b
-walk_all v a b l (e, x, at, is_from, is_to) =
-    let P : ℕ → Type 0 = λ c. IsOn v.arcs (slice_index v.heads c) e in (e, x, subst P is_from (l.listed e x at), at, is_to)
 
 pub walk_on : (v : Arcs) (at : ℕ) (x : Arc) → AreLinked v → 0 < at → slice_get v.arcs (at - 1) ≡ Some x
     → (a : ℕ) → IsWalk v a at → IsWalk v a x.before × Joins v a x.to
@@ -204,9 +166,6 @@ walk_rest v at x some there b (k, y, on, at_k, is_to) =
     go _ _ y there (earlier e k z there_z rest) at_k is_to =
         let P : Arc → Type 0 = λ u. IsOn v.arcs u.before k in
         inr (k, y, subst P (one_item z x (sym there_z ∙ there)) rest, at_k, is_to)
-
-pub not_both : (x : Bool) → x ≡ true → x ≡ false → ⊥
-not_both x h k = (let e : true ≡ false = sym h ∙ k in cc)
 
 pub walk_done : (v : Arcs) (b : ℕ) → ComesTo v 0 b → ⊥
 walk_done v b (k, y, on, at, is_to) = elim on [ ]

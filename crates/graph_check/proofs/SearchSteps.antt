@@ -7,12 +7,13 @@ use Rattle.std.proofs.lemmas.Option.{slice_get_within, slice_get_read, get_or_fr
 use Rattle.pc_common.specs.Chain.{Chain, Acyclic}
 use Rattle.pc_common.proofs.Elements.{In, in_front, in_back, in_either}
 use Rattle.pc_common.proofs.Chains.{chain_join}
+use Rattle.pc_common.proofs.Places.{get_last, one_item}
 use Rattle.graph_check.specs.declared.search.Mark.{Mark}
 use Rattle.graph_check.specs.declared.search.Mark.TheVariants.{New, Open, Done}
 use Rattle.graph_check.specs.declared.search.Visit.{Visit}
 use Rattle.graph_check.specs.Arcs.{Arcs, Joins, IsWalk, ComesTo}
 use Rattle.graph_check.specs.Searches.{Progress, with_visit, mark_of, nodes_of, IsPath, IsTopological, IsSearching, steps_of, steps_left, IsFurther}
-use Rattle.graph_check.proofs.Links.{at_old, at_last, one_item, walk_done}
+use Rattle.graph_check.proofs.Links.{at_old, walk_done}
 
 -- a mark that was written, and any other
 mark_same : (ms : List Mark) (k : ℕ) (m : Mark) → k < length ms → mark_of (set ms k m) k ≡ m
@@ -39,9 +40,6 @@ further ms k m low other b was is = elim (cases_eq b k) [
   | inl same ↦ other (sym (mark_same ms k m low) ∙ ap (mark_of (set ms k m)) (sym same) ∙ is)
   | inr apart ↦ was (sym (mark_other ms k b m apart) ∙ is)
 ]
-
-pub marked : (ms : List Mark) (k : ℕ) (m : Mark) → k < length ms → (m ≡ New → ⊥) → mark_of (set ms k m) k ≡ New → ⊥
-marked ms k m low other is = other (sym (mark_same ms k m low) ∙ is)
 
 -- the first nodes are not new, and the next one is not
 pub marked_next : (old new : List Mark) (k : ℕ) → IsFurther old new → ((b : ℕ) → b < k → mark_of old b ≡ New → ⊥) → (mark_of new k ≡ New → ⊥)
@@ -239,8 +237,9 @@ module _ (v : Arcs) where
         last_sorted k a b is at joins =
             let P : List ℕ → Type 0 = λ ns. In b ns in
             let Q : ℕ → Type 0 = λ n. Joins v n b in
-            let same : a ≡ x.node = one_item a x.node (sym at ∙ ap (slice_get (p.order ++ x.node ∷ [])) is ∙ at_last p.order x.node) in
-            let first : take k (p.order ++ x.node ∷ []) ≡ p.order = take-append-le k p.order (x.node ∷ []) (omega (arith, is)) ∙ take_all k p.order (omega (arith, is)) in
+            let same : a ≡ x.node = one_item a x.node (sym at ∙ ap (slice_get (p.order ++ x.node ∷ [])) is ∙ get_last p.order x.node) in
+            let first : take k (p.order ++ x.node ∷ []) ≡ p.order = take-append-le k p.order (x.node ∷ []) (omega (arith, is))
+            ∙ take_all k p.order (omega (arith, is)) in
             subst P (sym first) (behind b (subst Q same joins))
 
     pub fewer_passed : (next : ℕ) → next < x.at → steps_left v (with_visit p (record { node = x.node; at = next })) < steps_left v (with_visit p x)
@@ -249,7 +248,8 @@ module _ (v : Arcs) where
         let new = sum_by_push (λ (y : Visit). y.at + 1) p.path (record { node = x.node; at = next }) in
         omega (arith, old, new, falls)
 
-    pub fewer_finished : (order : List ℕ) → steps_left v (record { marks = set p.marks x.node Done; path = p.path; order = order }) < steps_left v (with_visit p x)
+    pub fewer_finished : (order : List ℕ)
+        → steps_left v (record { marks = set p.marks x.node Done; path = p.path; order = order }) < steps_left v (with_visit p x)
     fewer_finished order =
         let same = s.sized in
         let n = node_in in
@@ -258,7 +258,8 @@ module _ (v : Arcs) where
         omega (arith, old, marks)
 
 -- a search that is at rest, with no new node left, put all nodes in order
-pub in_order : (v : Arcs) (p : Progress) → IsSearching v p → p.path ≡ [] → ((b : ℕ) → b < length v.heads → mark_of p.marks b ≡ New → ⊥) → IsTopological v p.order
+pub in_order : (v : Arcs) (p : Progress) → IsSearching v p → p.path ≡ [] → ((b : ℕ) → b < length v.heads → mark_of p.marks b ≡ New → ⊥)
+    → IsTopological v p.order
 in_order v p s at_rest none_new = record {
   all = λ a low. by_mark a (mark_of p.marks a) refl (none_new a low);
   known = s.known;
@@ -271,7 +272,8 @@ in_order v p s at_rest none_new = record {
     by_mark a Done is old = s.done a is
 
 -- a search that has not begun
-pub clear : (v : Arcs) (marks : List Mark) → length marks ≡ length v.heads → ((b : ℕ) → mark_of marks b ≡ New) → IsSearching v (record { marks = marks; path = []; order = [] })
+pub clear : (v : Arcs) (marks : List Mark) → length marks ≡ length v.heads → ((b : ℕ) → mark_of marks b ≡ New)
+    → IsSearching v (record { marks = marks; path = []; order = [] })
 clear v marks sized new = record {
   sized = sized;
   walks = λ x i. absurd i;
@@ -288,7 +290,8 @@ clear v marks sized new = record {
 
 pub begun : (v : Arcs) (marks : List Mark) (path : List Visit) (order : List ℕ) → marks ≡ replicate (length v.heads) New → path ≡ [] → order ≡ []
     → IsSearching v (record { marks = marks; path = path; order = order })
-begun v marks path order all_new no_path no_order = rw (no_path, no_order) (clear v marks (ap length all_new ∙ length-replicate (length v.heads) New) (λ b. ap (λ ms. mark_of ms b) all_new ∙ is_new b))
+begun v marks path order all_new no_path no_order =
+    rw (no_path, no_order) (clear v marks (ap length all_new ∙ length-replicate (length v.heads) New) (λ b. ap (λ ms. mark_of ms b) all_new ∙ is_new b))
   where
     is_new : (b : ℕ) → mark_of (replicate (length v.heads) New) b ≡ New
     is_new b = elim (cases_lt b (length v.heads)) [

@@ -2,7 +2,7 @@
 use Rattle.std.specs.Prelude.{ℕ, ◌≡◌, ◌<◌, ◌⊎◌, ◌+◌, List, [], ◌∷◌, ◌++◌, length, map, take, Some, slice_get, slice_index_or}
 use Rattle.std.specs.List.{sum_by}
 use Rattle.pc_common.specs.Chain.{Chain}
-use Rattle.pc_common.proofs.Elements.{In}
+use Rattle.pc_common.specs.Elements.{In}
 use Rattle.graph_check.specs.Arcs.{Arcs, Joins, IsWalk, ComesTo}
 use Rattle.graph_check.specs.declared.search.Mark.{Mark}
 use Rattle.graph_check.specs.declared.search.Mark.TheVariants.{New, Open, Done}

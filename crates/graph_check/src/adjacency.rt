@@ -22,7 +22,7 @@ pub(crate) struct Adjacency {
     arcs: Vec<Arc>,
 }
 
-// Written out, so that a proof of what drops the value meets one call and no field.
+// By hand: docs/DECISIONS.md, "Drops are written by hand".
 impl Drop for Adjacency {
     fn drop(self) {
         let Adjacency { heads: _, arcs: _ } = self;

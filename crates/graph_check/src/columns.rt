@@ -15,7 +15,7 @@ pub(crate) struct Columns {
     columns: Vec<Vec<bool>>,
 }
 
-// Written out, so that a proof of what drops the value meets one call and no field.
+// By hand: docs/DECISIONS.md, "Drops are written by hand".
 impl Drop for Columns {
     fn drop(self) {
         let Columns {

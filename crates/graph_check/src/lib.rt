@@ -1,5 +1,8 @@
 //! Judging a graph: whether the pair that it generates is a world in which each closed axiom is true.
 //!
+//! Clause: `check_graph` returns true exactly where a graph generates a world in which the closed axioms are true (its
+//! clause).
+//!
 //! ```rust
 //! use graph_text::read_graph;
 //! use pc_front::front;

@@ -26,7 +26,7 @@ pub(crate) struct Order<'a> {
     columns: Columns,
 }
 
-// Written out, so that a proof of what drops the value meets one call and no field.
+// By hand: docs/DECISIONS.md, "Drops are written by hand".
 impl Drop for Order<'_> {
     fn drop(self) {
         let Order {

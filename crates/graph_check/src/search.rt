@@ -1,5 +1,5 @@
 ghost use Rattle.std.specs.Prelude.{◌≡◌, ◌<◌, [], ◌++◌, ◌∷◌, ℕ, true, length, IfOk, OnOk, MatchBool, MatchOption};
-ghost use Rattle.pc_common.proofs.Elements.{In};
+ghost use Rattle.pc_common.specs.Elements.{In};
 ghost use Rattle.pc_common.specs.Chain.{Chain, Acyclic};
 ghost use Rattle.graph_check.specs.Arcs.{Joins};
 ghost use Rattle.graph_check.specs.Searches.{progress, with_visit, mark_of, nodes_of, IsSearching, IsTopological, IsFurther, steps_left};

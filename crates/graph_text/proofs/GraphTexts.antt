@@ -12,7 +12,7 @@ use Rattle.pc_ground.specs.NodeWords.{Lacks, IsCut}
 use Rattle.pc_ground.proofs.Cuts.{cut_is}
 use Rattle.graph_text.specs.GraphTexts.{space, as_node, as_edge, both_ends, IsGraphLineIn, AreEndsForm, AreEndsIn, ends_words, IsGraphForm, of_node, of_edge, ReadsLine, AnswersLine, ReadsEnds, AnswersEnds}
 use Rattle.graph_text.proofs.LinesOf.{graph_line_cases}
-use Rattle.graph_text.proofs.Spaces.{has_mark, form_spaceless, words_apart, node_words_are, edge_words_are}
+use Rattle.graph_text.proofs.Spaces.{form_spaceless, words_apart, node_words_are, edge_words_are}
 
 -- each node of these names whose text the word is, is the one that was read
 abbrev pub IsAgain : Names → List ℕ → Result NodeKey LineFault → Type 0
@@ -59,14 +59,6 @@ module _ (names : Names) (words from to : List ℕ) (cut : IsCut space words fro
     ends_read (Err Foreign) (Ok l) f g = (formed f.0 (read_form to l g), λ a b inside is. f.1 a inside.0 (ends_texts a b inside is).0)
     ends_read (Err Foreign) (Err Malformed) f g = λ form. g (to_ends_form form)
     ends_read (Err Foreign) (Err Foreign) f g = (formed f.0 g.0, λ a b inside is. f.1 a inside.0 (ends_texts a b inside is).0)
-
--- words without a space are no two
-pub no_ends : (words : List ℕ) → Lacks space words → AreEndsForm words → ⊥
-no_ends words lacks f = (let P : List ℕ → Type 0 = λ w. Lacks space w in has_mark space f.from f.to (subst P f.is lacks))
-
-pub no_ends_again : (names : Names) (words : List ℕ) → Lacks space words → (a b : Node) → AreEndsIn names a b → words ≡ ends_words names a b → ⊥
-no_ends_again names words lacks a b inside is =
-    (let P : List ℕ → Type 0 = λ w. Lacks space w in has_mark space (node_text names a) (node_text names b) (subst P is lacks))
 
 -- a line of a word before the first space, and what is after it
 module _ (names : Names) (line kind words : List ℕ) (cut : IsCut space line kind words) where
@@ -137,7 +129,8 @@ module _ (names : Names) (line kind words : List ℕ) (cut : IsCut space line ki
           (λ a b inside is. h.1 a b inside (edge_text_is a b is).1)
 
 -- a line that is none
-module _ (line : List ℕ) (no_node : (rest : List ℕ) → line ≡ codes "node" ++ space ∷ rest → ⊥) (no_edge : (rest : List ℕ) → line ≡ codes "edge" ++ space ∷ rest → ⊥) where
+module _ (line : List ℕ) (no_node : (rest : List ℕ) → line ≡ codes "node" ++ space ∷ rest → ⊥)
+    (no_edge : (rest : List ℕ) → line ≡ codes "edge" ++ space ∷ rest → ⊥) where
   no_form : IsGraphForm line → ⊥
   no_form (of_node word f is) = no_node word is
   no_form (of_edge words f is) = no_edge words is
@@ -148,22 +141,14 @@ module _ (line : List ℕ) (no_node : (rest : List ℕ) → line ≡ codes "node
       (λ a inside is. no_node (node_text names a) (is ∙ node_words_are names a))
       (λ a b inside is. no_edge (ends_words names a b) (is ∙ edge_words_are names a b))
 
--- no space in the line
-spaceless : (line : List ℕ) → Lacks space line → (word rest : List ℕ) → line ≡ word ++ space ∷ rest → ⊥
-spaceless line lacks word rest is = (let P : List ℕ → Type 0 = λ w. Lacks space w in has_mark space word rest (subst P is lacks))
-
-pub no_form-spaceless : (line : List ℕ) → Lacks space line → IsGraphForm line → ⊥
-no_form-spaceless line lacks = no_form line (spaceless line lacks (codes "node")) (spaceless line lacks (codes "edge"))
-
-pub no_again-spaceless : (line : List ℕ) → Lacks space line → (names : Names) (l : Line) → IsGraphLineIn names l → line ≡ line_words names l → ⊥
-no_again-spaceless line lacks = no_again line (spaceless line lacks (codes "node")) (spaceless line lacks (codes "edge"))
-
 -- another word first
 pub no_form-other : (line kind words : List ℕ) → IsCut space line kind words → (kind ≡ codes "node" → ⊥) → (kind ≡ codes "edge" → ⊥) → IsGraphForm line → ⊥
 no_form-other line kind words cut other another =
-    no_form line (λ rest is. other (cut_is space line kind words (codes "node") rest cut (refl, is)).0) (λ rest is. another (cut_is space line kind words (codes "edge") rest cut (refl, is)).0)
+    no_form line (λ rest is. other (cut_is space line kind words (codes "node") rest cut (refl, is)).0)
+    (λ rest is. another (cut_is space line kind words (codes "edge") rest cut (refl, is)).0)
 
 pub no_again-other : (line kind words : List ℕ) → IsCut space line kind words → (kind ≡ codes "node" → ⊥) → (kind ≡ codes "edge" → ⊥)
     → (names : Names) (l : Line) → IsGraphLineIn names l → line ≡ line_words names l → ⊥
 no_again-other line kind words cut other another =
-    no_again line (λ rest is. other (cut_is space line kind words (codes "node") rest cut (refl, is)).0) (λ rest is. another (cut_is space line kind words (codes "edge") rest cut (refl, is)).0)
+    no_again line (λ rest is. other (cut_is space line kind words (codes "node") rest cut (refl, is)).0)
+    (λ rest is. another (cut_is space line kind words (codes "edge") rest cut (refl, is)).0)

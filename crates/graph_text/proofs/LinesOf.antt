@@ -17,11 +17,7 @@ pub graph_line_cases : (names : Names) (P : Line → Type 0) → ((a : Node) →
     → ((a b : Node) → IsNodeIn names a × IsNodeIn names b → P (edge_line a b)) → (l : Line) → IsGraphLineIn names l → P l
 graph_line_cases names P of_node of_edge (node_line a) h = of_node a h
 graph_line_cases names P of_node of_edge (edge_line a b) h = of_edge a b h
-graph_line_cases names P of_node of_edge (verdict v) h = absurd h
-graph_line_cases names P of_node of_edge (second v e) h = absurd h
-graph_line_cases names P of_node of_edge version_two h = absurd h
-graph_line_cases names P of_node of_edge (step s) h = absurd h
-graph_line_cases names P of_node of_edge end h = absurd h
+graph_line_cases names P of_node of_edge l h = absurd h
 
 abbrev pub nodes_in : List Line → List Node
 nodes_in [] = []
@@ -85,7 +81,8 @@ with_names : (names : Names) (old new : PlainGraph) (l : Line) → IsGraphLineIn
 with_names names old new l inside put all =
     let P : List Node → Type 0 = λ ns. All (IsNodeIn names) ns in
     subst P (sym (nodes_with old.nodes new.nodes old.edges new.edges l put.lines))
-    (graph_line_cases names (λ k. P (old.nodes ++ nodes_in (k ∷ []))) (λ a h. All-push (IsNodeIn names) old.nodes a all h) (λ a b h. subst P (sym (append-nil old.nodes)) all) l inside)
+    (graph_line_cases names (λ k. P (old.nodes ++ nodes_in (k ∷ []))) (λ a h. All-push (IsNodeIn names) old.nodes a all h)
+    (λ a b h. subst P (sym (append-nil old.nodes)) all) l inside)
 
 pub keeps_names : {E : Type 0} (names : Names) (old new : PlainGraph) (l : Line) (result : Result Bool E) → IsGraphLineIn names l
     → IfOk result (λ taken. MatchBool taken (IsWithLine old new l) ((Follows old l → ⊥) × (new ≡ old))) → OnErr result (new ≡ old)
@@ -96,7 +93,8 @@ keeps_names names old new l (Err fault) inside h k all = (let P : PlainGraph →
 
 -- one line more that may stand next leaves each edge between two of the nodes
 pub keeps_ends : (old new : PlainGraph) (l : Line) → IsWithLine old new l → HasEnds old.nodes old.edges → HasEnds new.nodes new.edges
-keeps_ends old new l put ends = with_line l put.follows (nodes_with old.nodes new.nodes old.edges new.edges l put.lines) (edges_with old.nodes new.nodes old.edges new.edges l put.lines)
+keeps_ends old new l put ends =
+    with_line l put.follows (nodes_with old.nodes new.nodes old.edges new.edges l put.lines) (edges_with old.nodes new.nodes old.edges new.edges l put.lines)
   where
     listed_in : (es : List Edge) → new.edges ≡ es → (x y : Node) → Contains new.edges (x, y) → In {X = Edge} (x, y) es
     listed_in es same x y has = in_from_contains (x, y) es (let P : List Edge → Type 0 = λ fs. Contains fs (x, y) in subst P same has)
@@ -109,13 +107,15 @@ keeps_ends old new l put ends = with_line l put.follows (nodes_with old.nodes ne
     of_old : (more : List Node) → new.nodes ≡ old.nodes ++ more → (x y : Node) → In {X = Edge} (x, y) old.edges → Contains new.nodes x × Contains new.nodes y
     of_old more same x y i = (let both = ends x y (contains_from_in (x, y) old.edges i) in (stays more same x both.0, stays more same y both.1))
 
-    last_edge : (a b x y : Node) → Contains old.nodes a × Contains old.nodes b → new.nodes ≡ old.nodes ++ [] → In {X = Edge} (x, y) ((a, b) ∷ []) → Contains new.nodes x × Contains new.nodes y
+    last_edge : (a b x y : Node) → Contains old.nodes a × Contains old.nodes b → new.nodes ≡ old.nodes ++ [] → In {X = Edge} (x, y) ((a, b) ∷ [])
+        → Contains new.nodes x × Contains new.nodes y
     last_edge a b x y follows same (inl e) =
         let P : Node × Node → Type 0 = λ p. Contains new.nodes p.0 × Contains new.nodes p.1 in
         subst P e (stays [] same a follows.0, stays [] same b follows.1)
     last_edge a b x y follows same (inr i) = absurd i
 
-    with_line : (l : Line) → Follows old l → new.nodes ≡ old.nodes ++ nodes_in (l ∷ []) → new.edges ≡ old.edges ++ edges_in (l ∷ []) → HasEnds new.nodes new.edges
+    with_line : (l : Line) → Follows old l → new.nodes ≡ old.nodes ++ nodes_in (l ∷ []) → new.edges ≡ old.edges ++ edges_in (l ∷ [])
+        → HasEnds new.nodes new.edges
     with_line (node_line a) follows nodes edges x y has = of_old (a ∷ []) nodes x y (listed_in old.edges (edges ∙ append-nil old.edges) x y has)
     with_line (edge_line a b) follows nodes edges x y has =
         elim (in_either (x, y) old.edges ((a, b) ∷ []) (listed_in (old.edges ++ (a, b) ∷ []) edges x y has)) [

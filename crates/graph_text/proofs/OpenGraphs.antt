@@ -10,12 +10,13 @@ use Rattle.indexmap.specs.IndexSet.{insert_key}
 use Rattle.pc_common.specs.World.{Node, Edge, same_node}
 use Rattle.pc_common.specs.Lines.{node as node_line, edge as edge_line}
 use Rattle.pc_common.specs.Generated.{IsListed}
-use Rattle.pc_common.proofs.Elements.{any_holds, holds_any, in_from_contains, contains_from_in, true_or_false}
+use Rattle.pc_common.proofs.Elements.{any_holds, holds_any, in_from_contains, contains_from_in}
+use Rattle.pc_common.proofs.Bools.{true_or_false, not_both}
+use Rattle.pc_common.proofs.Nodes.{same_node-true, same_node-self}
 use Rattle.pc_ground.specs.declared.node_key.NodeKey.{NodeKey}
 use Rattle.pc_ground.specs.Keys.{key_node}
 use Rattle.pc_ground.specs.Numbers.{seen}
-use Rattle.pc_ground.proofs.Bools.{not_both}
-use Rattle.pc_ground.proofs.Nodes.{key_eq, any_key, same_node-true, same_node-self}
+use Rattle.pc_ground.proofs.Nodes.{key_eq, any_key}
 use Rattle.pc_ground.proofs.KeyNumbers.{seen_key}
 use Rattle.graph_text.specs.Graphs.{graph_lines}
 use Rattle.graph_text.specs.OpenGraphs.{IsOpen}
@@ -79,7 +80,8 @@ pub open_node : (keys : List NodeKey) (nodes : List Node) (edges : List Edge) (k
     → IsOpen (insert_key key_eq keys k) (nodes ++ key_node k ∷ []) edges
 open_node keys nodes edges k h = record {
   listed = λ a. (forth a, back a);
-  ends = λ a b e. (let inside = h.ends a b e in (Contains-append_left nodes (key_node k ∷ []) a inside.0, Contains-append_left nodes (key_node k ∷ []) b inside.1));
+  ends = λ a b e. (let inside = h.ends a b
+      e in (Contains-append_left nodes (key_node k ∷ []) a inside.0, Contains-append_left nodes (key_node k ∷ []) b inside.1));
 }
   where
     forth : (a : Node) → Contains (map key_node (insert_key key_eq keys k)) a → Contains (nodes ++ key_node k ∷ []) a

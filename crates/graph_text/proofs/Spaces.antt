@@ -5,16 +5,17 @@ use Rattle.std.specs.List.{list_any}
 use Rattle.std.proofs.lemmas.List.Elements.{All-cons}
 use Rattle.line_judge.specs.Texts.{IsLine}
 use Rattle.std.proofs.lemmas.List.{append-nil}
+use Rattle.std.proofs.lemmas.Bool.{or_left}
 use Rattle.pc_common.specs.World.{Node}
 use Rattle.pc_common.specs.Lines.{Names, node as node_line, edge as edge_line, node_text, line_words}
+use Rattle.pc_common.proofs.Bools.{or_none, not_both}
 use Rattle.pc_ground.specs.NodeForm.{IsNodeForm}
 use Rattle.pc_ground.specs.NodeWords.{Lacks}
-use Rattle.pc_ground.proofs.Bools.{not_both, or_none, or_first}
 use Rattle.pc_ground.proofs.Outside.{line_feed, a_space, form_lacks}
 use Rattle.graph_text.specs.GraphTexts.{space, ends_words}
 
 pub has_mark : (m : ℕ) (a b : List ℕ) → Lacks m (a ++ m ∷ b) → ⊥
-has_mark m [] b h = not_both (list_any (λ d. d == m) (m ∷ b)) (or_first (m == m) (list_any (λ d. d == m) b) (eq-eqb m m refl)) h
+has_mark m [] b h = not_both (list_any (λ d. d == m) (m ∷ b)) (or_left (m == m) (list_any (λ d. d == m) b) (eq-eqb m m refl)) h
 has_mark m (c ∷ cs) b h = has_mark m cs b (or_none (c == m) (list_any (λ d. d == m) (cs ++ m ∷ b)) h)
 
 -- no space stands in a node's text

@@ -1,15 +1,12 @@
 -- The text of a graph's lines, by its nodes and edges.
-use Rattle.std.proofs.Common.{◌≡◌, List, [], ◌∷◌, ◌++◌, map, refl, sym, ◌∙◌, ap, append_assoc}
+use Rattle.std.proofs.Common.{◌≡◌, List, [], ◌∷◌, ◌++◌, map, refl, sym, ◌∙◌, ap}
 use Rattle.std.specs.List.{flat_map}
+use Rattle.std.proofs.lemmas.List.Concat.{flat_map-append}
 use Rattle.pc_common.specs.Lines.{Names, lines_text, line_text, node as node_line, edge as edge_line}
 use Rattle.pc_ground.specs.Keys.{key_node}
 use Rattle.pc_ground.specs.declared.node_key.NodeKey.{NodeKey}
 use Rattle.graph_text.specs.declared.graph.Graph.{Graph}
 use Rattle.graph_text.specs.Graphs.{key_edge, graph_nodes, graph_edges, graph_lines, node_line_text, edge_line_text}
-
-flat_append : {X Y : Type 0} (f : X → List Y) (xs ys : List X) → flat_map f (xs ++ ys) ≡ flat_map f xs ++ flat_map f ys
-flat_append f [] ys = refl
-flat_append f (x ∷ xs) ys = ap (λ zs. f x ++ zs) (flat_append f xs ys) ∙ sym (append_assoc (f x) (flat_map f xs) (flat_map f ys))
 
 node_lines : (names : Names) (ks : List NodeKey) → flat_map (node_line_text names) ks ≡ flat_map (line_text names) (map node_line (map key_node ks))
 node_lines names [] = refl
@@ -25,4 +22,4 @@ pub graph_text : (names : Names) (g : Graph)
 graph_text names g =
     ap (λ xs. xs ++ flat_map (edge_line_text names) g.edges) (node_lines names g.nodes)
     ∙ ap (λ ys. flat_map (line_text names) (map node_line (graph_nodes g)) ++ ys) (edge_lines names g.edges)
-    ∙ sym (flat_append (line_text names) (map node_line (graph_nodes g)) (map (λ e. edge_line e.0 e.1) (graph_edges g)))
+    ∙ sym (flat_map-append (line_text names) (map node_line (graph_nodes g)) (map (λ e. edge_line e.0 e.1) (graph_edges g)))

@@ -16,7 +16,7 @@ use Rattle.graph_text.specs.declared.graph.Graph.{Graph}
 use Rattle.graph_text.specs.Graphs.{graph_nodes, graph_edges, graph_lines}
 use Rattle.graph_text.specs.GraphTexts.{space, IsGraphLineIn, AreEndsIn, ends_words}
 use Rattle.graph_text.specs.OpenGraphs.{PlainGraph, Follows, Takes, Refuses}
-use Rattle.graph_text.specs.FirstLines.{heads, tails, no_lines}
+use Rattle.graph_text.specs.LawsOfGraphs.{heads, tails, no_lines}
 use Rattle.graph_text.specs.GraphReading.{IsGraphIn, AreLinesOf, AreGraphLines, IsTakenBy, IsTextOf, plain_graph}
 use Rattle.graph_text.proofs.LinesOf.{graph_line_cases, nodes_in, edges_in, nodes_are, edges_are, nodes_with, edges_with}
 use Rattle.graph_text.proofs.Spaces.{form_spaceless, form_on_one_line, lacking_on_line, words_apart, node_words_are, edge_words_are}
@@ -30,7 +30,8 @@ edge_lines_in : (names : Names) (es : List Edge) → ((a b : Node) → In (a, b)
 edge_lines_in names [] h = tt
 edge_lines_in names ((a, b) ∷ es) h = (h a b (inl refl), edge_lines_in names es (λ x y i. h x y (inr i)))
 
-lines_in : (names : Names) (ns : List Node) (es : List Edge) → All (IsNodeIn names) ns → ((a b : Node) → In (a, b) es → AreEndsIn names a b) → AreIn names (graph_lines ns es)
+lines_in : (names : Names) (ns : List Node) (es : List Edge) → All (IsNodeIn names) ns → ((a b : Node) → In (a, b) es → AreEndsIn names a b)
+    → AreIn names (graph_lines ns es)
 lines_in names [] es all h = edge_lines_in names es h
 lines_in names (n ∷ ns) es all h = (All-head (IsNodeIn names) n ns all, lines_in names ns es (All-tail (IsNodeIn names) n ns all) h)
 
@@ -91,7 +92,8 @@ module _ (names : Names) (readable : AreReadable names) where
     lines : ys ≡ xs ++ line ∷ []
     text_is : text ≡ line_words names line
 
-  last_line : (xs ys : List Line) (text : List ℕ) → AreIn names xs → AreIn names ys → map (line_words names) xs ++ text ∷ [] ≡ map (line_words names) ys → IsLast xs ys text
+  last_line : (xs ys : List Line) (text : List ℕ) → AreIn names xs → AreIn names ys → map (line_words names) xs ++ text ∷ [] ≡ map (line_words names) ys
+      → IsLast xs ys text
   last_line [] [] text f g e = absurd (no_lines text [] e)
   last_line [] (y ∷ []) text f g e = record { line = y; of_names = g.0; lines = refl; text_is = heads text (line_words names y) [] [] e }
   last_line [] (y ∷ (z ∷ ys)) text f g e =
@@ -201,7 +203,7 @@ goes_no_further names old text lines refuses h (g, more) =
     refuses last.line last.of_names (last_follows names old g last.line more.graph.ends last.of_names last.lines) last.text_is
 
 -- lines with their LFs are the text
-joined_lines : (names : Names) (ls : List Line) → text_of_lines (map (line_words names) ls) ≡ lines_text names ls
+pub joined_lines : (names : Names) (ls : List Line) → text_of_lines (map (line_words names) ls) ≡ lines_text names ls
 joined_lines names [] = refl
 joined_lines names (l ∷ ls) = ap (λ text. line_text names l ++ text) (joined_lines names ls)
 
@@ -232,7 +234,8 @@ module _ (names : Names) (readable : AreReadable names) where
       of_node : (a : Node) → IsNodeIn names a → IsLine (line_words names (node_line a))
       of_node a h =
           subst Q (sym (node_words_are names a))
-          (All-append (λ byte. byte ≡ 10 → ⊥) (codes "node ") (node_text names a) (lacking_on_line (codes "node ") refl) (form_on_one_line (node_text names a) (readable.form a h)))
+          (All-append (λ byte. byte ≡ 10 → ⊥) (codes "node ") (node_text names a) (lacking_on_line (codes "node ") refl)
+          (form_on_one_line (node_text names a) (readable.form a h)))
 
       of_edge : (a b : Node) → AreEndsIn names a b → IsLine (line_words names (edge_line a b))
       of_edge a b h =
@@ -255,12 +258,15 @@ module _ (names : Names) (readable : AreReadable names) where
   }
 
   -- and of no other's
-  pub one_graph : (text : List ℕ) (g : PlainGraph) (lines : List (List ℕ)) (h : PlainGraph) → All IsLine lines → text ≡ text_of_lines lines → AreLinesOf names h lines
+  pub one_graph : (text : List ℕ) (g : PlainGraph) (lines : List (List ℕ)) (h : PlainGraph) → All IsLine lines → text ≡ text_of_lines lines
+      → AreLinesOf names h lines
       → IsTextOf names text g → h ≡ g
   unfolding made
   one_graph text g lines h are_lines is taken of_text =
-      let cut = one_cutting lines (map (line_words names) (graph_lines g.nodes g.edges)) are_lines (made text g of_text).are_lines (sym is ∙ (made text g of_text).text_is) in
-      let same = same_lines names readable (graph_lines h.nodes h.edges) (graph_lines g.nodes g.edges) (graph_lines_in names h taken.graph) (graph_lines_in names g of_text.graph)
+      let cut = one_cutting lines (map (line_words names) (graph_lines g.nodes g.edges)) are_lines (made text g of_text).are_lines
+      (sym is ∙ (made text g of_text).text_is) in
+      let same = same_lines names readable (graph_lines h.nodes h.edges) (graph_lines g.nodes g.edges) (graph_lines_in names h taken.graph)
+      (graph_lines_in names g of_text.graph)
       (sym taken.lines_are ∙ cut) in
       let nodes : h.nodes ≡ g.nodes = sym (nodes_are h.nodes h.edges) ∙ ap nodes_in same ∙ nodes_are g.nodes g.edges in
       let edges : h.edges ≡ g.edges = sym (edges_are h.nodes h.edges) ∙ ap edges_in same ∙ edges_are g.nodes g.edges in
@@ -297,7 +303,8 @@ pub refused_read : (begins whole : List (List ℕ) → Type 0) (limit : ℕ) (te
 refused_read begins whole limit text zero same h = absurd (let past = h.past refl in omega (arith, past, same))
 refused_read begins whole limit text (suc n) same h = h.line (omega arith)
 
-pub refused_again : (names : Names) (text : List ℕ) (n : ℕ) (g : PlainGraph) → AreReadable names → IsRefusedAt (AreGraphLines names) (AreGraphLines names) text n
+pub refused_again : (names : Names) (text : List ℕ) (n : ℕ) (g : PlainGraph) → AreReadable names
+    → IsRefusedAt (AreGraphLines names) (AreGraphLines names) text n
     → IsTextOf names text g → ⊥
 refused_again names text n g readable h of_text = h.no_whole (made names readable text g of_text)
 
@@ -305,7 +312,8 @@ refused_again names text n g readable h of_text = h.no_whole (made names readabl
 pub judged_good : {E : Type 0} (names known : Names) (old new : PlainGraph) (text : List ℕ) (result : Result Bool E)
     → IfOk result (λ taken. MatchBool taken (Takes names text old new) (Refuses names text old × (new ≡ old)))
     → (All (IsNodeIn names) old.nodes → All (IsNodeIn names) new.nodes)
-    → IfOk result (λ good. good ≡ true → (lines : List (List ℕ)) → (names ≡ known) × IsTakenBy known old lines → (names ≡ known) × IsTakenBy known new (lines ++ text ∷ []))
+    → IfOk result (λ good. good ≡ true → (lines : List (List ℕ)) → (names ≡ known) × IsTakenBy known old lines → (names ≡ known) × IsTakenBy known new
+    (lines ++ text ∷ []))
 judged_good names known old new text (Ok true) h named = λ e lines taken.
     (let P : Names → Type 0 = λ ns. IsTakenBy ns old lines in
     let Q : Names → Type 0 = λ ns. IsTakenBy ns new (lines ++ text ∷ []) in

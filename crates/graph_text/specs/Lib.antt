@@ -2,4 +2,4 @@ pub mod Graphs
 pub mod GraphTexts
 pub mod OpenGraphs
 pub mod GraphReading
-pub mod FirstLines
+pub mod LawsOfGraphs

@@ -11,7 +11,7 @@ pub struct Graph {
     pub edges: Edges,
 }
 
-// Written out, so that a proof of what drops the value meets one call and no field.
+// By hand: docs/DECISIONS.md, "Drops are written by hand".
 impl Drop for Graph {
     fn drop(self) {
         let Graph { nodes: _, edges: _ } = self;

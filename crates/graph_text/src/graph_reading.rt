@@ -3,7 +3,7 @@ ghost use Rattle.pc_common.specs.Lines.{Names};
 ghost use Rattle.pc_ground.specs.NodeForm.{AreReadable};
 ghost use Rattle.graph_text.specs.OpenGraphs.{PlainGraph};
 ghost use Rattle.graph_text.specs.GraphReading.{AreGraphLines, IsTakenBy, IsTextOf, ReadsGraph, AnswersGraph};
-ghost use Rattle.graph_text.specs.FirstLines.{first_lines_of};
+ghost use Rattle.graph_text.specs.LawsOfGraphs.{first_lines_of};
 
 use super::graph::Graph;
 use super::graph_fault::GraphFault;

@@ -1,5 +1,8 @@
 //! Graphs as node and edge lines: what shows that a world satisfies a model.
 //!
+//! Clause: node and edge lines are written as the format says, exactly such lines are read, and what was written is
+//! read again (`read`, `again`).
+//!
 //! ```rust
 //! // the test has the micro-ops 0.0 and 1.0, the model the stage S, and `sink` is empty
 //! let names = NodeText::of(&front);

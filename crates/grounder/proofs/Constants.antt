@@ -1,5 +1,5 @@
 -- Folding leaves a constant only as the whole formula.
-use Rattle.pc_ground.specs.PlainGround.{PlainGround, ground_true, ground_false, ground_literal, ground_not, ground_and, ground_or, negated, ground_conjoined, ground_disjoined, simplified}
+use Rattle.pc_ground.specs.PlainGround.{PlainGround, ground_true, ground_false, ground_not, ground_and, ground_or, negated, ground_conjoined, ground_disjoined, simplified, ground_literal}
 use Rattle.grounder.specs.InnerConstants.{HasNoInnerConstant}
 
 folded-negated : (g : PlainGround) → HasNoInnerConstant g → HasNoInnerConstant (negated g)

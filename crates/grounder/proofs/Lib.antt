@@ -1,4 +1,3 @@
 pub mod LastOnes
 pub mod WithMembers
-pub mod Normal
 pub mod Constants

@@ -3,14 +3,22 @@ use Rattle.std.proofs.Common.{◌≡◌, List, [], ◌∷◌, ◌++◌, map, ref
 use Rattle.std.proofs.lemmas.List.{map-append}
 use Rattle.pc_common.specs.Case.{Case}
 use Rattle.pc_syntax.specs.declared.closed.Closed.{Closed}
-use Rattle.pc_syntax.specs.Closed.{plain_closed}
+use Rattle.pc_syntax.specs.Closed.{plain_closed, PlainClosed}
+use Rattle.pc_syntax.specs.declared.bound.Bound.{Bound}
+use Rattle.pc_syntax.specs.Truth.{Meaning}
 use Rattle.pc_ground.specs.GroundTree.{axioms_unfolded}
 use Rattle.pc_ground.specs.declared.ground.Ground.{Ground}
-use Rattle.pc_ground.specs.PlainGround.{PlainGround, ground_true, ground_false, ground_literal, ground_not, ground_and, ground_or, ground_conjoined, plain_ground, simplified}
+use Rattle.pc_ground.specs.PlainGround.{PlainGround, ground_true, ground_conjoined, plain_ground, simplified, ground_false, ground_literal, ground_not, ground_and, ground_or}
+use Rattle.pc_ground.specs.Unfolded.{closed_unfolded}
+use Rattle.static_preds.specs.Values.{meanings}
 use Rattle.grounder.specs.declared.operator.Operator.{Operator}
 use Rattle.grounder.specs.declared.operator.Operator.TheVariants.{And, Or}
 use Rattle.grounder.specs.Members.{unfolded_all, unit_of, decider_of, with_member, with_members, whole_of}
 use Rattle.grounder.specs.GroundingOf.{grounding_of}
+
+-- the body of a quantifier, where its variable has this value
+abbrev pub grounding_at : Case → List Bound → PlainClosed → Meaning → PlainGround
+grounding_at c slots p v = simplified (closed_unfolded c (meanings slots ++ v ∷ []) p)
 
 with_member-decider : (con : Operator) (g : PlainGround) → with_member con g (decider_of con) ≡ decider_of con
 with_member-decider And ground_true = refl

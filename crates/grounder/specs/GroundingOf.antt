@@ -3,7 +3,7 @@ use Rattle.std.specs.Prelude.{List, [], ◌∷◌, ◌++◌, map}
 use Rattle.pc_common.specs.Case.{Case}
 use Rattle.pc_syntax.specs.declared.term.Sort.{Sort}
 use Rattle.pc_syntax.specs.declared.bound.Bound.{Bound}
-use Rattle.pc_syntax.specs.Truth.{Meaning, range_of}
+use Rattle.pc_syntax.specs.Truth.{range_of}
 use Rattle.pc_syntax.specs.Closed.{PlainClosed}
 use Rattle.pc_ground.specs.PlainGround.{PlainGround, simplified}
 use Rattle.pc_ground.specs.Unfolded.{closed_unfolded}
@@ -13,10 +13,6 @@ use Rattle.grounder.specs.Members.{unfolded_all}
 
 abbrev pub grounding_of : Case → List Bound → PlainClosed → PlainGround
 grounding_of c slots p = simplified (closed_unfolded c (meanings slots) p)
-
--- the body of a quantifier, where its variable has this value
-abbrev pub grounding_at : Case → List Bound → PlainClosed → Meaning → PlainGround
-grounding_at c slots p v = simplified (closed_unfolded c (meanings slots ++ v ∷ []) p)
 
 -- a quantifier, which joins its body's meaning at each value of its range
 abbrev pub grounding_over : Operator → Case → List Bound → Sort → PlainClosed → PlainGround

@@ -1,5 +1,7 @@
 //! Grounding: what closed axioms say of one test, with no quantifier, predicate or name left.
 //!
+//! Clause: `ground` returns a formula whose normal form is the ground tree of closed axioms in a case (`tree`).
+//!
 //! ```rust
 //! // the one axiom is `exists microop "i", True`, and the case has no micro-op
 //! let said = ground(alloc, &case, &axioms)?;

@@ -1,5 +1,5 @@
-//! Models and tests that are made to break their readers: long chains of macros, 40,000 edges of one axiom, and one
-//! micro-op too many.
+//! Models and tests that are made to break their readers: long chains of macros, 200 names with a long one, 40,000
+//! edges of one axiom, and one micro-op too many.
 use example_texts::{EMPTY, ONE};
 use memory_runs::{End, ends_over, joined};
 use pc_common::{Memory, Status};
@@ -73,6 +73,38 @@ const CHAINS: &[(u64, Link, End<'static>)] = &[
 fn a_chain_of_macros_is_refused_past_its_limit(rt: HostRuntime) -> Result<(), Fail> {
     for (count, kind, end) in CHAINS {
         let model = chain(rt.alloc(), *count, *kind)?;
+        assert!(rt; is_end(rt.alloc(), &model, EMPTY, *end)?, "{count} macros");
+    }
+    Ok(())
+}
+
+/// A macro with a name of 33 bytes, so that each name of the model gets a number, and an axiom that it is False.
+const LONG_NAME: &str = "DefineMacro \"a_macro_with_a_name_of_33_letters\": False.
+Axiom \"y\": ~ExpandMacro a_macro_with_a_name_of_33_letters.
+";
+
+/// How many macros come after that one and `m0`, each the denial of the one before it, and how the check with the empty
+/// test ends: of 200 names in all the last stands for True, of 201 for False.
+const NUMBERED: &[(u64, End<'static>)] = &[
+    (
+        198,
+        (Status::Observable, "observable\ntest unstated\nend\n"),
+    ),
+    (
+        199,
+        (
+            Status::Unobservable,
+            "unobservable\ntest unstated\nfalse\nend\n",
+        ),
+    ),
+];
+
+#[test]
+fn each_of_200_names_keeps_its_meaning_beside_a_long_one(rt: HostRuntime) -> Result<(), Fail> {
+    for (count, end) in NUMBERED {
+        let mut model = String::new(rt.alloc());
+        model.push_str(LONG_NAME)?;
+        put_chain(&mut model, rt.alloc(), *count, Link::Once)?;
         assert!(rt; is_end(rt.alloc(), &model, EMPTY, *end)?, "{count} macros");
     }
     Ok(())

@@ -8,8 +8,8 @@ ghost use Rattle.language_tests.specs.declared.brackets.Bracket.TheVariants.{Ope
 ghost use Rattle.language_tests.specs.declared.brackets.Phrase.{Phrase};
 ghost use Rattle.language_tests.specs.declared.brackets.Phrase.TheVariants.{Items, More, Item};
 ghost use Rattle.ll_grammar.specs.declared.grammar.Symbol.{Symbol};
-ghost use Rattle.ll_grammar.specs.declared.grammar.Symbol.TheVariants.{Class, Part};
-ghost use Rattle.ll_grammar.specs.Tables.{predictable_by, texts_by, is_predictable_part, is_ranked_part};
+ghost use Rattle.ll_grammar.specs.declared.grammar.Symbol.TheVariants.{Terminal as a_terminal, Nonterminal as a_nonterminal};
+ghost use Rattle.ll_grammar.specs.LawsOfTables.{predictable_by, texts_by, is_predictable_part, is_ranked_part};
 
 use ll_grammar::{
     Fault, Grammar, Step, Symbol, TokenClass, first_fault, one_answer, push_body, some_answer,
@@ -42,23 +42,23 @@ enum Phrase {
 
 impl Grammar<Bracket> for Phrase {
     ghost rules = { record {
-      behind = λ (n : Phrase) (c : Bracket). elim n as (λ _. Option (List (Symbol Bracket Phrase))) [
+      production = λ (n : Phrase) (c : Bracket). elim n as (λ _. Option (List (Symbol Bracket Phrase))) [
         | Items d ↦ elim c as (λ _. Option (List (Symbol Bracket Phrase))) [
-          | Open ↦ Some (Part (Items (d + 1)) ∷ Class Close ∷ Part (More d) ∷ [])
-          | Word ↦ Some (Part (More d) ∷ [])
+          | Open ↦ Some (a_nonterminal (Items (d + 1)) ∷ a_terminal Close ∷ a_nonterminal (More d) ∷ [])
+          | Word ↦ Some (a_nonterminal (More d) ∷ [])
           | _ ↦ None
         ]
         | More d ↦ elim c as (λ _. Option (List (Symbol Bracket Phrase))) [
-          | Semicolon ↦ Some (Part (Item d) ∷ Part (More d) ∷ [])
+          | Semicolon ↦ Some (a_nonterminal (Item d) ∷ a_nonterminal (More d) ∷ [])
           | _ ↦ None
         ]
         | Item d ↦ elim c as (λ _. Option (List (Symbol Bracket Phrase))) [
-          | Open ↦ Some (Part (Items (d + 1)) ∷ Class Close ∷ [])
+          | Open ↦ Some (a_nonterminal (Items (d + 1)) ∷ a_terminal Close ∷ [])
           | Word ↦ Some []
           | _ ↦ None
         ]
       ];
-      may_end = λ (n : Phrase). elim n as (λ _. Bool) [ Item d ↦ false | _ ↦ true ];
+      is_nullable = λ (n : Phrase). elim n as (λ _. Bool) [ Item d ↦ false | _ ↦ true ];
       deep = λ (n : Phrase) (c : Bracket). elim n as (λ _. Bool) [
         | Items d ↦ elim c as (λ _. Bool) [ Open ↦ nat_le 2 d | _ ↦ false ]
         | More d ↦ false
@@ -80,7 +80,7 @@ impl Grammar<Bracket> for Phrase {
     ghost has_texts = { texts_by Self.rules (λ (n : Phrase). Word) (λ (n : Phrase). 0)
         (elim [ Items d ↦ refl | More d ↦ refl | Item d ↦ refl ]) };
 
-    fn may_end(self) -> bool {
+    fn is_nullable(self) -> bool {
         match self {
             Phrase::Items(_) | Phrase::More(_) => true,
             Phrase::Item(_) => false,
@@ -101,21 +101,21 @@ impl Grammar<Bracket> for Phrase {
                     push_body(
                         stack,
                         &[
-                            Symbol::Part(Phrase::Items(open + 1)),
-                            Symbol::Class(Bracket::Close),
-                            Symbol::Part(Phrase::More(open)),
+                            Symbol::Nonterminal(Phrase::Items(open + 1)),
+                            Symbol::Terminal(Bracket::Close),
+                            Symbol::Nonterminal(Phrase::More(open)),
                         ],
                     )
                 }
-                Bracket::Word => push_body(stack, &[Symbol::Part(Phrase::More(open))]),
+                Bracket::Word => push_body(stack, &[Symbol::Nonterminal(Phrase::More(open))]),
                 _ => Ok(Step::Absent),
             },
             Phrase::More(open) => match class {
                 Bracket::Semicolon => push_body(
                     stack,
                     &[
-                        Symbol::Part(Phrase::Item(open)),
-                        Symbol::Part(Phrase::More(open)),
+                        Symbol::Nonterminal(Phrase::Item(open)),
+                        Symbol::Nonterminal(Phrase::More(open)),
                     ],
                 ),
                 _ => Ok(Step::Absent),
@@ -128,8 +128,8 @@ impl Grammar<Bracket> for Phrase {
                     push_body(
                         stack,
                         &[
-                            Symbol::Part(Phrase::Items(open + 1)),
-                            Symbol::Class(Bracket::Close),
+                            Symbol::Nonterminal(Phrase::Items(open + 1)),
+                            Symbol::Terminal(Bracket::Close),
                         ],
                     )
                 }

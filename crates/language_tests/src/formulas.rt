@@ -1,7 +1,7 @@
 //! Tokens to trees, and copies of trees. Tokens are numbered from 0.
+use formula_texts::{Pieces, joined, put, put_number, show};
 use pc_common::{Listed, Memory, Place, Shared};
 use pc_syntax::{Arg, Args, Formula, Item, ModelFile, Name, Names, Pred, StageItem, Takes, Word};
-use shown_texts::{Pieces, joined, put, put_number, show};
 use std::alloc::Global;
 use std::test::Fail;
 use uspec_lexer::tokens;
@@ -467,7 +467,7 @@ fn is_named(name: &[u8], pred: Pred, takes: &[Takes]) -> bool {
 #[test]
 fn a_predicate_is_found_by_its_name_and_by_no_other(rt: HostRuntime) {
     for (name, pred, takes) in PREDICATES {
-        assert!(rt; is_named(name, *pred, takes), "{pred:?}");
+        assert!(rt; is_named(name, *pred, takes), "{name:?}");
     }
     for text in ["", "true", "Shared", "IsAnyRea", "IsAnyReads"] {
         assert!(rt; Pred::of_name(text.as_bytes()).is_none(), "{text}");

@@ -1,5 +1,6 @@
 //! The laws of lexers, of parsers and of readers of whole files.
-use uspec_lexer::{LexFault, tokens};
+use uspec_lexer::{LexFault, Models, tokens};
+use x86_litmus::Listings;
 
 const MODEL: &[u8] = b"StageName 0 \"S\".
 Axiom \"a\": True.
@@ -20,19 +21,20 @@ exists (x=1)
 /// A law does nothing, and can be called by anyone who wants what it says.
 #[test]
 fn each_law_of_tokens_can_be_called(_rt: HostRuntime) {
-    uspec_lexer::tokens_or_fault(MODEL);
-    uspec_lexer::one_list(MODEL);
-    uspec_lexer::one_fault(MODEL);
-    uspec_lexer::no_fault(MODEL);
-    uspec_lexer::tokens_in_order(MODEL);
+    uspec_lexer::tokens_or_fault::<Models>(MODEL, 0);
+    uspec_lexer::one_list::<Models>(MODEL, 0);
+    uspec_lexer::one_fault::<Models>(MODEL, 0);
+    uspec_lexer::no_fault::<Models>(MODEL, 0);
+    uspec_lexer::tokens_in_order::<Models>(MODEL, 0);
 }
 
 #[test]
 fn each_law_of_a_listings_tokens_can_be_called(_rt: HostRuntime) {
-    x86_tokens::tokens_or_fault(LISTING, 6);
-    x86_tokens::one_list(LISTING, 6);
-    x86_tokens::one_fault(LISTING, 6);
-    x86_tokens::no_fault(LISTING, 6);
+    uspec_lexer::tokens_or_fault::<Listings>(LISTING, 6);
+    uspec_lexer::one_list::<Listings>(LISTING, 6);
+    uspec_lexer::one_fault::<Listings>(LISTING, 6);
+    uspec_lexer::no_fault::<Listings>(LISTING, 6);
+    uspec_lexer::tokens_in_order::<Listings>(LISTING, 6);
 }
 
 #[test]

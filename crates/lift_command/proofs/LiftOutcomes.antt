@@ -24,7 +24,7 @@ use Rattle.command_base.proofs.OneCase.{one_held}
 use Rattle.command_base.proofs.AskedAlike.{asks_alike}
 use Rattle.command_base.proofs.AnsweredFiles.{found_of, due_of_files}
 use Rattle.command_base.proofs.ThirdFile.{third_found}
-use Rattle.command_base.specs.Questions.{lifted_question}
+use Rattle.command_base.specs.LiftedQuestions.{lifted_question}
 use Rattle.lift_command.specs.declared.lifting.FoundLift.{FoundLift}
 use Rattle.lift_command.specs.declared.lifting.FoundLift.TheVariants.{Observable, Text, Refused}
 use Rattle.lift_command.specs.Lifts.{IsLiftOf}
@@ -65,7 +65,8 @@ module _ {F : Type 0} {view : F → FilesView} {old mid new : F}
       × IsLiftOf (question_of front) (asked front.case front.axioms) bytes found)
       → IsThirdOutcome view case_of first_fault i certificate (IsLifted (view old).holds certificate) old new (lift_status found) (lift_text found)
   found_outcome found is =
-      third_found failing_modelled certificate (IsLifted (view old).holds certificate) f keeps (lift_status found) (lift_text found) (no_usage found) (no_read_fault found)
+      third_found failing_modelled certificate (IsLifted (view old).holds certificate) f keeps (lift_status found)
+      (lift_text found) (no_usage found) (no_read_fault found)
       (λ t. let third = is t in (
         third.0,
         third.1,

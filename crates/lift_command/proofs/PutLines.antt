@@ -26,8 +26,10 @@ put_then r old mid new xs ys is h = on_ok_weaker r (λ e. e ∙ ap (λ (t : List
 pub put_as : {T E : Type 0} (r : Result T E) (old new xs ys : List ℕ) → xs ≡ ys → OnOk r (new ≡ old ++ xs) → OnOk r (new ≡ old ++ ys)
 put_as r old new xs ys same h = on_ok_weaker r (λ e. e ∙ ap (λ (t : List ℕ). old ++ t) same) h
 
-pub cycle_line : (ops : List MicroOp) (k : ℕ) (ks : List ℕ) → codes "cycle" ++ ((codes " " ++ decimal k) ++ spaced (map decimal ks)) ≡ line_of ops (close (cycle k ks))
-cycle_line ops k ks = sym (line_is ops (close (cycle k ks)) ∙ ap (λ (r : List ℕ). codes "cycle" ++ r) (append-nil ((codes " " ++ decimal k) ++ spaced (map decimal ks))))
+pub cycle_line : (ops : List MicroOp) (k : ℕ) (ks : List ℕ)
+    → codes "cycle" ++ ((codes " " ++ decimal k) ++ spaced (map decimal ks)) ≡ line_of ops (close (cycle k ks))
+cycle_line ops k ks = sym (line_is ops (close (cycle k ks))
+    ∙ ap (λ (r : List ℕ). codes "cycle" ++ r) (append-nil ((codes " " ++ decimal k) ++ spaced (map decimal ks))))
 
 pub path_line : (ops : List MicroOp) (k : ℕ) (ks : List ℕ) (denial : ℕ)
     → (codes "path" ++ ((codes " " ++ decimal k) ++ spaced (map decimal ks))) ++ (codes " " ++ decimal denial) ≡ line_of ops (close (path k ks denial))
@@ -65,7 +67,8 @@ pub lines_next : (ops : List MicroOp) (steps : List LiftedStep) (k : ℕ) (s : L
 lines_next ops steps k s front old new there before is =
     let sofar = flat_map (line_text ops) (take k steps) in
     let more : flat_map (line_text ops) (take (k + 1) steps) ≡ sofar ++ line_text ops s =
-    ap (flat_map (line_text ops)) (taken_next steps k s there) ∙ flat_map-append (line_text ops) (take k steps) (s ∷ []) ∙ ap (λ (r : List ℕ). sofar ++ r) (append-nil (line_text ops s)) in
+    ap (flat_map (line_text ops)) (taken_next steps k s there) ∙ flat_map-append (line_text ops) (take k steps) (s ∷ [])
+    ∙ ap (λ (r : List ℕ). sofar ++ r) (append-nil (line_text ops s)) in
     is ∙ ap (λ (t : List ℕ). t ++ line_text ops s) before ∙ append_assoc front sofar (line_text ops s) ∙ ap (λ (r : List ℕ). front ++ r) (sym more)
 
 -- what holds of all holds of the one at a place
@@ -73,11 +76,13 @@ pub all_at : {X : Type 0} (P : X → Type 0) (xs : List X) (k : ℕ) (x : X) →
 all_at P xs k x all there = subst P (get_or_from_slice_get xs k x x there) (All-get_or P xs k x (slice_get_within xs k x there) all)
 
 -- the three lines of a header
-pub put_header_text : {T E : Type 0} (r : Result T E) (old one two new given second : List ℕ) → given ≡ second → one ≡ old ++ codes "unobservable\n" → two ≡ one ++ given
+pub put_header_text : {T E : Type 0} (r : Result T E) (old one two new given second : List ℕ) → given ≡ second
+    → one ≡ old ++ codes "unobservable\n" → two ≡ one ++ given
     → OnOk r (new ≡ two ++ codes "lifted\n") → OnOk r (new ≡ old ++ (codes "unobservable\n" ++ (second ++ codes "lifted\n")))
 put_header_text r old one two new given second same first next h =
     on_ok_weaker r
-    (λ e. e ∙ ap (λ (t : List ℕ). t ++ codes "lifted\n") (next ∙ ap (λ (t : List ℕ). t ++ given) first ∙ ap (λ (t : List ℕ). (old ++ codes "unobservable\n") ++ t) same)
+    (λ e. e ∙ ap (λ (t : List ℕ). t ++ codes "lifted\n") (next ∙ ap (λ (t : List ℕ). t ++ given) first
+    ∙ ap (λ (t : List ℕ). (old ++ codes "unobservable\n") ++ t) same)
     ∙ append_assoc (old ++ codes "unobservable\n") second (codes "lifted\n") ∙ append_assoc old (codes "unobservable\n") (second ++ codes "lifted\n")) h
 
 -- one more of those before a place
@@ -85,15 +90,19 @@ pub all_next : {X : Type 0} (P : X → Type 0) (xs : List X) (k : ℕ) (x : X) �
 all_next P xs k x there before here = (subst (λ ys. All P ys) (sym (taken_next xs k x there)) (All-push P (take k xs) x before here))
 
 -- the lines of a part that an instance or a member is
-pub inst_line : (ops : List MicroOp) (v : Instance) (k : ℕ) → ((codes "inst" ++ (codes " " ++ decimal k)) ++ codes " ") ++ value_text ops v ≡ line_of ops (derive (InstWay v) k)
+pub inst_line : (ops : List MicroOp) (v : Instance) (k : ℕ)
+    → ((codes "inst" ++ (codes " " ++ decimal k)) ++ codes " ") ++ value_text ops v ≡ line_of ops (derive (InstWay v) k)
 inst_line ops v k =
-    append_assoc (codes "inst" ++ (codes " " ++ decimal k)) (codes " ") (value_text ops v) ∙ append_assoc (codes "inst") (codes " " ++ decimal k) (codes " " ++ value_text ops v)
+    append_assoc (codes "inst" ++ (codes " " ++ decimal k)) (codes " ") (value_text ops v)
+    ∙ append_assoc (codes "inst") (codes " " ++ decimal k) (codes " " ++ value_text ops v)
 
-pub member_line : (ops : List MicroOp) (k j : ℕ) → (codes "member" ++ (codes " " ++ decimal k)) ++ (codes " " ++ decimal j) ≡ line_of ops (derive (MemberWay j) k)
+pub member_line : (ops : List MicroOp) (k j : ℕ)
+    → (codes "member" ++ (codes " " ++ decimal k)) ++ (codes " " ++ decimal j) ≡ line_of ops (derive (MemberWay j) k)
 member_line ops k j = append_assoc (codes "member") (codes " " ++ decimal k) (codes " " ++ decimal j)
 
 -- the name of the micro-op at a place
-pub put_op : {T E : Type 0} (r : Result T E) (ops : List MicroOp) (i : ℕ) (o : MicroOp) (old one two new : List ℕ) → slice_get ops i ≡ Some o → one ≡ old ++ decimal o.g → two ≡ one ++ codes "."
+pub put_op : {T E : Type 0} (r : Result T E) (ops : List MicroOp) (i : ℕ) (o : MicroOp) (old one two new : List ℕ)
+    → slice_get ops i ≡ Some o → one ≡ old ++ decimal o.g → two ≡ one ++ codes "."
     → OnOk r (new ≡ two ++ decimal o.n) → OnOk r (new ≡ old ++ value_text ops (OpInstance i))
 put_op r ops i o old one two new there first next h =
     on_ok_weaker r

@@ -26,7 +26,8 @@ spaced_more [] ys = refl
 spaced_more (x ∷ xs) ys = ap (λ (r : List ℕ). (codes " " ++ x) ++ r) (spaced_more xs ys) ∙ sym (append_assoc (codes " " ++ x) (spaced xs) (spaced ys))
 
 -- a line is its keyword, and then its numbers and its value after spaces
-pub line_is : (ops : List MicroOp) (s : LiftedStep) → line_of ops s ≡ keyword_text (keyword_of s) ++ (spaced (map decimal (numbers_of s)) ++ spaced (value_words ops s))
+pub line_is : (ops : List MicroOp) (s : LiftedStep)
+    → line_of ops s ≡ keyword_text (keyword_of s) ++ (spaced (map decimal (numbers_of s)) ++ spaced (value_words ops s))
 line_is ops s =
     joined_spaced (keyword_text (keyword_of s)) (map decimal (numbers_of s) ++ value_words ops s)
     ∙ ap (λ (r : List ℕ). keyword_text (keyword_of s) ++ r) (spaced_more (map decimal (numbers_of s)) (value_words ops s))

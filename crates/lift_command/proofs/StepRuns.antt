@@ -56,7 +56,8 @@ value_fits c b os next (derive (Member j) k) small core a = tt
 value_fits c b os next (split k) small core a = tt
 value_fits c b os next (close l) small core a = tt
 
-pub values_fit : (c : Case) (steps : List LiftedStep) (opens rest : List Branch) → AreSmall c.ops → All HasSmallCore steps → Runs c steps opens rest → All (HasValue c.ops) steps
+pub values_fit : (c : Case) (steps : List LiftedStep) (opens rest : List Branch) → AreSmall c.ops → All HasSmallCore steps
+    → Runs c steps opens rest → All (HasValue c.ops) steps
 values_fit c [] opens rest small cores r = All-nil (HasValue c.ops)
 values_fit c (s ∷ ss) [] rest small cores r = absurd r.1
 values_fit c (s ∷ ss) (b ∷ os) rest small cores r =
@@ -66,9 +67,11 @@ values_fit c (s ∷ ss) (b ∷ os) rest small cores r =
 abbrev AreSmallNumbers : LiftedStep → Type 0
 AreSmallNumbers s = All IsSmall (numbers_of s)
 
-pub lines_run : (c : Case) (steps : List LiftedStep) (opens rest : List Branch) → All AreSmallNumbers steps → All (HasValue c.ops) steps → Runs c steps opens rest
+pub lines_run : (c : Case) (steps : List LiftedStep) (opens rest : List Branch) → All AreSmallNumbers steps
+    → All (HasValue c.ops) steps → Runs c steps opens rest
     → LinesRun c (lines_of c.ops steps) opens rest
 lines_run c [] opens rest small values r = r
 lines_run c (s ∷ ss) opens rest small values r =
-    let is_line : IsStepLine c.ops (line_of c.ops s) s = record { small = All-head AreSmallNumbers s ss small; value = All-head (HasValue c.ops) s ss values; is = refl } in
+    let is_line : IsStepLine c.ops (line_of c.ops s) s =
+    record { small = All-head AreSmallNumbers s ss small; value = All-head (HasValue c.ops) s ss values; is = refl } in
     (r.0, (s, is_line, r.1), lines_run c ss r.0 rest (All-tail AreSmallNumbers s ss small) (All-tail (HasValue c.ops) s ss values) r.2)

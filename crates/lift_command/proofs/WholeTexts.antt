@@ -25,7 +25,8 @@ all_append P (x ∷ xs) ys h k = All-cons P x (xs ++ ys) (All-head P x xs h) (al
 steps_fit : (q : Question) (steps : List LiftedStep) → All AreSmallNumbers steps → All (HasValue q.case.ops) steps → All IsLine (lines_of q.case.ops steps)
 steps_fit q [] small values = All-nil IsLine
 steps_fit q (s ∷ ss) small values =
-    All-cons IsLine (line_of q.case.ops s) (lines_of q.case.ops ss) (line_fits q.case.ops s (All-head AreSmallNumbers s ss small) (All-head (HasValue q.case.ops) s ss values))
+    All-cons IsLine (line_of q.case.ops s) (lines_of q.case.ops ss)
+    (line_fits q.case.ops s (All-head AreSmallNumbers s ss small) (All-head (HasValue q.case.ops) s ss values))
     (steps_fit q ss (All-tail AreSmallNumbers s ss small) (All-tail (HasValue q.case.ops) s ss values))
 
 second_fits : (e : Expectation) → IsLine (second_text unobservable e)
@@ -45,14 +46,16 @@ texts q (s ∷ ss) = ap (λ (r : List ℕ). line_text q.case.ops s ++ r) (texts 
 
 pub text_append : (xs ys : List (List ℕ)) → text_of_lines (xs ++ ys) ≡ text_of_lines xs ++ text_of_lines ys
 text_append [] ys = refl
-text_append (x ∷ xs) ys = ap (λ (r : List ℕ). (x ++ codes "\n") ++ r) (text_append xs ys) ∙ sym (append_assoc (x ++ codes "\n") (text_of_lines xs) (text_of_lines ys))
+text_append (x ∷ xs) ys = ap (λ (r : List ℕ). (x ++ codes "\n") ++ r) (text_append xs ys)
+    ∙ sym (append_assoc (x ++ codes "\n") (text_of_lines xs) (text_of_lines ys))
 
 -- the header, the lines of the steps and the last line
 abbrev pub whole_bytes : Question → List LiftedStep → List ℕ
 whole_bytes q steps =
     ((codes "unobservable\n" ++ ((second_line q ++ codes "\n") ++ codes "lifted\n")) ++ flat_map (line_text q.case.ops) steps) ++ codes "end\n"
 
-header_text : (second : List ℕ) → text_of_lines (codes "unobservable" ∷ second ∷ codes "lifted" ∷ []) ≡ codes "unobservable\n" ++ ((second ++ codes "\n") ++ codes "lifted\n")
+header_text : (second : List ℕ)
+    → text_of_lines (codes "unobservable" ∷ second ∷ codes "lifted" ∷ []) ≡ codes "unobservable\n" ++ ((second ++ codes "\n") ++ codes "lifted\n")
 header_text second = refl
 
 whole_lines : (q : Question) (steps : List LiftedStep) → whole_bytes q steps ≡ text_of_lines (all_lines q (lines_of q.case.ops steps))
@@ -65,7 +68,8 @@ whole_lines q steps =
     ∙ ap (λ (r : List ℕ). text_of_lines (header q) ++ r) (sym (text_append (lines_of q.case.ops steps) (codes "end" ∷ [])))
     ∙ sym (text_append (header q) (lines_of q.case.ops steps ++ codes "end" ∷ []))
 
-pub whole_text : (q : Question) (steps : List LiftedStep) (text : List ℕ) → IsLiftedRefutation q.case q.axioms steps → AreSmall q.case.ops → All AreSmallNumbers steps → All HasSmallCore steps
+pub whole_text : (q : Question) (steps : List LiftedStep) (text : List ℕ) → IsLiftedRefutation q.case q.axioms steps
+    → AreSmall q.case.ops → All AreSmallNumbers steps → All HasSmallCore steps
     → text ≡ whole_bytes q steps → IsMadeOf (IsLiftedText q) text
 whole_text q steps text refuted ops small cores is =
     let values = values_fit q.case steps (root q.axioms ∷ []) [] ops cores refuted in

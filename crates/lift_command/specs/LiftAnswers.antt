@@ -11,8 +11,8 @@ use Rattle.cert_check.specs.declared.one.One.{One}
 use Rattle.cert_check.specs.declared.one.One.TheVariants.{Graph, Tree, Refused}
 use Rattle.command_base.specs.Inputs.{Inputs, Contents}
 use Rattle.command_base.specs.Questions.{question_by}
-use Rattle.command_base.specs.Outcomes.{AnswersFiles, IsDueOfFiles}
-use Rattle.command_base.specs.Questions.{lifted_question}
+use Rattle.command_base.specs.FileAnswers.{AnswersFiles, IsDueOfFiles}
+use Rattle.command_base.specs.LiftedQuestions.{lifted_question}
 use Rattle.lift_command.specs.declared.lifting.FoundLift.{FoundLift}
 use Rattle.lift_command.specs.Lifts.{IsLiftOf}
 use Rattle.lift_command.specs.LiftTexts.{lift_status, lift_text}

@@ -1,5 +1,8 @@
 //! The command `lift MODEL TEST CERT`: a refutation as a lifted one, whose steps speak of the closed axioms.
 //!
+//! Clause: `lift` returns a text of lines that are a lifted refutation; `lift_files` returns that of a third file, or
+//! its refused line, or how the command ends before that (their clauses).
+//!
 //! ```rust
 //! // m.uspec and t.test have no fault, and c.txt has no line
 //! let inputs = Inputs { model: "m.uspec", test: "t.test" };

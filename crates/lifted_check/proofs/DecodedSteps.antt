@@ -9,7 +9,7 @@ use Rattle.lifted_facts.proofs.PartTruth.{mapped}
 use Rattle.lifted_check.specs.StepLines.{keyword_of, numbers_of, value_words, HasValue}
 use Rattle.lifted_check.specs.Decoding.{only_number, two_numbers, onto_front, front_and_last, decoded}
 use Rattle.lifted_check.specs.declared.keyword.Keyword.{Keyword}
-use Rattle.lifted_check.specs.declared.keyword.Keyword.TheVariants.{Left, Right, Not, Bind, Inst, Member, Split, False, Cycle, Path, Absent}
+use Rattle.lifted_check.specs.declared.keyword.Keyword.TheVariants.{Left, Right, Not, Bind, Member, Split, False, Cycle, Path, Absent, Inst}
 
 pub front_last : (ks : List ℕ) (d : ℕ) → front_and_last (ks ++ d ∷ []) ≡ Some (ks, d)
 front_last [] d = refl

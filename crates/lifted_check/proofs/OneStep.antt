@@ -12,11 +12,11 @@ use Rattle.pc_ground.specs.NodeWords.{Lacks}
 use Rattle.pc_ground.proofs.Decimals.{decimal_read}
 use Rattle.pc_ground.proofs.Cuts.{one_cut, cut_has, decimal_lacks}
 use Rattle.pc_ground.proofs.Outside.{lacks_append}
+use Rattle.pc_ground.specs.Words.{words}
 use Rattle.lifted_facts.specs.declared.way.Instance.{Instance}
 use Rattle.lifted_facts.specs.declared.way.Instance.TheVariants.{Op as OpInstance, Core as CoreInstance}
 use Rattle.lifted_facts.specs.declared.way.Way.TheVariants.{Left as LeftWay, Right as RightWay, Not as NotWay, Bind as BindWay, Inst as InstWay, Member as MemberWay}
 use Rattle.lifted_facts.specs.Lifted.{LiftedStep, derive, split, close, falsity, cycle, path, absent}
-use Rattle.lifted_check.specs.Words.{words}
 use Rattle.lifted_check.specs.StepLines.{keyword_text, keyword_of, numbers_of, value_text, value_words, step_words, IsSmall, IsValue, HasValue, IsStepLine}
 use Rattle.lifted_check.specs.Decoding.{decoded}
 use Rattle.lifted_check.specs.declared.keyword.Keyword.{Keyword}
@@ -101,7 +101,8 @@ one_value ops kept (CoreInstance k) (OpInstance i) hu hv e =
     absurd (cut_has 46 (decimal k) (decimal hv.0.g) (decimal hv.0.n) (dot_lacks hv.0.g hv.2, e ∙ op_is ops i hv.0 hv.1) (dot_lacks k hu))
 one_value ops kept (OpInstance i) (OpInstance j) hu hv e =
     let o = hu.0 in let p = hv.0 in
-    let parts = one_cut 46 (decimal o.g) (decimal o.n) (decimal p.g) (decimal p.n) (dot_lacks o.g hu.2) (dot_lacks p.g hv.2) (sym (op_is ops i o hu.1) ∙ e ∙ op_is ops j p hv.1) in
+    let parts = one_cut 46 (decimal o.g) (decimal o.n) (decimal p.g) (decimal p.n) (dot_lacks o.g hu.2) (dot_lacks p.g hv.2)
+    (sym (op_is ops i o hu.1) ∙ e ∙ op_is ops j p hv.1) in
     ap OpInstance (kept.once i j o p hu.1 hv.1 (one_number o.g p.g hu.2 hv.2 parts.0) (one_number o.n p.n hu.3 hv.3 parts.1))
 
 -- the words of a step's line
@@ -254,4 +255,5 @@ one_step ops kept line s t hs ht = go (kind_of ops s)
         let numbers : decimal mine.number ≡ decimal other.number = cc (mine.words, other.words) in
         let values : value_text ops mine.value ≡ value_text ops other.value = cc (mine.words, other.words) in
         mine.is ∙ ap (λ (k : ℕ). derive (InstWay mine.value) k) (one_number mine.number other.number mine.small other.small numbers)
-        ∙ ap (λ (v : Instance). derive (InstWay v) other.number) (one_value ops kept mine.value other.value mine.has_value other.has_value values) ∙ sym other.is
+        ∙ ap (λ (v : Instance). derive (InstWay v) other.number) (one_value ops kept mine.value other.value mine.has_value other.has_value values)
+        ∙ sym other.is

@@ -18,7 +18,8 @@ use Rattle.lifted_check.specs.declared.lifted.Lifted.{Lifted}
 use Rattle.lifted_check.specs.declared.lifted.Lifted.TheVariants.{Unobservable, Refused}
 use Rattle.lifted_check.proofs.LineRuns.{steps_of}
 
-pub text_forbids : (q : Question) (text : List ℕ) → IsMadeOf (IsLiftedText q) text → (w : World Node) → IsWorld w → IsTrue (closed_satisfies q.axioms q.case w) → ⊥
+pub text_forbids : (q : Question) (text : List ℕ) → IsMadeOf (IsLiftedText q) text → (w : World Node) → IsWorld w
+    → IsTrue (closed_satisfies q.axioms q.case w) → ⊥
 text_forbids q text made w is_world satisfied =
     let t = made.accepted in
     let r = steps_of q.case t.steps (root q.axioms ∷ []) [] t.run in

@@ -3,11 +3,11 @@ use Rattle.std.proofs.Common.{◌≡◌, ◌≢◌, ℕ, Bool, true, false, List
 use Rattle.std.specs.Prelude.{All}
 use Rattle.std.specs.Fmt.{decimal}
 use Rattle.pc_common.specs.Case.{Case, MicroOp}
+use Rattle.pc_ground.specs.Words.{words}
 use Rattle.lifted_facts.specs.declared.way.Instance.{Instance}
 use Rattle.lifted_facts.specs.declared.way.Way.TheVariants.{Inst as InstWay}
 use Rattle.lifted_facts.specs.PlainFacts.{Branch}
 use Rattle.lifted_facts.specs.Lifted.{LiftedStep, derive, Advances, HasAdvanced}
-use Rattle.lifted_check.specs.Words.{words}
 use Rattle.lifted_check.specs.StepLines.{keyword_text, numbers_of, value_text, IsSmall, IsValue, IsStepLine}
 use Rattle.lifted_check.specs.Decoding.{decoded}
 use Rattle.lifted_check.specs.Stages.{IsCase, HasSteppedOn}

@@ -46,7 +46,8 @@ start_next q lines line are begins =
     let both : line ∷ b.more ≡ header q ++ b.body = sym (ap (λ (ls : List (List ℕ)). (ls ++ line ∷ []) ++ b.more) are) ∙ b.are in
     cc
 
-pub first_next : (q : Question) (lines : List (List ℕ)) (line : List ℕ) → lines ≡ codes "unobservable" ∷ [] → BeginsLifted q (lines ++ line ∷ []) → line ≡ second_line q
+pub first_next : (q : Question) (lines : List (List ℕ)) (line : List ℕ) → lines ≡ codes "unobservable" ∷ []
+    → BeginsLifted q (lines ++ line ∷ []) → line ≡ second_line q
 first_next q lines line are begins =
     let b = body_of q (lines ++ line ∷ []) begins in
     let both : codes "unobservable" ∷ line ∷ b.more ≡ header q ++ b.body = sym (ap (λ (ls : List (List ℕ)). (ls ++ line ∷ []) ++ b.more) are) ∙ b.are in
@@ -146,7 +147,8 @@ no_more q lines line w begins = go b.is
             (let P : List (List ℕ) → Type 0 = λ ls. LinesRun q.case ls (root q.axioms ∷ []) [] in ended rest [] (subst P same all))
 
 -- a step line, taken where the branches are
-pub steps_gone : (q : Question) → IsAsked q → (old new : Branches) (lines : List (List ℕ)) (line : List ℕ) → AreStepsSoFar q old lines → (line ≡ codes "end" → ⊥)
+pub steps_gone : (q : Question) → IsAsked q → (old new : Branches) (lines : List (List ℕ)) (line : List ℕ)
+    → AreStepsSoFar q old lines → (line ≡ codes "end" → ⊥)
     → new.case.now ≡ old.case.now → (good : Bool) → HasSteppedOn q.case line (opens_at old) (opens_at new) good → HasGone q lines line (Steps new) good
 steps_gone q kept old new lines line so_far other same true a = record {
   steps = so_far.steps ++ line ∷ [];
@@ -154,20 +156,23 @@ steps_gone q kept old new lines line so_far other same true a = record {
   are = ap (λ (ls : List (List ℕ)). ls ++ line ∷ []) so_far.are ∙ append_assoc (header q) so_far.steps (line ∷ []);
   run = lines_then q.case so_far.steps (line ∷ []) (root q.axioms ∷ []) (opens_at old) (opens_at new) so_far.run ((opens_at new), a, refl);
 }
-steps_gone q kept old new lines line so_far other same false none = λ begins. go (steps_next q kept lines so_far.steps (opens_at old) line so_far.are so_far.run begins)
+steps_gone q kept old new lines line so_far other same false none =
+    λ begins. go (steps_next q kept lines so_far.steps (opens_at old) line so_far.are so_far.run begins)
   where
     go : IsNext q (opens_at old) line → ⊥
     go (a_step next a) = none next a
     go (the_end is closed) = other is
 
-pub steps_ended : (q : Question) (o : Branches) (lines : List (List ℕ)) → AreStepsSoFar q o lines → (opens_at o) ≡ [] → IsLiftedText q (lines ++ codes "end" ∷ [])
+pub steps_ended : (q : Question) (o : Branches) (lines : List (List ℕ)) → AreStepsSoFar q o lines → (opens_at o) ≡ []
+    → IsLiftedText q (lines ++ codes "end" ∷ [])
 steps_ended q o lines so_far closed = record {
   steps = so_far.steps;
   are = ap (λ (ls : List (List ℕ)). ls ++ codes "end" ∷ []) so_far.are ∙ append_assoc (header q) so_far.steps (codes "end" ∷ []);
   run = (let P : List Branch → Type 0 = λ bs. LinesRun q.case so_far.steps (root q.axioms ∷ []) bs in subst P closed so_far.run);
 }
 
-pub end_stuck : (q : Question) → IsAsked q → (o : Branches) (lines : List (List ℕ)) → AreStepsSoFar q o lines → ((opens_at o) ≡ [] → ⊥) → BeginsLifted q (lines ++ codes "end" ∷ []) → ⊥
+pub end_stuck : (q : Question) → IsAsked q → (o : Branches) (lines : List (List ℕ)) → AreStepsSoFar q o lines
+    → ((opens_at o) ≡ [] → ⊥) → BeginsLifted q (lines ++ codes "end" ∷ []) → ⊥
 end_stuck q kept o lines so_far «open» begins = go (steps_next q kept lines so_far.steps (opens_at o) (codes "end") so_far.are so_far.run begins)
   where
     go : IsNext q (opens_at o) (codes "end") → ⊥
@@ -175,11 +180,13 @@ end_stuck q kept o lines so_far «open» begins = go (steps_next q kept lines so
     go (the_end is closed) = «open» closed
 
 -- the end of the text
-pub done_is : (q : Question) → IsAsked q → (stage : Stage) (lines : List (List ℕ)) → StandsAt q stage lines → (is_end stage ≡ true → IsLiftedText q lines) × (IsLiftedText q lines → is_end stage ≡ true)
+pub done_is : (q : Question) → IsAsked q → (stage : Stage) (lines : List (List ℕ)) → StandsAt q stage lines
+    → (is_end stage ≡ true → IsLiftedText q lines) × (IsLiftedText q lines → is_end stage ≡ true)
 done_is q kept Ended lines st = (λ e. st, λ w. refl)
 done_is q kept Start lines st = (λ e. cc, λ w. (let none : [] ≡ header q ++ (w.steps ++ codes "end" ∷ []) = sym st ∙ w.are in cc))
 done_is q kept First lines st = (λ e. cc, λ w. (let none : codes "unobservable" ∷ [] ≡ header q ++ (w.steps ++ codes "end" ∷ []) = sym st ∙ w.are in cc))
-done_is q kept Second lines st = (λ e. cc, λ w. (let none : codes "unobservable" ∷ second_line q ∷ [] ≡ header q ++ (w.steps ++ codes "end" ∷ []) = sym st ∙ w.are in cc))
+done_is q kept Second lines st =
+    (λ e. cc, λ w. (let none : codes "unobservable" ∷ second_line q ∷ [] ≡ header q ++ (w.steps ++ codes "end" ∷ []) = sym st ∙ w.are in cc))
 done_is q kept (Steps o) lines st = (λ e. cc, λ w. absurd (no_last w))
   where
     no_last : IsLiftedText q lines → ⊥

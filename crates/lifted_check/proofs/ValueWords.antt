@@ -1,17 +1,17 @@
 -- Which words name a value.
-use Rattle.std.proofs.Common.{◌≡◌, ℕ, List, [], ◌∷◌, ◌++◌, Some, sym, ◌∙◌, ap, subst}
+use Rattle.std.proofs.Common.{◌≡◌, ℕ, List, [], ◌∷◌, ◌++◌, Some, sym, ◌∙◌, ap}
 use Rattle.std.specs.Prelude.{codes, slice_get}
 use Rattle.std.specs.Fmt.{decimal}
 use Rattle.pc_common.specs.Case.{MicroOp}
 use Rattle.pc_case.specs.MicroOps.{IsNamed}
 use Rattle.pc_ground.specs.Decimals.{IsDecimal}
 use Rattle.pc_ground.specs.NodeWords.{Lacks, IsCut}
-use Rattle.pc_ground.proofs.Cuts.{cut_is, cut_has}
+use Rattle.pc_ground.proofs.Cuts.{cut_is, cut_has, words_last}
+use Rattle.pc_ground.specs.Words.{words}
 use Rattle.lifted_facts.specs.declared.way.Instance.{Instance}
 use Rattle.lifted_facts.specs.declared.way.Instance.TheVariants.{Op as OpInstance, Core as CoreInstance}
-use Rattle.lifted_check.specs.Words.{words}
 use Rattle.lifted_check.specs.StepLines.{IsSmall, IsValue, value_text}
-use Rattle.lifted_check.proofs.SpacedWords.{words_cut, words_last, line_of_words}
+use Rattle.lifted_check.proofs.SpacedWords.{words_cut, line_of_words}
 use Rattle.lifted_check.proofs.OneStep.{dotted, dot_lacks, op_is, value_lacks, one_number}
 
 -- a word g.n, by the numbers of a micro-op
@@ -21,25 +21,16 @@ IsName word g n = word ≡ decimal g ++ codes "." ++ decimal n
 name_cut : (word : List ℕ) (g n : ℕ) → IsSmall g → IsName word g n → IsCut 46 word (decimal g) (decimal n)
 name_cut word g n small is = (dot_lacks g small, is ∙ dotted (decimal g) (decimal n))
 
-pub no_dot : (word : List ℕ) → Lacks 46 word → (g n : ℕ) → IsSmall g → IsSmall n → IsName word g n → ⊥
-no_dot word lacks g n hg hn is = cut_has 46 word (decimal g) (decimal n) (name_cut word g n hg is) lacks
-
 pub no_g : (word a b : List ℕ) → IsCut 46 word a b → ((k : ℕ) → IsDecimal a k → ⊥) → (g n : ℕ) → IsSmall g → IsSmall n → IsName word g n → ⊥
 no_g word a b cut none g n hg hn is = none g (hg, sym (cut_is 46 word (decimal g) (decimal n) a b (name_cut word g n hg is) cut).0)
 
 pub no_n : (word a b : List ℕ) → IsCut 46 word a b → ((k : ℕ) → IsDecimal b k → ⊥) → (g n : ℕ) → IsSmall g → IsSmall n → IsName word g n → ⊥
 no_n word a b cut none g n hg hn is = none n (hn, sym (cut_is 46 word (decimal g) (decimal n) a b (name_cut word g n hg is) cut).1)
 
-pub a_name : (word a b : List ℕ) → IsCut 46 word a b → (g n : ℕ) → IsDecimal a g → IsDecimal b n → IsSmall g × IsSmall n × IsName word g n
-a_name word a b cut g n hg hn = (
-  hg.0,
-  hn.0,
-  cut.1 ∙ ap (λ (xs : List ℕ). xs ++ 46 ∷ b) hg.1 ∙ ap (λ (xs : List ℕ). decimal g ++ 46 ∷ xs) hn.1 ∙ sym (dotted (decimal g) (decimal n)),
-)
-
 -- a name is no decimal, and names of the same word have the same numbers
 name_number : (word : List ℕ) (g n k : ℕ) → IsSmall g → IsName word g n → IsSmall k → word ≡ decimal k → ⊥
-name_number word g n k hg is hk e = cut_has 46 (decimal k) (decimal g) (decimal n) (dot_lacks g hg, sym e ∙ is ∙ dotted (decimal g) (decimal n)) (dot_lacks k hk)
+name_number word g n k hg is hk e =
+    cut_has 46 (decimal k) (decimal g) (decimal n) (dot_lacks g hg, sym e ∙ is ∙ dotted (decimal g) (decimal n)) (dot_lacks k hk)
 
 op_name : (ops : List MicroOp) (word : List ℕ) (i : ℕ) (o : MicroOp) → slice_get ops i ≡ Some o → word ≡ value_text ops (OpInstance i) → IsName word o.g o.n
 op_name ops word i o at e = e ∙ op_is ops i o at ∙ sym (dotted (decimal o.g) (decimal o.n))
@@ -49,22 +40,9 @@ pub no_such_op : (ops : List MicroOp) (word : List ℕ) (g n : ℕ) → IsSmall 
 no_such_op ops word g n hg hn is none (CoreInstance k) h e = name_number word g n k hg is h e
 no_such_op ops word g n hg hn is none (OpInstance i) h e =
     let o = h.0 in
-    let same = cut_is 46 word (decimal o.g) (decimal o.n) (decimal g) (decimal n) (name_cut word o.g o.n h.2 (op_name ops word i o h.1 e)) (name_cut word g n hg is) in
+    let same = cut_is 46 word (decimal o.g) (decimal o.n) (decimal g) (decimal n) (name_cut word o.g o.n h.2 (op_name ops word i o h.1 e))
+    (name_cut word g n hg is) in
     none i (o, h.1, one_number o.g g h.2 hg same.0, one_number o.n n h.3 hn same.1)
-
-pub an_op : (ops : List MicroOp) (word : List ℕ) (g n : ℕ) → IsSmall g → IsSmall n → IsName word g n → (k : ℕ) → IsNamed ops g n k
-    → IsValue ops (OpInstance k) × (word ≡ value_text ops (OpInstance k))
-an_op ops word g n hg hn is k h =
-    let o = h.0 in (
-      (o, h.1, subst IsSmall (sym h.2) hg, subst IsSmall (sym h.3) hn),
-      is ∙ ap (λ (x : ℕ). decimal x ++ codes "." ++ decimal n) (sym h.2) ∙ ap (λ (x : ℕ). decimal o.g ++ codes "." ++ decimal x) (sym h.3)
-          ∙ dotted (decimal o.g) (decimal o.n) ∙ sym (op_is ops k o h.1),
-    )
-
-pub no_number : (ops : List MicroOp) (word : List ℕ) → ((g n : ℕ) → IsSmall g → IsSmall n → IsName word g n → ⊥) → ((k : ℕ) → IsDecimal word k → ⊥)
-    → (v : Instance) → IsValue ops v → word ≡ value_text ops v → ⊥
-no_number ops word no_name none (CoreInstance k) h e = none k (h, e)
-no_number ops word no_name none (OpInstance i) h e = no_name h.0.g h.0.n h.2 h.3 (op_name ops word i h.0 h.1 e)
 
 -- two words as a number and a value
 abbrev pub IsInstanceText : List MicroOp → List ℕ → ℕ → Instance → Type 0

@@ -1,4 +1,3 @@
-pub mod Words
 pub mod StepLines
 pub mod Decoding
 pub mod LiftedTexts

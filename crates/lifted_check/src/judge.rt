@@ -21,7 +21,7 @@ pub(crate) struct LiftedJudge<'a> {
     stage: Stage<'a>,
 }
 
-// Written out, so that a proof of what drops the value meets one call and no field.
+// By hand: docs/DECISIONS.md, "Drops are written by hand".
 impl Drop for LiftedJudge<'_> {
     fn drop(self) {
         let LiftedJudge {
@@ -41,7 +41,7 @@ impl<'a> LiftedJudge<'a> {
         ensures axioms { result.axioms.now ≡ axioms.now }
         ensures stands { Stands (asked case.now axioms.now) result.stage [] }
     {
-        // a case keeps that no two of its micro-ops have one name
+        // for the proof alone: a case keeps that no two of its micro-ops have one name
         let _ops = case.ops();
         LiftedJudge {
             alloc,

@@ -1,5 +1,7 @@
 //! An independent check of lifted refutations: it judges any text against a test and closed axioms, whoever made it.
 //!
+//! Clause: `check_lifted` returns that a text is a lifted refutation, or its refused line (`found`, `outcome`).
+//!
 //! ```rust
 //! use pc_front::read_parts;
 //!

@@ -2,12 +2,12 @@ ghost use Rattle.std.specs.Prelude.{◌≡◌, ◌≢◌, ◌∷◌, ℕ, List, 
 ghost use Rattle.pc_common.specs.Case.{MicroOp};
 ghost use Rattle.lifted_facts.specs.Lifted.{LiftedStep};
 ghost use Rattle.lifted_facts.specs.Opens.{opens_at};
-ghost use Rattle.lifted_check.specs.Words.{words};
 ghost use Rattle.lifted_check.specs.StepLines.{keyword_text, IsStepLine};
 ghost use Rattle.lifted_check.specs.declared.keyword.Keyword.TheVariants.{Inst as InstWord};
 ghost use Rattle.lifted_check.specs.declared.stage.Stage.TheVariants.{Start, First, Second};
 ghost use Rattle.lifted_check.specs.LiftedTexts.{Question, asked};
 ghost use Rattle.lifted_check.specs.Stages.{IsCase, IsAsked, StandsAt, AreStepsSoFar, GoesTo, HasGone, HasSteppedOn};
+ghost use Rattle.pc_ground.specs.Words.{words};
 
 use super::header::{is_first, is_last, is_second, is_third};
 use super::keyword::{Keyword, keyword_named};

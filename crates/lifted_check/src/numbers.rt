@@ -1,7 +1,7 @@
 ghost use Rattle.std.specs.Prelude.{◌≡◌, [], ℕ, List, All, map, IfOk, MatchBool};
 ghost use Rattle.std.specs.Fmt.{decimal};
-ghost use Rattle.lifted_check.specs.Words.{words};
 ghost use Rattle.lifted_check.specs.StepLines.{IsSmall};
+ghost use Rattle.pc_ground.specs.Words.{words};
 
 use super::words::first_word;
 use pc_common::Memory;

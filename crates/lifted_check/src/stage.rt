@@ -17,7 +17,7 @@ pub(crate) enum Stage<'a> {
     Ended,
 }
 
-// Written out, so that a proof of what drops the value meets one call and no variant.
+// By hand: docs/DECISIONS.md, "Drops are written by hand".
 impl Drop for Stage<'_> {
     fn drop(self) {
         match self {

@@ -1,8 +1,8 @@
 ghost use Rattle.std.specs.Prelude.{◌≡◌, ◌∷◌, [], ◌++◌, ℕ, codes, MatchOption};
 ghost use Rattle.std.specs.Fmt.{decimal};
-ghost use Rattle.lifted_check.specs.Words.{words};
 ghost use Rattle.lifted_check.specs.StepLines.{IsSmall, IsValue, value_text};
 ghost use Rattle.lifted_facts.specs.declared.way.Instance.{Instance as AnyInstance};
+ghost use Rattle.pc_ground.specs.Words.{words};
 
 use super::words::{cut, first_word};
 use lifted_facts::Instance;

@@ -1,7 +1,7 @@
 ghost use Rattle.std.specs.Prelude.{◌≡◌, ◌<◌, [], ◌∷◌, length, IfSome, MatchOption};
 ghost use Rattle.std.specs.Option.{option_map_or};
 ghost use Rattle.pc_ground.specs.NodeWords.{Lacks, IsCut};
-ghost use Rattle.lifted_check.specs.Words.{words};
+ghost use Rattle.pc_ground.specs.Words.{words};
 
 /// What stands before the first byte `mark`, and what after it; None where there is none.
 pub(crate) fn cut(word: &[u8], mark: u8) -> Option<(&[u8], &[u8])>

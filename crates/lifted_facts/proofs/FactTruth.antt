@@ -1,6 +1,5 @@
 -- What a fact says of a world.
-use Rattle.std.proofs.Common.{◌≡◌, ◌⊎◌, inl, inr, ℕ, zero, suc, Bool, true, false, not, ◌&&◌, ◌||◌, List, [], ◌∷◌, ◌++◌, Some, drop, refl, subst}
-use Rattle.std.specs.Prelude.{slice_get}
+use Rattle.std.proofs.Common.{◌≡◌, ◌⊎◌, inl, inr, Bool, true, false, not, ◌&&◌, ◌||◌, List, [], ◌∷◌, ◌++◌, drop, refl, subst}
 use Rattle.std.specs.List.{list_any, list_all}
 use Rattle.pc_common.specs.Case.{Case}
 use Rattle.pc_common.specs.World.{Node, World}
@@ -56,12 +55,6 @@ not_not false e = e
 pub not_true : (a : Bool) → not a ≡ true → a ≡ true → ⊥
 not_true true e f = cc
 not_true false e f = cc
-
--- an element by its place
-pub in_at : {X : Type 0} (xs : List X) (k : ℕ) (x : X) → slice_get xs k ≡ Some x → In x xs
-in_at [] k x e = cc
-in_at (y ∷ ys) zero x e = inl cc
-in_at (y ∷ ys) (suc k) x e = inr (in_at ys k x e)
 
 -- no element passes a test that some element would have to pass
 pub none_passes : {X : Type 0} (p : X → Bool) (xs : List X) → not (list_any p xs) ≡ true → (x : X) → In x xs → not (p x) ≡ true

@@ -42,17 +42,5 @@ path_closed b k ks denial x y u v first second p e starts so ends = (
       ends.1 (one.1 ∙ sym two.1)),
 )
 
-pub path_apart : (b : Branch) (k : ℕ) (ks : List ℕ) (denial : ℕ) (x y u v : Node) (first : Bool) → Follows b x (k ∷ ks) y → IsEdge b false denial u v
-    → IsTrue first ↔ (x ≡ u) → first ≡ false → IsTrue false ↔ IsPath b k ks denial
-path_apart b k ks denial x y u v first p e starts isnt = (
-  (λ h. cc),
-  (λ c.
-      let one = joined_one b k ks x y c.0 c.1 p c.2 in
-      let two = edge_one b false denial u v c.0 c.1 e c.3 in
-      let met = starts.1 (one.0 ∙ sym two.0) in
-      let clash : true ≡ false = sym met ∙ isnt in
-      absurd (cc)),
-)
-
 pub no_joined : (b : Branch) (k : ℕ) (ks : List ℕ) (denial : ℕ) → ((x y : Node) → Follows b x (k ∷ ks) y → ⊥) → IsTrue false ↔ IsPath b k ks denial
 no_joined b k ks denial none = ((λ h. cc), (λ c. absurd (none c.0 c.1 c.2)))

@@ -58,7 +58,8 @@ kept_next c facts new later older w ok kept is made =
     })
     (all_last L older w both) made
 
-pub opened_later : (c : Case) (is_open : Bool) (facts new : List Fact) (later older : List Waiting) (w : Waiting) → AreKept c facts later → later ≡ older ++ w ∷ []
+pub opened_later : (c : Case) (is_open : Bool) (facts new : List Fact) (later older : List Waiting) (w : Waiting)
+    → AreKept c facts later → later ≡ older ++ w ∷ []
     → new ≡ take w.count facts ++ w.fact ∷ [] → (b : Branch) (rest : List Branch) → opens_of is_open facts (reverse later) ≡ b ∷ rest
     → opens_of is_open new (reverse older) ≡ rest
 opened_later c is_open facts new later older w kept is made b rest e =

@@ -7,7 +7,7 @@ use Rattle.lifted_facts.specs.declared.fact.Fact.{Fact}
 use Rattle.lifted_facts.specs.declared.waiting.Waiting.{Waiting}
 use Rattle.lifted_facts.specs.declared.way.Way.{Way}
 use Rattle.lifted_facts.specs.PlainFacts.{PlainFact, Branch, plain_fact}
-use Rattle.lifted_facts.specs.Lifted.{LiftedLeaf, LiftedStep, derive, split, close, HasPart, HasSides, Closes, HasAdvanced}
+use Rattle.lifted_facts.specs.Lifted.{derive, split, HasPart, HasSides, HasAdvanced}
 use Rattle.lifted_facts.specs.OpenBranches.{waiting, opens_of, AreWithin}
 
 -- more facts after those that waiting branches keep change none of them
@@ -36,7 +36,8 @@ pub opens_push : (facts new : List Fact) (x : Fact) (ls : List Waiting) → new 
 opens_push facts new x ls is within =
     let same : map plain_fact new ≡ map plain_fact facts ++ plain_fact x ∷ [] = ap (map plain_fact) is ∙ map_push facts x in
     ap (λ (b : Branch). b ∷ waiting b ls) same
-    ∙ ap (λ (bs : List Branch). (map plain_fact facts ++ plain_fact x ∷ []) ∷ bs) (waiting_more (map plain_fact facts) (plain_fact x ∷ []) ls (within_map facts ls within))
+    ∙ ap (λ (bs : List Branch). (map plain_fact facts ++ plain_fact x ∷ []) ∷ bs)
+    (waiting_more (map plain_fact facts) (plain_fact x ∷ []) ls (within_map facts ls within))
 
 pub did_derive : (c : Case) (way : Way) (k : ℕ) (is_open : Bool) (facts new : List Fact) (x : Fact) (ls : List Waiting) → is_open ≡ true
     → HasPart c (map plain_fact facts) way k (plain_fact x) → new ≡ facts ++ x ∷ [] → AreWithin (length facts) ls
@@ -56,7 +57,8 @@ no_split c k true facts ls new none = λ rest a. none a.1.0 a.1.1 a.1.2
 no_split c k false facts ls new none = λ rest a. a
 
 pub did_split : (c : Case) (k : ℕ) (is_open : Bool) (facts new : List Fact) (x y : Fact) (ls : List Waiting) (w : Waiting) → is_open ≡ true
-    → HasSides c (map plain_fact facts) k (plain_fact x) (plain_fact y) → new ≡ facts ++ x ∷ [] → w.count ≡ length facts → w.fact ≡ y → AreWithin (length facts) ls
+    → HasSides c (map plain_fact facts) k (plain_fact x) (plain_fact y) → new ≡ facts ++ x ∷ [] → w.count ≡ length facts → w.fact ≡ y
+    → AreWithin (length facts) ls
     → HasAdvanced c (split k) (opens_of is_open facts ls) (opens_of is_open new (w ∷ ls)) true
 did_split c k false facts new x y ls w is_so has is count fact within = cc
 did_split c k true facts new x y ls w is_so has is count fact within =
@@ -76,27 +78,6 @@ did_split c k true facts new x y ls w is_so has is count fact within =
     all = ap (λ (fs : Branch). fs ∷ waiting fs (w ∷ ls)) (ap (map plain_fact) is ∙ map_push facts x)
         ∙ ap (λ (first : Branch). (b ++ plain_fact x ∷ []) ∷ (first ++ plain_fact w.fact ∷ []) ∷ waiting first ls) kept
         ∙ ap (λ (f : Fact). (b ++ plain_fact x ∷ []) ∷ (b ++ plain_fact f ∷ []) ∷ waiting b ls) fact
-
-pub no_close : (c : Case) (l : LiftedLeaf) (is_open : Bool) (facts : List Fact) (ls : List Waiting) (new : List Branch)
-    → (Closes c (map plain_fact facts) l → ⊥) → HasAdvanced c (close l) (opens_of is_open facts ls) new false
-no_close c l true facts ls new none = λ rest a. none a.1.0
-no_close c l false facts ls new none = λ rest a. a
-
-pub did_close : (c : Case) (l : LiftedLeaf) (is_open : Bool) (facts : List Fact) (ls : List Waiting) (new : List Branch) → is_open ≡ true
-    → Closes c (map plain_fact facts) l → ((b : Branch) (rest : List Branch) → opens_of is_open facts ls ≡ b ∷ rest → new ≡ rest)
-    → HasAdvanced c (close l) (opens_of is_open facts ls) new true
-did_close c l true facts ls new is_so closes by = ([], (closes, refl), by (map plain_fact facts) (waiting (map plain_fact facts) ls) refl)
-did_close c l false facts ls new is_so closes by = cc
-
-pub closed_stuck : (c : Case) (s : LiftedStep) (is_open : Bool) (facts : List Fact) (ls : List Waiting) (new : List Branch) → is_open ≡ false
-    → HasAdvanced c s (opens_of is_open facts ls) new false
-closed_stuck c s false facts ls new is_not = λ rest a. a
-closed_stuck c s true facts ls new is_not = cc
-
-pub opened_none : (is_open : Bool) (facts : List Fact) (ls : List Waiting) → ls ≡ [] → (b : Branch) (rest : List Branch) → opens_of is_open facts ls ≡ b ∷ rest → [] ≡ rest
-opened_none true facts ls none b rest e =
-    (let here : map plain_fact facts ∷ [] ≡ b ∷ rest = ap (λ xs. map plain_fact facts ∷ waiting (map plain_fact facts) xs) (sym none) ∙ e in cc)
-opened_none false facts ls none b rest e = cc
 
 pub opened_next : (is_open : Bool) (facts new : List Fact) (w : Waiting) (ls : List Waiting) → new ≡ take w.count facts ++ w.fact ∷ []
     → AreWithin (length facts) (w ∷ ls) → (b : Branch) (rest : List Branch) → opens_of is_open facts (w ∷ ls) ≡ b ∷ rest → opens_of is_open new ls ≡ rest

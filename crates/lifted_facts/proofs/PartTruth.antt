@@ -8,7 +8,8 @@ use Rattle.std.proofs.lemmas.List.{drop_all}
 use Rattle.pc_common.specs.Case.{Case}
 use Rattle.pc_common.specs.World.{Node, World}
 use Rattle.pc_common.proofs.Elements.{all_holds}
-use Rattle.pc_ground.proofs.Bools.{and_first, and_second, or_either}
+use Rattle.pc_common.proofs.Bools.{and_first, and_second, or_either}
+use Rattle.pc_common.proofs.Places.{in_at}
 use Rattle.pc_syntax.specs.declared.closed_term.ClosedNode.{ClosedNode}
 use Rattle.pc_syntax.specs.declared.closed_term.ClosedEdge.{ClosedEdge}
 use Rattle.pc_syntax.specs.declared.term.Sort.{Sort}
@@ -19,8 +20,8 @@ use Rattle.static_preds.proofs.Walked.{drop_at}
 use Rattle.lifted_facts.specs.declared.way.Way.{Way}
 use Rattle.lifted_facts.specs.declared.way.Way.TheVariants.{Left, Right, Not, Bind, Inst, Member}
 use Rattle.lifted_facts.specs.PlainFacts.{PlainFact, said, one_node, one_edge}
-use Rattle.lifted_facts.specs.Parts.{place_of, said_at, part_of, or_later, sides, is_false}
-use Rattle.lifted_facts.proofs.FactTruth.{under, fact_true, start_true, nor_first, nor_second, nand_either, not_not, not_true, in_at, none_passes}
+use Rattle.lifted_facts.specs.Parts.{number_of_instance, said_at, part_of, or_later, sides, is_false}
+use Rattle.lifted_facts.proofs.FactTruth.{under, fact_true, start_true, nor_first, nor_second, nand_either, not_not, not_true, none_passes}
 
 -- what an optional value was made of
 pub mapped : {X Y : Type 0} (f : X → Y) (o : Option X) (y : Y) → option_map f o ≡ Some y → (x : X) × (o ≡ Some x) × (f x ≡ y)
@@ -89,8 +90,8 @@ module _ (c : Case) (w : World Node) where
   part_true Not (said false (closed_not p) slots s) g e t = came true p slots g (cc) (not_not (closed_true c w slots p) t)
   part_true Bind (said true (closed_bind args p) slots s) g e t = came true p (slots ++ map (closed_value slots) args) g (cc) t
   part_true Bind (said false (closed_bind args p) slots s) g e t = came false p (slots ++ map (closed_value slots) args) g (cc) t
-  part_true (Inst v) (said true (closed_forall sort p) slots s) g e t = all_at sort p slots (place_of sort v) g e t
-  part_true (Inst v) (said false (closed_exists sort p) slots s) g e t = none_at sort p slots (place_of sort v) g e t
+  part_true (Inst v) (said true (closed_forall sort p) slots s) g e t = all_at sort p slots (number_of_instance sort v) g e t
+  part_true (Inst v) (said false (closed_exists sort p) slots s) g e t = none_at sort p slots (number_of_instance sort v) g e t
   part_true (Member k) (said true (closed_nodes ts) slots s) g e t = node_at ts slots k g e t
   part_true (Member k) (said true (closed_edges ts) slots s) g e t = edge_at ts slots k g e t
   part_true way f g e t = cc
@@ -99,7 +100,11 @@ module _ (c : Case) (w : World Node) where
   both_of : (first : Option PlainFact) (later : PlainFact) (both : PlainFact × PlainFact) → or_later first later ≡ Some both
       → (first ≡ Some both.0) × (later ≡ both.1)
   both_of None later both e = cc
-  both_of (Some f) later both e = (let same : pair f later ≡ both = cc in (ap (λ (x : PlainFact × PlainFact). Some x.0) same, ap (λ (x : PlainFact × PlainFact). x.1) same))
+  both_of (Some f) later both e = (let same : pair f later ≡ both = cc in (
+    ap (λ (x : PlainFact × PlainFact). Some x.0) same,
+    ap
+        (λ (x : PlainFact × PlainFact). x.1) same,
+  ))
 
   some_left : {X : Type 0} (p : X → Bool) (xs : List X) (s : ℕ) (x : X) → slice_get xs s ≡ Some x → list_any p (drop s xs) ≡ true
       → (p x ≡ true) ⊎ (list_any p (drop (s + 1) xs) ≡ true)
@@ -128,7 +133,8 @@ module _ (c : Case) (w : World Node) where
 
   pub side_true : (f g h : PlainFact) → sides c f ≡ Some (g, h) → T f → T g ⊎ T h
   side_true (said true (closed_or p q) slots s) g h e t = two true true p q slots (g, h) e (or_either (closed_true c w slots p) (closed_true c w slots q) t)
-  side_true (said false (closed_and p q) slots s) g h e t = two false false p q slots (g, h) e (nand_either (closed_true c w slots p) (closed_true c w slots q) t)
+  side_true (said false (closed_and p q) slots s) g h e t = two false false p q slots (g, h) e
+      (nand_either (closed_true c w slots p) (closed_true c w slots q) t)
   side_true (said true (closed_implies p q) slots s) g h e t =
       two false true p q slots (g, h) e (or_either (not (closed_true c w slots p)) (closed_true c w slots q) t)
   side_true (said true (closed_exists sort p) slots s) g h e t =
@@ -146,7 +152,8 @@ module _ (c : Case) (w : World Node) where
         | inr u ↦ inr (subst T b.1 u)
       ]
   side_true (said false (closed_nodes ts) slots s) g h e t =
-      let b = both_of (option_map (λ (u : ClosedNode). one_node false (closed_node c slots u)) (slice_get ts s)) (said false (closed_nodes ts) slots (s + 1)) (g, h) e in
+      let b = both_of (option_map (λ (u : ClosedNode). one_node false (closed_node c slots u)) (slice_get ts s))
+      (said false (closed_nodes ts) slots (s + 1)) (g, h) e in
       let m = mapped (λ (u : ClosedNode). one_node false (closed_node c slots u)) (slice_get ts s) g b.0 in
       elim (not_all_left (λ (u : ClosedNode). node_holds w (closed_node c slots u)) ts s m.0 m.1 t) [
         | inl u ↦ inl (subst T m.2 u)
@@ -174,7 +181,8 @@ module _ (c : Case) (w : World Node) where
   any_past p xs s e t = (let none : list_any p (drop s xs) ≡ false = ap (list_any p) (drop_all s xs (past s (length xs) e)) in cc)
 
   all_past : {X : Type 0} (p : X → Bool) (xs : List X) (s : ℕ) → not (nat_lt s (length xs)) ≡ true → not (list_all p (drop s xs)) ≡ true → ⊥
-  all_past p xs s e t = (let all : list_all p (drop s xs) ≡ true = ap (list_all p) (drop_all s xs (past s (length xs) e)) in not_true (list_all p (drop s xs)) t all)
+  all_past p xs s e t = (let all : list_all p (drop s xs) ≡ true = ap (list_all p) (drop_all s xs (past s (length xs) e)) in not_true
+      (list_all p (drop s xs)) t all)
 
   pub false_nowhere : (f : PlainFact) → is_false c f ≡ true → T f → ⊥
   false_nowhere (said true (closed_exists sort p) slots s) e t = any_past (λ v. closed_true c w (slots ++ v ∷ []) p) (range_of c sort) s e t

@@ -5,3 +5,4 @@ pub mod Steps
 pub mod OpenBranches
 pub mod Opens
 pub mod Laws
+pub mod LawsOfBranches

@@ -14,10 +14,10 @@ use Rattle.lifted_facts.specs.declared.way.Way.TheVariants.{Left, Right, Not, Bi
 use Rattle.lifted_facts.specs.PlainFacts.{PlainFact, said, one_node, one_edge}
 
 -- the place of a value in the range of its sort: in test order, or its number as a core
-abbrev pub place_of : Sort → Instance → Option ℕ
-place_of Microop (OpInstance i) = Some i
-place_of Core (CoreInstance k) = Some k
-place_of _ _ = None
+abbrev pub number_of_instance : Sort → Instance → Option ℕ
+number_of_instance Microop (OpInstance i) = Some i
+number_of_instance Core (CoreInstance k) = Some k
+number_of_instance _ _ = None
 
 -- the value at this place of a range
 abbrev pub value_at_place : Case → Sort → ℕ → Option Meaning
@@ -43,8 +43,8 @@ part_of c Right (said false (closed_implies p q) slots s) = Some (said false q s
 part_of c Not (said plus (closed_not p) slots s) = Some (said (not plus) p slots 0)
 part_of c Bind (said plus (closed_bind args p) slots s) =
     Some (said_inside plus p slots (map (closed_value slots) args))
-part_of c (Inst v) (said true (closed_forall sort p) slots s) = said_at c true sort p slots (place_of sort v)
-part_of c (Inst v) (said false (closed_exists sort p) slots s) = said_at c false sort p slots (place_of sort v)
+part_of c (Inst v) (said true (closed_forall sort p) slots s) = said_at c true sort p slots (number_of_instance sort v)
+part_of c (Inst v) (said false (closed_exists sort p) slots s) = said_at c false sort p slots (number_of_instance sort v)
 part_of c (Member k) (said true (closed_nodes ts) slots s) =
     option_map (λ t. one_node true (closed_node c slots t)) (slice_get ts k)
 part_of c (Member k) (said true (closed_edges ts) slots s) =

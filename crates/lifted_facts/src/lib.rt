@@ -1,6 +1,9 @@
 //! Facts of lifted refutations: what is said of a world by parts of closed axioms, with neither ground tree nor
 //! normal form.
 //!
+//! Clause: a refutation on the axioms themselves, step by step, leaves no world in which all are true
+//! (`lifted_is_sound`; `advanced`).
+//!
 //! ```rust
 //! // the one axiom is `exists microop "i", True`, and the case has no micro-op
 //! let mut branches = Branches::new(alloc, &case, &axioms)?;

@@ -1,4 +1,5 @@
-ghost use Rattle.lifted_facts.specs.OpenBranches.{AreKept, AreKept-prop};
+ghost use Rattle.lifted_facts.specs.OpenBranches.{AreKept};
+ghost use Rattle.lifted_facts.specs.LawsOfBranches.{AreKept-prop};
 
 use super::fact::Fact;
 use super::waiting::Waiting;
@@ -17,7 +18,7 @@ pub struct Branches<'a> {
     pub(crate) ghost kept: { AreKept case.now facts.items later.items } by { AreKept-prop case.now facts.items later.items },
 }
 
-// Written out, so that a proof of what drops the value meets one call and no field.
+// By hand: docs/DECISIONS.md, "Drops are written by hand".
 impl Drop for Branches<'_> {
     fn drop(self) {
         let Branches {

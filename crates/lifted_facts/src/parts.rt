@@ -8,7 +8,7 @@ ghost use Rattle.static_preds.specs.Slots.{AreInRange};
 ghost use Rattle.static_preds.specs.Values.{meanings, scope_of};
 ghost use Rattle.lifted_facts.specs.declared.way.Way.TheVariants.{Left as LeftWay, Right as RightWay, Not as NotWay, Bind as BindWay, Inst as InstWay, Member as MemberWay};
 ghost use Rattle.lifted_facts.specs.PlainFacts.{plain_fact, plain_part, said as plain_said, IsProper, IsProperPart};
-ghost use Rattle.lifted_facts.specs.Parts.{part_of, said_at, place_of as place_of_value};
+ghost use Rattle.lifted_facts.specs.Parts.{part_of, said_at, number_of_instance as place_of_value};
 
 use super::fact::{Fact, Said};
 use super::inside::at_place;

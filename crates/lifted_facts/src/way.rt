@@ -1,5 +1,5 @@
 /// The value that a quantifier is instantiated by.
-#[derive(Clone, Copy, Debug, PartialEq, Eq)]
+#[derive(Clone, Copy)]
 pub enum Instance {
     /// A micro-op by its place in test order, from 0.
     Op(u64),
@@ -8,7 +8,7 @@ pub enum Instance {
 }
 
 /// How a part of a fact is named.
-#[derive(Clone, Copy, Debug, PartialEq, Eq)]
+#[derive(Clone, Copy)]
 pub enum Way {
     /// The left side of an And, a denied Or or a denied implication.
     Left,

@@ -1,11 +1,12 @@
 -- A term of a closed formula names a node, so no member of a list is a constant.
-use Rattle.std.proofs.Common.{◌≡◌, ℕ, zero, suc, ◌-◌, ◌<◌, inl, inr, Bool, true, false, List, [], ◌∷◌, Option, Some, None, map, drop, length, refl, sym, ◌∙◌, ap, subst, arith, length-drop}
+use Rattle.std.proofs.Common.{◌≡◌, ℕ, zero, suc, ◌-◌, inl, inr, Bool, true, false, List, [], ◌∷◌, Option, Some, None, map, drop, length, refl, sym, ◌∙◌, ap, subst, length-drop}
 use Rattle.std.specs.Prelude.{slice_get, unwrap_or}
 use Rattle.std.specs.Option.{option_map}
 use Rattle.std.proofs.lemmas.Option.{slice_get-map}
 use Rattle.pc_common.specs.Case.{Case, MicroOp}
 use Rattle.pc_common.specs.World.{Node}
 use Rattle.pc_common.proofs.Elements.{In}
+use Rattle.pc_common.proofs.Places.{there_at}
 use Rattle.pc_syntax.specs.declared.term.Sort.{Sort}
 use Rattle.pc_syntax.specs.declared.term.Sort.TheVariants.{Microop, Core as core_sort}
 use Rattle.pc_syntax.specs.declared.bound.Bound.{Bound}
@@ -44,15 +45,11 @@ core_bound slots k (Core n) there e = (n, there)
 value_here : (slots : List Bound) (k : ℕ) (b : Bound) → slice_get slots k ≡ Some b → value_at (meanings slots) k ≡ meaning_of b
 value_here slots k b there = ap (λ (o : Option Meaning). unwrap_or o (a_core 0)) (slice_get-map meaning_of slots k ∙ ap (option_map meaning_of) there)
 
-there_at : {X : Type 0} (xs : List X) (i : ℕ) → i < length xs → (x : X) × (slice_get xs i ≡ Some x)
-there_at [] i h = absurd (omega (arith, h))
-there_at (x ∷ xs) zero h = (x, refl)
-there_at (x ∷ xs) (suc i) h = there_at xs i (omega (arith, h))
-
 scoped : (slots : List Bound) (k : ℕ) (sort : Sort) → IsBound (scope_of slots) k sort → (b : Bound) × (slice_get slots k ≡ Some b) × (sort_bound b ≡ sort)
 scoped slots k sort e = sorted (slice_get slots k) sort (sym (slice_get-map sort_bound slots k) ∙ e)
 
-core_here : (slots : List Bound) (o : MicroOp) (core : Option ClosedArg) → FitsCore (scope_of slots) core → (n : ℕ) × (closed_core (meanings slots) o core ≡ Some n)
+core_here : (slots : List Bound) (o : MicroOp) (core : Option ClosedArg) → FitsCore (scope_of slots) core
+    → (n : ℕ) × (closed_core (meanings slots) o core ≡ Some n)
 core_here slots o None fit = (o.core, refl)
 core_here slots o (Some (Slot k)) fit =
     let s = scoped slots k core_sort fit in

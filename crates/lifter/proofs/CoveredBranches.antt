@@ -26,7 +26,8 @@ covered_all rows es ps h q i =
     let P : ℕ → Type 0 = λ p. TellsAt rows es p in
     (ap (λ (x : Signed). x.negated) (sym from.2), subst P (ap (λ (x : Signed). x.position) from.2) (h from.0 from.1))
 
-pub covered_side : (rows : List (Row Node)) (es : List Entry) (ps : TreeBranch) (more : List ℕ) → IsCovered rows es ps → TellsAll rows es more → IsCovered rows es (ps ++ all_signed false more)
+pub covered_side : (rows : List (Row Node)) (es : List Entry) (ps : TreeBranch) (more : List ℕ) → IsCovered rows es ps
+    → TellsAll rows es more → IsCovered rows es (ps ++ all_signed false more)
 covered_side rows es ps more h told q i = elim (in_either q ps (all_signed false more) i) [ inl j ↦ h q j | inr j ↦ covered_all rows es more told q j ]
 
 module _ (t : Tree Node) (es : List Entry) (ps : TreeBranch) (covered : IsCovered (rows_of t) es ps) where

@@ -3,23 +3,16 @@ use Rattle.std.proofs.Common.{◌≡◌, ◌⊎◌, inl, inr, ℕ, Bool, true, f
 use Rattle.std.proofs.lemmas.List.{map-append}
 use Rattle.std.specs.Prelude.{MatchOption}
 use Rattle.std.specs.Map.{lookup}
+use Rattle.std.proofs.lemmas.Bool.{and_from}
 use Rattle.indexmap.specs.IndexMap.{insert_entry}
-use Rattle.pc_common.proofs.Elements.{In, in_back, in_either, and_first, and_second, true_or_false}
+use Rattle.pc_common.proofs.Elements.{In, in_back, in_either}
 use Rattle.pc_ground.specs.Keys.{key_node}
-use Rattle.pc_ground.specs.declared.node_key.NodeKey.{NodeKey}
-use Rattle.pc_ground.proofs.Bools.{and_both}
-use Rattle.pc_ground.proofs.Nodes.{key_eq, key_eq-same, same_node-true, same_node-self}
-use Rattle.pc_common.specs.World.{same_node}
+use Rattle.pc_ground.proofs.Nodes.{key_eq, same_keys, keys_same}
+use Rattle.pc_common.proofs.Bools.{true_or_false, and_first, and_second}
 use Rattle.lifter.specs.declared.key.Key.{Key}
 use Rattle.lifter.specs.declared.key.Key.TheVariants.{At, Edge, NoEdge, NoNode, Present}
 use Rattle.lifter.specs.contracts.key.KeyPartialEq.TheImpl.{ghosts}
 use Rattle.lifter.specs.KnownFacts.{PlainKey, at_position, edge, no_edge, no_node, present, plain_key, Entry, entry, entries_of, HasMarked}
-
-same_keys : (a b : NodeKey) → key_eq a b ≡ true → key_node a ≡ key_node b
-same_keys a b e = same_node-true (key_node a) (key_node b) (sym (key_eq-same a b) ∙ e)
-
-keys_same : (a b : NodeKey) → key_node a ≡ key_node b → key_eq a b ≡ true
-keys_same a b e = key_eq-same a b ∙ ap (λ n. same_node (key_node a) n) (sym e) ∙ same_node-self (key_node a)
 
 -- how keys are compared
 abbrev pub known_eq : Key → Key → Bool
@@ -28,8 +21,10 @@ known_eq = ghosts.eq
 -- the keys are equal where the plain keys are
 same_plain : (f g : Key) → known_eq f g ≡ true → plain_key f ≡ plain_key g
 same_plain (At a) (At c) e = ap at_position (eqb-true a c e)
-same_plain (Edge a b) (Edge c d) e = (let l = same_keys a c (and_first (key_eq a c) (key_eq b d) e) in let r = same_keys b d (and_second (key_eq a c) (key_eq b d) e) in ap (λ x. edge x (key_node b)) l ∙ ap (edge (key_node c)) r)
-same_plain (NoEdge a b) (NoEdge c d) e = (let l = same_keys a c (and_first (key_eq a c) (key_eq b d) e) in let r = same_keys b d (and_second (key_eq a c) (key_eq b d) e) in ap (λ x. no_edge x (key_node b)) l ∙ ap (no_edge (key_node c)) r)
+same_plain (Edge a b) (Edge c d) e = (let l = same_keys a c (and_first (key_eq a c) (key_eq b d) e) in
+    let r = same_keys b d (and_second (key_eq a c) (key_eq b d) e) in ap (λ x. edge x (key_node b)) l ∙ ap (edge (key_node c)) r)
+same_plain (NoEdge a b) (NoEdge c d) e = (let l = same_keys a c (and_first (key_eq a c) (key_eq b d) e) in
+    let r = same_keys b d (and_second (key_eq a c) (key_eq b d) e) in ap (λ x. no_edge x (key_node b)) l ∙ ap (no_edge (key_node c)) r)
 same_plain (NoNode a) (NoNode c) e = ap no_node (same_keys a c e)
 same_plain (Present a) (Present c) e = ap present (same_keys a c e)
 same_plain (At a) (Edge c d) e = cc
@@ -55,8 +50,10 @@ same_plain (Present a) (NoNode c) e = cc
 
 plain_same : (f g : Key) → plain_key f ≡ plain_key g → known_eq f g ≡ true
 plain_same (At a) (At c) e = (let same : a ≡ c = cc in eq-eqb a c same)
-plain_same (Edge a b) (Edge c d) e = (let l : key_node a ≡ key_node c = cc in let r : key_node b ≡ key_node d = cc in and_both (key_eq a c) (key_eq b d) (keys_same a c l) (keys_same b d r))
-plain_same (NoEdge a b) (NoEdge c d) e = (let l : key_node a ≡ key_node c = cc in let r : key_node b ≡ key_node d = cc in and_both (key_eq a c) (key_eq b d) (keys_same a c l) (keys_same b d r))
+plain_same (Edge a b) (Edge c d) e = (let l : key_node a ≡ key_node c = cc in let r : key_node b ≡ key_node d = cc in
+    and_from (key_eq a c) (key_eq b d) (keys_same a c l) (keys_same b d r))
+plain_same (NoEdge a b) (NoEdge c d) e = (let l : key_node a ≡ key_node c = cc in let r : key_node b ≡ key_node d = cc in
+    and_from (key_eq a c) (key_eq b d) (keys_same a c l) (keys_same b d r))
 plain_same (NoNode a) (NoNode c) e = (let l : key_node a ≡ key_node c = cc in keys_same a c l)
 plain_same (Present a) (Present c) e = (let l : key_node a ≡ key_node c = cc in keys_same a c l)
 plain_same (At a) (Edge c d) e = cc
@@ -135,7 +132,11 @@ marked_new es new key k is =
               | inr none ↦ absurd none
             ]
           ];
-      has = (k, (let P : List Entry → Type 0 = λ xs. In (entry (plain_key key) k) xs in subst P (sym all) (in_back (entry (plain_key key) k) (entries_of es) (entry (plain_key key) k ∷ []) (inl refl))));
+      has = (
+        k,
+        (let P : List Entry → Type 0 = λ xs. In (entry (plain_key key) k) xs in subst P (sym all)
+            (in_back (entry (plain_key key) k) (entries_of es) (entry (plain_key key) k ∷ []) (inl refl))),
+      );
     }
 
 -- what a look-up answers
@@ -145,7 +146,8 @@ get_found key es None e = found_none key es (sym e)
 get_found key es (Some k) e = found_some key k es (sym e)
 
 -- a key that no entry has is put after the others
-pub put_last : (key : Key) (k : ℕ) (es : List (Key × ℕ)) → ((j : ℕ) → In (entry (plain_key key) j) (entries_of es) → ⊥) → insert_entry known_eq es key k ≡ es ++ (key, k) ∷ []
+pub put_last : (key : Key) (k : ℕ) (es : List (Key × ℕ)) → ((j : ℕ) → In (entry (plain_key key) j) (entries_of es) → ⊥)
+    → insert_entry known_eq es key k ≡ es ++ (key, k) ∷ []
 put_last key k [] none = refl
 put_last key k (x ∷ es) none =
     elim (true_or_false (known_eq key x.0)) [

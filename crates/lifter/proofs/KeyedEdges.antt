@@ -21,7 +21,8 @@ module _ (es : List Entry) (to : NodeKey) (via : List NodeKey) where
 
   -- the last edge
   pub last_edge : (at : NodeKey) (k : ℕ) → length via ≤ k → AreEdges es (key_node at) (along (drop k via) to) → HasKey es (edge (key_node at) (key_node to))
-  last_edge at k past h = (let P : List NodeKey → Type 0 = λ ys. AreEdges es (key_node at) (along ys to) in let last = subst P (drop_all k via past) h in last.0)
+  last_edge at k past h = (let P : List NodeKey → Type 0 = λ ys. AreEdges es (key_node at) (along ys to) in let last = subst P (drop_all k via past)
+      h in last.0)
 
   module _ (from : NodeKey) where
     -- with these numbers in front of those of the edges from a place on, all have theirs
@@ -33,7 +34,8 @@ module _ (es : List Entry) (to : NodeKey) (via : List NodeKey) where
     next_numbers at k n x old new there here is h ks rest =
         let P : List NodeKey → Type 0 = λ ys. AreNumbers es (key_node at) (along ys to) (n ∷ ks) in
         let Q : List ℕ → Type 0 = λ ns. AreNumbers es (key_node from) (along via to) ns in
-        subst Q (sym (append_assoc old (n ∷ []) ks) ∙ ap (λ (ns : List ℕ). ns ++ ks) (sym is)) (h (n ∷ ks) (subst P (sym (drop_at via k (k + 1) x there refl)) (here, rest)))
+        subst Q (sym (append_assoc old (n ∷ []) ks) ∙ ap (λ (ns : List ℕ). ns ++ ks) (sym is))
+        (h (n ∷ ks) (subst P (sym (drop_at via k (k + 1) x there refl)) (here, rest)))
 
     pub all_numbers : (at : NodeKey) (k n : ℕ) (old new : List ℕ) → length via ≤ k → In (entry (edge (key_node at) (key_node to)) n) es → new ≡ old ++ n ∷ []
         → HaveSoFar old at k → AreNumbers es (key_node from) (along via to) new
@@ -101,7 +103,8 @@ module _ (es : List Entry) (from to : NodeKey) (via rest : List NodeKey) (next :
   first_number n ks here more = (let P : List NodeKey → Type 0 = λ ys. AreNumbers es (key_node from) (along ys to) (n ∷ ks) in subst P (sym e) (here, more))
 
 -- the one edge where no node stands between
-pub one_number : (es : List Entry) (from to : NodeKey) (via : List NodeKey) (n : ℕ) (ks : List ℕ) → length via ≤ 0 → In (entry (edge (key_node from) (key_node to)) n) es → ks ≡ []
+pub one_number : (es : List Entry) (from to : NodeKey) (via : List NodeKey) (n : ℕ) (ks : List ℕ) → length via ≤ 0
+    → In (entry (edge (key_node from) (key_node to)) n) es → ks ≡ []
     → AreNumbers es (key_node from) (along via to) (n ∷ ks)
 one_number es from to [] n ks none here is =
     (let P : List ℕ → Type 0 = λ ms. AreNumbers es (key_node from) (along [] to) (n ∷ ms) in subst P (sym is) (here, tt))
@@ -111,12 +114,3 @@ one_number es from to (v ∷ vs) n ks none here is = absurd (omega (arith, none)
 pub no_cycle : (es : List Entry) (nodes : List NodeKey) → length nodes ≤ 0 → IsCycleKnown es (map key_node nodes) → ⊥
 no_cycle es [] none h = h
 no_cycle es (n ∷ ns) none h = absurd (omega (arith, none))
-
-no_tail : {X : Type 0} (xs : List X) (x : X) → [] ≡ xs ++ x ∷ [] → ⊥
-no_tail [] x e = cc
-no_tail (y ∷ ys) x e = cc
-
-pub no_path : (es : List Entry) (nodes : List NodeKey) → length nodes ≤ 1 → IsPathKnown es (map key_node nodes) → ⊥
-no_path es [] few h = (let e = h.all in cc)
-no_path es (n ∷ []) few h = (let e = h.all in let tails : [] ≡ h.via ++ h.last ∷ [] = cc in no_tail h.via h.last tails)
-no_path es (n ∷ m ∷ ns) few h = absurd (omega (arith, few))

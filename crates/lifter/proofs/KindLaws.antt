@@ -1,12 +1,12 @@
 -- Which constant And and Or over trees are.
-use Rattle.std.proofs.Common.{◌≡◌, ◌⊎◌, inl, inr, ℕ, zero, suc, Bool, true, false, List, [], ◌∷◌, map, length, refl, ◌∙◌, ap}
+use Rattle.std.proofs.Common.{◌≡◌, ◌⊎◌, inl, inr, Bool, true, false, List, [], ◌∷◌, map, length, refl, ◌∙◌, ap}
 use Rattle.pc_common.specs.World.{Node}
 use Rattle.pc_common.proofs.Elements.{In}
 use Rattle.pc_ground.specs.Tree.{Tree, always, never, leaf, both, either}
 use Rattle.pc_ground.specs.PlainGround.{conjoined, disjoined}
 use Rattle.lifter.specs.Trees.{joined_tree, joined_trees}
 use Rattle.lifter.specs.declared.kind.Kind.{Kind}
-use Rattle.lifter.specs.declared.kind.Kind.TheVariants.{True, False, Open}
+use Rattle.lifter.specs.declared.kind.Kind.TheVariants.{True, Open, False}
 use Rattle.lifter.specs.Kinds.{kind_of, joined_kind, decider, neutral, kind_over}
 
 kind_conjoined : (t u : Tree Node) → kind_of (conjoined t u) ≡ joined_kind true (kind_of t) (kind_of u)
@@ -55,7 +55,8 @@ pub kind_of_none : (all : Bool) → kind_of (joined_trees all []) ≡ neutral al
 kind_of_none true = refl
 kind_of_none false = refl
 
-pub kind_of_more : (all : Bool) (t : Tree Node) (ts : List (Tree Node)) → kind_of (joined_trees all (t ∷ ts)) ≡ joined_kind all (kind_of t) (kind_of (joined_trees all ts))
+pub kind_of_more : (all : Bool) (t : Tree Node) (ts : List (Tree Node))
+    → kind_of (joined_trees all (t ∷ ts)) ≡ joined_kind all (kind_of t) (kind_of (joined_trees all ts))
 kind_of_more true t ts = kind_conjoined t (joined_trees true ts)
 kind_of_more false t ts = kind_disjoined t (joined_trees false ts)
 
@@ -74,14 +75,6 @@ decided_second false Open = refl
 pub neutral_first : (all : Bool) (k : Kind) → joined_kind all (neutral all) k ≡ k
 neutral_first true k = refl
 neutral_first false k = refl
-
-pub neutral_second : (all : Bool) (k : Kind) → joined_kind all k (neutral all) ≡ k
-neutral_second true True = refl
-neutral_second true False = refl
-neutral_second true Open = refl
-neutral_second false True = refl
-neutral_second false False = refl
-neutral_second false Open = refl
 
 pub joined_assoc : (all : Bool) (a b k : Kind) → joined_kind all (joined_kind all a b) k ≡ joined_kind all a (joined_kind all b k)
 joined_assoc true True b k = refl
@@ -119,7 +112,3 @@ kind_of_members all f [] h = kind_of_none all
 kind_of_members all f (x ∷ xs) h =
     kind_of_more all (f x) (map f xs)
     ∙ open_more all (kind_of (f x)) (kind_of (joined_trees all (map f xs))) (h x (inl refl)) (kinds_open all f xs (λ y i. h y (inr i)))
-
-pub kind_over_some : (all : Bool) (n : ℕ) → (n ≡ 0 → ⊥) → kind_over all n ≡ Open
-kind_over_some all zero h = absurd (h refl)
-kind_over_some all (suc n) h = refl

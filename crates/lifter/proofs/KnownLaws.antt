@@ -4,6 +4,7 @@ use Rattle.std.proofs.lemmas.List.{take-append-le}
 use Rattle.pc_common.specs.Case.{Case}
 use Rattle.pc_common.specs.World.{Node}
 use Rattle.pc_common.proofs.Elements.{In, in_front}
+use Rattle.pc_common.proofs.Places.{slice_get-more}
 use Rattle.pc_ground.specs.declared.row.Row.{Row}
 use Rattle.pc_ground.specs.Refutes.{Branch as TreeBranch}
 use Rattle.lifted_facts.specs.PlainFacts.{PlainFact, Branch, plain_fact, one_node, one_edge}
@@ -11,15 +12,14 @@ use Rattle.lifted_facts.specs.Lifted.{LiftedStep, Runs}
 use Rattle.lifter.specs.declared.state.Later.{Later}
 use Rattle.lifter.specs.KnownFacts.{PlainKey, at_position, edge, no_edge, no_node, present, Entry, entry, HasKey, IsKnown, AreKnown, HasMarked, HaveMore}
 use Rattle.lifter.specs.States.{waiting, AreLater, IsGood, IsSide, AreMatched, no_more, due, side}
-use Rattle.lifter.proofs.RunsMore.{get_more}
 
 module _ (c : Case) (rows : List (Row Node)) where
   pub known_more : (b more : Branch) (key : PlainKey) (k : ℕ) → IsKnown c rows b key k → IsKnown c rows (b ++ more) key k
-  known_more b more (at_position p) k h = (h.0, get_more b more k h.0 h.1, h.2)
-  known_more b more (edge x y) k h = get_more b more k (one_edge true (Some x) (Some y)) h
-  known_more b more (no_edge x y) k h = get_more b more k (one_edge false (Some x) (Some y)) h
-  known_more b more (no_node a) k h = get_more b more k (one_node false (Some a)) h
-  known_more b more (present a) k h = (h.0, get_more b more k h.0 h.1, h.2)
+  known_more b more (at_position p) k h = (h.0, slice_get-more b more k h.0 h.1, h.2)
+  known_more b more (edge x y) k h = slice_get-more b more k (one_edge true (Some x) (Some y)) h
+  known_more b more (no_edge x y) k h = slice_get-more b more k (one_edge false (Some x) (Some y)) h
+  known_more b more (no_node a) k h = slice_get-more b more k (one_node false (Some a)) h
+  known_more b more (present a) k h = (h.0, slice_get-more b more k h.0 h.1, h.2)
 
   pub all_known_more : (b more : Branch) (es : List Entry) → AreKnown c rows b es → AreKnown c rows (b ++ more) es
   all_known_more b more es h key k i = known_more b more key k (h key k i)
@@ -40,7 +40,8 @@ module _ (c : Case) (rows : List (Row Node)) where
   waiting_more b more es [] h = refl
   waiting_more b more es (l ∷ ls) h = ap (λ (first : Branch). (first ++ plain_fact l.fact ∷ []) ∷ waiting first ls) (take-append-le l.count b more h.0)
 
-  pub matched_more : (b : Branch) (es further : List Entry) (ls : List Later) (opens : List TreeBranch) → AreLater c rows b es ls → AreMatched c rows es ls opens
+  pub matched_more : (b : Branch) (es further : List Entry) (ls : List Later) (opens : List TreeBranch) → AreLater c rows b es ls
+      → AreMatched c rows es ls opens
       → AreMatched c rows (es ++ further) ls opens
   matched_more b es further ls opens h no_more = no_more
   matched_more b es further ls opens h (due {ls = tail} l e rest) =
@@ -53,7 +54,8 @@ module _ (c : Case) (rows : List (Row Node)) where
       side l p ps e (subst Q te s) (subst P te rest)
 
   -- one fact more
-  pub good_fact : (start : List Branch) (b : Branch) (g : PlainFact) (es : List Entry) (ls : List Later) (old new : List LiftedStep) → IsGood c rows start b es ls old
+  pub good_fact : (start : List Branch) (b : Branch) (g : PlainFact) (es : List Entry) (ls : List Later) (old new : List LiftedStep)
+      → IsGood c rows start b es ls old
       → Runs c new start ((b ++ g ∷ []) ∷ waiting b ls) → IsGood c rows start (b ++ g ∷ []) es ls new
   good_fact start b g es ls old new h r = record {
     run = (let P : List Branch → Type 0 = λ ws. Runs c new start ((b ++ g ∷ []) ∷ ws) in subst P (sym (waiting_more b (g ∷ []) es ls h.later)) r);
@@ -72,7 +74,8 @@ module _ (c : Case) (rows : List (Row Node)) where
     run = h.run;
     known = λ other j i. go other j (m.each other j i);
     later = (let P : List Entry → Type 0 = λ xs. AreLater c rows b xs ls in
-        subst P (sym m.first) (let B : Branch → Type 0 = λ x. AreLater c rows x (old ++ m.more) ls in subst B (append_none b) (later_more b [] old m.more ls h.later)));
+        subst P (sym m.first) (let B : Branch → Type 0 = λ x. AreLater c rows x (old ++ m.more) ls in subst B (append_none b)
+        (later_more b [] old m.more ls h.later)));
   }
     where
       append_none : {X : Type 0} (xs : List X) → xs ++ [] ≡ xs
@@ -86,7 +89,8 @@ module _ (c : Case) (rows : List (Row Node)) where
           let Q : ℕ → Type 0 = λ n. IsKnown c rows b other n in
           subst Q e.1 (subst P e.0 is)
 
-  pub good_same : (start : List Branch) (b b2 : Branch) (es es2 : List Entry) (ls ls2 : List Later) (ss ss2 : List LiftedStep) → b ≡ b2 → es ≡ es2 → ls ≡ ls2 → ss ≡ ss2
+  pub good_same : (start : List Branch) (b b2 : Branch) (es es2 : List Entry) (ls ls2 : List Later) (ss ss2 : List LiftedStep) → b ≡ b2 → es ≡ es2 → ls ≡ ls2
+      → ss ≡ ss2
       → IsGood c rows start b es ls ss → IsGood c rows start b2 es2 ls2 ss2
   good_same start b b2 es es2 ls ls2 ss ss2 e f g h x =
       let A : Branch → Type 0 = λ y. IsGood c rows start y es ls ss in
@@ -95,7 +99,8 @@ module _ (c : Case) (rows : List (Row Node)) where
       let D : List LiftedStep → Type 0 = λ y. IsGood c rows start b2 es2 ls2 y in
       subst D h (subst C g (subst B f (subst A e x)))
 
-  pub matched_same : (es es2 : List Entry) (ls ls2 : List Later) (opens : List TreeBranch) → es ≡ es2 → ls ≡ ls2 → AreMatched c rows es ls opens → AreMatched c rows es2 ls2 opens
+  pub matched_same : (es es2 : List Entry) (ls ls2 : List Later) (opens : List TreeBranch) → es ≡ es2 → ls ≡ ls2 → AreMatched c rows es ls opens
+      → AreMatched c rows es2 ls2 opens
   matched_same es es2 ls ls2 opens f g x =
       let B : List Entry → Type 0 = λ y. AreMatched c rows y ls opens in
       let C : List Later → Type 0 = λ y. AreMatched c rows es2 y opens in

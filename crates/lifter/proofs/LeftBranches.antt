@@ -18,7 +18,7 @@ use Rattle.lifter.specs.Closings.{HasClosed}
 use Rattle.lifter.specs.KnownFacts.{Entry, HaveMore}
 use Rattle.lifter.specs.States.{branch_of, waiting, IsDue, AreKept, AreLater, IsGoodState, IsCovered, IsSide, AreMatched, no_more, due, side, IsMatchedState}
 use Rattle.lifter.specs.Unfoldings.{HasUnfolded}
-use Rattle.lifter.specs.Progress.{IsOn, IsLeft, HasLeft, IsNext, CanEnter, HasClosedBy}
+use Rattle.lifter.specs.Progress.{FollowsBranches, HasClosedFirst, LeavesWaiting, CanEnterNext, CanEnter, HasClosedBy}
 use Rattle.lifter.proofs.RunsMore.{last_fact, one_longer, ran_close}
 use Rattle.lifter.proofs.KnownLaws.{waiting_more, later_more, matched_more, good_same, matched_same}
 use Rattle.lifter.proofs.StateMoves.{branch_push, good_waits}
@@ -58,7 +58,8 @@ kept_none c old new facts none h =
     }
 
 -- the first facts of a branch, and one more
-pub kept_entered : (c : Case) (old mid : State) (n : ℕ) (x : Fact) → IsProper c x → mid.facts.items ≡ take n old.facts.items ++ x ∷ [] → mid.later.items ≡ old.later.items
+pub kept_entered : (c : Case) (old mid : State) (n : ℕ) (x : Fact) → IsProper c x → mid.facts.items ≡ take n old.facts.items ++ x ∷ []
+    → mid.later.items ≡ old.later.items
     → AreKept c old → AreKept c mid
 kept_entered c old mid n x proper facts later h =
     let L : List Later → Type 0 = λ ls. All (λ l. IsProper c l.fact) ls in
@@ -96,17 +97,19 @@ kept_closed c old new by h =
     }
 
 module _ (c : Case) (rows : List (Row Node)) (start : List Branch) where
-  left_same : (b b2 : Branch) (es es2 : List Entry) (ls ls2 : List Later) (ss ss2 : List LiftedStep) (opens : List TreeBranch) → b ≡ b2 → es ≡ es2 → ls ≡ ls2 → ss ≡ ss2
-      → IsLeft c rows start b es ls ss opens → IsLeft c rows start b2 es2 ls2 ss2 opens
+  left_same : (b b2 : Branch) (es es2 : List Entry) (ls ls2 : List Later) (ss ss2 : List LiftedStep) (opens : List TreeBranch)
+      → b ≡ b2 → es ≡ es2 → ls ≡ ls2 → ss ≡ ss2
+      → HasClosedFirst c rows start b es ls ss opens → HasClosedFirst c rows start b2 es2 ls2 ss2 opens
   left_same b b2 es es2 ls ls2 ss ss2 opens e f g h x =
-      let A : Branch → Type 0 = λ y. IsLeft c rows start y es ls ss opens in
-      let B : List Entry → Type 0 = λ y. IsLeft c rows start b2 y ls ss opens in
-      let C : List Later → Type 0 = λ y. IsLeft c rows start b2 es2 y ss opens in
-      let D : List LiftedStep → Type 0 = λ y. IsLeft c rows start b2 es2 ls2 y opens in
+      let A : Branch → Type 0 = λ y. HasClosedFirst c rows start y es ls ss opens in
+      let B : List Entry → Type 0 = λ y. HasClosedFirst c rows start b2 y ls ss opens in
+      let C : List Later → Type 0 = λ y. HasClosedFirst c rows start b2 es2 y ss opens in
+      let D : List LiftedStep → Type 0 = λ y. HasClosedFirst c rows start b2 es2 ls2 y opens in
       subst D h (subst C g (subst B f (subst A e x)))
 
   -- a leaf closed the first branch
-  pub left_by : (old new : State) (opens : List TreeBranch) → HasClosedBy old new → IsGoodState c rows start old → IsMatchedState c rows old opens → HasLeft c rows start new opens
+  pub left_by : (old new : State) (opens : List TreeBranch) → HasClosedBy old new → IsGoodState c rows start old
+      → IsMatchedState c rows old opens → LeavesWaiting c rows start new opens
   left_by old new opens by good found =
       let l = by.closes c rows good.known in
       left_same (branch_of old) (branch_of new) old.known new.known (reverse old.later.items) (reverse new.later.items) new.steps new.steps opens
@@ -129,18 +132,21 @@ module _ (c : Case) (rows : List (Row Node)) (start : List Branch) where
       let B : List Entry → Type 0 = λ y. AreLater c rows b y ls in
       subst B (take-append-drop m es) (subst A (take-append-drop n b) more)
 
-  matched_whole : (b : Branch) (es : List Entry) (m : ℕ) (ls : List Later) (opens : List TreeBranch) → AreLater c rows b (take m es) ls → AreMatched c rows (take m es) ls opens → AreMatched c rows es ls opens
+  matched_whole : (b : Branch) (es : List Entry) (m : ℕ) (ls : List Later) (opens : List TreeBranch) → AreLater c rows b (take m es) ls
+      → AreMatched c rows (take m es) ls opens → AreMatched c rows es ls opens
   matched_whole b es m ls opens h found =
       let B : List Entry → Type 0 = λ y. AreMatched c rows y ls opens in
       subst B (take-append-drop m es) (matched_more c rows b (take m es) (drop m es) ls opens h found)
 
-  due_inside : (es : List Entry) (l : Later) (ls : List Later) (opens : List TreeBranch) → l.task ≡ Close → AreMatched c rows es (l ∷ ls) opens → AreMatched c rows (take l.known es) ls opens
+  due_inside : (es : List Entry) (l : Later) (ls : List Later) (opens : List TreeBranch) → l.task ≡ Close
+      → AreMatched c rows es (l ∷ ls) opens → AreMatched c rows (take l.known es) ls opens
   due_inside es l ls opens task (due m e rest) = rest
   due_inside es l ls opens task (side m p ps e s rest) = absurd (close_not_side p (sym task ∙ e))
 
   -- a branch that only waited to be closed was so
-  pub left_due : (b : Branch) (es : List Entry) (l : Later) (ls : List Later) (steps new : List LiftedStep) (opens : List TreeBranch) → l.task ≡ Close → IsLeft c rows start b es (l ∷ ls) steps opens
-      → HasClosed c (plain_fact l.fact) l.count (l.count + 1) steps new → IsLeft c rows start b es ls new opens
+  pub left_due : (b : Branch) (es : List Entry) (l : Later) (ls : List Later) (steps new : List LiftedStep) (opens : List TreeBranch)
+      → l.task ≡ Close → HasClosedFirst c rows start b es (l ∷ ls) steps opens
+      → HasClosed c (plain_fact l.fact) l.count (l.count + 1) steps new → HasClosedFirst c rows start b es ls new opens
   left_due b es l ls steps new opens task h closed =
       let count : length (take l.count b) ≡ l.count = length-take-le l.count b h.later.0 in
       let inside = due_inside es l ls opens task h.matched in
@@ -154,15 +160,16 @@ module _ (c : Case) (rows : List (Row Node)) (start : List Branch) where
       }
 
   -- one that takes a side
-  pub left_side : (b : Branch) (es : List Entry) (l : Later) (ls : List Later) (steps : List LiftedStep) (opens : List TreeBranch) (p : ℕ) → l.task ≡ Side p → IsLeft c rows start b es (l ∷ ls) steps opens
-      → (ps : TreeBranch) × (rest : List TreeBranch) × (opens ≡ ps ∷ rest) × IsNext c rows start b es l ls steps p ps rest
+  pub left_side : (b : Branch) (es : List Entry) (l : Later) (ls : List Later) (steps : List LiftedStep) (opens : List TreeBranch) (p : ℕ)
+      → l.task ≡ Side p → HasClosedFirst c rows start b es (l ∷ ls) steps opens
+      → (ps : TreeBranch) × (rest : List TreeBranch) × (opens ≡ ps ∷ rest) × CanEnterNext c rows start b es l ls steps p ps rest
   left_side b es l ls steps opens p task h = go opens h.matched
     where
       same_place : (q : ℕ) → Side q ≡ Side p → q ≡ p
       same_place q e = cc
 
       go : (os : List TreeBranch) → AreMatched c rows es (l ∷ ls) os
-          → (ps : TreeBranch) × (rest : List TreeBranch) × (os ≡ ps ∷ rest) × IsNext c rows start b es l ls steps p ps rest
+          → (ps : TreeBranch) × (rest : List TreeBranch) × (os ≡ ps ∷ rest) × CanEnterNext c rows start b es l ls steps p ps rest
       go os (due m e inside) = absurd (close_not_side p (sym e ∙ task))
       go os (side {opens = rest} m q ps e s inside) =
           let P : ℕ → Type 0 = λ n. IsSide c rows (take l.known es) l n ps in
@@ -171,7 +178,8 @@ module _ (c : Case) (rows : List (Row Node)) (start : List Branch) where
   no_branch : (es : List Entry) (opens : List TreeBranch) → AreMatched c rows es [] opens → opens ≡ []
   no_branch es opens no_more = refl
 
-  pub left_none : (b : Branch) (es : List Entry) (ls : List Later) (steps : List LiftedStep) (opens : List TreeBranch) → ls ≡ [] → IsLeft c rows start b es ls steps opens
+  pub left_none : (b : Branch) (es : List Entry) (ls : List Later) (steps : List LiftedStep) (opens : List TreeBranch)
+      → ls ≡ [] → HasClosedFirst c rows start b es ls steps opens
       → (opens ≡ []) × Runs c steps start []
   left_none b es ls steps opens none h =
       let A : List Later → Type 0 = λ y. AreMatched c rows es y opens in
@@ -182,7 +190,7 @@ module _ (c : Case) (rows : List (Row Node)) (start : List Branch) where
   pub entered : (old mid new : State) (l : Later) (x : Fact) (p : ℕ) (ps : TreeBranch) (rest : List TreeBranch) → CanEnter c rows start old l p ps rest
       → mid.facts.items ≡ take l.count old.facts.items ++ x ∷ [] → plain_fact x ≡ plain_fact l.fact
       → mid.known ≡ take l.known old.known → mid.later.items ≡ old.later.items → mid.steps ≡ old.steps
-      → HasUnfolded c rows (fact_tree c (plain_fact l.fact)) p mid new → IsOn c rows start new (ps ∷ rest)
+      → HasUnfolded c rows (fact_tree c (plain_fact l.fact)) p mid new → FollowsBranches c rows start new (ps ∷ rest)
   entered old mid new l x p ps rest h facts same known later steps unfolded =
       let b = take l.count (branch_of old) in
       let es = take l.known old.known in
@@ -191,7 +199,8 @@ module _ (c : Case) (rows : List (Row Node)) (start : List Branch) where
       let branch : branch_of mid ≡ b ++ f ∷ [] = entered_branch old mid l x facts same in
       let turned : reverse mid.later.items ≡ ls = ap reverse later in
       let good : IsGoodState c rows start mid =
-      good_same c rows start (b ++ f ∷ []) (branch_of mid) es mid.known ls (reverse mid.later.items) old.steps mid.steps (sym branch) (sym known) (sym turned) (sym steps)
+      good_same c rows start (b ++ f ∷ []) (branch_of mid) es mid.known ls (reverse mid.later.items) old.steps mid.steps
+      (sym branch) (sym known) (sym turned) (sym steps)
       (good_waits c rows start b f es ls old.steps h.run h.later.2 h.later.3) in
       let found : IsMatchedState c rows mid rest = matched_same c rows es mid.known ls (reverse mid.later.items) rest (sym known) (sym turned) h.matched in
       let P : List Entry → Type 0 = λ y. HaveMore y new.known in
@@ -203,6 +212,7 @@ module _ (c : Case) (rows : List (Row Node)) (start : List Branch) where
         are = refl;
         good = unfolded.moves.good start good;
         covered = subst Q (sym h.takes.all)
-            (covered_side rows new.known h.takes.before (asserted (fact_tree c f) p) (covered_more rows es new.known h.takes.before keys h.takes.covered) unfolded.told);
+            (covered_side rows new.known h.takes.before (asserted (fact_tree c f) p)
+            (covered_more rows es new.known h.takes.before keys h.takes.covered) unfolded.told);
         matched = unfolded.moves.matched start rest good found;
       }

@@ -21,3 +21,4 @@ pub mod UnfoldedFacts
 pub mod PartRows
 pub mod LiftedRoots
 pub mod KeyedEdges
+pub mod Ranks

@@ -24,7 +24,8 @@ none_behind c axioms k past =
     ap (λ fs. joined_trees true (map (fact_tree c) fs)) (drop_all k (root (plain_axioms axioms)) (omega (arith, past, same)))
 
 -- the fact of the axiom at a place
-pub axiom_said : (axioms : List Closed) (k : ℕ) (a : Closed) (f : PlainFact) → k < length axioms → a ≡ get_or axioms k a → f ≡ said true (plain_closed a.body) [] 0
+pub axiom_said : (axioms : List Closed) (k : ℕ) (a : Closed) (f : PlainFact) → k < length axioms → a ≡ get_or axioms k a
+    → f ≡ said true (plain_closed a.body) [] 0
     → slice_get (root (plain_axioms axioms)) k ≡ Some f
 axiom_said axioms k a f within is same =
     axiom_there axioms k a (slice_get_read axioms (length axioms) k a refl within is) ∙ ap (λ (g : PlainFact). Some g) (sym same)

@@ -23,7 +23,8 @@ module _ (c : Case) (rows : List (Row Node)) (b : Branch) (es : List Entry) (kno
   pub cycle_closes : (x : Node) (via : List Node) (k : ℕ) (ks : List ℕ) → AreNumbers es x (via ++ x ∷ []) (k ∷ ks) → Closes c b (cycle k ks)
   cycle_closes x via k ks h = (x, follows_along x via x (k ∷ ks) h)
 
-  pub path_closes : (x : Node) (via : List Node) (y : Node) (k : ℕ) (ks : List ℕ) (denial : ℕ) → AreNumbers es x (via ++ y ∷ []) (k ∷ ks) → In (entry (no_edge x y) denial) es
+  pub path_closes : (x : Node) (via : List Node) (y : Node) (k : ℕ) (ks : List ℕ) (denial : ℕ) → AreNumbers es x (via ++ y ∷ []) (k ∷ ks)
+      → In (entry (no_edge x y) denial) es
       → Closes c b (path k ks denial)
   path_closes x via y k ks denial h d = (x, y, follows_along x via y (k ∷ ks) h, known (no_edge x y) denial d)
 
@@ -31,7 +32,8 @@ module _ (c : Case) (rows : List (Row Node)) (b : Branch) (es : List Entry) (kno
   absent_closes a denial k d p = (let f = known (present a) k p in (a, f.0, known (no_node a) denial d, f.1, f.2))
 
 -- the state with a leaf more
-pub added_leaf : {T E : Type 0} (r : Result T E) (old new : State) (l : LiftedLeaf) → new.facts.items ≡ old.facts.items → new.known ≡ old.known → new.later.items ≡ old.later.items
+pub added_leaf : {T E : Type 0} (r : Result T E) (old new : State) (l : LiftedLeaf) → new.facts.items ≡ old.facts.items
+    → new.known ≡ old.known → new.later.items ≡ old.later.items
     → new.steps ≡ (if is_ok r then old.steps ++ close l ∷ [] else old.steps)
     → ((c : Case) (rows : List (Row Node)) → AreKnown c rows (branch_of old) old.known → Closes c (branch_of old) l) → OnOk r (HasClosedBy old new)
 added_leaf (Ok x) old new l facts known later is closes = record { facts = facts; known = known; later = later; closes = λ c rows h. (l, closes c rows h, is) }

@@ -2,6 +2,7 @@
 use Rattle.std.proofs.Common.{◌≡◌, ℕ, List, Some, sym, ◌∙◌, ap}
 use Rattle.std.specs.Prelude.{slice_get}
 use Rattle.pc_common.specs.World.{Node}
+use Rattle.pc_common.proofs.Places.{one_item}
 use Rattle.pc_ground.specs.declared.node_key.NodeKey.{NodeKey}
 use Rattle.pc_ground.specs.declared.row.Row.{Row}
 use Rattle.pc_ground.specs.Keys.{row_node}
@@ -9,8 +10,5 @@ use Rattle.pc_ground.specs.Tree.{Tree, size_of}
 use Rattle.pc_ground.proofs.FlatRows.{root_of, part_row}
 use Rattle.lifter.specs.KnownFacts.{IsPart}
 
-one_some : (x y : Row Node) → Some x ≡ Some y → x ≡ y
-one_some x y e = cc
-
 pub skip_is : (rows : List (Row Node)) (p : ℕ) (r : Row NodeKey) (a : Tree Node) → slice_get rows p ≡ Some (row_node r) → IsPart rows p a → r.skip ≡ size_of a
-skip_is rows p r a got part = ap (λ (q : Row Node). q.skip) (one_some (row_node r) (root_of a) (sym got ∙ part_row rows p a part))
+skip_is rows p r a got part = ap (λ (q : Row Node). q.skip) (one_item (row_node r) (root_of a) (sym got ∙ part_row rows p a part))

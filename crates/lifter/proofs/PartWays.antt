@@ -6,6 +6,7 @@ use Rattle.std.proofs.lemmas.Option.{slice_get-map, slice_get_within}
 use Rattle.std.proofs.lemmas.List.{drop_all}
 use Rattle.pc_common.specs.Case.{Case}
 use Rattle.pc_common.specs.World.{Node}
+use Rattle.pc_common.proofs.Places.{there_at}
 use Rattle.pc_syntax.specs.declared.closed_term.ClosedNode.{ClosedNode}
 use Rattle.pc_syntax.specs.declared.closed_term.ClosedEdge.{ClosedEdge}
 use Rattle.pc_syntax.specs.declared.term.Sort.{Sort}
@@ -31,7 +32,8 @@ use Rattle.lifter.proofs.KindLaws.{kind_of_more}
 
 module _ (c : Case) (slots : List Meaning) where
   each_value : (plus : Bool) (sort : Sort) (p : PlainClosed) (k : ℕ)
-      → option_map (λ v. said_inside plus p slots (v ∷ [])) (slice_get (range_of c sort) k) ≡ slice_get (map (λ v. said_inside plus p slots (v ∷ [])) (range_of c sort)) k
+      → option_map (λ v. said_inside plus p slots (v ∷ [])) (slice_get (range_of c sort) k) ≡ slice_get
+      (map (λ v. said_inside plus p slots (v ∷ [])) (range_of c sort)) k
   each_value plus sort p k = sym (slice_get-map (λ v. said_inside plus p slots (v ∷ [])) (range_of c sort) k)
 
   pub way_part : (plus : Bool) (p : PlainClosed) (s k : ℕ) → k < length (parts c (said plus p slots s))
@@ -88,11 +90,6 @@ open_rest True b no_first e = e
 open_rest False b no_first e = absurd (no_first refl)
 open_rest Open b no_first e = ap (joined_kind true Open) e
 
-pub there_at : {Y : Type 0} (ys : List Y) (i : ℕ) → i < length ys → (y : Y) × (slice_get ys i ≡ Some y)
-there_at [] i h = absurd (omega (arith, h))
-there_at (y ∷ ys) zero h = (y, refl)
-there_at (y ∷ ys) (suc i) h = there_at ys i (omega (arith, h))
-
 pub both_open : (a b : Kind) → joined_kind true a b ≡ Open → (a ≡ False → ⊥) × (b ≡ False → ⊥)
 both_open True b e = (λ h. cc, λ h. cc)
 both_open False b e = cc
@@ -118,11 +115,13 @@ module _ {X : Type 0} (tree : X → Tree Node) where
   pub rest_next : (xs : List X) (k : ℕ) (x : X) → slice_get xs k ≡ Some x → rest_of xs k ≡ joined_tree true (tree x) (rest_of xs (k + 1))
   rest_next xs k x there = ap (λ ys. joined_trees true (map tree ys)) (drop_at xs k (k + 1) x there refl)
 
-  pub kind_rest : (xs : List X) (k : ℕ) (x : X) → slice_get xs k ≡ Some x → kind_of (rest_of xs k) ≡ joined_kind true (kind_of (tree x)) (kind_of (rest_of xs (k + 1)))
+  pub kind_rest : (xs : List X) (k : ℕ) (x : X) → slice_get xs k ≡ Some x
+      → kind_of (rest_of xs k) ≡ joined_kind true (kind_of (tree x)) (kind_of (rest_of xs (k + 1)))
   kind_rest xs k x there = ap kind_of (rest_next xs k x there) ∙ kind_of_more true (tree x) (map tree (drop (k + 1) xs))
 
   -- And from place k on is False, and not for its first part
-  pub false_later : (xs : List X) (k : ℕ) (x : X) → slice_get xs k ≡ Some x → kind_of (rest_of xs k) ≡ False → (kind_of (tree x) ≡ False → ⊥) → kind_of (rest_of xs (k + 1)) ≡ False
+  pub false_later : (xs : List X) (k : ℕ) (x : X) → slice_get xs k ≡ Some x → kind_of (rest_of xs k) ≡ False → (kind_of (tree x) ≡ False → ⊥)
+      → kind_of (rest_of xs (k + 1)) ≡ False
   false_later xs k x there e other = later_false (kind_of (tree x)) (kind_of (rest_of xs (k + 1))) (sym (kind_rest xs k x there) ∙ e) other
 
   -- no part of an And that is no constant is False
@@ -130,8 +129,10 @@ module _ {X : Type 0} (tree : X → Tree Node) where
   none_false [] k x there fine e = cc
   none_false (y ∷ ys) zero x there fine e =
       let same : y ≡ x = cc in
-      fine (kind_of_more true (tree y) (map tree ys) ∙ ap (λ k. joined_kind true k (kind_of (joined_trees true (map tree ys)))) (ap (λ z. kind_of (tree z)) same ∙ e))
-  none_false (y ∷ ys) (suc k) x there fine e = none_false ys k x there (λ h. fine (kind_of_more true (tree y) (map tree ys) ∙ ap (joined_kind true (kind_of (tree y))) h ∙ last (kind_of (tree y)))) e
+      fine (kind_of_more true (tree y) (map tree ys)
+      ∙ ap (λ k. joined_kind true k (kind_of (joined_trees true (map tree ys)))) (ap (λ z. kind_of (tree z)) same ∙ e))
+  none_false (y ∷ ys) (suc k) x there fine e = none_false ys k x there
+      (λ h. fine (kind_of_more true (tree y) (map tree ys) ∙ ap (joined_kind true (kind_of (tree y))) h ∙ last (kind_of (tree y)))) e
     where
       last : (k : Kind) → joined_kind true k False ≡ False
       last True = refl
@@ -139,12 +140,15 @@ module _ {X : Type 0} (tree : X → Tree Node) where
       last Open = refl
 
   -- And is no constant from any place on, up to one from which on it is none
-  pub open_from : (xs : List X) (r j n : ℕ) → j + n ≡ r → r < length xs → kind_of (rest_of xs r) ≡ Open → (kind_of (rest_of xs 0) ≡ False → ⊥) → kind_of (rest_of xs j) ≡ Open
-  open_from xs r j zero e within here fine = (let P : ℕ → Type 0 = λ k. kind_of (rest_of xs k) ≡ Open in subst P (let same : r ≡ j = omega (arith, e) in same) here)
+  pub open_from : (xs : List X) (r j n : ℕ) → j + n ≡ r → r < length xs → kind_of (rest_of xs r) ≡ Open → (kind_of (rest_of xs 0) ≡ False → ⊥)
+      → kind_of (rest_of xs j) ≡ Open
+  open_from xs r j zero e within here fine = (let P : ℕ → Type 0 = λ k. kind_of (rest_of xs k) ≡ Open in subst P
+      (let same : r ≡ j = omega (arith, e) in same) here)
   open_from xs r j (suc n) e within here fine =
       let x = there_at xs j (omega (arith, e, within)) in
       kind_rest xs j x.0 x.1
-      ∙ open_rest (kind_of (tree x.0)) (kind_of (rest_of xs (j + 1))) (none_false xs j x.0 x.1 fine) (open_from xs r (j + 1) n (omega (arith, e)) within here fine)
+      ∙ open_rest (kind_of (tree x.0)) (kind_of (rest_of xs (j + 1))) (none_false xs j x.0 x.1 fine)
+      (open_from xs r (j + 1) n (omega (arith, e)) within here fine)
 
   pub rest_end : (xs : List X) (k : ℕ) → length xs ≤ k → rest_of xs k ≡ always
   rest_end xs k past = ap (λ ys. joined_trees true (map tree ys)) (drop_all k xs past)
@@ -169,7 +173,8 @@ module _ {X : Type 0} (tree : X → Tree Node) where
       let behind = subst P (sym step) rest in
       let fine : kind_of (rest_of xs 0) ≡ False → ⊥ = λ h. open_not_false (kind_of (rest_of xs 0)) whole h in
       let within = slice_get_within xs at x there in
-      let last : kind_of (rest_of xs at) ≡ Open = kind_rest xs at x there ∙ ap (λ t. joined_kind true (kind_of (tree x)) (kind_of t)) behind ∙ open_then_true (kind_of (tree x)) here in
+      let last : kind_of (rest_of xs at) ≡ Open = kind_rest xs at x there ∙ ap (λ t. joined_kind true (kind_of (tree x)) (kind_of t)) behind
+      ∙ open_then_true (kind_of (tree x)) here in
       (behind, λ j low. open_from xs at j (at - j) (omega (arith, low)) within last fine)
 
 -- the part that is named as the one at a place stands there

@@ -1,6 +1,5 @@
 -- The bodies of a quantifier at the values of its range, one by one.
-use Rattle.std.proofs.Common.{◌≡◌, ◌<◌, ◌≤◌, ℕ, ◌+◌, Bool, List, [], ◌∷◌, ◌++◌, length, map, ap, sym, ◌∙◌}
-use Rattle.std.proofs.lemmas.List.{drop_all}
+use Rattle.std.proofs.Common.{◌≡◌, ◌<◌, ℕ, ◌+◌, Bool, List, [], ◌∷◌, ◌++◌, length, map, ap, sym, ◌∙◌}
 use Rattle.pc_common.specs.Case.{Case}
 use Rattle.pc_syntax.specs.declared.term.Sort.{Sort}
 use Rattle.pc_syntax.specs.declared.bound.Bound.{Bound}
@@ -11,8 +10,8 @@ use Rattle.static_preds.specs.Values.{meanings}
 use Rattle.static_preds.proofs.Ranges.{next_value, meanings_inside}
 use Rattle.lifter.specs.Trees.{said_tree, joined_trees, bodies}
 use Rattle.lifter.specs.declared.kind.Kind.{Kind}
-use Rattle.lifter.specs.Kinds.{kind_of, joined_kind, decider, neutral}
-use Rattle.lifter.proofs.KindLaws.{kind_of_none, kind_of_more, decided_first, decided_second, neutral_second, joined_assoc}
+use Rattle.lifter.specs.Kinds.{kind_of, joined_kind, decider}
+use Rattle.lifter.proofs.KindLaws.{kind_of_more, decided_first, decided_second, joined_assoc}
 
 -- the next body and those after it
 pub body_next : (c : Case) (plus : Bool) (slots inside : List Bound) (sort : Sort) (p : PlainClosed) (k : ℕ) (v : Bound)
@@ -20,10 +19,8 @@ pub body_next : (c : Case) (plus : Bool) (slots inside : List Bound) (sort : Sor
     → bodies c plus sort p (meanings slots) k ≡ said_tree c plus p (meanings inside) ∷ bodies c plus sort p (meanings slots) (k + 1)
 body_next c plus slots inside sort p k v within value bound =
     ap (map (λ (u : Meaning). said_tree c plus p (meanings slots ++ u ∷ []))) (next_value c sort k within)
-    ∙ ap (λ (ms : List Meaning). said_tree c plus p ms ∷ bodies c plus sort p (meanings slots) (k + 1)) (sym (meanings_inside slots inside sort k v bound value))
-
-pub body_past : (c : Case) (plus : Bool) (slots : List Meaning) (sort : Sort) (p : PlainClosed) (k : ℕ) → length (range_of c sort) ≤ k → bodies c plus sort p slots k ≡ []
-body_past c plus slots sort p k past = ap (map (λ (u : Meaning). said_tree c plus p (slots ++ u ∷ []))) (drop_all k (range_of c sort) past)
+    ∙ ap (λ (ms : List Meaning). said_tree c plus p ms ∷ bodies c plus sort p (meanings slots) (k + 1))
+    (sym (meanings_inside slots inside sort k v bound value))
 
 -- the kind of the whole, from one member on
 pub kind_next : (all : Bool) (c : Case) (plus : Bool) (slots inside : List Bound) (sort : Sort) (p : PlainClosed) (k : ℕ) (v : Bound)
@@ -34,10 +31,6 @@ kind_next all c plus slots inside sort p k v within value bound =
     ap (λ ts. kind_of (joined_trees all ts)) (body_next c plus slots inside sort p k v within value bound)
     ∙ kind_of_more all (said_tree c plus p (meanings inside)) (bodies c plus sort p (meanings slots) (k + 1))
 
-pub kind_past : (all : Bool) (c : Case) (plus : Bool) (slots : List Meaning) (sort : Sort) (p : PlainClosed) (k : ℕ) → length (range_of c sort) ≤ k
-    → kind_of (joined_trees all (bodies c plus sort p slots k)) ≡ neutral all
-kind_past all c plus slots sort p k past = ap (λ ts. kind_of (joined_trees all ts)) (body_past c plus slots sort p k past) ∙ kind_of_none all
-
 -- one more member, which decides, and one more that may not
 pub walked_decided : (all : Bool) (kind member here rest whole : Kind) → member ≡ decider all → here ≡ joined_kind all member rest
     → joined_kind all kind here ≡ whole → member ≡ whole
@@ -47,6 +40,3 @@ walked_decided all kind member here rest whole d e w =
 pub walked_on : (all : Bool) (kind member here rest whole : Kind) → here ≡ joined_kind all member rest → joined_kind all kind here ≡ whole
     → joined_kind all (joined_kind all kind member) rest ≡ whole
 walked_on all kind member here rest whole e w = joined_assoc all kind member rest ∙ ap (joined_kind all kind) (sym e) ∙ w
-
-pub walked_all : (all : Bool) (kind here whole : Kind) → here ≡ neutral all → joined_kind all kind here ≡ whole → kind ≡ whole
-walked_all all kind here whole n w = sym (neutral_second all kind) ∙ ap (joined_kind all kind) (sym n) ∙ w

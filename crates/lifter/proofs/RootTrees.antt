@@ -7,13 +7,13 @@ use Rattle.pc_common.specs.Case.{Case}
 use Rattle.pc_common.specs.World.{Node, World}
 use Rattle.pc_common.specs.Steps.{Step}
 use Rattle.pc_common.proofs.Elements.{in_from_contains}
+use Rattle.pc_common.proofs.Places.{one_item}
 use Rattle.pc_syntax.specs.declared.closed.Closed.{Closed}
 use Rattle.pc_syntax.specs.Closed.{PlainClosed, plain_closed}
 use Rattle.pc_ground.specs.declared.node_key.NodeKey.{NodeKey}
 use Rattle.pc_ground.specs.Keys.{key_node, row_node, renamed_kind}
 use Rattle.pc_ground.specs.declared.row.Row.{Row}
-use Rattle.pc_ground.specs.declared.row.RowKind.{RowKind}
-use Rattle.pc_ground.specs.declared.row.RowKind.TheVariants.{True, False, Lit, And, Or}
+use Rattle.pc_ground.specs.declared.row.RowKind.TheVariants.{False}
 use Rattle.pc_ground.specs.declared.version.Version.TheVariants.{One}
 use Rattle.pc_ground.specs.Tree.{Tree, always, never, leaf, both, either}
 use Rattle.pc_ground.specs.Rows.{rows_of, root_kind}
@@ -21,7 +21,7 @@ use Rattle.pc_ground.specs.Unfolded.{closed_unfolded}
 use Rattle.pc_ground.specs.GroundTree.{closed_ground_tree}
 use Rattle.pc_ground.specs.Stages.{plain_axioms}
 use Rattle.pc_ground.specs.Refutes.{asserted, all_signed, IsRefutation}
-use Rattle.pc_ground.proofs.FlatRows.{root_of, part_whole, part_row}
+use Rattle.pc_ground.proofs.FlatRows.{root_of, part_whole, part_row, renamed_false}
 use Rattle.pc_ground.proofs.Refuted.{refutation_sound}
 use Rattle.lifted_facts.specs.PlainFacts.{said, Branch, root}
 use Rattle.lifter.specs.Trees.{fact_tree, said_tree, joined_trees}
@@ -32,7 +32,7 @@ use Rattle.lifter.specs.declared.state.State.{State}
 use Rattle.lifter.specs.KnownFacts.{IsPart, TellsAll}
 use Rattle.lifter.specs.States.{branch_of, IsGood, IsGoodState, no_more, IsMatchedState}
 use Rattle.lifter.specs.Unfoldings.{facts_from, HasUnfolded}
-use Rattle.lifter.specs.Progress.{IsAhead}
+use Rattle.lifter.specs.Progress.{HasStepsLeft}
 use Rattle.lifter.proofs.CoveredBranches.{covered_all}
 use Rattle.lifter.proofs.KnownLaws.{good_same, matched_same}
 
@@ -85,16 +85,18 @@ stands_whole t u rows e f =
     let Q : Tree Node → Type 0 = λ v. IsPart (rows_of t) 0 v in
     subst P (sym e) (subst Q f (part_whole t))
 
-pub begun : (c : Case) (rows : List (Row Node)) (axioms : List PlainClosed) (steps : List (Step Node)) (old new : State) → rows ≡ rows_of (closed_ground_tree c axioms)
+pub begun : (c : Case) (rows : List (Row Node)) (axioms : List PlainClosed) (steps : List (Step Node)) (old new : State)
+    → rows ≡ rows_of (closed_ground_tree c axioms)
     → IsRefutation One (closed_ground_tree c axioms) steps → kind_of (closed_ground_tree c axioms) ≡ Open
     → branch_of old ≡ root axioms → old.known ≡ [] → old.later.items ≡ [] → old.steps ≡ [] → HasUnfolded c rows (facts_from c (root axioms) 0) 0 old new
-    → IsAhead c rows (root axioms ∷ []) new true steps
+    → HasStepsLeft c rows (root axioms ∷ []) new true steps
 begun c rows axioms steps old new spelled refuted is_open branch known later none unfolded =
     let t = closed_ground_tree c axioms in
     let start : List Branch = root axioms ∷ [] in
     let turned : reverse old.later.items ≡ [] = ap reverse later in
     let first : IsGood c rows start (root axioms) [] [] [] = record { run = refl; known = λ key k i. absurd i; later = tt } in
-    let good : IsGoodState c rows start old = good_same c rows start (root axioms) (branch_of old) [] old.known [] (reverse old.later.items) [] old.steps (sym branch) (sym known) (sym turned) (sym none) first in
+    let good : IsGoodState c rows start old = good_same c rows start (root axioms) (branch_of old) [] old.known [] (reverse old.later.items) [] old.steps
+    (sym branch) (sym known) (sym turned) (sym none) first in
     let found : IsMatchedState c rows old [] = matched_same c rows [] old.known [] (reverse old.later.items) [] (sym known) (sym turned) no_more in
     let T : Tree Node → Type 0 = λ u. TellsAll rows new.known (asserted u 0) in
     record {
@@ -114,36 +116,32 @@ begun c rows axioms steps old new spelled refuted is_open branch known later non
     }
 
 -- an axiom by its place
-pub axiom_there : (axioms : List Closed) (k : ℕ) (a : Closed) → slice_get axioms k ≡ Some a → slice_get (root (plain_axioms axioms)) k ≡ Some (said true (plain_closed a.body) [] 0)
+pub axiom_there : (axioms : List Closed) (k : ℕ) (a : Closed) → slice_get axioms k ≡ Some a
+    → slice_get (root (plain_axioms axioms)) k ≡ Some (said true (plain_closed a.body) [] 0)
 axiom_there axioms k a e =
     slice_get-map (λ p. said true p [] 0) (plain_axioms axioms) k
-    ∙ ap (option_map (λ p. said true p [] 0)) (slice_get-map (λ (x : Closed). plain_closed x.body) axioms k ∙ ap (option_map (λ (x : Closed). plain_closed x.body)) e)
-
-one_some : (x y : Row Node) → Some x ≡ Some y → x ≡ y
-one_some x y e = cc
+    ∙ ap (option_map (λ p. said true p [] 0))
+    (slice_get-map (λ (x : Closed). plain_closed x.body) axioms k ∙ ap (option_map (λ (x : Closed). plain_closed x.body)) e)
 
 -- what stands at the root, by the first row of the code
-kind_first : (t : Tree Node) (rows : List (Row Node)) (r : Row NodeKey) → rows ≡ rows_of t → slice_get rows 0 ≡ Some (row_node r) → renamed_kind key_node r.kind ≡ root_kind t
+kind_first : (t : Tree Node) (rows : List (Row Node)) (r : Row NodeKey) → rows ≡ rows_of t → slice_get rows 0 ≡ Some (row_node r)
+    → renamed_kind key_node r.kind ≡ root_kind t
 kind_first t rows r spelled got =
     let P : List (Row Node) → Type 0 = λ rs. slice_get rs 0 ≡ Some (row_node r) in
-    ap (λ (q : Row Node). q.kind) (one_some (row_node r) (root_of t) (sym (subst P spelled got) ∙ part_row (rows_of t) 0 t (part_whole t)))
-
-renamed_false : (k : RowKind NodeKey) → renamed_kind key_node k ≡ False → k ≡ False
-renamed_false True e = cc
-renamed_false False e = refl
-renamed_false (Lit l) e = cc
-renamed_false And e = cc
-renamed_false Or e = cc
+    ap (λ (q : Row Node). q.kind) (one_item (row_node r) (root_of t) (sym (subst P spelled got) ∙ part_row (rows_of t) 0 t (part_whole t)))
 
 -- the axioms together are False, or no constant
-pub axioms_never : (c : Case) (axioms : List PlainClosed) (rows : List (Row Node)) (r : Row NodeKey) → rows ≡ rows_of (closed_ground_tree c axioms) → slice_get rows 0 ≡ Some (row_node r)
+pub axioms_never : (c : Case) (axioms : List PlainClosed) (rows : List (Row Node)) (r : Row NodeKey) → rows ≡ rows_of (closed_ground_tree c axioms)
+    → slice_get rows 0 ≡ Some (row_node r)
     → r.kind ≡ False → kind_of (facts_from c (root axioms) 0) ≡ NeverKind
 axioms_never c axioms rows r spelled got is =
     let t = closed_ground_tree c axioms in
     ap kind_of (sym (root_tree c axioms)) ∙ row_never t (sym (kind_first t rows r spelled got) ∙ ap (renamed_kind key_node) is)
 
-pub tree_open : (c : Case) (axioms : List PlainClosed) (rows : List (Row Node)) (r : Row NodeKey) (steps : List (Step Node)) → rows ≡ rows_of (closed_ground_tree c axioms)
-    → slice_get rows 0 ≡ Some (row_node r) → (r.kind ≡ False → ⊥) → IsRefutation One (closed_ground_tree c axioms) steps → kind_of (closed_ground_tree c axioms) ≡ Open
+pub tree_open : (c : Case) (axioms : List PlainClosed) (rows : List (Row Node)) (r : Row NodeKey) (steps : List (Step Node))
+    → rows ≡ rows_of (closed_ground_tree c axioms)
+    → slice_get rows 0 ≡ Some (row_node r) → (r.kind ≡ False → ⊥) → IsRefutation One (closed_ground_tree c axioms) steps
+    → kind_of (closed_ground_tree c axioms) ≡ Open
 tree_open c axioms rows r steps spelled got other refuted =
     let t = closed_ground_tree c axioms in
     row_open t steps (λ e. other (renamed_false r.kind (kind_first t rows r spelled got ∙ e))) refuted

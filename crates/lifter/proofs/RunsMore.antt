@@ -1,29 +1,22 @@
 -- One step more: what it makes of the open branches.
-use Rattle.std.proofs.Common.{◌≡◌, ℕ, zero, suc, ◌+◌, List, [], ◌∷◌, ◌++◌, Some, length, refl, sym, ◌∙◌, ap, subst, arith, length-append}
+use Rattle.std.proofs.Common.{◌≡◌, ℕ, ◌+◌, List, [], ◌∷◌, ◌++◌, length, refl, sym, ◌∙◌, ap, subst, arith, length-append}
 use Rattle.std.specs.Prelude.{slice_get, Result, Ok, Err, OnOk, is_ok, if◌then◌else◌}
 use Rattle.pc_common.specs.Case.{Case}
+use Rattle.pc_common.proofs.Places.{get_last}
 use Rattle.lifted_facts.specs.declared.way.Way.{Way}
 use Rattle.lifted_facts.specs.PlainFacts.{PlainFact, Branch}
 use Rattle.lifted_facts.specs.Lifted.{LiftedLeaf, LiftedStep, derive, split, close, HasFact, HasPart, HasSides, Closes, Advances, Runs}
 use Rattle.lifted_facts.proofs.RunLaws.{runs_then, one_step}
 
-pub get_more : {X : Type 0} (xs ys : List X) (k : ℕ) (x : X) → slice_get xs k ≡ Some x → slice_get (xs ++ ys) k ≡ Some x
-get_more [] ys k x e = cc
-get_more (z ∷ xs) ys zero x e = e
-get_more (z ∷ xs) ys (suc k) x e = get_more xs ys k x e
-
-get_seam : {X : Type 0} (xs : List X) (x : X) → slice_get (xs ++ x ∷ []) (length xs) ≡ Some x
-get_seam [] x = refl
-get_seam (z ∷ xs) x = get_seam xs x
-
 pub last_fact : (b : Branch) (g : PlainFact) (n : ℕ) → length b ≡ n → HasFact (b ++ g ∷ []) n g
-last_fact b g n e = ap (slice_get (b ++ g ∷ [])) (sym e) ∙ get_seam b g
+last_fact b g n e = ap (slice_get (b ++ g ∷ [])) (sym e) ∙ get_last b g
 
 pub one_longer : (b : Branch) (g : PlainFact) (n m : ℕ) → length b ≡ n → m ≡ n + 1 → length (b ++ g ∷ []) ≡ m
 one_longer b g n m e f = (let l = length-append b (g ∷ []) in omega (arith, l, e, f))
 
 module _ (c : Case) (start : List Branch) where
-  ran : (old new : List LiftedStep) (s : LiftedStep) (mid next : List Branch) → new ≡ old ++ s ∷ [] → Runs c old start mid → Advances c s mid next → Runs c new start next
+  ran : (old new : List LiftedStep) (s : LiftedStep) (mid next : List Branch) → new ≡ old ++ s ∷ [] → Runs c old start mid → Advances c s mid next
+      → Runs c new start next
   ran old new s mid next is r a =
       let P : List LiftedStep → Type 0 = λ xs. Runs c xs start next in
       subst P (sym is) (runs_then c old (s ∷ []) start mid next r (one_step c s mid next a))

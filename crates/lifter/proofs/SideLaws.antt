@@ -7,6 +7,7 @@ use Rattle.std.proofs.lemmas.Option.{slice_get_within}
 use Rattle.std.proofs.lemmas.List.{drop_all}
 use Rattle.pc_common.specs.Case.{Case}
 use Rattle.pc_common.specs.World.{Node}
+use Rattle.pc_common.proofs.Places.{there_at}
 use Rattle.pc_syntax.specs.declared.closed_term.ClosedNode.{ClosedNode}
 use Rattle.pc_syntax.specs.declared.closed_term.ClosedEdge.{ClosedEdge}
 use Rattle.pc_syntax.specs.Predicates.{predicate_holds}
@@ -19,17 +20,12 @@ use Rattle.static_preds.proofs.Walked.{drop_at}
 use Rattle.lifted_facts.specs.declared.way.Way.{Way}
 use Rattle.lifted_facts.specs.declared.way.Way.TheVariants.{Left, Right, Not, Bind, Inst, Member}
 use Rattle.lifted_facts.specs.PlainFacts.{PlainFact, said, one_node, one_edge}
-use Rattle.lifted_facts.specs.Parts.{place_of, said_inside, part_of, or_later, sides, is_false}
+use Rattle.lifted_facts.specs.Parts.{number_of_instance, said_inside, part_of, or_later, sides, is_false}
+use Rattle.lifted_facts.proofs.PartTruth.{mapped}
 use Rattle.lifter.specs.Trees.{signed_tree, said_tree, joined_trees, node_tree, edge_tree, fact_tree}
 use Rattle.lifter.specs.PartLists.{parts, IsSaid}
-use Rattle.lifter.specs.Ranks.{weight, rank}
 use Rattle.lifter.proofs.TreeLaws.{start_tree, forall_tree, exists_tree, nodes_tree, edges_tree}
-use Rattle.lifter.proofs.PartWays.{there_at}
-
--- what an optional value was made of
-mapped : {X Y : Type 0} (f : X → Y) (o : Option X) (y : Y) → option_map f o ≡ Some y → (x : X) × (o ≡ Some x) × (f x ≡ y)
-mapped f None y e = cc
-mapped f (Some x) y e = (x, refl, cc)
+use Rattle.lifter.proofs.Ranks.{weight, rank}
 
 abbrev pair : PlainFact → PlainFact → PlainFact × PlainFact
 pair f g = (f, g)
@@ -96,7 +92,8 @@ module _ (c : Case) where
       ap (λ t. conjoined t (said_tree c more q slots)) (sym (start_tree c slots plus p))
       ∙ ap (conjoined (fact_tree c (said plus p slots 0))) (sym (start_tree c slots more q) ∙ sym (conjoined_always (fact_tree c (said more q slots 0))))
 
-  one_part : (plus : Bool) (p : PlainClosed) (slots : List Meaning) → said_tree c plus p slots ≡ joined_trees true (map (fact_tree c) (said plus p slots 0 ∷ []))
+  one_part : (plus : Bool) (p : PlainClosed) (slots : List Meaning)
+      → said_tree c plus p slots ≡ joined_trees true (map (fact_tree c) (said plus p slots 0 ∷ []))
   one_part plus p slots = sym (start_tree c slots plus p) ∙ sym (conjoined_always (fact_tree c (said plus p slots 0)))
 
   each_part : {X : Type 0} (tree : X → Tree Node) (fact : X → PlainFact) (xs : List X) → ((x : X) → tree x ≡ fact_tree c (fact x))
@@ -127,15 +124,18 @@ module _ (c : Case) where
   parts_tree (said false (closed_bind args p) slots s) is none fine = one_part false p (slots ++ map (closed_value slots) args)
   parts_tree (said true (closed_forall sort p) slots s) is none fine =
       forall_tree c slots true sort p
-      ∙ each_part (λ v. said_tree c true p (slots ++ v ∷ [])) (λ v. said_inside true p slots (v ∷ [])) (range_of c sort) (λ v. sym (start_tree c (slots ++ v ∷ []) true p))
+      ∙ each_part (λ v. said_tree c true p (slots ++ v ∷ [])) (λ v. said_inside true p slots (v ∷ [])) (range_of c sort)
+      (λ v. sym (start_tree c (slots ++ v ∷ []) true p))
   parts_tree (said false (closed_exists sort p) slots s) is none fine =
       exists_tree c slots false sort p
-      ∙ each_part (λ v. said_tree c false p (slots ++ v ∷ [])) (λ v. said_inside false p slots (v ∷ [])) (range_of c sort) (λ v. sym (start_tree c (slots ++ v ∷ []) false p))
+      ∙ each_part (λ v. said_tree c false p (slots ++ v ∷ [])) (λ v. said_inside false p slots (v ∷ [])) (range_of c sort)
+      (λ v. sym (start_tree c (slots ++ v ∷ []) false p))
   parts_tree (said true (closed_nodes ts) slots s) is none fine =
       nodes_tree c slots true ts ∙ each_part (node_tree c true slots) (λ (t : ClosedNode). one_node true (closed_node c slots t)) ts (λ (t : ClosedNode). refl)
   parts_tree (said true (closed_edges ts) slots s) is none fine =
       edges_tree c slots true ts
-      ∙ each_part (edge_tree c true slots) (λ (t : ClosedEdge). one_edge true (closed_node c slots t.from) (closed_node c slots t.to)) ts (λ (t : ClosedEdge). refl)
+      ∙ each_part (edge_tree c true slots) (λ (t : ClosedEdge). one_edge true (closed_node c slots t.from) (closed_node c slots t.to)) ts
+      (λ (t : ClosedEdge). refl)
   parts_tree (said true (closed_static pred args) slots s) is none fine = static_true (predicate_holds c pred (map (closed_argument slots) args)) fine
     where
       static_true : (b : Bool) → not b ≡ false → signed_tree true (decided b) ≡ always
@@ -153,7 +153,8 @@ module _ (c : Case) where
   parts_tree (said false (closed_nodes ts) slots s) is none fine =
       absurd (sided (λ (t : ClosedNode). one_node false (closed_node c slots t)) ts s (said false (closed_nodes ts) slots (s + 1)) fine none)
   parts_tree (said false (closed_edges ts) slots s) is none fine =
-      absurd (sided (λ (t : ClosedEdge). one_edge false (closed_node c slots t.from) (closed_node c slots t.to)) ts s (said false (closed_edges ts) slots (s + 1)) fine none)
+      absurd (sided (λ (t : ClosedEdge). one_edge false (closed_node c slots t.from) (closed_node c slots t.to)) ts s
+      (said false (closed_edges ts) slots (s + 1)) fine none)
   parts_tree (one_node plus a) is none fine = elim is [ ]
   parts_tree (one_edge plus a b) is none fine = elim is [ ]
   parts_tree f is none fine = cc
@@ -197,19 +198,22 @@ module _ (c : Case) where
       (said true (closed_exists sort p) slots (s + 1)) g h e (λ v within. omega (arith, start_rank true p (slots ++ v ∷ []))) (λ within. omega (arith, within))
   sides_rank (said false (closed_forall sort p) slots s) g h e =
       first_rank (λ v. said_inside false p slots (v ∷ [])) (range_of c sort) s (rank c (said false (closed_forall sort p) slots s))
-      (said false (closed_forall sort p) slots (s + 1)) g h e (λ v within. omega (arith, start_rank false p (slots ++ v ∷ []))) (λ within. omega (arith, within))
+      (said false (closed_forall sort p) slots (s + 1)) g h e (λ v within. omega (arith, start_rank false p (slots ++ v ∷ [])))
+      (λ within. omega (arith, within))
   sides_rank (said false (closed_nodes ts) slots s) g h e =
       first_rank (λ (t : ClosedNode). one_node false (closed_node c slots t)) ts s (rank c (said false (closed_nodes ts) slots s))
       (said false (closed_nodes ts) slots (s + 1)) g h e (λ t within. omega (arith)) (λ within. omega (arith, within))
   sides_rank (said false (closed_edges ts) slots s) g h e =
-      first_rank (λ (t : ClosedEdge). one_edge false (closed_node c slots t.from) (closed_node c slots t.to)) ts s (rank c (said false (closed_edges ts) slots s))
+      first_rank (λ (t : ClosedEdge). one_edge false (closed_node c slots t.from) (closed_node c slots t.to)) ts s
+      (rank c (said false (closed_edges ts) slots s))
       (said false (closed_edges ts) slots (s + 1)) g h e (λ t within. omega (arith)) (λ within. omega (arith, within))
   sides_rank f g h e = cc
 
   one_less : (plus : Bool) (p : PlainClosed) (slots : List Meaning) (g : PlainFact) (n : ℕ) → weight c p < n → said plus p slots 0 ≡ g → rank c g < n
   one_less plus p slots g n h e = same_rank (said plus p slots 0) g n (omega (arith, start_rank plus p slots, h)) e
 
-  made_less : {X : Type 0} (fact : X → PlainFact) (o : Option X) (g : PlainFact) (n : ℕ) → option_map fact o ≡ Some g → ((x : X) → rank c (fact x) < n) → rank c g < n
+  made_less : {X : Type 0} (fact : X → PlainFact) (o : Option X) (g : PlainFact) (n : ℕ) → option_map fact o ≡ Some g → ((x : X) → rank c (fact x) < n)
+      → rank c g < n
   made_less fact o g n e low = (let m = mapped fact o g e in same_rank (fact m.0) g n (low m.0) m.2)
 
   pub part_rank : (way : Way) (f g : PlainFact) → part_of c way f ≡ Some g → rank c g < rank c f
@@ -224,15 +228,18 @@ module _ (c : Case) where
   part_rank Bind (said true (closed_bind args p) slots s) g e = one_less true p (slots ++ map (closed_value slots) args) g (weight c p + 1) (omega arith) cc
   part_rank Bind (said false (closed_bind args p) slots s) g e = one_less false p (slots ++ map (closed_value slots) args) g (weight c p + 1) (omega arith) cc
   part_rank (Inst v) (said true (closed_forall sort p) slots s) g e =
-      made_less (λ u. said_inside true p slots (u ∷ [])) (option_and_then (slice_get (range_of c sort)) (place_of sort v)) g (weight c p + length (range_of c sort) + 1) e
+      made_less (λ u. said_inside true p slots (u ∷ [])) (option_and_then (slice_get (range_of c sort)) (number_of_instance sort v)) g
+      (weight c p + length (range_of c sort) + 1) e
       (λ u. omega (arith, start_rank true p (slots ++ u ∷ [])))
   part_rank (Inst v) (said false (closed_exists sort p) slots s) g e =
-      made_less (λ u. said_inside false p slots (u ∷ [])) (option_and_then (slice_get (range_of c sort)) (place_of sort v)) g (weight c p + length (range_of c sort) + 1) e
+      made_less (λ u. said_inside false p slots (u ∷ [])) (option_and_then (slice_get (range_of c sort)) (number_of_instance sort v)) g
+      (weight c p + length (range_of c sort) + 1) e
       (λ u. omega (arith, start_rank false p (slots ++ u ∷ [])))
   part_rank (Member k) (said true (closed_nodes ts) slots s) g e =
       made_less (λ (t : ClosedNode). one_node true (closed_node c slots t)) (slice_get ts k) g (length ts + 1) e (λ t. omega arith)
   part_rank (Member k) (said true (closed_edges ts) slots s) g e =
-      made_less (λ (t : ClosedEdge). one_edge true (closed_node c slots t.from) (closed_node c slots t.to)) (slice_get ts k) g (length ts + 1) e (λ t. omega arith)
+      made_less (λ (t : ClosedEdge). one_edge true (closed_node c slots t.from) (closed_node c slots t.to)) (slice_get ts k) g (length ts + 1) e
+      (λ t. omega arith)
   part_rank way f g e = cc
 
   past : (s n : ℕ) → not (nat_lt s n) ≡ true → n ≤ s

@@ -8,6 +8,7 @@ use Rattle.std.proofs.lemmas.Option.{slice_get-map, slice_get_within, slice_get_
 use Rattle.pc_common.specs.Case.{Case}
 use Rattle.pc_common.specs.World.{Node}
 use Rattle.pc_common.proofs.Elements.{In}
+use Rattle.pc_common.proofs.Places.{one_item}
 use Rattle.pc_ground.specs.declared.row.Row.{Row}
 use Rattle.pc_ground.specs.declared.version.Version.TheVariants.{One}
 use Rattle.pc_ground.specs.Tree.{Tree, either, size_of}
@@ -55,19 +56,17 @@ or_sides c rows f g h p is are =
 pub fact_within : (facts : List Fact) (k : ℕ) (f : PlainFact) → HasFact (map plain_fact facts) k f → k < length facts
 fact_within facts k f h = (let within = slice_get_within (map plain_fact facts) k f h in let same = mapped_length facts in omega (arith, within, same))
 
-one_some : (f g : PlainFact) → Some f ≡ Some g → f ≡ g
-one_some f g e = cc
-
 pub fact_read : (facts : List Fact) (k : ℕ) (x : Fact) (f : PlainFact) → HasFact (map plain_fact facts) k f → x ≡ get_or facts k x → plain_fact x ≡ f
 fact_read facts k x f h is =
     let there = slice_get_read facts (length facts) k x refl (fact_within facts k f h) is in
-    one_some (plain_fact x) f (sym (slice_get-map plain_fact facts k ∙ ap (option_map plain_fact) there) ∙ h)
+    one_item (plain_fact x) f (sym (slice_get-map plain_fact facts k ∙ ap (option_map plain_fact) there) ∙ h)
 
 pub proper_read : (c : Case) (facts : List Fact) (k : ℕ) (x : Fact) → All (IsProper c) facts → k < length facts → x ≡ get_or facts k x → IsProper c x
 proper_read c facts k x all within is = (let P : Fact → Type 0 = λ y. IsProper c y in subst P (sym is) (All-get_or (IsProper c) facts k x within all))
 
 -- the Or at a position that is known, by its fact in the code
-module _ (c : Case) (rows : List (Row Node)) (start : List Branch) (s : State) (p n : ℕ) (good : IsGoodState c rows start s) (key : In (entry (at_position p) n) s.known) where
+module _ (c : Case) (rows : List (Row Node)) (start : List Branch) (s : State) (p n : ℕ) (good : IsGoodState c rows start s)
+    (key : In (entry (at_position p) n) s.known) where
   pub or_within : n < length s.facts.items
   or_within = (let k = good.known (at_position p) n key in fact_within s.facts.items n k.0 k.1)
 
@@ -87,7 +86,8 @@ pub split_on : (c : Case) (rows : List (Row Node)) (old mid new : State) (g h : 
     → mid.known ≡ old.known → reverse mid.later.items ≡ l ∷ reverse old.later.items
     → ((start : List Branch) → IsGoodState c rows start old → IsGoodState c rows start mid)
     → HasUnfolded c rows (fact_tree c g) (p + 1) mid new → HasSplitOr c rows p old new
-split_on c rows old mid new g h l p right second_open part fact task place keys known later good unfolded = λ start t ps rest a b spelled is_good covered found at.
+split_on c rows old mid new g h l p right second_open part fact task place keys known later good unfolded =
+    λ start t ps rest a b spelled is_good covered found at.
     let R : List (Row Node) → Type 0 = λ rs. IsPart rs p (either a b) in
     let there : IsPart rows p (either a b) = subst R (sym spelled) (subtree_part t p (either a b) at) in
     let same = same_trees (fact_tree c g) (fact_tree c h) a b (one_part rows p (either (fact_tree c g) (fact_tree c h)) (either a b) part there) in
@@ -114,7 +114,8 @@ split_on c rows old mid new g h l p right second_open part fact task place keys 
     let waits : AreMatched c rows es (l ∷ reverse old.later.items) (right_branch One ps false p a b ∷ rest) =
     side l right (right_branch One ps false p a b) task takes (subst M (sym cut) found) in
     let mid_found : IsMatchedState c rows mid (right_branch One ps false p a b ∷ rest) =
-    matched_same c rows es mid.known (l ∷ reverse old.later.items) (reverse mid.later.items) (right_branch One ps false p a b ∷ rest) (sym known) (sym later) waits in
+    matched_same c rows es mid.known (l ∷ reverse old.later.items) (reverse mid.later.items) (right_branch One ps false p a b ∷ rest) (sym known)
+    (sym later) waits in
     let mid_good = good start is_good in
     let K : List Entry → Type 0 = λ y. HaveMore y new.known in
     let B : Tree Node → Type 0 = λ u. IsCovered rows new.known (ps ++ all_signed false (asserted u (p + 1))) in
@@ -124,6 +125,7 @@ split_on c rows old mid new g h l p right second_open part fact task place keys 
       are = refl;
       good = unfolded.moves.good start mid_good;
       covered = subst B same.0
-          (covered_side rows new.known ps (asserted (fact_tree c g) (p + 1)) (covered_more rows es new.known ps (subst K known unfolded.moves.keys) covered) unfolded.told);
+          (covered_side rows new.known ps (asserted (fact_tree c g) (p + 1))
+          (covered_more rows es new.known ps (subst K known unfolded.moves.keys) covered) unfolded.told);
       matched = unfolded.moves.matched start (right_branch One ps false p a b ∷ rest) mid_good mid_found;
     }

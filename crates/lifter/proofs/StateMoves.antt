@@ -6,6 +6,7 @@ use Rattle.std.proofs.lemmas.List.{map-append, reverse-append}
 use Rattle.std.proofs.lemmas.List.Elements.{All-push}
 use Rattle.pc_common.specs.Case.{Case}
 use Rattle.pc_common.specs.World.{Node}
+use Rattle.pc_common.proofs.Places.{slice_get-more}
 use Rattle.pc_ground.specs.declared.row.Row.{Row}
 use Rattle.lifted_facts.specs.declared.fact.Fact.{Fact}
 use Rattle.lifted_facts.specs.declared.way.Way.{Way}
@@ -21,10 +22,11 @@ use Rattle.lifter.specs.declared.state.State.{State}
 use Rattle.lifter.specs.Closings.{HasClosed}
 use Rattle.lifter.specs.KnownFacts.{PlainKey, Entry, IsKnown, AreKnown, HasMarked, HaveMore}
 use Rattle.lifter.specs.States.{branch_of, waiting, IsDue, AreKept, AreLater, IsGood, IsGoodState, AreMatched, due, Moves, HasGained}
-use Rattle.lifter.proofs.RunsMore.{get_more, last_fact, one_longer, ran_derive, ran_split}
+use Rattle.lifter.proofs.RunsMore.{last_fact, one_longer, ran_derive, ran_split}
 use Rattle.lifter.proofs.KnownLaws.{waiting_more, all_known_more, good_fact, good_key, good_same, matched_same, matched_more, later_more, keys_front, keys_same}
 
-pub branch_push : (facts new : List Fact) (x : Fact) (g : PlainFact) → new ≡ facts ++ x ∷ [] → plain_fact x ≡ g → map plain_fact new ≡ map plain_fact facts ++ g ∷ []
+pub branch_push : (facts new : List Fact) (x : Fact) (g : PlainFact) → new ≡ facts ++ x ∷ [] → plain_fact x ≡ g
+    → map plain_fact new ≡ map plain_fact facts ++ g ∷ []
 branch_push facts new x g is same = ap (map plain_fact) is ∙ map-append plain_fact facts (x ∷ []) ∙ ap (λ (f : PlainFact). map plain_fact facts ++ f ∷ []) same
 
 pub mapped_length : (facts : List Fact) → length (map plain_fact facts) ≡ length facts
@@ -58,19 +60,21 @@ module _ (c : Case) (rows : List (Row Node)) where
 
   -- a fact stays the one of its number
   pub moved_fact : (old new : State) (k : ℕ) (f : PlainFact) → Moves c rows old new → HasFact (branch_of old) k f → HasFact (branch_of new) k f
-  moved_fact old new k f m h = (let P : Branch → Type 0 = λ b. HasFact b k f in subst P (sym m.facts) (get_more (branch_of old) m.more k f h))
+  moved_fact old new k f m h = (let P : Branch → Type 0 = λ b. HasFact b k f in subst P (sym m.facts) (slice_get-more (branch_of old) m.more k f h))
 
   pub gained_fact : (old new : State) (k : ℕ) (g : PlainFact) → HasGained c rows old new k g → HasFact (branch_of new) k g
   gained_fact old new k g h = (let P : Branch → Type 0 = λ b. HasFact b k g in subst P (sym h.last) (last_fact (branch_of old) g k (sym h.number)))
 
-  kept_push : (old new : State) (x : Fact) → IsProper c x → new.facts.items ≡ old.facts.items ++ x ∷ [] → new.later.items ≡ old.later.items → AreKept c old → AreKept c new
+  kept_push : (old new : State) (x : Fact) → IsProper c x → new.facts.items ≡ old.facts.items ++ x ∷ [] → new.later.items ≡ old.later.items → AreKept c old
+      → AreKept c new
   kept_push old new x proper is same h = record {
     proper = (let P : List Fact → Type 0 = λ fs. All (IsProper c) fs in subst P (sym is) (All-push (IsProper c) old.facts.items x h.proper proper));
     later_proper = (let P : List Later → Type 0 = λ ls. All (λ l. IsProper c l.fact) ls in subst P (sym same) h.later_proper);
     due = (let P : List Later → Type 0 = λ ls. All (λ l. IsDue c l l.task) ls in subst P (sym same) h.due);
   }
 
-  pub derived : (old new : State) (way : Way) (k n : ℕ) (x : Fact) (g : PlainFact) → IsProper c x → plain_fact x ≡ g → HasPart c (branch_of old) way k g → n ≡ length old.facts.items
+  pub derived : (old new : State) (way : Way) (k n : ℕ) (x : Fact) (g : PlainFact) → IsProper c x → plain_fact x ≡ g → HasPart c (branch_of old) way k g
+      → n ≡ length old.facts.items
       → new.facts.items ≡ old.facts.items ++ x ∷ [] → new.known ≡ old.known → new.later.items ≡ old.later.items → new.steps ≡ old.steps ++ derive way k ∷ []
       → HasGained c rows old new n g
   derived old new way k n x g proper same part number is known later steps =
@@ -84,7 +88,8 @@ module _ (c : Case) (rows : List (Row Node)) where
           keys = keys_same old.known new.known known;
           kept = kept_push old new x proper is later;
           good = λ start h.
-              good_same c rows start (branch_of old ++ g ∷ []) (branch_of new) old.known new.known (reverse old.later.items) (reverse new.later.items) new.steps new.steps
+              good_same c rows start (branch_of old ++ g ∷ []) (branch_of new) old.known new.known (reverse old.later.items) (reverse new.later.items)
+              new.steps new.steps
               (sym last) (sym known) (ap reverse (sym later)) refl
               (good_fact c rows start (branch_of old) g old.known (reverse old.later.items) old.steps new.steps h
               (ran_derive c start old.steps new.steps way k (branch_of old) g (waiting (branch_of old) (reverse old.later.items)) part steps h.run));
@@ -121,7 +126,8 @@ module _ (c : Case) (rows : List (Row Node)) where
         };
       }
 
-  pub good_waits : (start : List Branch) (b : Branch) (g : PlainFact) (es : List Entry) (ls : List Later) (steps : List LiftedStep) → Runs c steps start ((b ++ g ∷ []) ∷ waiting b ls)
+  pub good_waits : (start : List Branch) (b : Branch) (g : PlainFact) (es : List Entry) (ls : List Later) (steps : List LiftedStep)
+      → Runs c steps start ((b ++ g ∷ []) ∷ waiting b ls)
       → AreKnown c rows b es → AreLater c rows b es ls → IsGood c rows start (b ++ g ∷ []) es ls steps
   good_waits start b g es ls steps r known later = record {
     run = (let P : List Branch → Type 0 = λ ws. Runs c steps start ((b ++ g ∷ []) ∷ ws) in subst P (sym (waiting_more c rows b (g ∷ []) es ls later)) r);
@@ -130,8 +136,10 @@ module _ (c : Case) (rows : List (Row Node)) where
   }
 
   -- a split, of which the second branch waits
-  waits_run : (start : List Branch) (b : Branch) (g : PlainFact) (es : List Entry) (ls : List Later) (l : Later) (old new : List LiftedStep) (k : ℕ) → IsGood c rows start b es ls old
-      → HasSides c b k g (plain_fact l.fact) → l.count ≡ length b → l.known ≡ length es → new ≡ old ++ split k ∷ [] → IsGood c rows start (b ++ g ∷ []) es (l ∷ ls) new
+  waits_run : (start : List Branch) (b : Branch) (g : PlainFact) (es : List Entry) (ls : List Later) (l : Later) (old new : List LiftedStep) (k : ℕ)
+      → IsGood c rows start b es ls old
+      → HasSides c b k g (plain_fact l.fact) → l.count ≡ length b → l.known ≡ length es → new ≡ old ++ split k ∷ []
+      → IsGood c rows start (b ++ g ∷ []) es (l ∷ ls) new
   waits_run start b g es ls l old new k h sides count known is =
       let w = ran_split c start old new k b g (plain_fact l.fact) (waiting b ls) sides is h.run in
       let tb : take l.count b ≡ b = ap (λ n. take n b) count ∙ take-length b in
@@ -144,8 +152,10 @@ module _ (c : Case) (rows : List (Row Node)) where
       good_waits start b g es (l ∷ ls) new (subst P (sym tb) w) h.known later
 
   pub put_off : (old new : State) (k n : ℕ) (x : Fact) (g : PlainFact) (l : Later) → IsProper c x → plain_fact x ≡ g
-      → HasSides c (branch_of old) k g (plain_fact l.fact) → n ≡ length old.facts.items → l.count ≡ n → l.known ≡ length old.known → IsProper c l.fact → IsDue c l l.task
-      → new.facts.items ≡ old.facts.items ++ x ∷ [] → new.known ≡ old.known → new.later.items ≡ old.later.items ++ l ∷ [] → new.steps ≡ old.steps ++ split k ∷ []
+      → HasSides c (branch_of old) k g (plain_fact l.fact) → n ≡ length old.facts.items → l.count ≡ n → l.known ≡ length old.known → IsProper c l.fact
+      → IsDue c l l.task
+      → new.facts.items ≡ old.facts.items ++ x ∷ [] → new.known ≡ old.known → new.later.items ≡ old.later.items ++ l ∷ []
+      → new.steps ≡ old.steps ++ split k ∷ []
       → (n ≡ length (branch_of old)) × (branch_of new ≡ branch_of old ++ g ∷ []) × (AreKept c old → AreKept c new)
       × ((start : List Branch) → IsGoodState c rows start old → IsGoodState c rows start new) × (reverse new.later.items ≡ l ∷ reverse old.later.items)
   put_off old new k n x g l proper same sides number count keys later_proper is_due is known later steps =
@@ -158,10 +168,12 @@ module _ (c : Case) (rows : List (Row Node)) where
           proper = (let P : List Fact → Type 0 = λ fs. All (IsProper c) fs in subst P (sym is) (All-push (IsProper c) old.facts.items x h.proper proper));
           later_proper = (let P : List Later → Type 0 = λ ls. All (λ l. IsProper c l.fact) ls in
               subst P (sym later) (All-push (λ (w : Later). IsProper c w.fact) old.later.items l h.later_proper later_proper));
-          due = (let P : List Later → Type 0 = λ ls. All (λ l. IsDue c l l.task) ls in subst P (sym later) (All-push (λ (w : Later). IsDue c w w.task) old.later.items l h.due is_due));
+          due = (let P : List Later → Type 0 = λ ls. All (λ l. IsDue c l l.task) ls in subst P (sym later)
+              (All-push (λ (w : Later). IsDue c w w.task) old.later.items l h.due is_due));
         }),
         (λ start h.
-            good_same c rows start (branch_of old ++ g ∷ []) (branch_of new) old.known new.known (l ∷ reverse old.later.items) (reverse new.later.items) new.steps new.steps
+            good_same c rows start (branch_of old ++ g ∷ []) (branch_of new) old.known new.known (l ∷ reverse old.later.items) (reverse new.later.items)
+            new.steps new.steps
             (sym last) (sym known) (sym turned) refl
             (waits_run start (branch_of old) g old.known (reverse old.later.items) l old.steps new.steps k h sides (count ∙ sym size) keys steps)),
         turned,
@@ -170,7 +182,8 @@ module _ (c : Case) (rows : List (Row Node)) where
   pub lost_second : (old new : State) (k n : ℕ) (x : Fact) (g : PlainFact) (l : Later) → IsProper c x → plain_fact x ≡ g
       → HasSides c (branch_of old) k g (plain_fact l.fact) → n ≡ length old.facts.items → l.count ≡ n → l.known ≡ length old.known → IsProper c l.fact
       → l.task ≡ Close → kind_of (fact_tree c (plain_fact l.fact)) ≡ False
-      → new.facts.items ≡ old.facts.items ++ x ∷ [] → new.known ≡ old.known → new.later.items ≡ old.later.items ++ l ∷ [] → new.steps ≡ old.steps ++ split k ∷ []
+      → new.facts.items ≡ old.facts.items ++ x ∷ [] → new.known ≡ old.known → new.later.items ≡ old.later.items ++ l ∷ []
+      → new.steps ≡ old.steps ++ split k ∷ []
       → HasGained c rows old new n g
   lost_second old new k n x g l proper same sides number count keys later_proper task refused is known later steps =
       let D : Task → Type 0 = λ u. IsDue c l u in

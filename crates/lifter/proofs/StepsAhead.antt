@@ -5,6 +5,7 @@ use Rattle.std.proofs.lemmas.Result.{IfOk-weaker}
 use Rattle.pc_common.specs.Case.{Case}
 use Rattle.pc_common.specs.World.{Node}
 use Rattle.pc_common.specs.Steps.{Leaf, cycle, path, absent, false_step, Step, split, close}
+use Rattle.pc_common.proofs.Places.{there_at}
 use Rattle.static_preds.proofs.Walked.{drop_at}
 use Rattle.pc_ground.specs.declared.row.Row.{Row}
 use Rattle.pc_ground.specs.declared.version.Version.TheVariants.{One}
@@ -13,27 +14,28 @@ use Rattle.pc_ground.specs.Rows.{rows_of}
 use Rattle.pc_ground.specs.Refutes.{Branch as TreeBranch, Runs as TreeRuns, Closes as TreeCloses, literals_of, left_branch, right_branch}
 use Rattle.lifted_facts.specs.PlainFacts.{Branch}
 use Rattle.lifted_facts.specs.Lifted.{Runs}
-use Rattle.lifter.proofs.PartWays.{there_at}
 use Rattle.lifter.specs.declared.state.State.{State}
 use Rattle.lifter.specs.KnownFacts.{at_position, no_node, present, HasKey, IsCycleKnown, IsPathKnown}
 use Rattle.lifter.specs.States.{IsGoodState, IsCovered}
-use Rattle.lifter.specs.Progress.{IsAt, IsAhead, HasLeft, HasSplitOr, HasClosedBy}
+use Rattle.lifter.specs.Progress.{HasFollowed, HasStepsLeft, LeavesWaiting, HasSplitOr, HasClosedBy}
 use Rattle.lifter.proofs.CoveredBranches.{split_known, cycle_known, path_known, absent_known, only_false}
 use Rattle.lifter.proofs.LeftBranches.{left_by}
 
 module _ (c : Case) (rows : List (Row Node)) (start : List Branch) (s : State) where
-  run_here : (steps : List (Step Node)) (h : IsAhead c rows start s true steps) → TreeRuns One h.tree steps (h.at.first ∷ h.at.rest) []
+  run_here : (steps : List (Step Node)) (h : HasStepsLeft c rows start s true steps) → TreeRuns One h.tree steps (h.at.first ∷ h.at.rest) []
   run_here steps h = (let P : List TreeBranch → Type 0 = λ os. TreeRuns One h.tree steps os [] in subst P h.at.are h.run)
 
-  covered_here : (steps : List (Step Node)) (h : IsAhead c rows start s true steps) → IsCovered (rows_of h.tree) s.known h.at.first
+  covered_here : (steps : List (Step Node)) (h : HasStepsLeft c rows start s true steps) → IsCovered (rows_of h.tree) s.known h.at.first
   covered_here steps h = (let P : List (Row Node) → Type 0 = λ rs. IsCovered rs s.known h.at.first in subst P h.spelled h.at.covered)
 
-  pub can_split : (n : Bool) (p : ℕ) (rest : List (Step Node)) → IsAhead c rows start s true (split n p ∷ rest) → IsGoodState c rows start s × HasKey s.known (at_position p)
+  pub can_split : (n : Bool) (p : ℕ) (rest : List (Step Node)) → HasStepsLeft c rows start s true (split n p ∷ rest)
+      → IsGoodState c rows start s × HasKey s.known (at_position p)
   can_split n p rest h =
       let r = run_here (split n p ∷ rest) h in
       (h.at.good, (split_known h.tree s.known h.at.first (covered_here (split n p ∷ rest) h) n p r.0 r.1 r.2).2)
 
-  pub did_split : (new : State) (n : Bool) (p : ℕ) (rest : List (Step Node)) → HasSplitOr c rows p s new → IsAhead c rows start s true (split n p ∷ rest) → IsAhead c rows start new true rest
+  pub did_split : (new : State) (n : Bool) (p : ℕ) (rest : List (Step Node)) → HasSplitOr c rows p s new → HasStepsLeft c rows start s true (split n p ∷ rest)
+      → HasStepsLeft c rows start new true rest
   did_split new n p rest by h =
       let r = run_here (split n p ∷ rest) h in
       let k = split_known h.tree s.known h.at.first (covered_here (split n p ∷ rest) h) n p r.0 r.1 r.2 in
@@ -47,26 +49,31 @@ module _ (c : Case) (rows : List (Row Node)) (start : List Branch) (s : State) w
         at = by start h.tree h.at.first h.at.rest r.0 r.1 h.spelled h.at.good h.at.covered h.at.matched k.1;
       }
 
-  closes_here : (l : Leaf Node) (rest : List (Step Node)) (h : IsAhead c rows start s true (close l ∷ rest)) → TreeCloses h.tree (literals_of h.tree h.at.first) l
+  closes_here : (l : Leaf Node) (rest : List (Step Node)) (h : HasStepsLeft c rows start s true (close l ∷ rest))
+      → TreeCloses h.tree (literals_of h.tree h.at.first) l
   closes_here l rest h = (run_here (close l ∷ rest) h).0
 
-  pub can_cycle : (nodes : List Node) (rest : List (Step Node)) → IsAhead c rows start s true (close (cycle nodes) ∷ rest) → IsCycleKnown s.known nodes
+  pub can_cycle : (nodes : List Node) (rest : List (Step Node)) → HasStepsLeft c rows start s true (close (cycle nodes) ∷ rest) → IsCycleKnown s.known nodes
   can_cycle nodes rest h = cycle_known h.tree s.known h.at.first (covered_here (close (cycle nodes) ∷ rest) h) nodes (closes_here (cycle nodes) rest h)
 
-  pub can_path : (nodes : List Node) (rest : List (Step Node)) → IsAhead c rows start s true (close (path nodes) ∷ rest) → IsPathKnown s.known nodes
+  pub can_path : (nodes : List Node) (rest : List (Step Node)) → HasStepsLeft c rows start s true (close (path nodes) ∷ rest) → IsPathKnown s.known nodes
   can_path nodes rest h = path_known h.tree s.known h.at.first (covered_here (close (path nodes) ∷ rest) h) nodes (closes_here (path nodes) rest h)
 
-  pub can_absent : (a : Node) (rest : List (Step Node)) → IsAhead c rows start s true (close (absent a) ∷ rest) → HasKey s.known (no_node a) × HasKey s.known (present a)
+  pub can_absent : (a : Node) (rest : List (Step Node)) → HasStepsLeft c rows start s true (close (absent a) ∷ rest)
+      → HasKey s.known (no_node a) × HasKey s.known (present a)
   can_absent a rest h = absent_known h.tree s.known h.at.first (covered_here (close (absent a) ∷ rest) h) a (closes_here (absent a) rest h)
 
-  pub never_false : (rest : List (Step Node)) → IsAhead c rows start s true (close false_step ∷ rest) → ⊥
+  pub never_false : (rest : List (Step Node)) → HasStepsLeft c rows start s true (close false_step ∷ rest) → ⊥
   never_false rest h = h.is_some (only_false h.tree s.known h.at.first (covered_here (close false_step ∷ rest) h) (closes_here false_step rest h))
 
-  pub left_leaf : (mid : State) (l : Leaf Node) (rest : List (Step Node)) → HasClosedBy s mid → (h : IsAhead c rows start s true (close l ∷ rest)) → HasLeft c rows start mid h.at.rest
+  pub left_leaf : (mid : State) (l : Leaf Node) (rest : List (Step Node)) → HasClosedBy s mid → (h : HasStepsLeft c rows start s true (close l ∷ rest))
+      → LeavesWaiting c rows start mid h.at.rest
   left_leaf mid l rest by h = left_by c rows start s mid h.at.rest by h.at.good h.at.matched
 
   pub did_leaf : (mid new : State) (is_open : Bool) (l : Leaf Node) (rest : List (Step Node)) → HasClosedBy s mid
-      → ((opens : List TreeBranch) → HasLeft c rows start mid opens → IsAt c rows start new is_open opens) → IsAhead c rows start s true (close l ∷ rest) → IsAhead c rows start new is_open rest
+      → ((opens : List TreeBranch) → LeavesWaiting c rows start mid opens → HasFollowed c rows start new is_open opens)
+      → HasStepsLeft c rows start s true (close l ∷ rest)
+      → HasStepsLeft c rows start new is_open rest
   did_leaf mid new is_open l rest by goes h = record {
     tree = h.tree;
     spelled = h.spelled;
@@ -80,26 +87,31 @@ module _ (c : Case) (rows : List (Row Node)) (start : List Branch) (s : State) w
   no_step t x rest opens e r = (let P : List TreeBranch → Type 0 = λ os. TreeRuns One t (x ∷ rest) os [] in let none : ⊥ = subst P e r in none)
 
   -- no step is left where no branch is open
-  pub none_left : (x : Step Node) (rest : List (Step Node)) → IsAhead c rows start s false (x ∷ rest) → ⊥
+  pub none_left : (x : Step Node) (rest : List (Step Node)) → HasStepsLeft c rows start s false (x ∷ rest) → ⊥
   none_left x rest h = no_step h.tree x rest h.opens h.at.0 h.run
 
-  pub none_left_at : (is_open : Bool) (steps : List (Step Node)) (k : ℕ) → is_open ≡ false → k < length steps → IsAhead c rows start s is_open (drop k steps) → ⊥
+  pub none_left_at : (is_open : Bool) (steps : List (Step Node)) (k : ℕ) → is_open ≡ false → k < length steps
+      → HasStepsLeft c rows start s is_open (drop k steps)
+      → ⊥
   none_left_at is_open steps k refused within h =
       let x = there_at steps k within in
-      let P : Bool → Type 0 = λ b. IsAhead c rows start s b (drop k steps) in
-      let Q : List (Step Node) → Type 0 = λ ss. IsAhead c rows start s false ss in
+      let P : Bool → Type 0 = λ b. HasStepsLeft c rows start s b (drop k steps) in
+      let Q : List (Step Node) → Type 0 = λ ss. HasStepsLeft c rows start s false ss in
       none_left x.0 (drop (k + 1) steps) (subst Q (drop_at steps k (k + 1) x.0 x.1 refl) (subst P refused h))
 
   -- and no branch where no step is left
-  pub all_closed : (is_open : Bool) → IsAhead c rows start s is_open [] → Runs c s.steps start []
+  pub all_closed : (is_open : Bool) → HasStepsLeft c rows start s is_open [] → Runs c s.steps start []
   all_closed false h = h.at.1
   all_closed true h = (let e : h.at.first ∷ h.at.rest ≡ [] = sym h.at.are ∙ h.run in cc)
 
 -- a leaf closed the first branch, and then the next one was entered
 pub leaf_taken : {E : Type 0} (c : Case) (rows : List (Row Node)) (s mid new : State) (l : Leaf Node) (r : Result Bool E) → HasClosedBy s mid
-    → IfOk r (λ is_open. (start : List Branch) (opens : List TreeBranch) → HasLeft c rows start mid opens → IsAt c rows start new is_open opens)
-    → IfOk r (λ is_open. (start : List Branch) (rest : List (Step Node)) → IsAhead c rows start s true (close l ∷ rest) → IsAhead c rows start new is_open rest)
+    → IfOk r (λ is_open. (start : List Branch) (opens : List TreeBranch) → LeavesWaiting c rows start mid opens → HasFollowed c rows start new is_open opens)
+    → IfOk r (λ is_open. (start : List Branch) (rest : List (Step Node)) → HasStepsLeft c rows start s true (close l ∷ rest)
+    → HasStepsLeft c rows start new is_open rest)
 leaf_taken c rows s mid new l r by goes =
-    IfOk-weaker r (λ is_open. (start : List Branch) (opens : List TreeBranch) → HasLeft c rows start mid opens → IsAt c rows start new is_open opens)
-    (λ is_open. (start : List Branch) (rest : List (Step Node)) → IsAhead c rows start s true (close l ∷ rest) → IsAhead c rows start new is_open rest)
+    IfOk-weaker r (λ is_open. (start : List Branch) (opens : List TreeBranch) → LeavesWaiting c rows start mid opens
+    → HasFollowed c rows start new is_open opens)
+    (λ is_open. (start : List Branch) (rest : List (Step Node)) → HasStepsLeft c rows start s true (close l ∷ rest)
+    → HasStepsLeft c rows start new is_open rest)
     (λ is_open go start rest h. did_leaf c rows start s mid new is_open l rest by (go start) h) goes

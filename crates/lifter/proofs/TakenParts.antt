@@ -4,19 +4,20 @@ use Rattle.std.specs.Prelude.{slice_get}
 use Rattle.pc_common.specs.Case.{Case}
 use Rattle.pc_common.specs.World.{Node}
 use Rattle.pc_ground.specs.declared.row.Row.{Row}
-use Rattle.pc_ground.specs.Tree.{Tree, always, never, leaf, both, either, size_of}
+use Rattle.pc_ground.specs.Tree.{Tree, always, never, both, either, size_of, leaf}
 use Rattle.pc_ground.specs.PlainGround.{conjoined, disjoined}
 use Rattle.pc_ground.specs.Refutes.{asserted}
 use Rattle.pc_ground.proofs.FlatRows.{parts_both}
+use Rattle.pc_ground.proofs.NormalForms.{conjoined_always}
 use Rattle.lifted_facts.specs.PlainFacts.{PlainFact}
 use Rattle.lifter.specs.Trees.{fact_tree}
 use Rattle.lifter.specs.declared.kind.Kind.TheVariants.{Open}
 use Rattle.lifter.specs.Kinds.{kind_of}
 use Rattle.lifter.proofs.PartWays.{rest_next, kind_rest, is_always, only_true, both_open}
 use Rattle.lifter.specs.declared.state.State.{State}
-use Rattle.lifter.specs.KnownFacts.{IsPart, TellsAll}
+use Rattle.lifter.specs.KnownFacts.{IsPart, TellsAll, Entry, HaveMore}
 use Rattle.lifter.specs.States.{Moves}
-use Rattle.lifter.specs.Unfoldings.{facts_from, HasUnfolded, HasTaken, IsTakenTo}
+use Rattle.lifter.specs.Unfoldings.{facts_from, HasUnfolded, HasTaken}
 use Rattle.lifter.proofs.StateMoves.{moves_same, moves_then}
 use Rattle.lifter.proofs.Tellings.{tells_both, tells_more}
 
@@ -59,19 +60,12 @@ open_either (either a b) (leaf m) e f = refl
 open_either (either a b) (both d g) e f = refl
 open_either (either a b) (either d g) e f = refl
 
-pub conjoined_always : (t : Tree Node) → conjoined t always ≡ t
-conjoined_always always = refl
-conjoined_always never = refl
-conjoined_always (leaf l) = refl
-conjoined_always (both a b) = refl
-conjoined_always (either a b) = refl
-
-pub disjoined_never : (t : Tree Node) → disjoined t never ≡ t
-disjoined_never always = refl
-disjoined_never never = refl
-disjoined_never (leaf l) = refl
-disjoined_never (both a b) = refl
-disjoined_never (either a b) = refl
+-- the facts before a place are unfolded, of And over facts that stands at one position
+pub record IsTakenTo (c : Case) (rows : List (Row Node)) (fs : List PlainFact) (k whole at : ℕ) (old new : State) : Type 0 where
+  pub moves : Moves c rows old new
+  pub stands : IsPart rows at (facts_from c fs k)
+  pub told : (es : List Entry) → HaveMore new.known es → TellsAll rows es (asserted (facts_from c fs k) at)
+      → TellsAll rows es (asserted (facts_from c fs 0) whole)
 
 module _ (c : Case) (rows : List (Row Node)) (fs : List PlainFact) where
   -- the fact at a place and those after it, neither a constant
@@ -86,8 +80,10 @@ module _ (c : Case) (rows : List (Row Node)) (fs : List PlainFact) where
       parts_both rows at (fact_tree c f) (facts_from c fs (k + 1)) (subst P (two_open k f there e g) here)
 
   -- the fact was unfolded
-  pub taken_open : (k at next : ℕ) (f : PlainFact) (old new : State) → slice_get fs k ≡ Some f → kind_of (fact_tree c f) ≡ Open → kind_of (facts_from c fs (k + 1)) ≡ Open
-      → IsPart rows at (facts_from c fs k) → next ≡ at + 1 + size_of (fact_tree c f) → Moves c rows old new → TellsAll rows new.known (asserted (fact_tree c f) (at + 1))
+  pub taken_open : (k at next : ℕ) (f : PlainFact) (old new : State) → slice_get fs k ≡ Some f → kind_of (fact_tree c f) ≡ Open
+      → kind_of (facts_from c fs (k + 1)) ≡ Open
+      → IsPart rows at (facts_from c fs k) → next ≡ at + 1 + size_of (fact_tree c f) → Moves c rows old new
+      → TellsAll rows new.known (asserted (fact_tree c f) (at + 1))
       → HasTaken c rows fs k at next old new
   taken_open k at next f old new there e g here is moves told =
       let P : Tree Node → Type 0 = λ t. IsPart rows at t in
@@ -105,7 +101,8 @@ module _ (c : Case) (rows : List (Row Node)) (fs : List PlainFact) where
       }
 
   -- the fact is True
-  pub passed_over : (k at : ℕ) (f : PlainFact) (s : State) → slice_get fs k ≡ Some f → fact_tree c f ≡ always → IsPart rows at (facts_from c fs k) → HasTaken c rows fs k at at s s
+  pub passed_over : (k at : ℕ) (f : PlainFact) (s : State) → slice_get fs k ≡ Some f → fact_tree c f ≡ always → IsPart rows at (facts_from c fs k)
+      → HasTaken c rows fs k at at s s
   passed_over k at f s there agreed here =
       let same : facts_from c fs k ≡ facts_from c fs (k + 1) = rest_next (fact_tree c) fs k f there ∙ ap (λ t. conjoined t (facts_from c fs (k + 1))) agreed in
       let P : Tree Node → Type 0 = λ t. IsPart rows at t in
@@ -116,7 +113,8 @@ module _ (c : Case) (rows : List (Row Node)) (fs : List PlainFact) where
       }
 
   -- a fact of And that is no constant is True where it is one
-  pub true_here : (k : ℕ) (f : PlainFact) → slice_get fs k ≡ Some f → kind_of (facts_from c fs k) ≡ Open → (kind_of (fact_tree c f) ≡ Open → ⊥) → fact_tree c f ≡ always
+  pub true_here : (k : ℕ) (f : PlainFact) → slice_get fs k ≡ Some f → kind_of (facts_from c fs k) ≡ Open → (kind_of (fact_tree c f) ≡ Open → ⊥)
+      → fact_tree c f ≡ always
   true_here k f there whole other =
       let kind = kind_of (fact_tree c f) in
       let two = both_open kind (kind_of (facts_from c fs (k + 1))) (sym (kind_rest (fact_tree c) fs k f there) ∙ whole) in
@@ -129,7 +127,8 @@ module _ (c : Case) (rows : List (Row Node)) (fs : List PlainFact) where
   pub taken_start : (at : ℕ) (s : State) → IsPart rows at (facts_from c fs 0) → IsTakenTo c rows fs 0 at at s s
   taken_start at s here = record { moves = moves_same c rows s; stands = here; told = λ es more h. h }
 
-  pub taken_more : (k whole at next : ℕ) (old mid new : State) → IsTakenTo c rows fs k whole at old mid → HasTaken c rows fs k at next mid new → IsTakenTo c rows fs (k + 1) whole next old new
+  pub taken_more : (k whole at next : ℕ) (old mid new : State) → IsTakenTo c rows fs k whole at old mid → HasTaken c rows fs k at next mid new
+      → IsTakenTo c rows fs (k + 1) whole next old new
   taken_more k whole at next old mid new before one = record {
     moves = moves_then c rows old mid new before.moves one.moves;
     stands = one.stands;

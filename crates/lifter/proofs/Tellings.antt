@@ -5,7 +5,7 @@ use Rattle.pc_common.proofs.Elements.{in_either}
 use Rattle.pc_ground.specs.declared.literal.Literal.{Literal}
 use Rattle.pc_ground.specs.declared.literal.Literal.TheVariants.{Node as a_node, Edge as an_edge, NoNode as not_node, NoEdge as not_edge}
 use Rattle.pc_ground.specs.declared.row.Row.{Row}
-use Rattle.pc_ground.specs.Tree.{Tree, always, never, leaf, both, either, size_of}
+use Rattle.pc_ground.specs.Tree.{Tree, leaf, both, either, size_of, always, never}
 use Rattle.pc_ground.specs.Refutes.{asserted}
 use Rattle.pc_ground.proofs.FlatRows.{one_part}
 use Rattle.lifter.specs.KnownFacts.{at_position, edge, no_edge, no_node, present, Entry, HasKey, IsPart, TellsLiteral, TellsRoot, TellsAt, TellsAll, HaveMore}
@@ -38,11 +38,14 @@ module _ (rows : List (Row Node)) where
   tells_leaf es p l here h q (inl e) = at_root es p q (leaf l) here h e
   tells_leaf es p l here h q (inr i) = elim i [ ]
 
-  pub tells_either : (es : List Entry) (p : ℕ) (a b : Tree Node) → IsPart rows p (either a b) → HasKey es (at_position p) → TellsAll rows es (asserted (either a b) p)
+  pub tells_either : (es : List Entry) (p : ℕ) (a b : Tree Node) → IsPart rows p (either a b) → HasKey es (at_position p)
+      → TellsAll rows es (asserted (either a b) p)
   tells_either es p a b here h q (inl e) = at_root es p q (either a b) here h e
   tells_either es p a b here h q (inr i) = elim i [ ]
 
-  pub tells_both : (es : List Entry) (p : ℕ) (a b : Tree Node) → IsPart rows p (both a b) → TellsAll rows es (asserted a (p + 1)) → TellsAll rows es (asserted b (p + 1 + size_of a))
+  pub tells_both : (es : List Entry) (p : ℕ) (a b : Tree Node) → IsPart rows p (both a b) → TellsAll rows es (asserted a (p + 1))
+      → TellsAll rows es (asserted b (p + 1 + size_of a))
       → TellsAll rows es (asserted (both a b) p)
   tells_both es p a b here left right q (inl e) = at_root es p q (both a b) here tt e
-  tells_both es p a b here left right q (inr i) = elim (in_either q (asserted a (p + 1)) (asserted b (p + 1 + size_of a)) i) [ inl j ↦ left q j | inr j ↦ right q j ]
+  tells_both es p a b here left right q (inr i) = elim (in_either q (asserted a (p + 1)) (asserted b (p + 1 + size_of a)) i)
+      [ inl j ↦ left q j | inr j ↦ right q j ]

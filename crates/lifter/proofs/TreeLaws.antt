@@ -14,13 +14,15 @@ use Rattle.lifted_facts.specs.PlainFacts.{said}
 use Rattle.lifter.specs.Trees.{signed_tree, said_tree, joined_tree, joined_trees, bodies, node_tree, edge_tree, fact_tree}
 
 -- And over a list, and Or over one, under a sign
-pub over_all : {X : Type 0} (plus : Bool) (f : X → PlainGround) (xs : List X) → signed_tree plus (all_of (map f xs)) ≡ joined_trees plus (map (λ x. signed_tree plus (f x)) xs)
+pub over_all : {X : Type 0} (plus : Bool) (f : X → PlainGround) (xs : List X)
+    → signed_tree plus (all_of (map f xs)) ≡ joined_trees plus (map (λ x. signed_tree plus (f x)) xs)
 over_all true f [] = refl
 over_all false f [] = refl
 over_all true f (x ∷ xs) = ap (conjoined (signed_tree true (f x))) (over_all true f xs)
 over_all false f (x ∷ xs) = ap (disjoined (signed_tree false (f x))) (over_all false f xs)
 
-pub over_some : {X : Type 0} (plus : Bool) (f : X → PlainGround) (xs : List X) → signed_tree plus (some_of (map f xs)) ≡ joined_trees (not plus) (map (λ x. signed_tree plus (f x)) xs)
+pub over_some : {X : Type 0} (plus : Bool) (f : X → PlainGround) (xs : List X)
+    → signed_tree plus (some_of (map f xs)) ≡ joined_trees (not plus) (map (λ x. signed_tree plus (f x)) xs)
 over_some true f [] = refl
 over_some false f [] = refl
 over_some true f (x ∷ xs) = ap (disjoined (signed_tree true (f x))) (over_some true f xs)
@@ -31,22 +33,27 @@ module _ (c : Case) (slots : List Meaning) where
   not_tree true p = refl
   not_tree false p = refl
 
-  pub and_tree : (plus : Bool) (p q : PlainClosed) → said_tree c plus (closed_and p q) slots ≡ joined_tree plus (said_tree c plus p slots) (said_tree c plus q slots)
+  pub and_tree : (plus : Bool) (p q : PlainClosed)
+      → said_tree c plus (closed_and p q) slots ≡ joined_tree plus (said_tree c plus p slots) (said_tree c plus q slots)
   and_tree true p q = refl
   and_tree false p q = refl
 
-  pub or_tree : (plus : Bool) (p q : PlainClosed) → said_tree c plus (closed_or p q) slots ≡ joined_tree (not plus) (said_tree c plus p slots) (said_tree c plus q slots)
+  pub or_tree : (plus : Bool) (p q : PlainClosed)
+      → said_tree c plus (closed_or p q) slots ≡ joined_tree (not plus) (said_tree c plus p slots) (said_tree c plus q slots)
   or_tree true p q = refl
   or_tree false p q = refl
 
-  pub implies_tree : (plus : Bool) (p q : PlainClosed) → said_tree c plus (closed_implies p q) slots ≡ joined_tree (not plus) (said_tree c (not plus) p slots) (said_tree c plus q slots)
+  pub implies_tree : (plus : Bool) (p q : PlainClosed)
+      → said_tree c plus (closed_implies p q) slots ≡ joined_tree (not plus) (said_tree c (not plus) p slots) (said_tree c plus q slots)
   implies_tree true p q = refl
   implies_tree false p q = refl
 
-  pub forall_tree : (plus : Bool) (sort : Sort) (p : PlainClosed) → said_tree c plus (closed_forall sort p) slots ≡ joined_trees plus (bodies c plus sort p slots 0)
+  pub forall_tree : (plus : Bool) (sort : Sort) (p : PlainClosed)
+      → said_tree c plus (closed_forall sort p) slots ≡ joined_trees plus (bodies c plus sort p slots 0)
   forall_tree plus sort p = over_all plus (λ v. closed_unfolded c (slots ++ v ∷ []) p) (range_of c sort)
 
-  pub exists_tree : (plus : Bool) (sort : Sort) (p : PlainClosed) → said_tree c plus (closed_exists sort p) slots ≡ joined_trees (not plus) (bodies c plus sort p slots 0)
+  pub exists_tree : (plus : Bool) (sort : Sort) (p : PlainClosed)
+      → said_tree c plus (closed_exists sort p) slots ≡ joined_trees (not plus) (bodies c plus sort p slots 0)
   exists_tree plus sort p = over_some plus (λ v. closed_unfolded c (slots ++ v ∷ []) p) (range_of c sort)
 
   pub nodes_tree : (plus : Bool) (ts : List ClosedNode) → said_tree c plus (closed_nodes ts) slots ≡ joined_trees plus (map (node_tree c plus slots) ts)
@@ -71,18 +78,23 @@ module _ (c : Case) (slots : List Meaning) where
   pub not_of : (plus : Bool) (f p : PlainClosed) → f ≡ closed_not p → said_tree c plus f slots ≡ said_tree c (not plus) p slots
   not_of plus f p e = tree_as plus f (closed_not p) (said_tree c (not plus) p slots) e (not_tree plus p)
 
-  pub and_of : (plus : Bool) (f p q : PlainClosed) → f ≡ closed_and p q → said_tree c plus f slots ≡ joined_tree plus (said_tree c plus p slots) (said_tree c plus q slots)
+  pub and_of : (plus : Bool) (f p q : PlainClosed) → f ≡ closed_and p q
+      → said_tree c plus f slots ≡ joined_tree plus (said_tree c plus p slots) (said_tree c plus q slots)
   and_of plus f p q e = tree_as plus f (closed_and p q) (joined_tree plus (said_tree c plus p slots) (said_tree c plus q slots)) e (and_tree plus p q)
 
-  pub or_of : (plus : Bool) (f p q : PlainClosed) → f ≡ closed_or p q → said_tree c plus f slots ≡ joined_tree (not plus) (said_tree c plus p slots) (said_tree c plus q slots)
+  pub or_of : (plus : Bool) (f p q : PlainClosed) → f ≡ closed_or p q
+      → said_tree c plus f slots ≡ joined_tree (not plus) (said_tree c plus p slots) (said_tree c plus q slots)
   or_of plus f p q e = tree_as plus f (closed_or p q) (joined_tree (not plus) (said_tree c plus p slots) (said_tree c plus q slots)) e (or_tree plus p q)
 
   pub implies_of : (plus : Bool) (f p q : PlainClosed) → f ≡ closed_implies p q
       → said_tree c plus f slots ≡ joined_tree (not plus) (said_tree c (not plus) p slots) (said_tree c plus q slots)
-  implies_of plus f p q e = tree_as plus f (closed_implies p q) (joined_tree (not plus) (said_tree c (not plus) p slots) (said_tree c plus q slots)) e (implies_tree plus p q)
+  implies_of plus f p q e = tree_as plus f (closed_implies p q) (joined_tree (not plus) (said_tree c (not plus) p slots) (said_tree c plus q slots))
+      e (implies_tree plus p q)
 
-  pub forall_of : (plus : Bool) (f : PlainClosed) (sort : Sort) (p : PlainClosed) → f ≡ closed_forall sort p → said_tree c plus f slots ≡ joined_trees plus (bodies c plus sort p slots 0)
+  pub forall_of : (plus : Bool) (f : PlainClosed) (sort : Sort) (p : PlainClosed) → f ≡ closed_forall sort p
+      → said_tree c plus f slots ≡ joined_trees plus (bodies c plus sort p slots 0)
   forall_of plus f sort p e = tree_as plus f (closed_forall sort p) (joined_trees plus (bodies c plus sort p slots 0)) e (forall_tree plus sort p)
 
-  pub exists_of : (plus : Bool) (f : PlainClosed) (sort : Sort) (p : PlainClosed) → f ≡ closed_exists sort p → said_tree c plus f slots ≡ joined_trees (not plus) (bodies c plus sort p slots 0)
+  pub exists_of : (plus : Bool) (f : PlainClosed) (sort : Sort) (p : PlainClosed) → f ≡ closed_exists sort p
+      → said_tree c plus f slots ≡ joined_trees (not plus) (bodies c plus sort p slots 0)
   exists_of plus f sort p e = tree_as plus f (closed_exists sort p) (joined_trees (not plus) (bodies c plus sort p slots 0)) e (exists_tree plus sort p)

@@ -9,6 +9,7 @@ use Rattle.pc_ground.specs.declared.row.Row.{Row}
 use Rattle.pc_ground.specs.Tree.{Tree, never, leaf}
 use Rattle.pc_ground.specs.PlainGround.{disjoined}
 use Rattle.pc_ground.specs.Refutes.{asserted}
+use Rattle.pc_ground.proofs.NormalForms.{disjoined_never}
 use Rattle.lifted_facts.specs.PlainFacts.{PlainFact}
 use Rattle.lifted_facts.specs.Parts.{sides, is_false}
 use Rattle.lifter.specs.Trees.{fact_tree}
@@ -25,7 +26,7 @@ use Rattle.lifter.specs.States.{Moves}
 use Rattle.lifter.specs.Unfoldings.{fact_of, parts_from, HasUnfolded}
 use Rattle.lifter.proofs.StateMoves.{moves_then}
 use Rattle.lifter.proofs.Tellings.{tells_leaf, tells_either}
-use Rattle.lifter.proofs.TakenParts.{open_either, disjoined_never}
+use Rattle.lifter.proofs.TakenParts.{open_either}
 
 pub literal_tree : (c : Case) (l : Literal Node) → fact_tree c (fact_of l) ≡ leaf l
 literal_tree c (a_node a) = refl
@@ -48,7 +49,8 @@ lost_two Open Open a e other = absurd (other refl)
 
 module _ (c : Case) (rows : List (Row Node)) where
   -- after some moves a tree is unfolded
-  pub unfolded_by : (old mid new : State) (t u : Tree Node) (at : ℕ) → Moves c rows old mid → u ≡ t → HasUnfolded c rows t at mid new → HasUnfolded c rows u at old new
+  pub unfolded_by : (old mid new : State) (t u : Tree Node) (at : ℕ) → Moves c rows old mid → u ≡ t → HasUnfolded c rows t at mid new
+      → HasUnfolded c rows u at old new
   unfolded_by old mid new t u at moves same h = record {
     moves = moves_then c rows old mid new moves h.moves;
     told = (let P : Tree Node → Type 0 = λ x. TellsAll rows new.known (asserted x at) in subst P (sym same) h.told);
@@ -59,13 +61,15 @@ module _ (c : Case) (rows : List (Row Node)) where
     kinds = sym (ap kind_of (sides_tree c f g h are) ∙ kind_joined false (fact_tree c g) (fact_tree c h)) ∙ is_open
 
     -- the first side is False
-    pub first_lost : (kind_of (fact_tree c g) ≡ Open → ⊥) → (kind_of (fact_tree c g) ≡ False) × (kind_of (fact_tree c h) ≡ Open) × (fact_tree c f ≡ fact_tree c h)
+    pub first_lost : (kind_of (fact_tree c g) ≡ Open → ⊥)
+        → (kind_of (fact_tree c g) ≡ False) × (kind_of (fact_tree c h) ≡ Open) × (fact_tree c f ≡ fact_tree c h)
     first_lost other =
         let k = lost_one (kind_of (fact_tree c g)) (kind_of (fact_tree c h)) kinds other in
         (k.0, k.1, sides_tree c f g h are ∙ ap (λ t. disjoined t (fact_tree c h)) (is_never (fact_tree c g) k.0))
 
     -- only the second one is
-    pub second_lost : kind_of (fact_tree c g) ≡ Open → (kind_of (fact_tree c h) ≡ Open → ⊥) → (kind_of (fact_tree c h) ≡ False) × (fact_tree c f ≡ fact_tree c g)
+    pub second_lost : kind_of (fact_tree c g) ≡ Open → (kind_of (fact_tree c h) ≡ Open → ⊥)
+        → (kind_of (fact_tree c h) ≡ False) × (fact_tree c f ≡ fact_tree c g)
     second_lost first other =
         let k = lost_two (kind_of (fact_tree c g)) (kind_of (fact_tree c h)) first kinds other in
         (k, sides_tree c f g h are ∙ ap (disjoined (fact_tree c g)) (is_never (fact_tree c h) k) ∙ disjoined_never (fact_tree c g))
@@ -83,7 +87,8 @@ module _ (c : Case) (rows : List (Row Node)) where
           stands = subst P (sides_tree c f g h are ∙ open_either (fact_tree c g) (fact_tree c h) first second) here;
         }
 
-    pub both_told : (old new : State) (at : ℕ) → kind_of (fact_tree c g) ≡ Open → kind_of (fact_tree c h) ≡ Open → IsPart rows at (fact_tree c f) → Moves c rows old new
+    pub both_told : (old new : State) (at : ℕ) → kind_of (fact_tree c g) ≡ Open → kind_of (fact_tree c h) ≡ Open → IsPart rows at (fact_tree c f)
+        → Moves c rows old new
         → HasKey new.known (at_position at) → HasUnfolded c rows (fact_tree c f) at old new
     both_told old new at first second here moves has =
         let same = sides_tree c f g h are ∙ open_either (fact_tree c g) (fact_tree c h) first second in
@@ -108,6 +113,7 @@ both_ok (Ok x) f p q = f p q
 both_ok (Err e) f p q = tt
 
 -- a literal of which all is known
-pub literal_unfolded : (c : Case) (rows : List (Row Node)) (old new : State) (l : Literal Node) (at : ℕ) → IsPart rows at (leaf l) → Moves c rows old new → TellsLiteral new.known l
+pub literal_unfolded : (c : Case) (rows : List (Row Node)) (old new : State) (l : Literal Node) (at : ℕ) → IsPart rows at (leaf l) → Moves c rows old new
+    → TellsLiteral new.known l
     → HasUnfolded c rows (leaf l) at old new
 literal_unfolded c rows old new l at here moves told = record { moves = moves; told = tells_leaf rows new.known at l here told }

@@ -1,7 +1,6 @@
 pub mod Trees
 pub mod Kinds
 pub mod PartLists
-pub mod Ranks
 pub mod WayTable
 pub mod WrittenSteps
 pub mod Closings

@@ -16,7 +16,7 @@ use Rattle.lifter.specs.KnownFacts.{Entry, AreKnown}
 use Rattle.lifter.specs.States.{branch_of, waiting, AreLater, IsGoodState, IsCovered, IsSide, AreMatched, IsMatchedState}
 
 -- an open branch of the ground tree is followed on the first branch, and the others on those that wait
-pub record IsOn (c : Case) (rows : List (Row Node)) (start : List Branch) (s : State) (opens : List TreeBranch) : Type 0 where
+pub record FollowsBranches (c : Case) (rows : List (Row Node)) (start : List Branch) (s : State) (opens : List TreeBranch) : Type 0 where
   pub first : TreeBranch
   pub rest : List TreeBranch
   pub are : opens ≡ first ∷ rest
@@ -25,37 +25,39 @@ pub record IsOn (c : Case) (rows : List (Row Node)) (start : List Branch) (s : S
   pub matched : IsMatchedState c rows s rest
 
 -- these branches of the ground tree are followed; none is left where the flag says so
-abbrev pub IsAt : Case → List (Row Node) → List Branch → State → Bool → List TreeBranch → Type 0
-IsAt c rows start s true opens = IsOn c rows start s opens
-IsAt c rows start s false opens = (opens ≡ []) × Runs c s.steps start []
+abbrev pub HasFollowed : Case → List (Row Node) → List Branch → State → Bool → List TreeBranch → Type 0
+HasFollowed c rows start s true opens = FollowsBranches c rows start s opens
+HasFollowed c rows start s false opens = (opens ≡ []) × Runs c s.steps start []
 
 -- these steps of a refutation are left
-pub record IsAhead (c : Case) (rows : List (Row Node)) (start : List Branch) (s : State) (is_open : Bool) (steps : List (Step Node)) : Type 0 where
+pub record HasStepsLeft (c : Case) (rows : List (Row Node)) (start : List Branch) (s : State) (is_open : Bool) (steps : List (Step Node)) : Type 0 where
   pub tree : Tree Node
   pub spelled : rows ≡ rows_of tree
   pub is_some : tree ≡ never → ⊥
   pub opens : List TreeBranch
   pub run : TreeRuns One tree steps opens []
-  pub at : IsAt c rows start s is_open opens
+  pub at : HasFollowed c rows start s is_open opens
 
 -- the first branch is closed: the steps lead to those that wait
-pub record IsLeft (c : Case) (rows : List (Row Node)) (start : List Branch) (b : Branch) (es : List Entry) (ls : List Later) (steps : List LiftedStep) (opens : List TreeBranch) : Type 0 where
+pub record HasClosedFirst (c : Case) (rows : List (Row Node)) (start : List Branch) (b : Branch) (es : List Entry)
+    (ls : List Later) (steps : List LiftedStep) (opens : List TreeBranch) : Type 0 where
   pub run : Runs c steps start (waiting b ls)
   pub later : AreLater c rows b es ls
   pub matched : AreMatched c rows es ls opens
 
-abbrev pub HasLeft : Case → List (Row Node) → List Branch → State → List TreeBranch → Type 0
-HasLeft c rows start s opens = IsLeft c rows start (branch_of s) s.known (reverse s.later.items) s.steps opens
+abbrev pub LeavesWaiting : Case → List (Row Node) → List Branch → State → List TreeBranch → Type 0
+LeavesWaiting c rows start s opens = HasClosedFirst c rows start (branch_of s) s.known (reverse s.later.items) s.steps opens
 
 -- the next waiting branch has a side to take, whose root stands at p
-pub record IsNext (c : Case) (rows : List (Row Node)) (start : List Branch) (b : Branch) (es : List Entry) (l : Later) (ls : List Later) (steps : List LiftedStep) (p : ℕ) (ps : TreeBranch) (rest : List TreeBranch) : Type 0 where
+pub record CanEnterNext (c : Case) (rows : List (Row Node)) (start : List Branch) (b : Branch) (es : List Entry) (l : Later)
+    (ls : List Later) (steps : List LiftedStep) (p : ℕ) (ps : TreeBranch) (rest : List TreeBranch) : Type 0 where
   pub run : Runs c steps start (waiting b (l ∷ ls))
   pub later : AreLater c rows b es (l ∷ ls)
   pub takes : IsSide c rows (take l.known es) l p ps
   pub matched : AreMatched c rows (take l.known es) ls rest
 
 abbrev pub CanEnter : Case → List (Row Node) → List Branch → State → Later → ℕ → TreeBranch → List TreeBranch → Type 0
-CanEnter c rows start s l p ps rest = IsNext c rows start (branch_of s) s.known l (reverse s.later.items) s.steps p ps rest
+CanEnter c rows start s l p ps rest = CanEnterNext c rows start (branch_of s) s.known l (reverse s.later.items) s.steps p ps rest
 
 -- the sides of an Or of the tree were put in its branch's place
 abbrev pub HasSplitOr : Case → List (Row Node) → ℕ → State → State → Type 0
@@ -63,7 +65,7 @@ HasSplitOr c rows p old new =
     (start : List Branch) (t : Tree Node) (ps : TreeBranch) (rest : List TreeBranch) (a b : Tree Node)
     → rows ≡ rows_of t → IsGoodState c rows start old → IsCovered rows old.known ps → IsMatchedState c rows old rest
     → subtree_at t p ≡ Some (either a b)
-    → IsOn c rows start new (left_branch ps false p a ∷ right_branch One ps false p a b ∷ rest)
+    → FollowsBranches c rows start new (left_branch ps false p a ∷ right_branch One ps false p a b ∷ rest)
 
 -- a leaf closed the first branch
 pub record HasClosedBy (old new : State) : Type 0 where

@@ -2,7 +2,7 @@
 use Rattle.std.specs.Prelude.{ℕ, ◌≡◌, ◌≤◌, false, All, List, [], ◌∷◌, ◌++◌, length, map, take, reverse}
 use Rattle.pc_common.specs.Case.{Case}
 use Rattle.pc_common.specs.World.{Node}
-use Rattle.pc_common.proofs.Elements.{In}
+use Rattle.pc_common.specs.Elements.{In}
 use Rattle.pc_ground.specs.declared.row.Row.{Row}
 use Rattle.pc_ground.specs.Refutes.{asserted, Signed, all_signed, Branch as TreeBranch}
 use Rattle.lifted_facts.specs.PlainFacts.{PlainFact, Branch, plain_fact, IsProper}
@@ -43,7 +43,8 @@ AreLater c rows b es (l ∷ ls) =
     × AreLater c rows (take l.count b) (take l.known es) ls
 
 -- the steps lead to these branches, and what is known holds
-pub record IsGood (c : Case) (rows : List (Row Node)) (start : List Branch) (b : Branch) (es : List Entry) (ls : List Later) (steps : List LiftedStep) : Type 0 where
+pub record IsGood (c : Case) (rows : List (Row Node)) (start : List Branch) (b : Branch) (es : List Entry) (ls : List Later)
+    (steps : List LiftedStep) : Type 0 where
   pub run : Runs c steps start (b ∷ waiting b ls)
   pub known : AreKnown c rows b es
   pub later : AreLater c rows b es ls
@@ -81,7 +82,8 @@ pub record Moves (c : Case) (rows : List (Row Node)) (old new : State) : Type 0 
   pub keys : HaveMore old.known new.known
   pub kept : AreKept c old → AreKept c new
   pub good : (start : List Branch) → IsGoodState c rows start old → IsGoodState c rows start new
-  pub matched : (start : List Branch) (opens : List TreeBranch) → IsGoodState c rows start old → IsMatchedState c rows old opens → IsMatchedState c rows new opens
+  pub matched : (start : List Branch) (opens : List TreeBranch) → IsGoodState c rows start old → IsMatchedState c rows old opens
+      → IsMatchedState c rows new opens
 
 -- one fact more, with this number
 pub record HasGained (c : Case) (rows : List (Row Node)) (old new : State) (k : ℕ) (g : PlainFact) : Type 0 where

@@ -39,10 +39,3 @@ pub record HasTaken (c : Case) (rows : List (Row Node)) (fs : List PlainFact) (k
   pub stands : IsPart rows next (facts_from c fs (k + 1))
   pub told : (es : List Entry) → HaveMore new.known es → TellsAll rows es (asserted (facts_from c fs (k + 1)) next)
       → TellsAll rows es (asserted (facts_from c fs k) at)
-
--- the facts before a place are unfolded, of And over facts that stands at one position
-pub record IsTakenTo (c : Case) (rows : List (Row Node)) (fs : List PlainFact) (k whole at : ℕ) (old new : State) : Type 0 where
-  pub moves : Moves c rows old new
-  pub stands : IsPart rows at (facts_from c fs k)
-  pub told : (es : List Entry) → HaveMore new.known es → TellsAll rows es (asserted (facts_from c fs k) at)
-      → TellsAll rows es (asserted (facts_from c fs 0) whole)

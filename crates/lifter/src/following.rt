@@ -11,7 +11,7 @@ ghost use Rattle.lifted_facts.specs.PlainFacts.{Branch, root, IsProper};
 ghost use Rattle.lifted_facts.specs.Lifted.{Runs, IsLiftedRefutation};
 ghost use Rattle.lifter.specs.KnownFacts.{at_position, HasKey};
 ghost use Rattle.lifter.specs.States.{branch_of, AreKept, IsGoodState};
-ghost use Rattle.lifter.specs.Progress.{IsAhead, IsAt, IsOn, HasLeft, CanEnter, HasSplitOr};
+ghost use Rattle.lifter.specs.Progress.{HasStepsLeft, HasFollowed, FollowsBranches, LeavesWaiting, CanEnter, HasSplitOr};
 
 use super::closing::close_due;
 use super::key::Key;
@@ -75,7 +75,7 @@ fn enter<'a>(
     requires can { (start : List Branch) × (ps : TreeBranch) × (rest : List TreeBranch) × CanEnter case.now tree.now start state.old next.now at ps rest }
     ensures kept { OnOk result (AreKept case.now state.old → AreKept case.now state.new) }
     ensures on { OnOk result ((start : List Branch) (ps : TreeBranch) (rest : List TreeBranch)
-        → CanEnter case.now tree.now start state.old next.now at ps rest → IsOn case.now tree.now start state.new (ps ∷ rest)) }
+        → CanEnter case.now tree.now start state.old next.now at ps rest → FollowsBranches case.now tree.now start state.new (ps ∷ rest)) }
 {
     state.facts.truncate(next.count);
     state.known.truncate(next.known);
@@ -87,10 +87,10 @@ fn enter<'a>(
 /// False where there is none.
 fn go_on<'a>(case: &Case, tree: &Flat, state: &mut State<'a>) -> Result<bool, Memory>
     requires kept { AreKept case.now state.old }
-    requires left { (start : List Branch) × (opens : List TreeBranch) × HasLeft case.now tree.now start state.old opens }
+    requires left { (start : List Branch) × (opens : List TreeBranch) × LeavesWaiting case.now tree.now start state.old opens }
     ensures kept { OnOk result (AreKept case.now state.new) }
     ensures at { IfOk result (λ is_open. (start : List Branch) (opens : List TreeBranch)
-        → HasLeft case.now tree.now start state.old opens → IsAt case.now tree.now start state.new is_open opens) }
+        → LeavesWaiting case.now tree.now start state.old opens → HasFollowed case.now tree.now start state.new is_open opens) }
 {
     while let Some(next) = state.later.pop() {
         match next.task {
@@ -113,10 +113,10 @@ fn take_step<'a>(
     step: &Step,
 ) -> Result<bool, Memory>
     requires kept { AreKept case.now state.old }
-    requires ahead { (start : List Branch) × (rest : List (PlainStep Node)) × IsAhead case.now tree.now start state.old true (plain_step step.now ∷ rest) }
+    requires ahead { (start : List Branch) × (rest : List (PlainStep Node)) × HasStepsLeft case.now tree.now start state.old true (plain_step step.now ∷ rest) }
     ensures kept { OnOk result (AreKept case.now state.new) }
     ensures ahead { IfOk result (λ is_open. (start : List Branch) (rest : List (PlainStep Node))
-        → IsAhead case.now tree.now start state.old true (plain_step step.now ∷ rest) → IsAhead case.now tree.now start state.new is_open rest) }
+        → HasStepsLeft case.now tree.now start state.old true (plain_step step.now ∷ rest) → HasStepsLeft case.now tree.now start state.new is_open rest) }
 {
     match step {
         Step::Split { position, .. } => {
@@ -148,8 +148,8 @@ fn follow<'a>(
     refutation: &Refutation,
 ) -> Result<(), Memory>
     requires kept { AreKept case.now state.old }
-    requires ahead { (start : List Branch) × IsAhead case.now tree.now start state.old true refutation.now }
-    ensures { OnOk result ((start : List Branch) → IsAhead case.now tree.now start state.old true refutation.now
+    requires ahead { (start : List Branch) × HasStepsLeft case.now tree.now start state.old true refutation.now }
+    ensures { OnOk result ((start : List Branch) → HasStepsLeft case.now tree.now start state.old true refutation.now
         → Runs case.now state.new.steps start []) }
 {
     let mut is_open = true;

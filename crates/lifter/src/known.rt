@@ -1,5 +1,5 @@
 ghost use Rattle.std.specs.Prelude.{◌≡◌, [], ℕ, MatchOption, OnOk, length, take};
-ghost use Rattle.pc_common.proofs.Elements.{In};
+ghost use Rattle.pc_common.specs.Elements.{In};
 ghost use Rattle.lifter.specs.KnownFacts.{plain_key, entry, HasMarked};
 
 use super::key::Key;
@@ -13,7 +13,7 @@ pub(crate) struct Known {
     map: IndexMap<Key, u64>,
 }
 
-// Written out, so that a proof of what drops the value meets one call and no field.
+// By hand: docs/DECISIONS.md, "Drops are written by hand".
 impl Drop for Known {
     fn drop(self) {
         let Known { map: _ } = self;

@@ -1,5 +1,5 @@
 ghost use Rattle.std.specs.Prelude.{◌≡◌, ◌∷◌, ◌++◌, [], IfOk, OnOk, map};
-ghost use Rattle.pc_common.proofs.Elements.{In};
+ghost use Rattle.pc_common.specs.Elements.{In};
 ghost use Rattle.pc_ground.specs.Keys.{key_node};
 ghost use Rattle.lifter.specs.KnownFacts.{plain_key, present, no_node, HasKey, entry, AreEdges, AreNumbers, IsCycleKnown, IsPathKnown};
 ghost use Rattle.lifter.specs.Progress.{HasClosedBy};

@@ -1,5 +1,8 @@
 //! Lifting: a refutation of a ground tree becomes one on the closed axioms themselves.
 //!
+//! Clause: `kind_of_fact` returns which constant a fact is in a test, if it is one; `lift_steps` returns a lifted
+//! refutation of closed axioms, of a refutation of version 1 of their ground tree (their clauses).
+//!
 //! ```rust
 //! // the one axiom is `exists microop "i", True`, the test has no micro-op, and the refutation is `false`
 //! let steps = lift_steps(alloc, &front.case, front.axioms.as_slice(), &front.tree, &refutation)?;

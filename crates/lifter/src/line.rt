@@ -27,7 +27,7 @@ pub enum Line {
     Absent(u64, u64),
 }
 
-// Written out, so that a proof of what drops the value meets one call and no variant.
+// By hand: docs/DECISIONS.md, "Drops are written by hand".
 impl Drop for Line {
     fn drop(self) {
         match self {
@@ -46,7 +46,7 @@ pub struct Steps {
     lines: Listed<Line>,
 }
 
-// Written out, so that a proof of what drops the value meets one call and no field.
+// By hand: docs/DECISIONS.md, "Drops are written by hand".
 impl Drop for Steps {
     fn drop(self) {
         let Steps { lines: _ } = self;

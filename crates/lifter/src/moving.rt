@@ -129,6 +129,7 @@ pub(crate) fn mark<'a>(
         → Moves case.now rows state.old state.new) }
     ensures has { OnOk result (HasKey state.new.known (plain_key key)) }
 {
+    // the contract alone speaks of it
     let _case = case;
     state.known.add(key, number)
 }

@@ -61,6 +61,7 @@ fn mark_literal<'a>(
     requires stands { IsPart tree.now at (leaf (literal_node literal)) }
     ensures { OnOk result (HasUnfolded case.now tree.now (leaf (literal_node literal)) at state.old state.new) }
 {
+    // the contract alone speaks of it
     let _stands = tree;
     match literal {
         Literal::Node(a) => mark(case, state, Key::Present(a), number),
@@ -122,6 +123,7 @@ fn unfold_either<'a>(
     requires stands { IsPart tree.now at (fact_tree case.now (plain_fact fact.now)) }
     ensures { OnOk result (HasUnfolded case.now tree.now (fact_tree case.now (plain_fact fact.now)) at state.old state.new) }
 {
+    // the contract alone speaks of it
     let _whole = fact;
     match kind_of_fact(case, first) {
         Kind::Open => match kind_of_fact(case, second) {

@@ -48,7 +48,8 @@ settled_by_text begins whole stands first stands_begins start limit text feed af
     refused_is : (b : Bool) → HoldsRefused (begins start) text
         → MatchBool b (IsBad begins start text feed.judged.lines) (IsGood begins whole stands start text feed.judged) → IsTrue b
     refused_is true holds state = refl
-    refused_is false holds good = absurd (holds_none (begins start) (first start) good.lines feed.judged.part.items text good.are_lines good.is_open good.text_is
+    refused_is false holds good = absurd
+        (holds_none (begins start) (first start) good.lines feed.judged.part.items text good.are_lines good.is_open good.text_is
         ((good.alike.same_begins good.lines).1 (stands_begins feed.judged.judge good.lines good.stand)) holds)
 
 -- with a piece that goes past the limit, or after a refused line, a feed is settled
@@ -92,7 +93,8 @@ refused_before begins whole stands first whole_begins start limit text feed numb
 pub ends : {J : Type 0} (begins whole stands : J → List (List ℕ) → Type 0) (start : J) (limit : ℕ) (text : List ℕ) (feed : Feed J) → feed.bytes ≤ feed.limit
     → feed.refused ≡ false → HasTaken begins whole stands start limit text feed → IsGood begins whole stands start text feed.judged
 ends begins whole stands start limit text feed few open_still after =
-    MatchBool-at_false (IsBad begins start text feed.judged.lines) (IsGood begins whole stands start text feed.judged) open_still (after.within (fits after few))
+    MatchBool-at_false (IsBad begins start text feed.judged.lines) (IsGood begins whole stands start text feed.judged)
+    open_still (after.within (fits after few))
 
 -- and is refused there
 pub refused_after : (begins whole : List (List ℕ) → Type 0) (limit : ℕ) (text : List ℕ) (number : ℕ) → length text ≤ limit → limit < 9223372036854775808

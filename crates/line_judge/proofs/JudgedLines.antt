@@ -4,7 +4,7 @@ use Rattle.std.specs.Prelude.{◌↔◌, IfOk, MatchBool}
 use Rattle.std.proofs.lemmas.List.{append-nil}
 use Rattle.std.proofs.lemmas.List.Elements.{All-append, All-push, All-nil}
 use Rattle.line_judge.specs.Texts.{IsLine, text_of_lines, IsRefusedAt}
-use Rattle.line_judge.specs.JudgedLines.{JudgeAlike, IsGood, IsBad, IsWhole, IsRefusedWith}
+use Rattle.line_judge.specs.JudgedLines.{IsGood, IsBad, IsWhole, IsRefusedWith}
 use Rattle.line_judge.specs.declared.judged.Judged.{Judged}
 use Rattle.line_judge.proofs.Cuts.{text_append, lines_within}
 use Rattle.line_judge.proofs.Refusals.{refused_at_line, refused_at_end}
@@ -71,24 +71,11 @@ pub line_stepped : {J : Type 0} (begins whole stands : J → List (List ℕ) →
     → IfOk result (λ good. good ≡ true → (lines : List (List ℕ)) → stands old.judge lines → stands new.judge (lines ++ line ∷ []))
     → IfOk result (λ good. good ≡ false → (lines : List (List ℕ)) → stands old.judge lines → begins old.judge (lines ++ line ∷ []) → ⊥)
     → IsGood begins whole stands start text old
-    → IfOk result (λ good. MatchBool good (IsGood begins whole stands start (text ++ (end ++ 10 ∷ [])) new) (IsBad begins start (text ++ (end ++ 10 ∷ [])) new.lines))
+    → IfOk result (λ good. MatchBool good (IsGood begins whole stands start (text ++ (end ++ 10 ∷ [])) new)
+    (IsBad begins start (text ++ (end ++ 10 ∷ [])) new.lines))
 line_stepped begins whole stands stands_begins start text end line old new (Err e) is_end is count empty same_begins same_whole goes refused good = tt
 line_stepped begins whole stands stands_begins start text end line old new (Ok is_good) is_end is count empty same_begins same_whole goes refused good =
     line_judged begins whole stands stands_begins start text end line old new is_good is_end is count empty same_begins same_whole goes refused good
-
--- the rest of a piece, in which no line ends, stays
-pub rest_stays : {J : Type 0} (begins whole stands : J → List (List ℕ) → Type 0) (start : J) (text rest : List ℕ) (old new : Judged J)
-    → IsLine rest → new.part.items ≡ old.part.items ++ rest → new.judge ≡ old.judge → new.lines ≡ old.lines
-    → IsGood begins whole stands start text old → IsGood begins whole stands start (text ++ rest) new
-rest_stays begins whole stands start text rest old new is_rest part judge lines good = record {
-  lines = good.lines;
-  are_lines = good.are_lines;
-  is_open = subst IsLine (sym part) (All-append (λ byte. byte ≡ 10 → ⊥) old.part.items rest good.is_open is_rest);
-  text_is = ap (λ xs. xs ++ rest) good.text_is ∙ append_assoc (text_of_lines good.lines) old.part.items rest ∙ ap (λ xs. text_of_lines good.lines ++ xs) (sym part);
-  count = lines ∙ good.count;
-  stand = subst (λ j. stands j good.lines) (sym judge) good.stand;
-  alike = subst (λ j. JudgeAlike begins whole start j) (sym judge) good.alike;
-}
 
 -- a refused line stays so, whatever follows
 pub bad_stays : {J : Type 0} (begins : J → List (List ℕ) → Type 0) (start : J) (text more : List ℕ) (number : ℕ)
@@ -133,7 +120,8 @@ pub refused_end : {J : Type 0} (begins whole stands : J → List (List ℕ) → 
     → IsGood begins whole stands start text judged → IsRefusedWith (begins start) (whole start) text number
 refused_end begins whole stands first stands_begins start text judged number count not_whole good =
     let before = good.count in
-    let fewer : length good.lines ≤ length text = subst (λ t. length good.lines ≤ length t) (sym good.text_is) (lines_within good.lines judged.part.items) in record {
+    let fewer : length good.lines ≤ length text = subst (λ t. length good.lines ≤ length t) (sym good.text_is)
+    (lines_within good.lines judged.part.items) in record {
       line = length good.lines + 1;
       from_one = omega arith;
       few = omega arith;

@@ -35,7 +35,8 @@ pub refused_at_line : (begins whole : List (List ℕ) → Type 0) (first : (line
 refused_at_line begins whole first whole_begins lines line rest text are is_line text_is begin bad =
     let all : All IsLine (lines ++ line ∷ []) = All-push IsLine lines line are is_line in record {
       no_whole = λ made.
-          let same : text_of_lines made.lines ++ [] ≡ text_of_lines (lines ++ line ∷ []) ++ rest = append-nil (text_of_lines made.lines) ∙ sym made.text_is ∙ text_is in
+          let same : text_of_lines made.lines ++ [] ≡ text_of_lines (lines ++ line ∷ []) ++ rest = append-nil (text_of_lines made.lines)
+          ∙ sym made.text_is ∙ text_is in
           let fewer = fewer_lines made.lines (lines ++ line ∷ []) [] rest made.are_lines all (All-nil (λ byte. byte ≡ 10 → ⊥)) same in
           bad (prefix_begins begins first made.lines (lines ++ line ∷ []) [] rest made.are_lines all fewer same (whole_begins made.lines made.accepted));
       before = λ k less. begins_well begins first lines (text_of_lines (line ∷ []) ++ rest) text are

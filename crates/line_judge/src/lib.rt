@@ -1,4 +1,7 @@
-//! A text is judged line by line while it comes in pieces, however it is cut.
+//! Hands the lines of a text to a judge while the text comes in pieces, and names the first line that is refused.
+//!
+//! Clause: a text is judged line by line however it is cut, and ends with the judge or with the first refused line
+//! (`took`; the clause of `finish`).
 //!
 //! ```rust
 //! // `judge` is a `Judge` for which the one whole text is "end\n"

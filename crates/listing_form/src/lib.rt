@@ -1,5 +1,7 @@
 //! herd's X86 listings as the second file of a command.
 //!
+//! Clause: a listing may stand in place of a test as the second file of a command (the contract of `SecondFile`).
+//!
 //! ```rust
 //! use command_base::{Inputs, read_inputs};
 //!

@@ -1,10 +1,10 @@
 ghost use Rattle.x86_litmus.specs.Answer.{CaseOf};
-ghost use Rattle.listing_form.specs.Listings.{IsFirstFault};
+ghost use Rattle.listing_form.specs.Listings.{IsFirstListingFault};
 
-use super::two_files::{front, read_parts};
+use super::two_files::read_parts;
 use command_base::SecondFile;
 use pc_front::FrontEnd;
-use pc_ground::{Front, Parts};
+use pc_ground::Parts;
 use std::alloc::Global;
 
 /// A listing, in the form of docs/tests.md.
@@ -13,11 +13,7 @@ pub struct ListingFile;
 impl SecondFile for ListingFile {
     ghost case_of = { λ bytes c. CaseOf bytes c };
 
-    ghost first_fault = { λ model bytes fault. IsFirstFault model bytes fault };
-
-    fn front(alloc: Global, model: &[u8], bytes: &[u8]) -> Result<Front, FrontEnd> {
-        front(alloc, model, bytes)
-    }
+    ghost first_fault = { λ model bytes fault. IsFirstListingFault model bytes fault };
 
     fn parts(alloc: Global, model: &[u8], bytes: &[u8]) -> Result<Parts, FrontEnd> {
         read_parts(alloc, model, bytes)

@@ -3,13 +3,15 @@ ghost use Rattle.pc_ground.specs.Stages.{plain_stage, plain_axioms, numbers_of, 
 ghost use Rattle.pc_common.specs.declared.fault.Which.TheVariants.{Test};
 ghost use Rattle.pc_front.specs.declared.model_front.FrontEnd.TheVariants.{Refused};
 ghost use Rattle.pc_front.specs.Front.{fault_at};
-ghost use Rattle.listing_form.specs.Listings.{SayParts, SayFront, IsEnd, listing_end};
+ghost use Rattle.x86_litmus.specs.Answer.{CaseOf};
+ghost use Rattle.command_base.specs.Fronts.{front_of_parts};
+ghost use Rattle.command_base.specs.SecondFiles.{SaysFront, IsFrontEnd};
+ghost use Rattle.listing_form.specs.Listings.{IsFirstListingFault, listing_end};
 
-use front_parts::front_of;
 use pc_case::Case;
 use pc_common::{FaultKind, InputFault, Place, Which};
 use pc_front::{FrontEnd, ModelFront, read_model};
-use pc_ground::{Front, Parts};
+use pc_ground::Parts;
 use std::alloc::Global;
 use x86_litmus::{X86Fault, read_x86};
 
@@ -49,31 +51,20 @@ fn parts_of(case: Case, model: ModelFront) -> Parts
     }
 }
 
-/// What the bytes of a model and of a listing say, without a ground tree.
+/// What the bytes of a model and of a listing say together: the listing's case, the model's stages, and its axioms
+/// closed.
+///
+/// `Refused` comes with the first fault of the two files: the model's, and where it has none, the listing's.
+/// The sizes of the files aren't judged.
 pub(crate) fn read_parts(alloc: Global, model_bytes: &[u8], bytes: &[u8]) -> Result<Parts, FrontEnd>
     requires model_short { length model_bytes.now < 2 ^ 32 }
     requires short { length bytes.now < 2 ^ 32 }
-    ensures ok { IfOk result (SayParts model_bytes.now bytes.now) }
-    ensures err { IfErr result (IsEnd model_bytes.now bytes.now) }
+    ensures ok { IfOk result (λ parts. SaysFront CaseOf model_bytes.now bytes.now (front_of_parts parts)) }
+    ensures err { IfErr result (IsFrontEnd CaseOf IsFirstListingFault model_bytes.now bytes.now) }
 {
     let model = read_model(alloc, model_bytes)?;
     match read_x86(alloc, bytes) {
         Ok(case) => Ok(parts_of(case, model)),
         Err(fault) => Err(end_of(fault)),
     }
-}
-
-/// What the bytes of a model and of a listing say together: the listing's case, the model's stages, its axioms
-/// closed, their ground tree in the case, and the numbers of the tree's nodes.
-///
-/// `Refused` comes with the first fault of the two files: the model's, and where it has none, the listing's.
-/// The sizes of the files aren't judged.
-pub(crate) fn front(alloc: Global, model_bytes: &[u8], bytes: &[u8]) -> Result<Front, FrontEnd>
-    requires model_short { length model_bytes.now < 2 ^ 32 }
-    requires short { length bytes.now < 2 ^ 32 }
-    ensures ok { IfOk result (SayFront model_bytes.now bytes.now) }
-    ensures err { IfErr result (IsEnd model_bytes.now bytes.now) }
-{
-    let parts = read_parts(alloc, model_bytes, bytes)?;
-    Ok(front_of(alloc, parts)?)
 }

@@ -9,14 +9,14 @@ use Rattle.pc_common.specs.declared.place.Place.{Place}
 use Rattle.ll_grammar.specs.Rules.{Derives}
 use Rattle.ll_grammar.specs.Texts.{IsText}
 use Rattle.ll_grammar.specs.declared.grammar.Symbol.{Symbol}
-use Rattle.ll_grammar.specs.declared.grammar.Symbol.TheVariants.{Class, Part}
+use Rattle.ll_grammar.specs.declared.grammar.Symbol.TheVariants.{Terminal as a_terminal, Nonterminal as a_nonterminal}
 use Rattle.ll_grammar.proofs.DerivesLaws.{Each, meaning, derives-begin, derives-end}
 use Rattle.ll_grammar.proofs.DerivesLaws.Each.{none, class, part}
 use Rattle.uspec_lexer.specs.Token.{Token, Kind}
 use Rattle.litmus_reader.specs.Expected.{Expected, a_word, word_at, a_number, number_at, a_text, a_symbol, Is, Spell}
 use Rattle.litmus_reader.specs.Syntax.{spelled_page, spelled_address, spelled_entry, spelled_value, spelled_stated, spelled_touch, spelled_access, spelled_head, spelled_statement, spelled_item, spelled_items, spelled_test, open_, close_, dot, arrow, format_word, IsAddressOf, IsValueOf, IsActionOf, IsItemOf, AreItemsOf, IsTest}
 use Rattle.litmus_reader.specs.Terminals.{spelling, word_terminal, symbol_terminal, kind_terminal, terminal_of, is_name}
-use Rattle.litmus_reader.specs.Phrases.{behind, may_end, deep, rules}
+use Rattle.litmus_reader.specs.Phrases.{production, is_nullable, deep, rules}
 use Rattle.litmus_reader.specs.declared.item.Numeral.{Numeral}
 use Rattle.litmus_reader.specs.declared.format.Format.{Format}
 use Rattle.litmus_reader.specs.declared.format.Format.TheVariants.{One, Two}
@@ -60,7 +60,7 @@ Spelled (StatedValue f) ts = (v : ValueText) × IsValueOf f v × Spell (spelled_
 abbrev Means : Phrase → List Terminal → List Bool → Type 0
 Means n cs marks = (ts : List Token) → map terminal_of ts ≡ cs → Spelled n ts
 
-means-end : (n : Phrase) → IsTrue (may_end n) → Means n [] []
+means-end : (n : Phrase) → IsTrue (is_nullable n) → Means n [] []
 means-end (Items f) h [] e = ([], tt, tt)
 means-end Types h [] e = ([], tt)
 means-end Test h [] e = absurd (cc)
@@ -120,11 +120,11 @@ page_of (o ∷ w ∷ t ∷ x ∷ z ∷ []) c s own e =
     (record { tag = tag; index = index }, (is_open o cc, (is_word w c s own cc, (is_tag, (is_index, (is_close z cc, tt))))))
 page_of ts c s own e = absurd (cc)
 
-virtual_page : IsRule VirtualPage Open (Class Va ∷ Class Number ∷ Class Number ∷ Class Close ∷ [])
+virtual_page : IsRule VirtualPage Open (a_terminal Va ∷ a_terminal Number ∷ a_terminal Number ∷ a_terminal Close ∷ [])
 virtual_page _ _ (class (class (class (class none)))) ts e = page_of ts Va refl (λ h. cc) e
 
 -- after the bracket of an address
-page_inside : (f : Format) → IsRule (AddressInside f) Pa (Class Number ∷ Class Number ∷ Class Close ∷ [])
+page_inside : (f : Format) → IsRule (AddressInside f) Pa (a_terminal Number ∷ a_terminal Number ∷ a_terminal Close ∷ [])
 page_inside f _ _ (class (class (class none))) (w ∷ t ∷ x ∷ z ∷ []) e =
     let (tag, is_tag) = is_number t cc in
     let (index, is_index) = is_number x cc in
@@ -133,7 +133,7 @@ page_inside f _ _ (class (class (class none))) (w ∷ t ∷ x ∷ z ∷ []) e =
     (PageAddress tag index, tt, λ o opens. (opens, (is_pa, (is_tag, (is_index, (closes, tt))))))
 page_inside f _ _ (class (class (class none))) ts e = absurd (cc)
 
-entry_inside : IsRule (AddressInside Two) Entry (Class Number ∷ Class Close ∷ [])
+entry_inside : IsRule (AddressInside Two) Entry (a_terminal Number ∷ a_terminal Close ∷ [])
 entry_inside _ _ (class (class none)) (w ∷ t ∷ z ∷ []) e =
     let (tag, is_tag) = is_number t cc in
     let is_entry = is_word w Entry refl (λ h. cc) cc in
@@ -141,14 +141,14 @@ entry_inside _ _ (class (class none)) (w ∷ t ∷ z ∷ []) e =
     (EntryAddress tag, tt, λ o opens. (opens, (is_entry, (is_tag, (closes, tt)))))
 entry_inside _ _ (class (class none)) ts e = absurd (cc)
 
-address : (f : Format) → IsRule (AddressPart f) Open (Part (AddressInside f) ∷ [])
+address : (f : Format) → IsRule (AddressPart f) Open (a_nonterminal (AddressInside f) ∷ [])
 address f _ _ (part {cs = cs} inside none) (o ∷ ts) e =
     let (a, of, spells) = inside ts (let rest : map terminal_of ts ≡ cs ++ [] = cc in rest ∙ append-nil cs) in
     (a, of, spells o (is_open o cc))
 address f _ _ (part inside none) [] e = absurd (cc)
 
 -- after the bracket of a value
-number_inside : (f : Format) → IsRule (ValueInside f) Data (Class Number ∷ Class Close ∷ [])
+number_inside : (f : Format) → IsRule (ValueInside f) Data (a_terminal Number ∷ a_terminal Close ∷ [])
 number_inside f _ _ (class (class none)) (w ∷ d ∷ z ∷ []) e =
     let (n, is_n) = is_number d cc in
     let is_data = is_word w Data refl (λ h. cc) cc in
@@ -168,12 +168,12 @@ entry_of (w ∷ t ∷ a ∷ d ∷ z ∷ []) e =
     (tag, accessed, dirty, λ o opens. (opens, (is_maps, (is_tag, (is_accessed, (is_dirty, (closes, tt)))))))
 entry_of ts e = absurd (cc)
 
-maps_inside : IsRule (ValueInside Two) Maps (Class Number ∷ Class Number ∷ Class Number ∷ Class Close ∷ [])
+maps_inside : IsRule (ValueInside Two) Maps (a_terminal Number ∷ a_terminal Number ∷ a_terminal Number ∷ a_terminal Close ∷ [])
 maps_inside _ _ (class (class (class (class none)))) ts e =
     let (tag, accessed, dirty, spells) = entry_of ts e in (entry_text tag accessed dirty, tt, spells)
 
 -- the value that a read reads, and the one that a write writes
-some_value : (f : Format) (cs : List Terminal) (marks : List Bool) → Each Means (Part (ValueInside f) ∷ []) cs marks
+some_value : (f : Format) (cs : List Terminal) (marks : List Bool) → Each Means (a_nonterminal (ValueInside f) ∷ []) cs marks
     → (ts : List Token) → map terminal_of ts ≡ Open ∷ cs → (v : ValueText) × IsValueOf f v × Spell (spelled_value v) ts
 some_value f _ _ (part {cs = cs} inside none) (o ∷ ts) e =
     let (v, of, spells) = inside ts (let rest : map terminal_of ts ≡ cs ++ [] = cc in rest ∙ append-nil cs) in
@@ -185,7 +185,7 @@ stated_number : (f : Format) → IsRule (StatedValue f) Number []
 stated_number f _ _ none (d ∷ []) e = let (n, is_n) = is_number d cc in (number_text n, tt, (is_n, tt))
 stated_number f _ _ none ts e = absurd (cc)
 
-stated_entry : IsRule (StatedValue Two) Open (Class Maps ∷ Class Number ∷ Class Number ∷ Class Number ∷ Class Close ∷ [])
+stated_entry : IsRule (StatedValue Two) Open (a_terminal Maps ∷ a_terminal Number ∷ a_terminal Number ∷ a_terminal Number ∷ a_terminal Close ∷ [])
 stated_entry _ _ (class (class (class (class (class none))))) (o ∷ ts) e =
     let (tag, accessed, dirty, spells) = entry_of ts cc in (entry_text tag accessed dirty, tt, spells o (is_open o cc))
 stated_entry _ _ (class (class (class (class (class none))))) [] e = absurd (cc)
@@ -196,7 +196,7 @@ any_name c h _ _ none (t ∷ []) e =
     (t.piece, (is_any_name t (ap is_name (sym same) ∙ h), tt))
 any_name c h _ _ none ts e = absurd (cc)
 
-types : (c : Terminal) → is_name c ≡ true → IsRule Types c (Part Types ∷ [])
+types : (c : Terminal) → is_name c ≡ true → IsRule Types c (a_nonterminal Types ∷ [])
 types c h _ _ (part {cs = cs} names none) (t ∷ ts) e =
     let same : c ≡ terminal_of t = cc in
     let (ws, s) = names ts (let rest : map terminal_of ts ≡ cs ++ [] = cc in rest ∙ append-nil cs) in
@@ -207,12 +207,13 @@ types c h _ _ (part names none) [] e = absurd (cc)
 touched : (f : Format) (value : Phrase)
     → ((ts : List Token) → Spelled value ts → (v : ValueText) × IsValueOf f v × Spell (spelled_value v) ts)
     → (cs : List Terminal) (marks : List Bool)
-    → Each Means (Part Types ∷ Part VirtualPage ∷ Part (AddressPart f) ∷ Part value ∷ []) cs marks
+    → Each Means (a_nonterminal Types ∷ a_nonterminal VirtualPage ∷ a_nonterminal (AddressPart f) ∷ a_nonterminal value ∷ []) cs marks
     → (ts : List Token) → map terminal_of ts ≡ cs
     → (types : List (List ℕ)) × (t : Touch) × IsAddressOf f t.pa × IsValueOf f t.value × Spell (map a_word types ++ spelled_touch t) ts
-touched f value read_value _ _ (part {cs = xs} {ds = ys} names (part {cs = cs} {ds = ds} virtual (part {cs = es} {ds = fs} physical (part {cs = gs} data_ none)))) ts e =
-    let (us, vs, same, here, behind) = map-part terminal_of ts xs ys e in
-    let (vs1, vs2, same1, here1, behind1) = map-part terminal_of vs cs ds behind in
+touched f value read_value _ _ (part {cs = xs} {ds = ys} names
+    (part {cs = cs} {ds = ds} virtual (part {cs = es} {ds = fs} physical (part {cs = gs} data_ none)))) ts e =
+    let (us, vs, same, here, production) = map-part terminal_of ts xs ys e in
+    let (vs1, vs2, same1, here1, behind1) = map-part terminal_of vs cs ds production in
     let (vs3, vs4, same2, here2, behind2) = map-part terminal_of vs2 es fs behind1 in
     let (ws, s) = names us here in
     let (va, s1) = virtual vs1 here1 in
@@ -229,19 +230,21 @@ touched f value read_value _ _ (part {cs = xs} {ds = ys} names (part {cs = cs} {
           (spell-append (spelled_address pa) (spelled_value d) vs3 vs4 s2 s3))),
     )
 
-access_read : (f : Format) → IsRule (Access f) Read (Part Types ∷ Part VirtualPage ∷ Part (AddressPart f) ∷ Part (ReadValue f) ∷ [])
+access_read : (f : Format) → IsRule (Access f) Read
+    (a_nonterminal Types ∷ a_nonterminal VirtualPage ∷ a_nonterminal (AddressPart f) ∷ a_nonterminal (ReadValue f) ∷ [])
 access_read f cs marks each (t ∷ ts) e =
     let (ws, m, of, has, s) = touched f (ReadValue f) (λ us v. v) cs marks each ts cc in
     (ws, read m, (of, has), (is_word t Read refl (λ h. cc) cc, s))
 access_read f cs marks each [] e = absurd (cc)
 
-access_write : (f : Format) → IsRule (Access f) Write (Part Types ∷ Part VirtualPage ∷ Part (AddressPart f) ∷ Part (WriteValue f) ∷ [])
+access_write : (f : Format) → IsRule (Access f) Write
+    (a_nonterminal Types ∷ a_nonterminal VirtualPage ∷ a_nonterminal (AddressPart f) ∷ a_nonterminal (WriteValue f) ∷ [])
 access_write f cs marks each (t ∷ ts) e =
     let (ws, m, of, has, s) = touched f (WriteValue f) (λ us v. v) cs marks each ts cc in
     (ws, write m, (of, has), (is_word t Write refl (λ h. cc) cc, s))
 access_write f cs marks each [] e = absurd (cc)
 
-access_fence : (f : Format) → IsRule (Access f) Fence (Part Types ∷ [])
+access_fence : (f : Format) → IsRule (Access f) Fence (a_nonterminal Types ∷ [])
 access_fence f _ _ (part {cs = cs} names none) (t ∷ ts) e =
     let (ws, s) = names ts (let rest : map terminal_of ts ≡ cs ++ [] = cc in rest ∙ append-nil cs) in (
       ws,
@@ -253,7 +256,7 @@ access_fence f _ _ (part names none) [] e = absurd (cc)
 
 items_expectation : (f : Format) (c : Terminal) (item : Place → Item) → sort_of c ≡ 0 → (c ≡ Name → ⊥)
     → ((at : Place) → IsItemOf f (item at))
-    → ((at : Place) → spelled_item (item at) ≡ word_at (spelling c) at ∷ dot ∷ []) → IsRule (Items f) c (Class Dot ∷ Part (Items f) ∷ [])
+    → ((at : Place) → spelled_item (item at) ≡ word_at (spelling c) at ∷ dot ∷ []) → IsRule (Items f) c (a_terminal Dot ∷ a_nonterminal (Items f) ∷ [])
 items_expectation f c item s own of spells _ _ (class (part {cs = cs} others none)) (t ∷ d ∷ ts) e =
     let (is, are, r) = others ts (let rest : map terminal_of ts ≡ cs ++ [] = cc in rest ∙ append-nil cs) in (
       item (place_of t) ∷ is,
@@ -267,10 +270,10 @@ items_expectation f c item s own of spells _ _ (class (part others none)) ts e =
 items_value : (f : Format) (c : Terminal) (item : ValueLine → Item) → sort_of c ≡ 0 → (c ≡ Name → ⊥)
     → ((v : ValueLine) → IsAddressOf f v.pa → IsValueOf f v.value → IsItemOf f (item v))
     → ((v : ValueLine) → spelled_item (item v) ≡ word_at (spelling c) v.at ∷ spelled_statement v)
-    → IsRule (Items f) c (Part (AddressPart f) ∷ Part (StatedValue f) ∷ Class Dot ∷ Part (Items f) ∷ [])
+    → IsRule (Items f) c (a_nonterminal (AddressPart f) ∷ a_nonterminal (StatedValue f) ∷ a_terminal Dot ∷ a_nonterminal (Items f) ∷ [])
 items_value f c item s own of spells _ _ (part {cs = xs} {ds = ys} page (part {cs = zs} {ds = ws} value (class (part {cs = cs} others none)))) (t ∷ ts) e =
-    let (us, vs, same, here, behind) = map-part terminal_of ts xs ys cc in
-    let (ns, vs1, same1, here1, behind1) = map-part terminal_of vs zs ws behind in
+    let (us, vs, same, here, production) = map-part terminal_of ts xs ys cc in
+    let (ns, vs1, same1, here1, behind1) = map-part terminal_of vs zs ws production in
     let (d, vs2, same2, here2, behind2) = map-head terminal_of vs1 Dot (cs ++ []) behind1 in
     let (pa, of_pa, r) = page us here in
     let (v, of_value, is_v) = value ns here1 in
@@ -309,11 +312,12 @@ ends_of (g1 ∷ n1 ∷ a ∷ g2 ∷ n2 ∷ d ∷ rest) cs e =
 ends_of ts cs e = absurd (cc)
 
 items_relationship : (f : Format) → IsRule (Items f) Relationship
-    (Part AnyName ∷ Class Number ∷ Class Number ∷ Class Arrow ∷ Class Number ∷ Class Number ∷ Class Dot ∷ Part (Items f) ∷ [])
+    (a_nonterminal AnyName ∷ a_terminal Number ∷ a_terminal Number ∷ a_terminal Arrow ∷ a_terminal Number ∷ a_terminal Number
+    ∷ a_terminal Dot ∷ a_nonterminal (Items f) ∷ [])
 items_relationship f _ _ (part {cs = xs} {ds = ys} kind (class (class (class (class (class (class (part {cs = cs} others none)))))))) (t ∷ ts) e =
-    let (us, vs, same, here, behind) = map-part terminal_of ts xs ys cc in
+    let (us, vs, same, here, production) = map-part terminal_of ts xs ys cc in
     let (w, s) = kind us here in
-    let (source, target, rest, left, spells) = ends_of vs (cs ++ []) behind in
+    let (source, target, rest, left, spells) = ends_of vs (cs ++ []) production in
     let (is, are, q) = others rest (left ∙ append-nil cs) in
     let ends : List Expected = number_at source.g ∷ a_number source.n ∷ arrow ∷ number_at target.g ∷ a_number target.n ∷ dot ∷ spelled_items is in (
       relationship (record { kind = w; source = source; target = target }) ∷ is,
@@ -353,12 +357,13 @@ closed_of (z ∷ d ∷ rest) cs e =
 closed_of ts cs e = absurd (cc)
 
 items_microop : (f : Format) → IsRule (Items f) Microop
-    (Class Number ∷ Class Number ∷ Class Number ∷ Class Number ∷ Class Open ∷ Part (Access f) ∷ Class Close ∷ Class Dot ∷ Part (Items f) ∷ [])
+    (a_terminal Number ∷ a_terminal Number ∷ a_terminal Number ∷ a_terminal Number ∷ a_terminal Open ∷ a_nonterminal (Access f)
+    ∷ a_terminal Close ∷ a_terminal Dot ∷ a_nonterminal (Items f) ∷ [])
 items_microop f _ _ (class (class (class (class (class (part {cs = xs} {ds = ys} access (class (class (part {cs = cs} others none))))))))) ts e =
     let (head, inner, left, begins) = head_of ts (xs ++ ys) e in
-    let (us, vs, same, here, behind) = map-part terminal_of inner xs ys left in
+    let (us, vs, same, here, production) = map-part terminal_of inner xs ys left in
     let (types, action, of, s) = access us here in
-    let (rest, after, closes) = closed_of vs (cs ++ []) behind in
+    let (rest, after, closes) = closed_of vs (cs ++ []) production in
     let (is, are, q) = others rest (after ∙ append-nil cs) in
     let line : List Expected = spelled_access types action in
     let more : List Expected = spelled_items is in
@@ -371,14 +376,14 @@ items_microop f _ _ (class (class (class (class (class (part {cs = xs} {ds = ys}
     )
 
 test_of_word : (f : Format) (c : Terminal) → sort_of c ≡ 0 → (c ≡ Name → ⊥) → format_word f ≡ spelling c
-    → IsRule Test c (Class Text ∷ Class Dot ∷ Part (Items f) ∷ [])
+    → IsRule Test c (a_terminal Text ∷ a_terminal Dot ∷ a_nonterminal (Items f) ∷ [])
 test_of_word f c s own word _ _ (class (class (part {cs = cs} others none))) (t ∷ x ∷ d ∷ ts) e =
     let (is, are, q) = others ts (let rest : map terminal_of ts ≡ cs ++ [] = cc in rest ∙ append-nil cs) in
     let begins : Is (a_word (format_word f)) t = subst (λ (w : List ℕ). Is (a_word w) t) (sym word) (is_word t c s own cc) in
     (is, (f, are, (begins, (text-of_kind x.kind x.piece cc, (is_dot d cc, q)))))
 test_of_word f c s own word _ _ (class (class (part others none))) ts e = absurd (cc)
 
-rule : (n : Phrase) (c : Terminal) → MatchOption (behind n c) (Unit {0})
+rule : (n : Phrase) (c : Terminal) → MatchOption (production n c) (Unit {0})
     (λ body. (cs : List Terminal) (marks : List Bool) → Each Means body cs marks → Means n (c ∷ cs) (rules.deep n c ∷ marks))
 rule Test Litmus = test_of_word One Litmus refl (λ h. cc) refl
 rule Test Litmus2 = test_of_word Two Litmus2 refl (λ h. cc) refl
@@ -396,7 +401,7 @@ rule (Access f) Fence = access_fence f
 rule (Access f) _ = tt
 rule Types c = by (is_name c) refl
   where
-    by : (b : Bool) → is_name c ≡ b → MatchOption (if b then Some (Part Types ∷ []) else None) (Unit {0})
+    by : (b : Bool) → is_name c ≡ b → MatchOption (if b then Some (a_nonterminal Types ∷ []) else None) (Unit {0})
         (λ body. (cs : List Terminal) (marks : List Bool) → Each Means body cs marks → Means Types (c ∷ cs) (false ∷ marks))
     by true h = types c h
     by false h = tt
@@ -460,21 +465,21 @@ terminals-of_tokens (e ∷ es) (t ∷ ts) s =
 abbrev Reads : Phrase → List Terminal → Type 0
 Reads n cs = IsText (Derives rules n) cs
 
-begin : (n : Phrase) (c : Terminal) (body : List (Symbol Terminal Phrase)) → behind n c ≡ Some body
+begin : (n : Phrase) (c : Terminal) (body : List (Symbol Terminal Phrase)) → production n c ≡ Some body
     → {cs : List Terminal} {marks : List Bool} → Each (Derives rules) body cs marks → (ds : List Terminal) → ds ≡ c ∷ cs → Reads n ds
 begin n c body e {marks = marks} each ds same = (deep n c ∷ marks, derives-begin n c body e each same refl)
 
-types_behind : (c : Terminal) → is_name c ≡ true → behind Types c ≡ Some (Part Types ∷ [])
-types_behind c h = ap (λ (b : Bool). if b then Some (Part Types ∷ []) else None) h
+types_behind : (c : Terminal) → is_name c ≡ true → production Types c ≡ Some (a_nonterminal Types ∷ [])
+types_behind c h = ap (λ (b : Bool). if b then Some (a_nonterminal Types ∷ []) else None) h
 
-any_name_behind : (c : Terminal) → is_name c ≡ true → behind AnyName c ≡ Some []
+any_name_behind : (c : Terminal) → is_name c ≡ true → production AnyName c ≡ Some []
 any_name_behind c h = ap (λ (b : Bool). if b then Some [] else None) h
 
 read_types : (ws : List (List ℕ)) → Reads Types (map terminal (map a_word ws))
 read_types [] = ([], derives-end Types refl)
 read_types (w ∷ ws) =
     let (marks, d) = read_types ws in
-    begin Types (word_terminal w) (Part Types ∷ []) (types_behind (word_terminal w) (word_is_name w)) (part d none)
+    begin Types (word_terminal w) (a_nonterminal Types ∷ []) (types_behind (word_terminal w) (word_is_name w)) (part d none)
     (word_terminal w ∷ map terminal (map a_word ws)) (ap (λ (cs : List Terminal). word_terminal w ∷ cs) (sym (append-nil (map terminal (map a_word ws)))))
 
 read_any_name : (w : List ℕ) → Reads AnyName (word_terminal w ∷ [])
@@ -483,49 +488,53 @@ read_any_name w = begin AnyName (word_terminal w) [] (any_name_behind (word_term
 read_virtual : (p : Page) → Reads VirtualPage (map terminal (spelled_page (codes "VA") p))
 unfolding word_terminal symbol_terminal
 read_virtual p =
-    begin VirtualPage Open (Class Va ∷ Class Number ∷ Class Number ∷ Class Close ∷ []) refl (class (class (class (class none))))
+    begin VirtualPage Open (a_terminal Va ∷ a_terminal Number ∷ a_terminal Number ∷ a_terminal Close ∷ []) refl (class (class (class (class none))))
     (map terminal (spelled_page (codes "VA") p)) refl
 
 read_address : (f : Format) (a : Address) → IsAddressOf f a → Reads (AddressPart f) (map terminal (spelled_address a))
 unfolding word_terminal symbol_terminal
 read_address f (PageAddress tag index) of =
-    let (_, d) = begin (AddressInside f) Pa (Class Number ∷ Class Number ∷ Class Close ∷ []) refl (class (class (class none)))
+    let (_, d) = begin (AddressInside f) Pa (a_terminal Number ∷ a_terminal Number ∷ a_terminal Close ∷ []) refl (class (class (class none)))
     (Pa ∷ Number ∷ Number ∷ Close ∷ []) refl in
-    begin (AddressPart f) Open (Part (AddressInside f) ∷ []) refl (part d none) (map terminal (spelled_address (PageAddress tag index))) refl
+    begin (AddressPart f) Open (a_nonterminal (AddressInside f) ∷ []) refl (part d none) (map terminal (spelled_address (PageAddress tag index))) refl
 read_address Two (EntryAddress tag) of =
-    let (_, d) = begin (AddressInside Two) Entry (Class Number ∷ Class Close ∷ []) refl (class (class none)) (Entry ∷ Number ∷ Close ∷ []) refl in
-    begin (AddressPart Two) Open (Part (AddressInside Two) ∷ []) refl (part d none) (map terminal (spelled_address (EntryAddress tag))) refl
+    let (_, d) = begin (AddressInside Two) Entry (a_terminal Number ∷ a_terminal Close ∷ []) refl (class (class none)) (Entry ∷ Number ∷ Close ∷ []) refl in
+    begin (AddressPart Two) Open (a_nonterminal (AddressInside Two) ∷ []) refl (part d none) (map terminal (spelled_address (EntryAddress tag))) refl
 read_address One (EntryAddress tag) of = absurd of
 
-read_inside : (f : Format) (n : Phrase) → behind n Open ≡ Some (Part (ValueInside f) ∷ []) → (v : ValueText) → IsValueOf f v
+read_inside : (f : Format) (n : Phrase) → production n Open ≡ Some (a_nonterminal (ValueInside f) ∷ []) → (v : ValueText) → IsValueOf f v
     → Reads n (map terminal (spelled_value v))
 unfolding word_terminal symbol_terminal
 read_inside f n e (number_text k) of =
-    let (_, d) = begin (ValueInside f) Data (Class Number ∷ Class Close ∷ []) refl (class (class none)) (Data ∷ Number ∷ Close ∷ []) refl in
-    begin n Open (Part (ValueInside f) ∷ []) e (part d none) (map terminal (spelled_value (number_text k))) refl
+    let (_, d) = begin (ValueInside f) Data (a_terminal Number ∷ a_terminal Close ∷ []) refl (class (class none)) (Data ∷ Number ∷ Close ∷ []) refl in
+    begin n Open (a_nonterminal (ValueInside f) ∷ []) e (part d none) (map terminal (spelled_value (number_text k))) refl
 read_inside Two n e (entry_text tag accessed dirty) of =
-    let (_, d) = begin (ValueInside Two) Maps (Class Number ∷ Class Number ∷ Class Number ∷ Class Close ∷ []) refl (class (class (class (class none))))
+    let (_, d) = begin (ValueInside Two) Maps (a_terminal Number ∷ a_terminal Number ∷ a_terminal Number ∷ a_terminal Close ∷ [])
+    refl (class (class (class (class none))))
     (Maps ∷ Number ∷ Number ∷ Number ∷ Close ∷ []) refl in
-    begin n Open (Part (ValueInside Two) ∷ []) e (part d none) (map terminal (spelled_value (entry_text tag accessed dirty))) refl
+    begin n Open (a_nonterminal (ValueInside Two) ∷ []) e (part d none) (map terminal (spelled_value (entry_text tag accessed dirty))) refl
 read_inside One n e (entry_text tag accessed dirty) of = absurd of
 
 read_stated : (f : Format) (v : ValueText) → IsValueOf f v → Reads (StatedValue f) (map terminal (spelled_stated v))
 unfolding word_terminal symbol_terminal
 read_stated f (number_text k) of = begin (StatedValue f) Number [] refl none (Number ∷ []) refl
 read_stated Two (entry_text tag accessed dirty) of =
-    begin (StatedValue Two) Open (Class Maps ∷ Class Number ∷ Class Number ∷ Class Number ∷ Class Close ∷ []) refl (class (class (class (class (class none)))))
+    begin (StatedValue Two) Open (a_terminal Maps ∷ a_terminal Number ∷ a_terminal Number ∷ a_terminal Number ∷ a_terminal Close ∷ [])
+    refl (class (class (class (class (class none)))))
     (map terminal (spelled_stated (entry_text tag accessed dirty))) refl
 read_stated One (entry_text tag accessed dirty) of = absurd of
 
-read_touch : (f : Format) (c : Terminal) (value : Phrase) → behind (Access f) c ≡ Some (Part Types ∷ Part VirtualPage ∷ Part (AddressPart f) ∷ Part value ∷ [])
-    → behind value Open ≡ Some (Part (ValueInside f) ∷ [])
+read_touch : (f : Format) (c : Terminal) (value : Phrase)
+    → production (Access f) c ≡ Some (a_nonterminal Types ∷ a_nonterminal VirtualPage ∷ a_nonterminal (AddressPart f) ∷ a_nonterminal value ∷ [])
+    → production value Open ≡ Some (a_nonterminal (ValueInside f) ∷ [])
     → (ws : List (List ℕ)) (t : Touch) → IsAddressOf f t.pa → IsValueOf f t.value → Reads (Access f) (c ∷ map terminal (map a_word ws ++ spelled_touch t))
 read_touch f c value e opens ws t of has =
     let (_, d) = read_types ws in
     let (_, v) = read_virtual t.va in
     let (_, p) = read_address f t.pa of in
     let (_, x) = read_inside f value opens t.value has in
-    begin (Access f) c (Part Types ∷ Part VirtualPage ∷ Part (AddressPart f) ∷ Part value ∷ []) e (part d (part v (part p (part x none))))
+    begin (Access f) c (a_nonterminal Types ∷ a_nonterminal VirtualPage ∷ a_nonterminal (AddressPart f) ∷ a_nonterminal value ∷ [])
+    e (part d (part v (part p (part x none))))
     (c ∷ map terminal (map a_word ws ++ spelled_touch t))
     (ap (λ (cs : List Terminal). c ∷ cs) (simp (map-append, append-nil)))
 
@@ -535,7 +544,7 @@ read_access f ws (read t) (of, has) = read_touch f Read (ReadValue f) refl refl 
 read_access f ws (write t) (of, has) = read_touch f Write (WriteValue f) refl refl ws t of has
 read_access f ws fence of =
     let (_, d) = read_types ws in
-    begin (Access f) Fence (Part Types ∷ []) refl (part d none) (Fence ∷ map terminal (map a_word ws ++ []))
+    begin (Access f) Fence (a_nonterminal Types ∷ []) refl (part d none) (Fence ∷ map terminal (map a_word ws ++ []))
     (ap (λ (cs : List Terminal). Fence ∷ cs) (ap (map terminal) (append-nil (map a_word ws)) ∙ sym (append-nil (map terminal (map a_word ws)))))
 
 read_item : (f : Format) (i : Item) (is : List Item) → IsItemOf f i → Reads (Items f) (map terminal (spelled_items is))
@@ -544,33 +553,37 @@ unfolding word_terminal symbol_terminal
 read_item f (microop m) is of (_, q) =
     let (_, a) = read_access f m.types m.action of in
     begin (Items f) Microop
-    (Class Number ∷ Class Number ∷ Class Number ∷ Class Number ∷ Class Open ∷ Part (Access f) ∷ Class Close ∷ Class Dot ∷ Part (Items f) ∷ []) refl
+    (a_terminal Number ∷ a_terminal Number ∷ a_terminal Number ∷ a_terminal Number ∷ a_terminal Open ∷ a_nonterminal (Access f)
+    ∷ a_terminal Close ∷ a_terminal Dot ∷ a_nonterminal (Items f) ∷ []) refl
     (class (class (class (class (class (part a (class (class (part q none)))))))))
     (map terminal (spelled_item (microop m) ++ spelled_items is))
     (ap (λ (cs : List Terminal). Microop ∷ Number ∷ Number ∷ Number ∷ Number ∷ Open ∷ cs)
     (simp (append_assoc, map-append, append-nil)))
 read_item f (relationship r) is of (_, q) =
     let (_, k) = read_any_name r.kind in
-    begin (Items f) Relationship (Part AnyName ∷ Class Number ∷ Class Number ∷ Class Arrow ∷ Class Number ∷ Class Number ∷ Class Dot ∷ Part (Items f) ∷ []) refl
+    begin (Items f) Relationship (a_nonterminal AnyName ∷ a_terminal Number ∷ a_terminal Number ∷ a_terminal Arrow
+    ∷ a_terminal Number ∷ a_terminal Number ∷ a_terminal Dot ∷ a_nonterminal (Items f) ∷ []) refl
     (part k (class (class (class (class (class (class (part q none))))))))
     (map terminal (spelled_item (relationship r) ++ spelled_items is)) (simp append-nil)
 read_item f (initial v) is (of, has) (_, q) =
     let (_, p) = read_address f v.pa of in
     let (_, x) = read_stated f v.value has in
-    begin (Items f) Init (Part (AddressPart f) ∷ Part (StatedValue f) ∷ Class Dot ∷ Part (Items f) ∷ []) refl (part p (part x (class (part q none))))
+    begin (Items f) Init (a_nonterminal (AddressPart f) ∷ a_nonterminal (StatedValue f) ∷ a_terminal Dot ∷ a_nonterminal (Items f) ∷ [])
+    refl (part p (part x (class (part q none))))
     (map terminal (spelled_item (initial v) ++ spelled_items is))
     (ap (λ (cs : List Terminal). Init ∷ cs) (simp (append_assoc, map-append, append-nil)))
 read_item f (final v) is (of, has) (_, q) =
     let (_, p) = read_address f v.pa of in
     let (_, x) = read_stated f v.value has in
-    begin (Items f) Final (Part (AddressPart f) ∷ Part (StatedValue f) ∷ Class Dot ∷ Part (Items f) ∷ []) refl (part p (part x (class (part q none))))
+    begin (Items f) Final (a_nonterminal (AddressPart f) ∷ a_nonterminal (StatedValue f) ∷ a_terminal Dot ∷ a_nonterminal (Items f) ∷ [])
+    refl (part p (part x (class (part q none))))
     (map terminal (spelled_item (final v) ++ spelled_items is))
     (ap (λ (cs : List Terminal). Final ∷ cs) (simp (append_assoc, map-append, append-nil)))
 read_item f (permitted at) is of (_, q) =
-    begin (Items f) Permitted (Class Dot ∷ Part (Items f) ∷ []) refl (class (part q none))
+    begin (Items f) Permitted (a_terminal Dot ∷ a_nonterminal (Items f) ∷ []) refl (class (part q none))
     (map terminal (spelled_item (permitted at) ++ spelled_items is)) (simp append-nil)
 read_item f (forbidden at) is of (_, q) =
-    begin (Items f) Forbidden (Class Dot ∷ Part (Items f) ∷ []) refl (class (part q none))
+    begin (Items f) Forbidden (a_terminal Dot ∷ a_nonterminal (Items f) ∷ []) refl (class (part q none))
     (map terminal (spelled_item (forbidden at) ++ spelled_items is)) (simp append-nil)
 
 read_items : (f : Format) (is : List Item) → AreItemsOf f is → Reads (Items f) (map terminal (spelled_items is))
@@ -581,11 +594,11 @@ read_test : (f : Format) (is : List Item) → AreItemsOf f is → Reads Test (ma
 unfolding word_terminal symbol_terminal
 read_test One is are =
     let (_, q) = read_items One is are in
-    begin Test Litmus (Class Text ∷ Class Dot ∷ Part (Items One) ∷ []) refl (class (class (part q none)))
+    begin Test Litmus (a_terminal Text ∷ a_terminal Dot ∷ a_nonterminal (Items One) ∷ []) refl (class (class (part q none)))
     (map terminal (spelled_test One is)) (simp append-nil)
 read_test Two is are =
     let (_, q) = read_items Two is are in
-    begin Test Litmus2 (Class Text ∷ Class Dot ∷ Part (Items Two) ∷ []) refl (class (class (part q none)))
+    begin Test Litmus2 (a_terminal Text ∷ a_terminal Dot ∷ a_nonterminal (Items Two) ∷ []) refl (class (class (part q none)))
     (map terminal (spelled_test Two is)) (simp append-nil)
 
 -- the terminals of a test are read

@@ -84,7 +84,8 @@ dependency_of-append heads more r never =
     let t = place_in-append heads more r.target (known heads r.target (never-others (Unknown heads r.source) (Unknown heads r.target) never)) in
     sym (λ i. record { kind = r.kind; source = s i; target = t i })
 
-pub has_microop : (old new : CaseBuilder) (before : List Item) (m : Microop) → HasLines old before → AddsMicroop old new m → HasLines new (before ++ microop m ∷ [])
+pub has_microop : (old new : CaseBuilder) (before : List Item) (m : Microop) → HasLines old before → AddsMicroop old new m
+    → HasLines new (before ++ microop m ∷ [])
 has_microop old new before m k a = record {
   heads = a.heads ∙ ap (λ (hs : List Head). hs ++ m.head ∷ []) k.heads ∙ sym (added_head before m);
   ops = a.ops ∙ ap (λ (os : List MicroOp). os ++ op_of m ∷ []) k.ops ∙ sym (map-append op_of (microops_in before) (m ∷ []))

@@ -78,7 +78,8 @@ module _ (heads : List Head) (h : Head) (never : Never (HeadFault heads h)) wher
 
   pub core_fits : h.core.value ≤ MAX_CORE
   core_fits =
-      let no : MAX_CORE < h.core.value → ⊥ = λ over. never-first (OverCore h) (First (OverMany heads h) later) never (CoreNumber h.core.value) h.core.at (over, refl, refl) in
+      let no : MAX_CORE < h.core.value → ⊥ =
+      λ over. never-first (OverCore h) (First (OverMany heads h) later) never (CoreNumber h.core.value) h.core.at (over, refl, refl) in
       omega arith
 
   pub room : length heads < MAX_OPS
@@ -177,7 +178,8 @@ SameAddress a b = a.pa ≡ b.pa
 -- lines of one kind state each address once
 module _ (f : Item → Option ValueLine) (word : Value → Value → FaultKind)
     (judged : (b : List Item) (i : Item) (v : ValueLine) → f i ≡ Some v → Never (IsFaultOf b i) → Never (AgainStated word (filter_map f b) v)) where
-  pages_step : (b : List Item) (i : Item) → IsClean b → Never (IsFaultOf b i) → Apart SameAddress (filter_map f b) → Apart SameAddress (filter_map f (b ++ i ∷ []))
+  pages_step : (b : List Item) (i : Item) → IsClean b → Never (IsFaultOf b i) → Apart SameAddress (filter_map f b)
+      → Apart SameAddress (filter_map f (b ++ i ∷ []))
   pages_step b i clean never apart = by (f i) refl
     where
       by : (o : Option ValueLine) → f i ≡ o → Apart SameAddress (filter_map f (b ++ i ∷ []))
@@ -190,7 +192,8 @@ module _ (f : Item → Option ValueLine) (word : Value → Value → FaultKind)
   pub pages : (items : List Item) → IsClean items → Apart SameAddress (filter_map f items)
   pages = each_clean (λ items. Apart SameAddress (filter_map f items)) (λ j k a b e g r. absurd (cc)) pages_step
 
-pub judged_initial : (b : List Item) (i : Item) (v : ValueLine) → initial_of i ≡ Some v → Never (IsFaultOf b i) → Never (AgainStated AgainInitial (initial_in b) v)
+pub judged_initial : (b : List Item) (i : Item) (v : ValueLine) → initial_of i ≡ Some v → Never (IsFaultOf b i)
+    → Never (AgainStated AgainInitial (initial_in b) v)
 judged_initial b (initial u) v e never =
     let is : u ≡ v = cc in
     subst (λ (x : ValueLine). Never (AgainStated AgainInitial (initial_in b) x)) is
@@ -269,8 +272,11 @@ are_micro_ops items clean =
       once = λ j k a b at_j at_k g n.
           let (m, here, is_a) = mapped_get op_of ms j a at_j in
           let (l, there, is_b) = mapped_get op_of ms k b at_k in
-          names items clean j k m.head l.head (get_mapped head ms j m here) (get_mapped head ms k l there)
-          (ap (λ (x : MicroOp). x.g) is_a ∙ g ∙ sym (ap (λ (x : MicroOp). x.g) is_b), ap (λ (x : MicroOp). x.n) is_a ∙ n ∙ sym (ap (λ (x : MicroOp). x.n) is_b));
+          names items clean j k m.head l.head (get_mapped head ms j m here) (get_mapped head ms k l there) (
+            ap (λ (x : MicroOp). x.g) is_a ∙ g ∙ sym (ap (λ (x : MicroOp). x.g) is_b),
+            ap (λ (x : MicroOp). x.n) is_a ∙ n
+                ∙ sym (ap (λ (x : MicroOp). x.n) is_b),
+          );
       fences = λ k o at.
           let (m, here, is) = mapped_get op_of ms k o at in
           subst (λ (x : MicroOp). (x.kind ≡ fence) ↔ IsNone x.touch) is (fence_touches m.action);
@@ -298,10 +304,13 @@ known_step b (microop m) clean never all = λ r c.
 known_step b (relationship q) clean never all = λ r c.
     let hs = heads_in b in
     subst (λ (xs : List Head). (place_in xs r.source < length xs) × (place_in xs r.target < length xs)) (sym (same_heads b (relationship q) refl))
-    (elim (Contains-push_cases (relationships_in b) q r (subst (λ (rs : List Relationship). Contains rs r) (added relationship_of b (relationship q) q refl) c)) [
+    (elim (Contains-push_cases (relationships_in b) q
+    r (subst (λ (rs : List Relationship). Contains rs r) (added relationship_of b (relationship q) q refl) c)) [
       | inl d ↦ all r d
-      | inr e ↦ subst (λ (x : Relationship). (place_in hs x.source < length hs) × (place_in hs x.target < length hs)) e
-          (known hs q.source (never-first (Unknown hs q.source) (Unknown hs q.target) never), known hs q.target (never-others (Unknown hs q.source) (Unknown hs q.target) never))
+      | inr e ↦ subst (λ (x : Relationship). (place_in hs x.source < length hs) × (place_in hs x.target < length hs)) e (
+        known hs q.source (never-first (Unknown hs q.source) (Unknown hs q.target) never),
+        known hs q.target (never-others (Unknown hs q.source) (Unknown hs q.target) never),
+      )
     ])
 known_step b (initial v) clean never all = known_same b (initial v) refl refl all
 known_step b (final v) clean never all = known_same b (final v) refl refl all

@@ -156,7 +156,8 @@ one_fault_of before (microop m) clean =
     one-first (HeadFault (heads_in before) m.head) (ActionFault m.action)
     (one_head (heads_in before) m.head (agree before clean) (names before clean)) (one_action m.action)
 one_fault_of before (relationship r) clean =
-    one-first (Unknown (heads_in before) r.source) (Unknown (heads_in before) r.target) (one_unknown (heads_in before) r.source) (one_unknown (heads_in before) r.target)
+    one-first (Unknown (heads_in before) r.source) (Unknown (heads_in before) r.target) (one_unknown (heads_in before) r.source)
+    (one_unknown (heads_in before) r.target)
 one_fault_of before (initial v) clean =
     one-first (AgainStated AgainInitial (initial_in before) v) (MarkFault v.value)
     (one_stated AgainInitial (initial_in before) v (pages initial_of AgainInitial judged_initial before clean)) (one_mark v.value)

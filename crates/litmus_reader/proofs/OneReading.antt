@@ -57,7 +57,8 @@ one_names (w ∷ xs) ys k n m =
     let s = stands-first (a_word w) (map a_word xs ++ a_symbol n.behind ∷ []) n.they in
     let named : IsNameAt _ _ = record { token = s.token; at = s.at; named = s.is.0 } in
     let (others, are, those) = names-more ys m named in
-    let rest = one_names xs others (k + 1) (record { behind = n.behind; they = begins-behind (a_word w ∷ []) (map a_word xs ++ a_symbol n.behind ∷ []) n.they }) those in
+    let rest = one_names xs others (k + 1)
+    (record { behind = n.behind; they = begins-behind (a_word w ∷ []) (map a_word xs ++ a_symbol n.behind ∷ []) n.they }) those in
     (λ i. sym s.is.1 i ∷ rest i) ∙ sym are
 
 -- the word of an address that stands there

@@ -35,7 +35,14 @@ at_itself xs i d below =
 
 -- a head of zeros
 abbrev pub nobody : Head
-nobody = record { at = record { offset = 0 }; g = record { value = 0; at = record { offset = 0 } }; core = record { value = 0; at = record { offset = 0 } }; thread = record { value = 0; at = record { offset = 0 } }; n = 0 }
+nobody = record {
+  at = record { offset = 0 };
+  g = record { value = 0; at = record { offset = 0 } };
+  core =
+      record { value = 0; at = record { offset = 0 } };
+  thread = record { value = 0; at = record { offset = 0 } };
+  n = 0;
+}
 
 -- none of the first i gives the fault
 abbrev pub NeverBelow : List Head → ℕ → (Head → FaultKind → Place → Type 0) → Type 0

@@ -3,10 +3,10 @@ use Rattle.std.proofs.Common.{◌≡◌, ℕ, ◌+◌, List, [], ◌∷◌, ◌+
 use Rattle.std.proofs.lemmas.List.{map-append, take-map, length-map}
 use Rattle.ll_grammar.specs.Rules.{Derives}
 use Rattle.ll_grammar.specs.Texts.{IsText, IsViable}
-use Rattle.ll_grammar.specs.FirstFault.{IsFaultAt, IsAnswer, IsSyntaxAnswer as IsAnswerOf}
+use Rattle.ll_grammar.specs.FirstFault.{IsFaultAt, IsAnswer}
 use Rattle.ll_grammar.specs.declared.fault.Fault.{Fault}
 use Rattle.ll_grammar.specs.declared.fault.Fault.TheVariants.{Syntax, Depth}
-use Rattle.ll_grammar.proofs.Shallow.{syntax-along}
+use Rattle.ll_grammar.proofs.Shallow.{syntax-along, IsSyntaxAnswer as IsAnswerOf}
 use Rattle.uspec_lexer.specs.Token.{Token, name, number, text, symbol}
 use Rattle.litmus_reader.specs.Syntax.{IsTest}
 use Rattle.litmus_reader.specs.Answers.{IsSyntaxAnswer, place_in}

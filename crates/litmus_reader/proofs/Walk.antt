@@ -84,7 +84,8 @@ pub record ReadLine (ts : List Token) (at : ℕ) (rest : List Item) (item : Item
   pub rises : at < to
   pub within : to ≤ length ts
 
-pub read_line : {ts : List Token} {at : ℕ} {k : CaseBuilder} (r : Reached ts at k) → at < length ts → (item : Item) (to : ℕ) → IsReadAt spelled_item ts at item to
+pub read_line : {ts : List Token} {at : ℕ} {k : CaseBuilder} (r : Reached ts at k) → at < length ts → (item : Item) (to : ℕ)
+    → IsReadAt spelled_item ts at item to
     → ReadLine ts at r.rest item to
 read_line {ts} {at} r below item to is =
     let n = next ts at r.rest below r.behind in

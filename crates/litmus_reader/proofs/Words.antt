@@ -5,7 +5,7 @@ use Rattle.std.specs.Str.{bytes_eq}
 use Rattle.std.proofs.lemmas.Bool.{eqb-true}
 use Rattle.std.proofs.lemmas.Slice.Eq.{bytes_eq-Decides}
 use Rattle.uspec_lexer.specs.Token.{Kind, name, number, text, symbol}
-use Rattle.litmus_reader.specs.Terminals.{spelling, words, symbols, find_terminal, word_terminal, symbol_terminal, kind_terminal, is_name}
+use Rattle.litmus_reader.specs.Terminals.{spelling, word_terminals, symbols, find_terminal, word_terminal, symbol_terminal, kind_terminal, is_name}
 use Rattle.litmus_reader.specs.declared.terminal.Terminal.{Terminal}
 use Rattle.litmus_reader.specs.declared.terminal.Terminal.TheVariants.{Litmus, Litmus2, Microop, Relationship, Init, Final, Permitted, Forbidden, Read, Write, Fence, Va, Pa, Entry, Data, Maps, Name, Number, Text, Open, Close, Dot, Arrow, Other}
 
@@ -20,7 +20,7 @@ sort_of Arrow = 3
 sort_of Other = 3
 sort_of _ = 0
 
-word_terminal-find : (w : List ℕ) → word_terminal w ≡ find_terminal w Name words
+word_terminal-find : (w : List ℕ) → word_terminal w ≡ find_terminal w Name word_terminals
 unfolding word_terminal
 word_terminal-find w = refl
 
@@ -53,7 +53,7 @@ sorted s w rest (c ∷ cs) e all =
     by here later false = later
 
 word_sort : (w : List ℕ) → sort_of (word_terminal w) ≡ 0
-word_sort w = ap sort_of (word_terminal-find w) ∙ sorted 0 w Name words refl refl
+word_sort w = ap sort_of (word_terminal-find w) ∙ sorted 0 w Name word_terminals refl refl
 
 symbol_sort : (w : List ℕ) → sort_of (symbol_terminal w) ≡ 3
 symbol_sort w = ap sort_of (symbol_terminal-find w) ∙ sorted 3 w Other symbols refl refl
@@ -81,7 +81,7 @@ text-of_kind symbol piece e = absurd (let h = ap sort_of e in omega (arith, symb
 pub word-of_kind : (k : Kind) (piece : List ℕ) (c : Terminal) → sort_of c ≡ 0 → (c ≡ Name → ⊥) → kind_terminal k piece ≡ c
     → (k ≡ name) × (piece ≡ spelling c)
 word-of_kind name piece c s own e =
-    (refl, elim (found piece Name words c (sym (word_terminal-find piece) ∙ e)) [ inl h ↦ absurd (own h) | inr h ↦ h ])
+    (refl, elim (found piece Name word_terminals c (sym (word_terminal-find piece) ∙ e)) [ inl h ↦ absurd (own h) | inr h ↦ h ])
 word-of_kind (number n) piece c s own e = absurd (let h = ap sort_of e in omega arith)
 word-of_kind text piece c s own e = absurd (let h = ap sort_of e in omega arith)
 word-of_kind symbol piece c s own e = absurd (let h = ap sort_of e in omega (arith, symbol_sort piece))

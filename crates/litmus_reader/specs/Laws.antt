@@ -19,8 +19,8 @@ abbrev pub HasOneFault : List ℕ → Type 0
 HasOneFault bytes = (e f : CaseFault) → IsFault bytes e → IsFault bytes f → e ≡ f
 
 -- not both
-abbrev pub HasNoFaultBeside : List ℕ → Type 0
-HasNoFaultBeside bytes = (c : Case) (f : CaseFault) → CaseOf bytes c → IsFault bytes f → ⊥
+abbrev pub TestExcludesFault : List ℕ → Type 0
+TestExcludesFault bytes = (c : Case) (f : CaseFault) → CaseOf bytes c → IsFault bytes f → ⊥
 
 -- the place that the fault names is one of the bytes, or their end
 abbrev pub IsWithin : List ℕ → CaseFault → Type 0

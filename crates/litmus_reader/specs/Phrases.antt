@@ -3,10 +3,10 @@ use Rattle.std.specs.Prelude.{◌≡◌, ℕ, Bool, true, false, List, [], ◌�
 use Rattle.ll_grammar.specs.Rules.{Rules}
 use Rattle.ll_grammar.specs.Steps.{IsStep}
 use Rattle.ll_grammar.specs.Predictable.{IsPredictable, HasTexts}
-use Rattle.ll_grammar.specs.Tables.{predictable_by, texts_by, is_predictable_part, is_ranked_part}
+use Rattle.ll_grammar.specs.LawsOfTables.{predictable_by, texts_by, is_predictable_part, is_ranked_part}
 use Rattle.ll_grammar.specs.declared.grammar.Symbol.{Symbol}
 use Rattle.ll_grammar.specs.declared.grammar.Step.{Step}
-use Rattle.ll_grammar.specs.declared.grammar.Symbol.TheVariants.{Class, Part}
+use Rattle.ll_grammar.specs.declared.grammar.Symbol.TheVariants.{Terminal as a_terminal, Nonterminal as a_nonterminal}
 use Rattle.litmus_reader.specs.Terminals.{is_name}
 use Rattle.litmus_reader.specs.declared.terminal.Terminal.{Terminal}
 use Rattle.litmus_reader.specs.declared.terminal.Terminal.TheVariants.{Litmus, Microop, Relationship, Init, Final, Permitted, Forbidden, Read, Write, Fence, Va, Pa, Data, Name, Number, Text, Open, Close, Dot, Arrow, Other, Litmus2, Entry, Maps}
@@ -14,44 +14,45 @@ use Rattle.litmus_reader.specs.declared.phrase.Phrase.{Phrase}
 use Rattle.litmus_reader.specs.declared.phrase.Phrase.TheVariants.{Test, Items, Access, Types, AnyName, VirtualPage, Address, AddressInside, ReadValue, WriteValue, ValueInside, StatedValue}
 use Rattle.litmus_reader.specs.declared.format.Format.TheVariants.{One, Two}
 
-abbrev pub behind : Phrase → Terminal → Option (List (Symbol Terminal Phrase))
-behind Test Litmus = Some (Class Text ∷ Class Dot ∷ Part (Items One) ∷ [])
-behind Test Litmus2 = Some (Class Text ∷ Class Dot ∷ Part (Items Two) ∷ [])
-behind (Items f) Microop =
+abbrev pub production : Phrase → Terminal → Option (List (Symbol Terminal Phrase))
+production Test Litmus = Some (a_terminal Text ∷ a_terminal Dot ∷ a_nonterminal (Items One) ∷ [])
+production Test Litmus2 = Some (a_terminal Text ∷ a_terminal Dot ∷ a_nonterminal (Items Two) ∷ [])
+production (Items f) Microop =
     Some (
-    Class Number ∷ Class Number ∷ Class Number ∷ Class Number ∷ Class Open ∷ Part (Access f) ∷ Class Close ∷ Class Dot
-    ∷ Part (Items f) ∷ []
+    a_terminal Number ∷ a_terminal Number ∷ a_terminal Number ∷ a_terminal Number ∷ a_terminal Open ∷ a_nonterminal (Access f)
+    ∷ a_terminal Close ∷ a_terminal Dot
+    ∷ a_nonterminal (Items f) ∷ []
     )
-behind (Items f) Relationship =
+production (Items f) Relationship =
     Some (
-    Part AnyName ∷ Class Number ∷ Class Number ∷ Class Arrow ∷ Class Number ∷ Class Number ∷ Class Dot
-    ∷ Part (Items f) ∷ []
+    a_nonterminal AnyName ∷ a_terminal Number ∷ a_terminal Number ∷ a_terminal Arrow ∷ a_terminal Number ∷ a_terminal Number ∷ a_terminal Dot
+    ∷ a_nonterminal (Items f) ∷ []
     )
-behind (Items f) Init = Some (Part (Address f) ∷ Part (StatedValue f) ∷ Class Dot ∷ Part (Items f) ∷ [])
-behind (Items f) Final = Some (Part (Address f) ∷ Part (StatedValue f) ∷ Class Dot ∷ Part (Items f) ∷ [])
-behind (Items f) Permitted = Some (Class Dot ∷ Part (Items f) ∷ [])
-behind (Items f) Forbidden = Some (Class Dot ∷ Part (Items f) ∷ [])
-behind (Access f) Read = Some (Part Types ∷ Part VirtualPage ∷ Part (Address f) ∷ Part (ReadValue f) ∷ [])
-behind (Access f) Write = Some (Part Types ∷ Part VirtualPage ∷ Part (Address f) ∷ Part (WriteValue f) ∷ [])
-behind (Access f) Fence = Some (Part Types ∷ [])
-behind Types c = if is_name c then Some (Part Types ∷ []) else None
-behind AnyName c = if is_name c then Some [] else None
-behind VirtualPage Open = Some (Class Va ∷ Class Number ∷ Class Number ∷ Class Close ∷ [])
-behind (Address f) Open = Some (Part (AddressInside f) ∷ [])
-behind (AddressInside f) Pa = Some (Class Number ∷ Class Number ∷ Class Close ∷ [])
-behind (AddressInside Two) Entry = Some (Class Number ∷ Class Close ∷ [])
-behind (ReadValue f) Open = Some (Part (ValueInside f) ∷ [])
-behind (WriteValue f) Open = Some (Part (ValueInside f) ∷ [])
-behind (ValueInside f) Data = Some (Class Number ∷ Class Close ∷ [])
-behind (ValueInside Two) Maps = Some (Class Number ∷ Class Number ∷ Class Number ∷ Class Close ∷ [])
-behind (StatedValue f) Number = Some []
-behind (StatedValue Two) Open = Some (Class Maps ∷ Class Number ∷ Class Number ∷ Class Number ∷ Class Close ∷ [])
-behind _ _ = None
+production (Items f) Init = Some (a_nonterminal (Address f) ∷ a_nonterminal (StatedValue f) ∷ a_terminal Dot ∷ a_nonterminal (Items f) ∷ [])
+production (Items f) Final = Some (a_nonterminal (Address f) ∷ a_nonterminal (StatedValue f) ∷ a_terminal Dot ∷ a_nonterminal (Items f) ∷ [])
+production (Items f) Permitted = Some (a_terminal Dot ∷ a_nonterminal (Items f) ∷ [])
+production (Items f) Forbidden = Some (a_terminal Dot ∷ a_nonterminal (Items f) ∷ [])
+production (Access f) Read = Some (a_nonterminal Types ∷ a_nonterminal VirtualPage ∷ a_nonterminal (Address f) ∷ a_nonterminal (ReadValue f) ∷ [])
+production (Access f) Write = Some (a_nonterminal Types ∷ a_nonterminal VirtualPage ∷ a_nonterminal (Address f) ∷ a_nonterminal (WriteValue f) ∷ [])
+production (Access f) Fence = Some (a_nonterminal Types ∷ [])
+production Types c = if is_name c then Some (a_nonterminal Types ∷ []) else None
+production AnyName c = if is_name c then Some [] else None
+production VirtualPage Open = Some (a_terminal Va ∷ a_terminal Number ∷ a_terminal Number ∷ a_terminal Close ∷ [])
+production (Address f) Open = Some (a_nonterminal (AddressInside f) ∷ [])
+production (AddressInside f) Pa = Some (a_terminal Number ∷ a_terminal Number ∷ a_terminal Close ∷ [])
+production (AddressInside Two) Entry = Some (a_terminal Number ∷ a_terminal Close ∷ [])
+production (ReadValue f) Open = Some (a_nonterminal (ValueInside f) ∷ [])
+production (WriteValue f) Open = Some (a_nonterminal (ValueInside f) ∷ [])
+production (ValueInside f) Data = Some (a_terminal Number ∷ a_terminal Close ∷ [])
+production (ValueInside Two) Maps = Some (a_terminal Number ∷ a_terminal Number ∷ a_terminal Number ∷ a_terminal Close ∷ [])
+production (StatedValue f) Number = Some []
+production (StatedValue Two) Open = Some (a_terminal Maps ∷ a_terminal Number ∷ a_terminal Number ∷ a_terminal Number ∷ a_terminal Close ∷ [])
+production _ _ = None
 
-abbrev pub may_end : Phrase → Bool
-may_end (Items f) = true
-may_end Types = true
-may_end _ = false
+abbrev pub is_nullable : Phrase → Bool
+is_nullable (Items f) = true
+is_nullable Types = true
+is_nullable _ = false
 
 -- nothing nests, so no token stands too deep
 abbrev pub deep : Phrase → Terminal → Bool
@@ -59,10 +60,10 @@ deep n c = false
 
 -- what the phrase makes of the stack at a token of this class
 abbrev pub IsPush : Phrase → Terminal → List (Symbol Terminal Phrase) → List (Symbol Terminal Phrase) → Step → Type 0
-IsPush n c old new step = IsStep (behind n c) (deep n c) old step new
+IsPush n c old new step = IsStep (production n c) (deep n c) old step new
 
 abbrev pub rules : Rules Terminal Phrase
-rules = record { behind = behind; may_end = may_end; deep = deep }
+rules = record { production = production; is_nullable = is_nullable; deep = deep }
 
 -- which terminals may come next after a phrase
 abbrev pub follow : Phrase → Terminal → Bool

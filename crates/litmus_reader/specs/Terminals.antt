@@ -29,8 +29,8 @@ spelling Dot = codes "."
 spelling Arrow = codes "->"
 spelling _ = []
 
-abbrev pub words : List Terminal
-words =
+abbrev pub word_terminals : List Terminal
+word_terminals =
     Litmus ∷ Litmus2 ∷ Microop ∷ Relationship ∷ Init ∷ Final ∷ Permitted ∷ Forbidden ∷ Read ∷ Write ∷ Fence
     ∷ Va ∷ Pa ∷ Entry ∷ Data ∷ Maps ∷ []
 
@@ -43,7 +43,7 @@ find_terminal w other [] = other
 find_terminal w other (c ∷ cs) = if bytes_eq w (spelling c) then c else find_terminal w other cs
 
 unfoldable pub word_terminal : List ℕ → Terminal
-word_terminal w = find_terminal w Name words
+word_terminal w = find_terminal w Name word_terminals
 
 unfoldable pub symbol_terminal : List ℕ → Terminal
 symbol_terminal w = find_terminal w Other symbols

@@ -1,5 +1,5 @@
 // Laws of the definitions in specs/. Each function does nothing: its contract is the law.
-ghost use Rattle.litmus_reader.specs.Laws.{HasCaseOrFault, HasOneCase, HasOneFault, HasNoFaultBeside, HasFaultsWithin};
+ghost use Rattle.litmus_reader.specs.Laws.{HasCaseOrFault, HasOneCase, HasOneFault, TestExcludesFault, HasFaultsWithin};
 
 /// Bytes say a case or have a first fault.
 pub fn case_or_fault(bytes: &[u8])
@@ -18,7 +18,7 @@ pub fn one_fault(bytes: &[u8])
 
 /// Bytes that say a case have no fault.
 pub fn no_fault(bytes: &[u8])
-    ensures { HasNoFaultBeside bytes.now }
+    ensures { TestExcludesFault bytes.now }
 {}
 
 /// A fault of the bytes stands at one of them, or at their end.

@@ -1,4 +1,6 @@
-//! Test files to cases: the reader of litmus tests.
+//! Test files to cases: the reader of litmus tests of either format, with page-table entries or without.
+//!
+//! Clause: `read_case` returns the case of a test, or its first fault (`ok`, `err`).
 //!
 //! ```text
 //! test  = (Litmus | Litmus2) TEXT "." item*

@@ -54,7 +54,7 @@ impl Grammar<Terminal> for Phrase {
 
     ghost has_texts = { rules_texts };
 
-    fn may_end(self) -> bool {
+    fn is_nullable(self) -> bool {
         matches!(self, Items(_) | Types)
     }
 

@@ -13,7 +13,7 @@ pub(crate) struct Values {
     by_address: IndexMap<Address, Value>,
 }
 
-// Written out, so that a proof of what drops the value meets one call and no field.
+// By hand: docs/DECISIONS.md, "Drops are written by hand".
 impl Drop for Values {
     fn drop(self) {
         let Values { by_address: _ } = self;

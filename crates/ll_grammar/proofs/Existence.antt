@@ -1,12 +1,12 @@
 -- Tokens whose classes are told apart have an answer, by a run of the recogniser without a stack in memory.
 use Rattle.std.proofs.Common.{◌≡◌, ◌≢◌, ℕ, zero, suc, ◌+◌, ◌<◌, ◌⊎◌, inl, inr, Bool, true, false, List, [], ◌∷◌, ◌++◌, Option, Some, None, length, get_or, slice_get, unwrap_or, nat_eq, eq-eqb, eqb-true, refl, sym, ap, ◌∙◌, subst, arith}
 use Rattle.std.specs.List.{list_all}
-use Rattle.ll_grammar.specs.Rules.{Rules, Derives, can_be_empty}
+use Rattle.ll_grammar.specs.Rules.{Rules, Derives, is_nullable_symbol}
 use Rattle.ll_grammar.specs.FirstFault.{AreDecided, HasAnswer}
 use Rattle.ll_grammar.specs.Predictable.{IsPredictable, IsReady, HasTexts}
 use Rattle.ll_grammar.specs.Steps.{IsRead}
 use Rattle.ll_grammar.specs.declared.grammar.Symbol.{Symbol}
-use Rattle.ll_grammar.specs.declared.grammar.Symbol.TheVariants.{Class, Part}
+use Rattle.ll_grammar.specs.declared.grammar.Symbol.TheVariants.{Terminal as terminal, Nonterminal as nonterminal}
 use Rattle.ll_grammar.specs.declared.grammar.Step.{Step}
 use Rattle.ll_grammar.specs.declared.grammar.Step.TheVariants.{Absent, Pushed, Deep}
 use Rattle.ll_grammar.specs.declared.fault.Fault.TheVariants.{Syntax, Depth}
@@ -28,15 +28,15 @@ module _ {C N : Type 0} (g : Rules C N) (follow : N → C → Bool) (decided : A
   HasStep : List (Symbol C N) → C → Type 0
   HasStep symbols c = (step : Step) × (after : List (Symbol C N)) × IsRead g follow symbols c step after
 
-  class_step : (d c : C) (rest : List (Symbol C N)) → IsReady g follow rest → (d ≡ c) ⊎ (d ≡ c → ⊥) → HasStep (Class d ∷ rest) c
+  class_step : (d c : C) (rest : List (Symbol C N)) → IsReady g follow rest → (d ≡ c) ⊎ (d ≡ c → ⊥) → HasStep (terminal d ∷ rest) c
   unfolding HasStep
   class_step d c rest ready (inl same) =
-      (Pushed, rest, subst (λ (x : C). IsRead g follow (Class x ∷ rest) c Pushed rest) (sym same) (read-class g follow c rest ready))
+      (Pushed, rest, subst (λ (x : C). IsRead g follow (terminal x ∷ rest) c Pushed rest) (sym same) (read-class g follow c rest ready))
   class_step d c rest ready (inr other) = (Absent, [], read-other_class g follow d c rest [] other)
 
-  part_step : (n : N) (c : C) (rest : List (Symbol C N)) → IsReady g follow (Part n ∷ rest) → HasStep rest c
-      → (found : Option (List (Symbol C N))) (deep may : Bool) → g.behind n c ≡ found → g.deep n c ≡ deep → g.may_end n ≡ may
-      → HasStep (Part n ∷ rest) c
+  part_step : (n : N) (c : C) (rest : List (Symbol C N)) → IsReady g follow (nonterminal n ∷ rest) → HasStep rest c
+      → (found : Option (List (Symbol C N))) (deep may : Bool) → g.production n c ≡ found → g.deep n c ≡ deep → g.is_nullable n ≡ may
+      → HasStep (nonterminal n ∷ rest) c
   unfolding HasStep
   part_step n c rest ready below (Some body) false may b d m = (Pushed, body ++ rest, read-begins g follow n c rest body predictable ready b d)
   part_step n c rest ready below (Some body) true may b d m = (Deep, [], read-deep g follow n c rest body [] texts b d)
@@ -47,13 +47,13 @@ module _ {C N : Type 0} (g : Rules C N) (follow : N → C → Bool) (decided : A
   some_step : (symbols : List (Symbol C N)) (c : C) → IsReady g follow symbols → HasStep symbols c
   unfolding HasStep
   some_step [] c ready = (Absent, [], read-nothing g follow c [])
-  some_step (Class d ∷ rest) c ready = class_step d c rest ready (decided d c)
-  some_step (Part n ∷ rest) c ready =
-      part_step n c rest ready (some_step rest c ready.1) (g.behind n c) (g.deep n c) (g.may_end n) refl refl refl
+  some_step (terminal d ∷ rest) c ready = class_step d c rest ready (decided d c)
+  some_step (nonterminal n ∷ rest) c ready =
+      part_step n c rest ready (some_step rest c ready.1) (g.production n c) (g.deep n c) (g.is_nullable n) refl refl refl
 
   module _ (start : N) (cs : List C) where
     at_end : (i : ℕ) (symbols : List (Symbol C N)) → IsReading g follow start cs i symbols → i ≡ length cs
-        → (b : Bool) → list_all (can_be_empty g) symbols ≡ b → HasAnswer (Derives g start) cs
+        → (b : Bool) → list_all (is_nullable_symbol g) symbols ≡ b → HasAnswer (Derives g start) cs
     at_end i symbols reading end true all = (None, ended g follow start cs i symbols reading end all)
     at_end i symbols reading end false some = (Some (Syntax (length cs)), unended g follow start cs i symbols reading end texts some)
 
@@ -75,7 +75,7 @@ module _ {C N : Type 0} (g : Rules C N) (follow : N → C → Bool) (decided : A
 
     run : (left i : ℕ) (symbols : List (Symbol C N)) → i + left ≡ length cs → IsReading g follow start cs i symbols → HasAnswer (Derives g start) cs
     unfolding HasStep
-    run zero i symbols all reading = at_end i symbols reading (omega arith) (list_all (can_be_empty g) symbols) refl
+    run zero i symbols all reading = at_end i symbols reading (omega arith) (list_all (is_nullable_symbol g) symbols) refl
     run (suc left) i symbols all reading =
         let within : i < length cs = omega arith in
         let (c, here) = token cs i within in
@@ -83,4 +83,4 @@ module _ {C N : Type 0} (g : Rules C N) (follow : N → C → Bool) (decided : A
         after_step i symbols reading within c here step after read (λ later next. run left (i + 1) later (omega arith) next)
 
     pub some_answer : HasAnswer (Derives g start) cs
-    some_answer = run (length cs) 0 (Part start ∷ []) (omega arith) (begun g follow start cs)
+    some_answer = run (length cs) 0 (nonterminal start ∷ []) (omega arith) (begun g follow start cs)

@@ -2,7 +2,7 @@
 use Rattle.std.proofs.Common.{◌≡◌, ℕ, ◌+◌, ◌<◌, ◌≤◌, Bool, List, ◌++◌, Option, Some, None, Result, Ok, Err, IfOk, length, take, drop, refl, sym, ap, subst, ◌∙◌, append_assoc, arith}
 use Rattle.std.proofs.lemmas.List.{take-append-drop, take-take}
 use Rattle.ll_grammar.specs.Texts.{IsText, IsViable, IsDeepAt, NoneDeep}
-use Rattle.ll_grammar.specs.FirstFault.{IsFaultAt, IsAccepted, IsFirstFault, IsAnswer}
+use Rattle.ll_grammar.specs.FirstFault.{IsFaultAt, IsAccepted, IsFirstTokenFault, IsAnswer}
 use Rattle.ll_grammar.specs.declared.fault.Fault.{Fault}
 use Rattle.ll_grammar.specs.declared.fault.Fault.TheVariants.{Syntax, Depth}
 
@@ -41,7 +41,7 @@ module _ {C : Type 0} (Marked : List C → List Bool → Type 0) (cs : List C) w
       (viable-take (IsText Marked) cs (j + 1) (k + 1) (omega arith) (deep_viable k deep))
 
   -- no tokens have two first faults
-  pub one_fault : (first second : Fault) → IsFirstFault Marked cs first → IsFirstFault Marked cs second → first ≡ second
+  pub one_fault : (first second : Fault) → IsFirstTokenFault Marked cs first → IsFirstTokenFault Marked cs second → first ≡ second
   one_fault (Syntax j) (Syntax k) first second =
       let below : j < k → ⊥ = one_syntax j k first.0 second.0 in
       let above : k < j → ⊥ = one_syntax k j second.0 first.0 in
@@ -56,7 +56,7 @@ module _ {C : Type 0} (Marked : List C → List Bool → Type 0) (cs : List C) w
       ap Depth same
 
   -- accepted tokens have none
-  pub no_fault : (fault : Fault) → IsAccepted Marked cs → IsFirstFault Marked cs fault → ⊥
+  pub no_fault : (fault : Fault) → IsAccepted Marked cs → IsFirstTokenFault Marked cs fault → ⊥
   no_fault (Syntax k) accepted fault =
       let within : k ≤ length cs = fault.0.within in
       let not_end : k ≡ length cs → ⊥ = λ end. fault.0.at_end end accepted.0 in
@@ -90,7 +90,7 @@ module _ {C : Type 0} (Marked Other : List C → List Bool → Type 0)
   pub accepted-along : IsAccepted Marked cs → IsAccepted Other cs
   accepted-along ((marks, marked), none) = ((marks, to cs marks marked), none_deep-along (length cs) none)
 
-  pub first_fault-along : (fault : Fault) → IsFirstFault Marked cs fault → IsFirstFault Other cs fault
+  pub first_fault-along : (fault : Fault) → IsFirstTokenFault Marked cs fault → IsFirstTokenFault Other cs fault
   first_fault-along (Syntax k) (fault, none) = (
     fault-along (IsText Marked) (IsText Other) (λ ds (marks, marked). (marks, to ds marks marked))
         (λ ds (marks, other). (marks, from ds marks other)) cs k fault,

@@ -5,14 +5,14 @@ use Rattle.std.proofs.lemmas.List.Folds.{list_all-append}
 use Rattle.std.proofs.Math.Seq.{take-length}
 use Rattle.std.specs.Cmp.Derive.{both_true}
 use Rattle.std.specs.List.{list_all}
-use Rattle.ll_grammar.specs.Rules.{Rules, Yields, Derives, can_be_empty}
+use Rattle.ll_grammar.specs.Rules.{Rules, Yields, Derives, is_nullable_symbol}
 use Rattle.ll_grammar.specs.Rules.Yields.{done, class as r_class, ends as r_ends, begins as r_begins}
 use Rattle.ll_grammar.specs.Texts.{IsText, IsViable, IsDeepAt, NoneDeep}
-use Rattle.ll_grammar.specs.FirstFault.{IsAccepted, IsFirstFault}
+use Rattle.ll_grammar.specs.FirstFault.{IsAccepted, IsFirstTokenFault}
 use Rattle.ll_grammar.specs.Predictable.{IsReady, HasTexts}
 use Rattle.ll_grammar.specs.Steps.{IsRead}
 use Rattle.ll_grammar.specs.declared.grammar.Symbol.{Symbol}
-use Rattle.ll_grammar.specs.declared.grammar.Symbol.TheVariants.{Class, Part}
+use Rattle.ll_grammar.specs.declared.grammar.Symbol.TheVariants.{Terminal as terminal, Nonterminal as nonterminal}
 use Rattle.ll_grammar.specs.declared.grammar.Step.TheVariants.{Absent, Pushed, Deep}
 use Rattle.ll_grammar.specs.declared.fault.Fault.TheVariants.{Syntax, Depth}
 use Rattle.ll_grammar.proofs.ViablePrefixes.{some_text}
@@ -45,7 +45,7 @@ slice_get-replicate zero b others = refl
 slice_get-replicate (suc i) b others = slice_get-replicate i b others
 
 pub begun : {C N : Type 0} (g : Rules C N) (follow : N → C → Bool) (start : N) (cs : List C)
-    → IsReading g follow start cs 0 (Part start ∷ [])
+    → IsReading g follow start cs 0 (nonterminal start ∷ [])
 begun g follow start cs = record {
   only = λ rest marks derives. (marks, refl, derives);
   each = λ rest others reads. reads;
@@ -55,11 +55,11 @@ begun g follow start cs = record {
 
 -- symbols that may all be without tokens read none
 empty : {C N : Type 0} (g : Rules C N) (symbols : List (Symbol C N))
-    → list_all (can_be_empty g) symbols ≡ true → Yields g symbols [] []
+    → list_all (is_nullable_symbol g) symbols ≡ true → Yields g symbols [] []
 empty g [] all = done
-empty g (Class c ∷ rest) all = absurd (cc)
-empty g (Part n ∷ rest) all =
-    let (may, others) = both (g.may_end n) (list_all (can_be_empty g) rest) all in
+empty g (terminal c ∷ rest) all = absurd (cc)
+empty g (nonterminal n ∷ rest) all =
+    let (may, others) = both (g.is_nullable n) (list_all (is_nullable_symbol g) rest) all in
     r_ends may (empty g rest others)
   where
     both : (a b : Bool) → (a && b) ≡ true → (a ≡ true) × (b ≡ true)
@@ -68,7 +68,7 @@ empty g (Part n ∷ rest) all =
 
 -- and others read some
 all_empty : {C N : Type 0} {g : Rules C N} {symbols : List (Symbol C N)} {cs : List C} {marks : List Bool}
-    → Yields g symbols cs marks → cs ≡ [] → list_all (can_be_empty g) symbols ≡ true
+    → Yields g symbols cs marks → cs ≡ [] → list_all (is_nullable_symbol g) symbols ≡ true
 all_empty done e = refl
 all_empty (r_class reads) e = absurd (cc)
 all_empty (r_ends h reads) e = both_true h (all_empty reads e)
@@ -127,7 +127,7 @@ module _ {C N : Type 0} (g : Rules C N) (follow : N → C → Bool) (start : N) 
       ready = read.ready;
     }
 
-    pub refused : HasTexts g → IsRead g follow symbols c Absent after → IsFirstFault (Derives g start) cs (Syntax i)
+    pub refused : HasTexts g → IsRead g follow symbols c Absent after → IsFirstTokenFault (Derives g start) cs (Syntax i)
     refused texts read = (
       record {
         within = omega arith;
@@ -138,7 +138,7 @@ module _ {C N : Type 0} (g : Rules C N) (follow : N → C → Bool) (start : N) 
       reading.shallow,
     )
 
-    pub deepened : IsRead g follow symbols c Deep after → IsFirstFault (Derives g start) cs (Depth i)
+    pub deepened : IsRead g follow symbols c Deep after → IsFirstTokenFault (Derives g start) cs (Depth i)
     deepened read =
         let (rest, others, reads) = read in (
           (within, rest, replicate i false ++ (true ∷ others), through_each rest (true ∷ others) reads, slice_get-replicate i true others),
@@ -155,7 +155,7 @@ module _ {C N : Type 0} (g : Rules C N) (follow : N → C → Bool) (start : N) 
         let (others, _, reads) = reading.only [] marks (subst (λ (x : List C). Derives g start x marks) (sym front) derives) in
         (others, reads)
 
-    pub ended : list_all (can_be_empty g) symbols ≡ true → IsAccepted (Derives g start) cs
+    pub ended : list_all (is_nullable_symbol g) symbols ≡ true → IsAccepted (Derives g start) cs
     ended all =
         let front : take i cs ++ [] ≡ cs = append-nil (take i cs) ∙ whole in (
           (
@@ -165,9 +165,9 @@ module _ {C N : Type 0} (g : Rules C N) (follow : N → C → Bool) (start : N) 
           subst (λ (n : ℕ). NoneDeep (Derives g start) cs n) at_end reading.shallow,
         )
 
-    pub unended : HasTexts g → list_all (can_be_empty g) symbols ≡ false → IsFirstFault (Derives g start) cs (Syntax (length cs))
+    pub unended : HasTexts g → list_all (is_nullable_symbol g) symbols ≡ false → IsFirstTokenFault (Derives g start) cs (Syntax (length cs))
     unended texts some =
-        subst (λ (n : ℕ). IsFirstFault (Derives g start) cs (Syntax n)) at_end (
+        subst (λ (n : ℕ). IsFirstTokenFault (Derives g start) cs (Syntax n)) at_end (
           record {
             within = omega arith;
             before = viable texts;

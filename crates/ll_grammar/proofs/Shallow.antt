@@ -3,7 +3,7 @@ use Rattle.std.proofs.Common.{◌≡◌, ℕ, zero, suc, Bool, true, false, List
 use Rattle.ll_grammar.specs.Rules.{Rules, Yields, Derives}
 use Rattle.ll_grammar.specs.Rules.Yields.{done, class as r_class, ends as r_ends, begins as r_begins}
 use Rattle.ll_grammar.specs.Texts.{IsText}
-use Rattle.ll_grammar.specs.FirstFault.{IsAnswer, IsSyntaxAnswer}
+use Rattle.ll_grammar.specs.FirstFault.{IsAnswer, IsFaultAt}
 use Rattle.ll_grammar.specs.declared.grammar.Symbol.{Symbol}
 use Rattle.ll_grammar.specs.declared.fault.Fault.{Fault}
 use Rattle.ll_grammar.specs.declared.fault.Fault.TheVariants.{Syntax, Depth}
@@ -19,6 +19,12 @@ never_deep shallow (r_ends h reads) k at = never_deep shallow reads k at
 never_deep {g = g} shallow (r_begins {n = n} {c = c} body e reads) zero at =
     let mark : g.deep n c ≡ false = shallow n c in cc
 never_deep shallow (r_begins body e reads) (suc k) at = never_deep shallow reads k at
+
+-- The same for a language with no bound on depth, stated by its texts alone.
+abbrev pub IsSyntaxAnswer : {C : Type 0} → (List C → Type 0) → List C → Option Fault → Type 0
+IsSyntaxAnswer Text cs None = Text cs
+IsSyntaxAnswer Text cs (Some (Syntax k)) = IsFaultAt Text cs k
+IsSyntaxAnswer Text cs (Some (Depth k)) = ⊥
 
 module _ {C N : Type 0} (g : Rules C N) (start : N) (shallow : (n : N) (c : C) → g.deep n c ≡ false)
     (Text : List C → Type 0) (to : (cs : List C) (marks : List Bool) → Derives g start cs marks → Text cs)

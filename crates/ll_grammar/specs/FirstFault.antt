@@ -17,14 +17,14 @@ abbrev pub IsAccepted : {C : Type 0} → (List C → List Bool → Type 0) → L
 IsAccepted Marked cs = IsText Marked cs × NoneDeep Marked cs (length cs)
 
 -- The fault, and none before it.
-abbrev pub IsFirstFault : {C : Type 0} → (List C → List Bool → Type 0) → List C → Fault → Type 0
-IsFirstFault Marked cs (Syntax k) = IsFaultAt (IsText Marked) cs k × NoneDeep Marked cs k
-IsFirstFault Marked cs (Depth k) = IsDeepAt Marked cs k × NoneDeep Marked cs k
+abbrev pub IsFirstTokenFault : {C : Type 0} → (List C → List Bool → Type 0) → List C → Fault → Type 0
+IsFirstTokenFault Marked cs (Syntax k) = IsFaultAt (IsText Marked) cs k × NoneDeep Marked cs k
+IsFirstTokenFault Marked cs (Depth k) = IsDeepAt Marked cs k × NoneDeep Marked cs k
 
 -- What is to be answered: None for accepted tokens, else their first fault.
 abbrev pub IsAnswer : {C : Type 0} → (List C → List Bool → Type 0) → List C → Option Fault → Type 0
 IsAnswer Marked cs None = IsAccepted Marked cs
-IsAnswer Marked cs (Some fault) = IsFirstFault Marked cs fault
+IsAnswer Marked cs (Some fault) = IsFirstTokenFault Marked cs fault
 
 -- Each two are one or are not.
 abbrev pub AreDecided : Type 0 → Type 0
@@ -37,9 +37,3 @@ HasAnswer Marked cs = (found : Option Fault) × IsAnswer Marked cs found
 -- And no two of these.
 abbrev pub HasOneAnswer : {C : Type 0} → (List C → List Bool → Type 0) → List C → Type 0
 HasOneAnswer Marked cs = (a b : Option Fault) → IsAnswer Marked cs a → IsAnswer Marked cs b → a ≡ b
-
--- The same for a language with no bound on depth, stated by its texts alone.
-abbrev pub IsSyntaxAnswer : {C : Type 0} → (List C → Type 0) → List C → Option Fault → Type 0
-IsSyntaxAnswer Text cs None = Text cs
-IsSyntaxAnswer Text cs (Some (Syntax k)) = IsFaultAt Text cs k
-IsSyntaxAnswer Text cs (Some (Depth k)) = ⊥

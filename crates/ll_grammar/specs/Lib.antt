@@ -3,4 +3,4 @@ pub mod Texts
 pub mod FirstFault
 pub mod Predictable
 pub mod Steps
-pub mod Tables
+pub mod LawsOfTables

@@ -1,6 +1,6 @@
 ghost use Rattle.std.specs.Prelude.{◌≡◌, IfOk, reverse};
 ghost use Rattle.std.specs.List.{list_all};
-ghost use Rattle.ll_grammar.specs.Rules.{can_be_empty, Derives};
+ghost use Rattle.ll_grammar.specs.Rules.{is_nullable_symbol, Derives};
 ghost use Rattle.ll_grammar.specs.Predictable.{IsReady};
 ghost use Rattle.ll_grammar.specs.Steps.{IsRead};
 ghost use Rattle.ll_grammar.specs.FirstFault.{IsAnswer};
@@ -32,7 +32,7 @@ pub fn first_fault<C: TokenClass, N: Grammar<C>>(
     ensures { IfOk result (IsAnswer (Derives N.rules start) classes.now) }
 {
     let mut stack = Vec::new(alloc);
-    stack.push(Symbol::Part(start))?;
+    stack.push(Symbol::Nonterminal(start))?;
     for (at, class) in classes.iter().enumerate() {
         match read(&mut stack, *class)? {
             Step::Pushed => {}
@@ -60,16 +60,16 @@ fn read<C: TokenClass, N: Grammar<C>>(
 {
     while let Some(symbol) = stack.pop() {
         match symbol {
-            Symbol::Class(expected) => {
+            Symbol::Terminal(expected) => {
                 return Ok(if expected.is_same(class) {
                     Step::Pushed
                 } else {
                     Step::Absent
                 });
             }
-            Symbol::Part(part) => match part.push(class, stack)? {
+            Symbol::Nonterminal(part) => match part.push(class, stack)? {
                 Step::Absent => {
-                    if !part.may_end() {
+                    if !part.is_nullable() {
                         return Ok(Step::Absent);
                     }
                 }
@@ -82,10 +82,10 @@ fn read<C: TokenClass, N: Grammar<C>>(
 
 // Whether the text may end here: each part that still waits may have no token.
 fn is_over<C: TokenClass, N: Grammar<C>>(stack: &[Symbol<C, N>]) -> bool
-    ensures { result ≡ list_all (can_be_empty N.rules) stack.now }
+    ensures { result ≡ list_all (is_nullable_symbol N.rules) stack.now }
 {
     stack.iter().all(|symbol| match symbol {
-        Symbol::Class(_) => false,
-        Symbol::Part(part) => part.may_end(),
+        Symbol::Terminal(_) => false,
+        Symbol::Nonterminal(part) => part.is_nullable(),
     })
 }

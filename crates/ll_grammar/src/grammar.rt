@@ -12,11 +12,11 @@ pub trait TokenClass: Copy + 'static {
         ensures { IsTrue result ↔ (self ≡ other) };
 }
 
-/// One place of a rule's body: a token of this class, or a text of this part.
+/// One place of a rule's body: a token of this class, or a text of this nonterminal.
 #[derive(Clone, Copy)]
 pub enum Symbol<C, N> {
-    Class(C),
-    Part(N),
+    Terminal(C),
+    Nonterminal(N),
 }
 
 /// What a part does with the next token.
@@ -34,7 +34,7 @@ pub enum Step {
 /// how many brackets are open round it: then each value is a part of its own, with its own rules.
 ///
 /// `rules` is the grammar as a table, and `follow` says which classes may come next after a part.
-/// `specs/Tables.antt` proves the two laws by computation.
+/// `specs/LawsOfTables.antt` proves the two laws by computation.
 pub trait Grammar<C: TokenClass>: Copy + 'static {
     ghost rules: { Rules C Self };
 
@@ -46,11 +46,11 @@ pub trait Grammar<C: TokenClass>: Copy + 'static {
     /// begins: any other is `Absent` at every depth. `Err` is for want of memory alone.
     fn push(self, class: C, stack: &mut Vec<Symbol<C, Self>>) -> Result<Step, Memory>
         ensures { IfOk result (λ step.
-            IsStep (rules.behind self class) (rules.deep self class) stack.old.items step stack.new.items) };
+            IsStep (rules.production self class) (rules.deep self class) stack.old.items step stack.new.items) };
 
     /// Whether the part may have no token at all.
-    fn may_end(self) -> bool
-        ensures { result ≡ rules.may_end self };
+    fn is_nullable(self) -> bool
+        ensures { result ≡ rules.is_nullable self };
 
     // One token in view decides: a part that may end begins with no class that may follow it.
     ghost predictable: { IsPredictable rules follow };
@@ -87,9 +87,9 @@ macro_rules! push {
 #[macro_export]
 macro_rules! symbol {
     ([$part:expr]) => {
-        $crate::Symbol::Part($part)
+        $crate::Symbol::Nonterminal($part)
     };
     ($class:ident) => {
-        $crate::Symbol::Class($class)
+        $crate::Symbol::Terminal($class)
     };
 }

@@ -4,6 +4,9 @@
 //! token, and which tokens stand too deep. It gives `None` for a text with no token too deep, else
 //! the one first [`Fault`]: the token at which no text goes on, or the token that is too deep.
 //!
+//! Clause: `first_fault` returns None exactly for a text of the grammar that is not too deep, and otherwise its first
+//! fault (its clause).
+//!
 //! ```rust
 //! // `Phrase` is the grammar of lists in brackets, over the tokens `Bracket`
 //! let classes = [Bracket::Open, Bracket::Word, Bracket::Close];

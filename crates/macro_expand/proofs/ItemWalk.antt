@@ -7,7 +7,7 @@ use Rattle.std.proofs.lemmas.Grind.{flat_map-append, fold-append}
 use Rattle.pc_common.specs.declared.fault.FaultKind.TheVariants.{MacroAgain, MacroUnknown}
 use Rattle.pc_syntax.specs.declared.model.Item.{Item}
 use Rattle.pc_common.specs.Names.{same_name}
-use Rattle.pc_syntax.specs.Written.{Written, not_, and_, or_, implies_, forall_, exists_, static_, nodes_, edges_, expand_, bind_, MacroAt, WrittenItem, axiom_, macro_, written_item}
+use Rattle.pc_syntax.specs.Written.{Written, not_, and_, or_, implies_, forall_, exists_, expand_, bind_, MacroAt, WrittenItem, axiom_, macro_, written_item}
 use Rattle.pc_syntax.specs.Observable.{macro_of}
 use Rattle.pc_syntax.specs.Fault.{Fault}
 use Rattle.pc_syntax.specs.MacroFaults.{macro_with_name, macro_again, parameters_fault, count_fault, body_fault, macro_fault, items_fault}
@@ -27,12 +27,10 @@ same_fault ms ns same (or_ p q) = λ i. option_or (same_fault ms ns same p i) (s
 same_fault ms ns same (implies_ p q) = λ i. option_or (same_fault ms ns same p i) (same_fault ms ns same q i)
 same_fault ms ns same (forall_ at sort name p) = same_fault ms ns same p
 same_fault ms ns same (exists_ at sort name p) = same_fault ms ns same p
-same_fault ms ns same (static_ pred args) = refl
-same_fault ms ns same (nodes_ ts) = refl
-same_fault ms ns same (edges_ ts) = refl
 same_fault ms ns same (expand_ at name args) =
     ap (λ o. elim o [ None ↦ Some (MacroUnknown, name.at) | Some x ↦ count_fault name args x ]) (same name.name)
 same_fault ms ns same (bind_ at names args p) = same_fault ms ns same p
+same_fault ms ns same w = refl
 
 or_none : {A : Type 0} (o : Option A) → option_or o None ≡ o
 or_none None = refl
@@ -216,5 +214,6 @@ module _ (items : List Item) (i earlier : ℕ) (x : Item) (within : i < length i
     counted = omega (arith, counted, walked.counted, ap length more, length-append (macros_of_items (take i items)) (macro_of (written_item x)));
     few = omega (arith, counted, walked.few, one_at_most (written_item x));
     rest = next_judged
-        ∙ ap (λ o. option_or o (items_fault (macros_of_items items) (reverse (macros_of_items (take (i + 1) items))) (map written_item (drop (i + 1) items)))) fine;
+        ∙ ap (λ o. option_or o (items_fault (macros_of_items items) (reverse (macros_of_items (take (i + 1) items)))
+        (map written_item (drop (i + 1) items)))) fine;
   }

@@ -1,11 +1,12 @@
 -- Measures of expansions and of limits.
-use Rattle.std.proofs.Common.{◌≡◌, ℕ, ◌+◌, ◌<◌, Bool, true, false, List, [], ◌∷◌, ◌++◌, length, min, slice_get, Option, Some, None, cond, zero, suc, refl, sym, ap, ◌∙◌, arith}
+use Rattle.std.proofs.Common.{◌≡◌, ℕ, ◌+◌, ◌<◌, Bool, true, false, List, [], ◌∷◌, ◌++◌, length, min, slice_get, Option, Some, None, cond, refl, sym, ap, ◌∙◌, arith}
 use borrow.Author.Count.{below_more}
 use Rattle.std.proofs.lemmas.List.{length_push}
 use Rattle.pc_common.specs.declared.place.Place.{Place}
 use Rattle.pc_syntax.specs.declared.term.Word.{Word}
 use Rattle.pc_syntax.specs.declared.term.Arg.{Arg}
 use Rattle.pc_common.specs.Names.{same_name}
+use Rattle.pc_common.proofs.Places.{get_before, get_last}
 use Rattle.pc_syntax.specs.Written.{expand_, bind_, MacroAt}
 use Rattle.pc_syntax.specs.Expansion.{parameter_names, expansion_of}
 use Rattle.pc_syntax.specs.Sizes.{expanded_size, expanded_height}
@@ -70,15 +71,6 @@ module _ (at : Place) (name : Word) (args : List Arg) where
       let size = size_called ms ∙ ap (λ o. elim o [ None ↦ 1 | Some q ↦ 1 + expanded_size q.1 q.0.body ]) e in
       let height = height_called ms ∙ ap (λ o. elim o [ None ↦ 0 | Some q ↦ 1 + expanded_height q.1 q.0.body ]) e in
       λ i. capped_measure (sym size i) (sym height i)
-
-get_before : {A : Type 0} (xs ys : List A) (k : ℕ) → k < length xs → slice_get (xs ++ ys) k ≡ slice_get xs k
-get_before [] ys k within = absurd (omega arith)
-get_before (x ∷ xs) ys zero within = refl
-get_before (x ∷ xs) ys (suc k) within = get_before xs ys k (omega arith)
-
-get_last : {A : Type 0} (xs : List A) (x : A) → slice_get (xs ++ x ∷ []) (length xs) ≡ Some x
-get_last [] x = refl
-get_last (y ∷ xs) x = get_last xs x
 
 same_macro : (m n : MacroAt) → ◌≡◌ {A = Option MacroAt} (Some m) (Some n) → m ≡ n
 same_macro m n e = cc

@@ -1,5 +1,5 @@
 -- The expansion of a renamed formula is the renamed expansion, and its size and height are those of the formula.
-use Rattle.std.proofs.Common.{◌≡◌, ◌+◌, max, Bool, true, false, List, [], ◌∷◌, cond, map, refl, ap, ◌∙◌}
+use Rattle.std.proofs.Common.{◌≡◌, ◌+◌, max, Bool, List, [], ◌∷◌, cond, map, refl, ap, ◌∙◌}
 use Rattle.std.proofs.lemmas.List.{length-map}
 use Rattle.pc_common.specs.Names.{same_name}
 use Rattle.pc_syntax.specs.Written.{Written, not_, and_, or_, implies_, forall_, exists_, static_, nodes_, edges_, expand_, bind_, MacroAt, WrittenModel}
@@ -8,12 +8,7 @@ use Rattle.pc_syntax.specs.Expansion.{parameter_names, expansion_of}
 use Rattle.pc_syntax.specs.Sizes.{expanded_size, expanded_height}
 use Rattle.pc_syntax.specs.Renaming.{Renaming, KeepsApart, renamed_arg, renamed_node, renamed_edge, renamed, renamed_macro, renamed_model}
 use Rattle.pc_syntax.proofs.RenamedItems.{names_renamed, axioms_renamed, macros_renamed}
-
--- what is read off the formula that a test chooses
-choose : {A : Type 0} (f : Written → A) (b : Bool) (x y : A) (v w : Written)
-    → x ≡ f v → y ≡ f w → cond b x y ≡ f (cond b v w)
-choose f true x y v w p q = p
-choose f false x y v w p q = q
+use Rattle.pc_syntax.proofs.ExpansionLaws.{choose}
 
 -- the parameters' names are the new ones
 pub parameter_names_renamed : (ρ : Renaming) (m : MacroAt)
@@ -40,12 +35,8 @@ expansion_renamed ρ apart ms (forall_ at sort name p) =
     λ i. forall_ at sort (ρ name) (expansion_renamed ρ apart ms p i)
 expansion_renamed ρ apart ms (exists_ at sort name p) =
     λ i. exists_ at sort (ρ name) (expansion_renamed ρ apart ms p i)
-expansion_renamed ρ apart ms (static_ pred args) = refl
-expansion_renamed ρ apart ms (nodes_ ts) = refl
-expansion_renamed ρ apart ms (edges_ ts) = refl
 expansion_renamed ρ apart ms (bind_ at names args p) =
     λ i. bind_ at (map ρ names) (map (renamed_arg ρ) args) (expansion_renamed ρ apart ms p i)
-expansion_renamed ρ apart [] (expand_ at name args) = refl
 expansion_renamed ρ apart (m ∷ ms) (expand_ at name args) =
     let called =
     bind_ at (parameter_names (renamed_macro ρ m)) (map (renamed_arg ρ) args)
@@ -57,6 +48,7 @@ expansion_renamed ρ apart (m ∷ ms) (expand_ at name args) =
     (expansion_of ms (expand_ at name args))
     (λ i. bind_ at (parameter_names_renamed ρ m i) (map (renamed_arg ρ) args) (expansion_renamed ρ apart ms m.body i))
     (expansion_renamed ρ apart ms (expand_ at name args))
+expansion_renamed ρ apart ms w = refl
 
 -- two equal branches, one chosen by an equal test
 chosen : {A : Type 0} (b c : Bool) (x y v w : A) → b ≡ c → x ≡ v → y ≡ w → cond b x y ≡ cond c v w
@@ -91,13 +83,10 @@ height_renamed ρ apart ms (or_ p q) = λ i. 1 + max (height_renamed ρ apart ms
 height_renamed ρ apart ms (implies_ p q) = λ i. 1 + max (height_renamed ρ apart ms p i) (height_renamed ρ apart ms q i)
 height_renamed ρ apart ms (forall_ at sort name p) = λ i. 1 + height_renamed ρ apart ms p i
 height_renamed ρ apart ms (exists_ at sort name p) = λ i. 1 + height_renamed ρ apart ms p i
-height_renamed ρ apart ms (static_ pred args) = refl
-height_renamed ρ apart ms (nodes_ ts) = refl
-height_renamed ρ apart ms (edges_ ts) = refl
 height_renamed ρ apart ms (bind_ at names args p) = λ i. 1 + height_renamed ρ apart ms p i
-height_renamed ρ apart [] (expand_ at name args) = refl
 height_renamed ρ apart (m ∷ ms) (expand_ at name args) =
     chosen (same_name (ρ m.name.name) (ρ name.name)) (same_name m.name.name name.name) _ _ _ _
     (apart m.name.name name.name)
     (λ i. 1 + height_renamed ρ apart ms m.body i)
     (height_renamed ρ apart ms (expand_ at name args))
+height_renamed ρ apart ms w = refl

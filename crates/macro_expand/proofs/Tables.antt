@@ -238,18 +238,21 @@ module _ (es : List (Bor (List ℕ) × Macro)) (name : List ℕ) (numbered : Are
       × (callee_of (before (entry_macros es) n) name ≡ Some (macro_at m.now, before (entry_macros es) m.now.number))
   found_below m n e lt =
       called_is (entry_macros es) name m.now n
-      (subst (λ p. MatchOption (option_copied p) ((k : ℕ) → callee_of (before (entry_macros es) k) name ≡ None) (λ x. IsCalledFrom 0 (entry_macros es) name x)) e found)
+      (subst (λ p. MatchOption (option_copied p) ((k : ℕ) → callee_of (before (entry_macros es) k) name ≡ None)
+      (λ x. IsCalledFrom 0 (entry_macros es) name x)) e found)
       lt
 
   pub found_above : (m : Bor Macro) (n : ℕ) → o ≡ Some m → n ≤ m.now.number → callee_of (before (entry_macros es) n) name ≡ None
   found_above m n e le =
       let h : IsCalledFrom 0 (entry_macros es) name m.now =
-      subst (λ p. MatchOption (option_copied p) ((k : ℕ) → callee_of (before (entry_macros es) k) name ≡ None) (λ x. IsCalledFrom 0 (entry_macros es) name x)) e found in
+      subst (λ p. MatchOption (option_copied p) ((k : ℕ) → callee_of (before (entry_macros es) k) name ≡ None)
+      (λ x. IsCalledFrom 0 (entry_macros es) name x)) e found in
       h.3 n (omega (arith, h.1))
 
   pub found_none : (n : ℕ) → o ≡ None → callee_of (before (entry_macros es) n) name ≡ None
   found_none n e =
-      subst (λ p. MatchOption (option_copied p) ((k : ℕ) → callee_of (before (entry_macros es) k) name ≡ None) (λ x. IsCalledFrom 0 (entry_macros es) name x)) e found
+      subst (λ p. MatchOption (option_copied p) ((k : ℕ) → callee_of (before (entry_macros es) k) name ≡ None)
+      (λ x. IsCalledFrom 0 (entry_macros es) name x)) e found
       n
 
 pub some_first : (es : List (Bor (List ℕ) × Macro)) (name : List ℕ) → AreNumbered 0 es

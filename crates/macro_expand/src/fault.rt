@@ -2,11 +2,12 @@ ghost use Rattle.std.specs.Prelude.{◌≡◌};
 ghost use Rattle.macro_expand.specs.declared.fault.MacroFault.TheVariants.{Memory as memory};
 
 use pc_common::{Memory, Place};
+use std::fmt;
 use thiserror::Error;
 
 /// Why a model's axioms aren't expanded: the first fault of its macros, or if they have none, of its
 /// sizes. `at` is the place of the fault.
-#[derive(Clone, Copy, Debug, PartialEq, Eq, Error)]
+#[derive(Clone, Copy, Error)]
 pub enum MacroFault {
     /// The macro named at `again` has the name of the one named at `first`.
     #[error("the macro at byte {} has the name of an earlier one", .again.offset)]
@@ -49,6 +50,13 @@ pub enum MacroFault {
     /// Memory was refused.
     #[error("out of memory")]
     Memory,
+}
+
+// By hand, since a derived one is proved variant by variant, and `Error` alone asks for one.
+impl fmt::Debug for MacroFault {
+    fn fmt<W: fmt::Write>(&self, f: &mut fmt::Formatter<W>) -> fmt::Result {
+        fmt::Display::fmt(self, f)
+    }
 }
 
 impl From<Memory> for MacroFault {

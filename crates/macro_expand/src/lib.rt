@@ -1,6 +1,9 @@
 //! Macros: the first fault of a model's stages, and that of its macros and its sizes; and its axioms with each macro in
 //! its place.
 //!
+//! Clause: `expand` returns the axioms with their macros expanded, or the first fault of macros and sizes (`ok`,
+//! `err`).
+//!
 //! `stage_faults` judges the stages. `expand` judges the macros and the expansions in the text's order, measures each
 //! macro's body once, judges the sizes, and only then expands: in place of each `ExpandMacro` stands a binding of the
 //! macro's parameters over a copy of its body, which shares the names and lists of the text. The laws say that

@@ -25,7 +25,7 @@ pub(crate) struct Macros<'a> {
     by_name: IndexMap<&'a [u8], Macro<'a>>,
 }
 
-// Written out, so that a proof of what drops the value meets one call and no field.
+// By hand: docs/DECISIONS.md, "Drops are written by hand".
 impl Drop for Macros<'_> {
     fn drop(self) {
         let Macros { by_name: _ } = self;

@@ -14,7 +14,7 @@ struct Seen<'a> {
     places: IndexMap<&'a [u8], Place>,
 }
 
-// Written out, so that a proof of what drops the value meets one call and no field.
+// By hand: docs/DECISIONS.md, "Drops are written by hand".
 impl Drop for Seen<'_> {
     fn drop(self) {
         let Seen { places: _ } = self;

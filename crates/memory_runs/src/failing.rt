@@ -3,9 +3,9 @@ ghost use Rattle.std.specs.Prelude.{◌<◌};
 
 use super::outside::{files, sink};
 use super::runs::{End, words};
-use command_line::run;
 use pc_common::{MemFiles, MemSink, Memory, Status};
 use std::alloc::Global;
+use top_call::run;
 
 /// A command; what the files hold that its words name, in their order; how it ends where no call fails; and in how
 /// many pieces it writes its text.

@@ -1,8 +1,8 @@
 //! How a command ends over files and a sink in memory.
 use super::outside::{files, sink};
-use command_line::run;
 use pc_common::{MemFiles, MemSink, Memory, Status};
 use std::alloc::Global;
+use top_call::run;
 
 /// How a run ends: its status, and what the sink holds.
 pub type End<'a> = (Status, &'a str);

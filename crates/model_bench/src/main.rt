@@ -1,6 +1,8 @@
 //! Parses one file as a model, or reads it whole, to measure each alone: `bench/parser` and
 //! `bench/models` call it.
 //!
+//! Clause: none says what the program answers; `named_text` returns at most 1,048,576 bytes (its clause).
+//!
 //! The two words are what to do, and the path of the file:
 //!
 //! - `parse`: the status is 0 where the file is a model of the grammar, and 1 where it is none;

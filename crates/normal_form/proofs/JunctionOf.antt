@@ -1,34 +1,19 @@
 -- What folding makes of two parts, and which rows.
-use Rattle.std.proofs.Common.{◌≡◌, ◌≢◌, ℕ, ◌+◌, Bool, true, false, List, [], ◌∷◌, ◌++◌, length, take, refl, ap, sym, ◌∙◌, append_assoc, length-append, arith}
+use Rattle.std.proofs.Common.{◌≡◌, ◌≢◌, ℕ, ◌+◌, Bool, true, false, List, [], ◌∷◌, ◌++◌, length, take, refl, ap, sym, ◌∙◌, append_assoc}
 use Rattle.std.specs.Prelude.{reverse}
 use Rattle.std.proofs.lemmas.List.{reverse-append, length-reverse, take_at, append-nil}
 use Rattle.std.proofs.lemmas.Grind.{reverse_onto}
 use Rattle.pc_ground.specs.Tree.{Tree, always, never, leaf, both, either, size_of}
 use Rattle.pc_ground.specs.Rows.{rows_of}
 use Rattle.pc_ground.specs.declared.row.Row.{Row}
+use Rattle.pc_ground.proofs.FlatRows.{length_rows}
 use Rattle.normal_form.specs.declared.joint.Junction.{Junction}
 use Rattle.normal_form.specs.declared.joint.Junction.TheVariants.{And, Or}
 use Rattle.normal_form.specs.declared.part.Part.TheVariants.{Constant, Rows}
 use Rattle.normal_form.specs.Parts.{part_of, backward}
 use Rattle.normal_form.specs.Spine.{constant_tree, neutral, junction_of, row_kind}
 
-pub length-rows : {N : Type 0} (t : Tree N) → length (rows_of t) ≡ size_of t
-length-rows always = refl
-length-rows never = refl
-length-rows (leaf l) = refl
-length-rows (both a b) = omega (arith, length-append (rows_of a) (rows_of b), length-rows a, length-rows b)
-length-rows (either a b) = omega (arith, length-append (rows_of a) (rows_of b), length-rows a, length-rows b)
-
 -- a constant part
-
-pub as_constant : {N : Type 0} (v : Bool) (t : Tree N) → Constant v ≡ part_of t → t ≡ constant_tree v
-as_constant true always e = refl
-as_constant true never e = absurd (cc)
-as_constant false always e = absurd (cc)
-as_constant false never e = refl
-as_constant v (leaf l) e = absurd (cc)
-as_constant v (both a b) e = absurd (cc)
-as_constant v (either a b) e = absurd (cc)
 
 pub part_of-constant : (N : Type 0) (v : Bool) → Constant v ≡ part_of (constant_tree {N = N} v)
 part_of-constant N true = refl
@@ -37,22 +22,6 @@ part_of-constant N false = refl
 pub backward-constant : (N : Type 0) (v : Bool) → backward (constant_tree {N = N} v) ≡ []
 backward-constant N true = refl
 backward-constant N false = refl
-
-pub neutral_left : {N : Type 0} (c : Junction) (b : Tree N) → junction_of c (constant_tree (neutral c)) b ≡ b
-neutral_left And b = refl
-neutral_left Or b = refl
-
-pub neutral_right : {N : Type 0} (c : Junction) (a : Tree N) → junction_of c a (constant_tree (neutral c)) ≡ a
-neutral_right And always = refl
-neutral_right And never = refl
-neutral_right And (leaf l) = refl
-neutral_right And (both a b) = refl
-neutral_right And (either a b) = refl
-neutral_right Or always = refl
-neutral_right Or never = refl
-neutral_right Or (leaf l) = refl
-neutral_right Or (both a b) = refl
-neutral_right Or (either a b) = refl
 
 pub decided_left : {N : Type 0} (c : Junction) (v : Bool) (b : Tree N) → v ≢ neutral c → junction_of c (constant_tree v) b ≡ constant_tree v
 decided_left And true b h = absurd (h refl)
@@ -112,7 +81,7 @@ backward-rows (both a b) e = refl
 backward-rows (either a b) e = refl
 
 pub length-backward : {N : Type 0} (t : Tree N) → Rows ≡ part_of t → length (backward t) ≡ size_of t
-length-backward t e = ap length (backward-rows t e) ∙ length-reverse (rows_of t) ∙ length-rows t
+length-backward t e = ap length (backward-rows t e) ∙ length-reverse (rows_of t) ∙ length_rows t
 
 abbrev pub root_row : {N : Type 0} → Junction → Tree N → Tree N → Row N
 root_row c a b = record { kind = row_kind c; skip = 1 + (size_of a + size_of b) }

@@ -1,6 +1,9 @@
 //! The normal form of a ground formula: negations stand only at literals, constants are folded, and the
 //! tree is written as flat rows in preorder. Here too its nodes get their numbers.
 //!
+//! Clause: `normalise` returns the rows of a formula's normal form, and `number` its nodes by first sight (their
+//! clauses).
+//!
 //! ```rust
 //! let node = NodeKey { op: 0, core: 0, stage: 5 };
 //! let ground = Ground::negation(alloc, Ground::Lit(Literal::Node(node)))?;

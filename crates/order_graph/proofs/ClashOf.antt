@@ -33,23 +33,17 @@ pub no_edge_told : (n : ℕ) (v : BitTable) (ls : List (Literal ℕ)) (p q : ℕ
     → MatchBool (bit_now v p q) (Chain (Joins ls) p q) (IsConsistent (more ls (NoEdge p q)))
 no_edge_told n v ls p q s ph qh = told (bit_now v p q) (s.reach p q ph qh) (consistent_no_edge ls p q s.consistent)
 
-pub missing_told : (n : ℕ) (v : BitTable) (ls : List (Literal ℕ)) (p : ℕ) → Represents n v.words ls v.now → p < n
-    → MatchBool (bit_now v (missing_row n) p) (Contains ls (NoNode p)) (Contains ls (NoNode p) → ⊥)
-missing_told n v ls p s ph = told (bit_now v (missing_row n) p) (s.missing p ph) (λ f. f)
-
-pub leads_told : (n : ℕ) (v : BitTable) (ls : List (Literal ℕ)) (a b : ℕ) → Represents n v.words ls v.now → a < n → b < 64 * v.words
-    → MatchBool (leads_to v a b) (Reach (Joins ls) a b) (Reach (Joins ls) a b → ⊥)
-leads_told n v ls a b s ah bh = told (leads_to v a b) (leads_reach n v ls s a b ah bh) (λ f. f)
-
 pub pair_below : (n : ℕ) (ls : List (Literal ℕ)) (x y : ℕ) → All (IsBelow n) ls → Contains ls (NoEdge x y) → (x < n) × (y < n)
 pair_below n ls x y all h = All-contains (IsBelow n) ls (NoEdge x y) all h
 
-pub over_told : (n : ℕ) (v : BitTable) (ls : List (Literal ℕ)) (p q x y : ℕ) → Represents n v.words ls v.now → n ≤ 64 * v.words → p < n → q < n → x < n → y < 64 * v.words
+pub over_told : (n : ℕ) (v : BitTable) (ls : List (Literal ℕ)) (p q x y : ℕ) → Represents n v.words ls v.now → n ≤ 64 * v.words → p < n → q < n → x < n
+    → y < 64 * v.words
     → IsOver v p q x y → Reach (Joins ls) x p × Reach (Joins ls) q y
 over_told n v ls p q x y s wide ph qh xh yh o =
     ((leads_reach n v ls s x p xh (omega arith)).0 o.0, (leads_reach n v ls s q y qh yh).0 o.1)
 
-pub told_over : (n : ℕ) (v : BitTable) (ls : List (Literal ℕ)) (p q x y : ℕ) → Represents n v.words ls v.now → n ≤ 64 * v.words → p < n → q < n → x < n → y < 64 * v.words
+pub told_over : (n : ℕ) (v : BitTable) (ls : List (Literal ℕ)) (p q x y : ℕ) → Represents n v.words ls v.now → n ≤ 64 * v.words → p < n → q < n → x < n
+    → y < 64 * v.words
     → Reach (Joins ls) x p → Reach (Joins ls) q y → IsOver v p q x y
 told_over n v ls p q x y s wide ph qh xh yh r t =
     ((leads_reach n v ls s x p xh (omega arith)).1 r, (leads_reach n v ls s q y qh yh).1 t)
@@ -60,7 +54,8 @@ pub joins_none : (n : ℕ) (v : BitTable) (ls : List (Literal ℕ)) (p q : ℕ) 
 joins_none n v ls p q s wide ph qh none x y h r t =
     let below = pair_below n ls x y s.below h in
     let low : y < 64 * v.words = (let b = below.1 in omega arith) in
-    both_ways (bit_now v (pair_row n x) y) (none x y (omega arith) below.0 below.0 low (s.denying x y below.0 h) (told_over n v ls p q x y s wide ph qh below.0 low r t)) ((s.pairs x y below.0 low).1 h)
+    both_ways (bit_now v (pair_row n x) y) (none x y (omega arith) below.0 below.0 low (s.denying x y below.0 h)
+    (told_over n v ls p q x y s wide ph qh below.0 low r t)) ((s.pairs x y below.0 low).1 h)
 
 -- where the list has no such pair
 pub none_listed : (n : ℕ) (v : BitTable) (ls : List (Literal ℕ)) (p q : ℕ) → Represents n v.words ls v.now → n ≤ 64 * v.words → p < n → q < n
@@ -80,7 +75,8 @@ edge_free n v ls p q s wide ph qh start end back none =
 pub back_refutes : (ls : List (Literal ℕ)) (p q : ℕ) → Reach (Joins ls) q p → IsConsistent (more ls (Edge p q)) → ⊥
 back_refutes ls p q r c = c.acyclic q (edge_chain ls p q q q r (inl refl))
 
-pub over_refutes : (ls : List (Literal ℕ)) (p q x y : ℕ) → Contains ls (NoEdge x y) → Reach (Joins ls) x p → Reach (Joins ls) q y → IsConsistent (more ls (Edge p q)) → ⊥
+pub over_refutes : (ls : List (Literal ℕ)) (p q x y : ℕ) → Contains ls (NoEdge x y) → Reach (Joins ls) x p → Reach (Joins ls) q y
+    → IsConsistent (more ls (Edge p q)) → ⊥
 over_refutes ls p q x y h r t c = c.apart x y (older ls (Edge p q) (NoEdge x y) h) (edge_chain ls p q x y r t)
 
 -- where P can't be consistent

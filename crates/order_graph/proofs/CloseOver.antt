@@ -1,17 +1,10 @@
 -- An edge that is entered row by row.
 use Rattle.std.proofs.Common.{◌≡◌, ℕ, zero, suc, ◌+◌, ◌*◌, ◌<◌, ◌≤◌, inl, inr, Bool, true, false, ◌&&◌, ◌||◌, ◌==◌, if◌then◌else◌, refl, sym, ◌∙◌, ap, arith, eq-eqb, ne_eqb, not, add-one}
 use Rattle.std.proofs.lemmas.Bool.{cases_eq, cases_lt, and_parts}
+use Rattle.pc_common.proofs.Bools.{or_false}
 use Rattle.undo_trail.specs.BitTable.{BitTable, bit_now, Extends}
-use Rattle.undo_trail.proofs.ExtendsLaws.{extends_same, extends_then, extends_more}
+use Rattle.undo_trail.proofs.ExtendsLaws.{extends_then, extends_more}
 use Rattle.order_graph.specs.Rows.{leads_to, with_edge, gains, words_gained, IsSized, TakesEdge}
-
-or_false : (x : Bool) → (x || false) ≡ x
-or_false true = refl
-or_false false = refl
-
-or_true : (x : Bool) → (x || true) ≡ true
-or_true true = refl
-or_true false = refl
 
 -- the rows below k took the edge from a to b
 pub record AreClosedBelow (v w : BitTable) (a b k : ℕ) : Type 0 where
@@ -41,13 +34,6 @@ words_bound v a b each (suc k) = (let before = words_bound v a b each k in let h
     one_bound : (each : ℕ) (gain : Bool) → (if gain then each else 0) ≤ each
     one_bound each true = omega arith
     one_bound each false = omega arith
-
-pub closing_first : (v : BitTable) (a b : ℕ) → AreClosedBelow v v a b 0
-closing_first v a b = record {
-  new = λ q d qh dh. absurd (omega arith);
-  old = λ q d kh qh dh. refl;
-  extends = extends_same v (0 * (v.words + 1));
-}
 
 -- a row that reaches b by no more than before
 unreached : (v : BitTable) (a b x y : ℕ) → leads_to v x a ≡ false → with_edge v a b x y ≡ bit_now v x y
@@ -114,11 +100,11 @@ pub closing_joined : (n : ℕ) (v w u : BitTable) (a b k most : ℕ) → AreClos
     → most ≤ v.words + 1 → Extends w u most
     → AreClosedBelow v u a b (k + 1)
 closing_joined n v w u a b k most c (rows_are, wide, few) kh ah bh t there joined most_low extends =
-    let rows = c.extends.same_rows in
-    let words = c.extends.same_words in
+    let rows = c.extends.same_rows in let words = c.extends.same_words in
     let gain : gains v a b k ≡ true = sym (same_gains v w a b k c (omega arith) (omega arith) (omega arith)) ∙ there in
     let before : leads_to v k a ≡ true = gained_first (leads_to v k a) (bit_now v k b) gain in
-    let end : (d : ℕ) → d < 64 * v.words → leads_to w b d ≡ leads_to v b d = λ d dh. ap (λ z. (b == d) || z) (end_row v w a b k d c (omega arith) t.no_cycle dh) in
+    let end : (d : ℕ) → d < 64 * v.words → leads_to w b d ≡ leads_to v b d = λ d dh. ap (λ z. (b == d) || z)
+    (end_row v w a b k d c (omega arith) t.no_cycle dh) in
     let more : (k + 1) * (v.words + 1) ≡ k * (v.words + 1) + (v.words + 1) = omega arith in
     record {
       new = λ q d qh dh. elim (cases_eq q k) [
@@ -127,10 +113,12 @@ closing_joined n v w u a b k most c (rows_are, wide, few) kh ah bh t there joine
             ∙ ap (λ z. bit_now w q d || z) (end d dh) ∙ ap (λ z. z || leads_to v b d) (c.old q d (omega arith) (omega arith) dh)
             ∙ ap (λ x. bit_now v x d || leads_to v b d) here ∙ sym (reached v a b k d before) ∙ ap (λ x. with_edge v a b x d) (sym here)
         | inr below ↦
-            joined q d (omega arith) (omega arith) ∙ ap (λ z. if z then bit_now w q d || leads_to w b d else bit_now w q d) (ne_eqb q k below) ∙ c.new q d (omega arith) dh
+            joined q d (omega arith) (omega arith) ∙ ap (λ z. if z then bit_now w q d || leads_to w b d else bit_now w q d) (ne_eqb q k below)
+            ∙ c.new q d (omega arith) dh
       ];
       old = λ q d h qh dh.
-          joined q d (omega arith) (omega arith) ∙ ap (λ z. if z then bit_now w q d || leads_to w b d else bit_now w q d) (ne_eqb q k (λ e. absurd (omega arith)))
+          joined q d (omega arith) (omega arith) ∙ ap (λ z. if z then bit_now w q d || leads_to w b d else bit_now w q d)
+          (ne_eqb q k (λ e. absurd (omega arith)))
           ∙ c.old q d (omega arith) qh dh;
       extends = rw more (extends_then v w u (k * (v.words + 1)) (v.words + 1) c.extends (extends_more w u most (v.words + 1) most_low extends));
     }
@@ -139,7 +127,8 @@ closing_joined n v w u a b k most c (rows_are, wide, few) kh ah bh t there joine
 pub words_passed : (v w : BitTable) (a b each k : ℕ) → AreClosedBelow v w a b k → k < v.rows → a < 64 * v.words → b < 64 * v.words
     → gains w a b k ≡ false → words_gained v a b each (k + 1) ≡ words_gained v a b each k
 words_passed v w a b each k c kh ah bh none =
-    words_next v a b each k false (sym (same_gains v w a b k c kh ah bh) ∙ none) ∙ (let e : words_gained v a b each k + 0 ≡ words_gained v a b each k = omega arith in e)
+    words_next v a b each k false (sym (same_gains v w a b k c kh ah bh) ∙ none)
+    ∙ (let e : words_gained v a b each k + 0 ≡ words_gained v a b each k = omega arith in e)
 
 pub words_joined : (v w : BitTable) (a b each k : ℕ) → AreClosedBelow v w a b k → k < v.rows → a < 64 * v.words → b < 64 * v.words
     → gains w a b k ≡ true → words_gained v a b each (k + 1) ≡ words_gained v a b each k + each

@@ -1,9 +1,11 @@
 -- Ways a node at a time, and what levels say of them.
 use Rattle.std.proofs.Common.{◌≡◌, ◌≢◌, ℕ, ◌+◌, ◌<◌, inl, inr, List, [], ◌∷◌, ◌++◌, length, get_or, refl, sym, ◌∙◌, ap, subst, arith}
+use Rattle.std.specs.Prelude.{slice_index, Contains}
 use Rattle.pc_ground.specs.declared.literal.Literal.{Literal}
 use Rattle.pc_ground.specs.Literals.{Joins}
+use Rattle.pc_ground.specs.declared.literal.Literal.TheVariants.{Edge}
 use Rattle.order_graph.specs.Ways.{Follows, IsWay}
-use Rattle.order_graph.specs.Levels.{HasNext, IsClosed, far}
+use Rattle.order_graph.specs.Levels.{HasNext, far}
 
 follows_more : (R : ℕ → ℕ → Type 0) (a : ℕ) (via : List ℕ) (b c : ℕ) → Follows R a via b → R b c → Follows R a (via ++ c ∷ []) c
 follows_more R a [] b c e r = (let P : ℕ → Type 0 = λ x. R x c in subst P (sym e) r, refl)
@@ -18,6 +20,10 @@ pub next_step : (target : ℕ) (levels nexts : List ℕ) (a : ℕ) → HasNext t
     → 0 < get_or levels a 0 → (get_or nexts a 0 < length levels) × (get_or levels (get_or nexts a 0) 0 + 1 ≡ get_or levels a 0)
 next_step target levels nexts a next inside near further =
     elim (next a inside near) [ inl home ↦ (let z = home.0 in absurd (omega arith)) | inr step ↦ step ]
+
+-- no edge leads from a node with no level to one with a level
+abbrev pub IsClosed : List (Literal ℕ) → List ℕ → Type 0
+IsClosed ls levels = (a b : ℕ) → Contains ls (Edge a b) → slice_index levels b ≢ far → slice_index levels a ≢ far
 
 -- a node from which edges lead to one with a level has a level
 pub reaches_near : (ls : List (Literal ℕ)) (levels : List ℕ) (a : ℕ) (via : List ℕ) (b : ℕ)

@@ -7,7 +7,8 @@ use Rattle.pc_ground.specs.declared.literal.Literal.TheVariants.{Node, Edge, NoN
 use Rattle.pc_ground.specs.Literals.{Joins, IsPresent, IsConsistent, Holds, as_node, as_start, as_end}
 use Rattle.order_graph.specs.Law.{GeneratesWorld}
 
-leads_join : {N : Type 0} (R : N → N → Type 0) (a : N) (xs : List N) (b : N) (ys : List N) (c : N) → Leads R a xs b → Leads R b ys c → Leads R a (xs ++ b ∷ ys) c
+leads_join : {N : Type 0} (R : N → N → Type 0) (a : N) (xs : List N) (b : N) (ys : List N) (c : N) → Leads R a xs b
+    → Leads R b ys c → Leads R a (xs ++ b ∷ ys) c
 leads_join R a [] b ys c l m = (l, m)
 leads_join R a (x ∷ xs) b ys c l m = (l.0, leads_join R x xs b ys c l.1 m)
 

@@ -11,7 +11,8 @@ use Rattle.order_graph.proofs.OnList.{same_read, on_cases, on_none}
 use Rattle.pc_ground.specs.declared.literal.Literal.{Literal}
 use Rattle.pc_ground.specs.declared.literal.Literal.TheVariants.{Node, Edge, NoNode, NoEdge}
 use Rattle.order_graph.specs.Ways.{IsBelow}
-use Rattle.order_graph.specs.Levels.{far, far_count, one_if_far, OnList, HasRaised, fresh, nearer, known, HasFollowed, IsSearched, IsClosed}
+use Rattle.order_graph.specs.Levels.{far, far_count, one_if_far, OnList, HasRaised, fresh, nearer, known, found, HasFollowed, IsSearched}
+use Rattle.order_graph.proofs.EdgeWays.{IsClosed}
 
 one_if_near : (d : ℕ) → d ≢ far → one_if_far d ≡ 0
 one_if_near d h = rw (ne_eqb d far h) refl
@@ -68,7 +69,8 @@ fresh_step ls target nodes h levels nexts queue from to s few from_in to_in near
                     let level_is = step.1 in
                     let in_range = step.0 in
                     let next_near : get_or levels (get_or nexts a 0) 0 ≢ far = (λ f. absurd (omega arith)) in
-                    let level : get_or now (get_or next_now a 0) 0 ≡ get_or levels (get_or nexts a 0) 0 = ap (λ x. get_or now x 0) next_is ∙ stays (get_or nexts a 0) next_near in
+                    let level : get_or now (get_or next_now a 0) 0 ≡ get_or levels (get_or nexts a 0) 0 = ap (λ x. get_or now x 0) next_is
+                    ∙ stays (get_or nexts a 0) next_near in
                     inr (omega arith, omega arith)
               ]
         ];
@@ -172,7 +174,7 @@ nearer_step ls target nodes h levels nexts queue from to s few from_in to_in nea
 
 pub raised_step : (ls : List (Literal ℕ)) (target nodes h : ℕ) (levels nexts queue : List ℕ) (from to : ℕ) (now next_now queue_now : List ℕ)
     → IsSearched ls target nodes h levels nexts queue → nodes + 2 < far → from < nodes → to < nodes → get_or levels to 0 ≢ far
-    → Contains ls (Edge from to) → HasRaised levels nexts queue from to now next_now queue_now
+    → Contains ls (Edge from to) → HasRaised (found levels nexts queue) from to (found now next_now queue_now)
     → IsStep ls target nodes h from levels queue now next_now queue_now
 raised_step ls target nodes h levels nexts queue from to now next_now queue_now s few from_in to_in near has (fresh was is next_is queue_is) =
     rw (is, next_is, queue_is) (fresh_step ls target nodes h levels nexts queue from to s few from_in to_in near has was)
@@ -232,7 +234,7 @@ passed_over ls links target nodes done node at levels nexts queue v falling othe
 followed : (ls : List (Literal ℕ)) (links : List ℕ) (target nodes done node at : ℕ) (levels nexts queue now next_now queue_now : List ℕ) (p : ℕ)
     → IsVisiting ls links target nodes done node (at + 1) levels nexts queue → nodes + 2 < far → All (IsBelow nodes) ls
     → ((j : ℕ) → get_or links j 0 ≤ j) → ((d : Literal ℕ) → get_or ls at d ≡ Edge p node)
-    → HasRaised levels nexts queue p node now next_now queue_now
+    → HasRaised (found levels nexts queue) p node (found now next_now queue_now)
     → IsVisiting ls links target nodes done node (get_or links at 0) now next_now queue_now
 followed ls links target nodes done node at levels nexts queue now next_now queue_now p v few all falling read raised =
     let at_in = v.at_in in
@@ -256,25 +258,30 @@ followed ls links target nodes done node at levels nexts queue now next_now queu
       ];
     }
 
-pub visiting_more : (ls : List (Literal ℕ)) (links : List ℕ) (target nodes done node at : ℕ) (levels nexts queue now next_now queue_now : List ℕ) (l : Literal ℕ)
+pub visiting_more : (ls : List (Literal ℕ)) (links : List ℕ) (target nodes done node at : ℕ) (levels nexts queue now next_now queue_now : List ℕ)
+    (l : Literal ℕ)
     → IsVisiting ls links target nodes done node (at + 1) levels nexts queue → nodes + 2 < far → All (IsBelow nodes) ls
     → ((j : ℕ) → get_or links j 0 ≤ j) → ((d : Literal ℕ) → get_or ls at d ≡ l)
-    → HasFollowed l node levels nexts queue now next_now queue_now
+    → HasFollowed l node (found levels nexts queue) (found now next_now queue_now)
     → IsVisiting ls links target nodes done node (get_or links at 0) now next_now queue_now
 visiting_more ls links target nodes done node at levels nexts queue now next_now queue_now (Edge p q) v few all falling read (inl (to_is, raised)) =
     followed ls links target nodes done node at levels nexts queue now next_now queue_now p v few all falling (λ d. read d ∙ ap (λ x. Edge p x) to_is) raised
-visiting_more ls links target nodes done node at levels nexts queue now next_now queue_now (Edge p q) v few all falling read (inr (other, is, next_is, queue_is)) =
+visiting_more ls links target nodes done node at levels nexts queue now next_now queue_now (Edge p q) v few all falling read
+    (inr (other, (is, next_is, queue_is))) =
     rw (is, next_is, queue_is)
     (passed_over ls links target nodes done node at levels nexts queue v falling (λ a there. other (ends_are p q a node (sym (read (Edge a node)) ∙ there)).1))
 visiting_more ls links target nodes done node at levels nexts queue now next_now queue_now (Node p) v few all falling read (is, next_is, queue_is) =
     rw (is, next_is, queue_is)
-    (passed_over ls links target nodes done node at levels nexts queue v falling (λ a there. (let e : Node p ≡ Edge a node = sym (read (Edge a node)) ∙ there in cc)))
+    (passed_over ls links target nodes done node at levels nexts queue v falling
+    (λ a there. (let e : Node p ≡ Edge a node = sym (read (Edge a node)) ∙ there in cc)))
 visiting_more ls links target nodes done node at levels nexts queue now next_now queue_now (NoNode p) v few all falling read (is, next_is, queue_is) =
     rw (is, next_is, queue_is)
-    (passed_over ls links target nodes done node at levels nexts queue v falling (λ a there. (let e : NoNode p ≡ Edge a node = sym (read (Edge a node)) ∙ there in cc)))
+    (passed_over ls links target nodes done node at levels nexts queue v falling
+    (λ a there. (let e : NoNode p ≡ Edge a node = sym (read (Edge a node)) ∙ there in cc)))
 visiting_more ls links target nodes done node at levels nexts queue now next_now queue_now (NoEdge p q) v few all falling read (is, next_is, queue_is) =
     rw (is, next_is, queue_is)
-    (passed_over ls links target nodes done node at levels nexts queue v falling (λ a there. (let e : NoEdge p q ≡ Edge a node = sym (read (Edge a node)) ∙ there in cc)))
+    (passed_over ls links target nodes done node at levels nexts queue v falling
+    (λ a there. (let e : NoEdge p q ≡ Edge a node = sym (read (Edge a node)) ∙ there in cc)))
 
 pub visiting_done : (ls : List (Literal ℕ)) (links : List ℕ) (target nodes done node at : ℕ) (levels nexts queue : List ℕ)
     → IsVisiting ls links target nodes done node at levels nexts queue → at ≡ 0 → IsSearched ls target nodes (done + 1) levels nexts queue

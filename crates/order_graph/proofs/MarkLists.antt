@@ -10,7 +10,8 @@ sum-cons c cs = sum_by-cons (λ x. x) c cs
 pub length-marks : (k : ℕ) (cs : List ℕ) → length (marks_from k cs) ≡ sum cs
 length-marks k [] = refl
 length-marks k (c ∷ cs) =
-    length-append (replicate c k) (marks_from (k + 1) cs) ∙ ap (λ n. n + length (marks_from (k + 1) cs)) (length-replicate c k) ∙ ap (λ n. c + n) (length-marks (k + 1) cs) ∙ sym (sum-cons c cs)
+    length-append (replicate c k) (marks_from (k + 1) cs) ∙ ap (λ n. n + length (marks_from (k + 1) cs)) (length-replicate c k)
+    ∙ ap (λ n. c + n) (length-marks (k + 1) cs) ∙ sym (sum-cons c cs)
 
 -- no mark at one number of literals more
 pub marks_none : (k : ℕ) (cs : List ℕ) → marks_from k (cs ++ 0 ∷ []) ≡ marks_from k cs
@@ -18,30 +19,35 @@ marks_none k [] = refl
 marks_none k (c ∷ cs) = ap (λ ms. replicate c k ++ ms) (marks_none (k + 1) cs)
 
 -- one mark more at the last number of literals
-pub marks_more : (k c : ℕ) (cs : List ℕ) → marks_from k (set (c ∷ cs) (length cs) (get_or (c ∷ cs) (length cs) 0 + 1)) ≡ marks_from k (c ∷ cs) ++ (k + length cs) ∷ []
+pub marks_more : (k c : ℕ) (cs : List ℕ)
+    → marks_from k (set (c ∷ cs) (length cs) (get_or (c ∷ cs) (length cs) 0 + 1)) ≡ marks_from k (c ∷ cs) ++ (k + length cs) ∷ []
 marks_more k c [] = ap (λ ms. ms ++ []) (sym (replicate_more c k)) ∙ again
   where
     again : (replicate c k ++ k ∷ []) ++ [] ≡ (replicate c k ++ []) ++ (k + 0) ∷ []
-    again = append-nil (replicate c k ++ k ∷ []) ∙ ap (λ ms. ms ++ k ∷ []) (sym (append-nil (replicate c k))) ∙ ap (λ n. (replicate c k ++ []) ++ n ∷ []) (let e : k ≡ k + 0 = omega arith in e)
+    again = append-nil (replicate c k ++ k ∷ []) ∙ ap (λ ms. ms ++ k ∷ []) (sym (append-nil (replicate c k)))
+        ∙ ap (λ n. (replicate c k ++ []) ++ n ∷ []) (let e : k ≡ k + 0 = omega arith in e)
 marks_more k c (d ∷ ds) =
     ap (λ ms. replicate c k ++ ms) (marks_more (k + 1) d ds) ∙ sym (append_assoc (replicate c k) (marks_from (k + 1) (d ∷ ds)) ((k + 1 + length ds) ∷ []))
     ∙ ap (λ n. (replicate c k ++ marks_from (k + 1) (d ∷ ds)) ++ n ∷ []) (let e : k + 1 + length ds ≡ k + suc (length ds) = omega arith in e)
 
 take_over : {X : Type 0} (xs ys : List X) (n : ℕ) → take (length xs + n) (xs ++ ys) ≡ xs ++ take n ys
 take_over [] ys n = ap (λ m. take m ys) (let e : 0 + n ≡ n = omega arith in e)
-take_over (x ∷ xs) ys n = ap (λ m. take m (x ∷ (xs ++ ys))) (let e : suc (length xs) + n ≡ suc (length xs + n) = omega arith in e) ∙ ap (λ zs. x ∷ zs) (take_over xs ys n)
+take_over (x ∷ xs) ys n = ap (λ m. take m (x ∷ (xs ++ ys))) (let e : suc (length xs) + n ≡ suc (length xs + n) = omega arith in
+    e) ∙ ap (λ zs. x ∷ zs) (take_over xs ys n)
 
 -- the first marks, the last r of them at j literals
 pub marks_cut : (k : ℕ) (cs : List ℕ) (j r : ℕ) → j < length cs → r ≤ get_or cs j 0
     → marks_from k (take j cs ++ r ∷ []) ≡ take (sum (take j cs) + r) (marks_from k cs)
 marks_cut k [] j r h low = absurd (omega arith)
 marks_cut k (c ∷ cs) zero r h low =
-    append-nil (replicate r k) ∙ sym (take-replicate r c k low) ∙ sym (take-append-le r (replicate c k) (marks_from (k + 1) cs) (let l = length-replicate c k in omega arith))
+    append-nil (replicate r k) ∙ sym (take-replicate r c k low)
+    ∙ sym (take-append-le r (replicate c k) (marks_from (k + 1) cs) (let l = length-replicate c k in omega arith))
     ∙ ap (λ n. take n (replicate c k ++ marks_from (k + 1) cs)) (let e : r ≡ 0 + r = omega arith in e)
 marks_cut k (c ∷ cs) (suc j) r h low =
     ap (λ ms. replicate c k ++ ms) (marks_cut (k + 1) cs j r (omega arith) low)
     ∙ sym (take_over (replicate c k) (marks_from (k + 1) cs) (sum (take j cs) + r))
-    ∙ ap (λ n. take n (replicate c k ++ marks_from (k + 1) cs)) (let l = length-replicate c k in let f = sum-cons c (take j cs) in let e : length (replicate c k) + (sum (take j cs) + r) ≡ sum (c ∷ take j cs) + r = omega arith in e)
+    ∙ ap (λ n. take n (replicate c k ++ marks_from (k + 1) cs)) (let l = length-replicate c k in let f = sum-cons c (take j cs) in
+    let e : length (replicate c k) + (sum (take j cs) + r) ≡ sum (c ∷ take j cs) + r = omega arith in e)
 
 -- a mark at j literals
 pub mark_at : (k : ℕ) (cs : List ℕ) (j i : ℕ) → j < length cs → i < get_or cs j 0 → get_or (marks_from k cs) (sum (take j cs) + i) 0 ≡ k + j

@@ -21,8 +21,7 @@ edge_more : (ls : List (Literal ℕ)) (nodes k : ℕ) (heads links : List ℕ) (
     → ((d : Literal ℕ) → get_or ls k d ≡ Edge p q) → q < nodes
     → AreLists ls nodes (k + 1) (set heads q (k + 1)) (links ++ get_or heads q 0 ∷ [])
 edge_more ls nodes k heads links p q l at inside =
-    let size = l.heads_all in
-    let links_size = l.links_all in
+    let size = l.heads_all in let links_size = l.links_all in
     let before : ℕ = get_or heads q 0 in
     let now : List ℕ = set heads q (k + 1) in
     let all_links : List ℕ = links ++ before ∷ [] in

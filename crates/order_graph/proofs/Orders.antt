@@ -84,7 +84,8 @@ order_sized n v ls moments counts live o =
     (o.rows, omega arith, o.few)
 
 -- the table represents the literals now
-pub order_now : (n : ℕ) (v : BitTable) (ls : List (Literal ℕ)) (moments counts : List ℕ) (live : ℕ) → IsOrder n v ls moments counts live → Represents n v.words ls v.now
+pub order_now : (n : ℕ) (v : BitTable) (ls : List (Literal ℕ)) (moments counts : List ℕ) (live : ℕ) → IsOrder n v ls moments counts live
+    → Represents n v.words ls v.now
 order_now n v ls moments counts live o =
     let s = o.represents (length ls) (omega arith) in
     let P : List (Literal ℕ) → Type 0 = λ ms. Represents n v.words ms v.now in
@@ -160,15 +161,16 @@ order_more n v w ls moments counts live l o below entered extends consistent ms 
       ];
       represents = λ i h. elim (cases_eq i (length ls + 1)) [
         | inl here ↦
-            let s = represents_more n v w ls l (order_now n v ls moments counts live o) below (let e = o.words in let f = wide n in omega arith) extends.same_words entered consistent in
+            let s = represents_more n v w ls l (order_now n v ls moments counts live o) below (let e = o.words in let f = wide n in omega arith)
+            extends.same_words entered consistent in
             let whole : take i (ls ++ l ∷ []) ≡ ls ++ l ∷ [] = take_all i (ls ++ l ∷ []) (omega arith) in
-            let at : get_or (tables w) (get_or ms i 0) [] ≡ w.now = ap (λ k. get_or (tables w) (get_or ms k 0) []) here ∙ ap (λ m. get_or (tables w) m []) newest ∙ table_last w in
+            let at : get_or (tables w) (get_or ms i 0) [] ≡ w.now = ap (λ k. get_or (tables w) (get_or ms k 0) []) here
+            ∙ ap (λ m. get_or (tables w) m []) newest ∙ table_last w in
             rw (whole, at) s
         | inr earlier ↦
             let low : i ≤ length ls = omega arith in
             let s = o.represents i low in
             let first : take i (ls ++ l ∷ []) ≡ take i ls = take-append-le i ls (l ∷ []) low in
-            let j = length ls - i in
             let under = moment_below n v ls moments counts live o i (length ls - i) (omega arith) in
             let e : i + (length ls - i) ≡ length ls = omega arith in
             let f = ap (λ k. get_or moments k 0) e in
@@ -230,7 +232,8 @@ order_cut n v w ls moments counts live o k low rows words cut cs more size lived
           let g : i + (k - i) ≡ k = omega arith in
           let moment = ap (λ x. get_or moments x 0) g in
           let at : get_or (tables w) (get_or (take (k + 1) moments) i 0) [] ≡ get_or (tables v) (get_or moments i 0) [] =
-          ap (λ m. get_or (tables w) m []) (same i (omega arith)) ∙ ap (λ ts. get_or ts (get_or moments i 0) []) cut ∙ get_or-take (get_or moments k 0 + 1) (tables v) (get_or moments i 0) [] (omega arith) in
+          ap (λ m. get_or (tables w) m []) (same i (omega arith)) ∙ ap (λ ts. get_or ts (get_or moments i 0) []) cut
+          ∙ get_or-take (get_or moments k 0 + 1) (tables v) (get_or moments i 0) [] (omega arith) in
           rw (first, at, words) s;
       lived = lived;
     }
@@ -253,7 +256,8 @@ found_some xs ls l (Some j) k e m f =
 pub order_kept : (n : ℕ) (v w : BitTable) (ls : List (Literal ℕ)) (moments counts : List ℕ) (live : ℕ) (l : Literal ℕ)
     → IsOrder n v ls moments counts live → Extends v w (n * (v.words + 1) + 2)
     → (ks : List (Literal ℕ)) (ms cs : List ℕ) → ks ≡ ls ++ l ∷ [] → ms ≡ moments ++ length w.past ∷ [] → cs ≡ counts ++ 0 ∷ []
-    → IsPushed (record { nodes = n; literals = ls; marks = marks_from 0 counts; recorded = moments }) l (record { nodes = n; literals = ks; marks = marks_from 0 cs; recorded = ms })
+    → IsPushed (record { nodes = n; literals = ls; marks = marks_from 0 counts; recorded = moments }) l
+    (record { nodes = n; literals = ks; marks = marks_from 0 cs; recorded = ms })
 order_kept n v w ls moments counts live l o extends ks ms cs literals_are moments_are counts_are =
     let all = o.moments_all in
     let size : length ks ≡ length ls + 1 = ap length literals_are ∙ length_push ls l in

@@ -47,13 +47,15 @@ pub represents_more : (n : ℕ) (v w : BitTable) (ls : List (Literal ℕ)) (l : 
 represents_more n v w ls (Node p) s below wide same e c =
     let l : Literal ℕ = Node p in
     record {
-      reach = λ x y xh yh. says (bit_now w x y) (bit_now v x y) (e.reach x y xh (omega arith)) (s.reach x y xh (omega arith)) (chain_older ls l x y) (chain_newer ls l (node_is_none p) x y);
+      reach = λ x y xh yh. says (bit_now w x y) (bit_now v x y) (e.reach x y xh (omega arith)) (s.reach x y xh (omega arith))
+          (chain_older ls l x y) (chain_newer ls l (node_is_none p) x y);
       pairs = λ x y xh yh. says (bit_now w (pair_row n x) y) (bit_now v (pair_row n x) y) (e.pairs x y xh (omega arith)) (s.pairs x y xh (omega arith))
           (older ls l (NoEdge x y)) (same_contained ls l (NoEdge x y) (λ f. cc));
       present = λ x xh. bit_more (bit_now w (present_row n) x) (bit_now v (present_row n) x) x p (e.present x xh) (s.present x xh) (present_older ls l x)
           (λ f. let P : ℕ → Type 0 = IsPresent (more ls l) in subst P (sym f) (as_node (newest ls l)))
           (λ q. elim (present_which ls l x q) [ inl old ↦ inl old | inr new ↦ inr (node_brings p x new) ]);
-      missing = λ x xh. says (bit_now w (missing_row n) x) (bit_now v (missing_row n) x) (e.missing x xh) (s.missing x xh) (older ls l (NoNode x)) (same_contained ls l (NoNode x) (λ f. cc));
+      missing = λ x xh. says (bit_now w (missing_row n) x) (bit_now v (missing_row n) x) (e.missing x xh) (s.missing x xh)
+          (older ls l (NoNode x)) (same_contained ls l (NoNode x) (λ f. cc));
       denying = λ x y xh h. e.denying x xh ∙ s.denying x y xh (same_contained ls l (NoEdge x y) (λ f. cc) h);
       below = All-push (IsBelow n) ls l s.below below;
       consistent = c;
@@ -61,10 +63,12 @@ represents_more n v w ls (Node p) s below wide same e c =
 represents_more n v w ls (NoNode p) s below wide same e c =
     let l : Literal ℕ = NoNode p in
     record {
-      reach = λ x y xh yh. says (bit_now w x y) (bit_now v x y) (e.reach x y xh (omega arith)) (s.reach x y xh (omega arith)) (chain_older ls l x y) (chain_newer ls l (no_node_is_none p) x y);
+      reach = λ x y xh yh. says (bit_now w x y) (bit_now v x y) (e.reach x y xh (omega arith)) (s.reach x y xh (omega arith))
+          (chain_older ls l x y) (chain_newer ls l (no_node_is_none p) x y);
       pairs = λ x y xh yh. says (bit_now w (pair_row n x) y) (bit_now v (pair_row n x) y) (e.pairs x y xh (omega arith)) (s.pairs x y xh (omega arith))
           (older ls l (NoEdge x y)) (same_contained ls l (NoEdge x y) (λ f. cc));
-      present = λ x xh. says (bit_now w (present_row n) x) (bit_now v (present_row n) x) (e.present x xh) (s.present x xh) (present_older ls l x) (same_present ls l x (no_node_brings p x));
+      present = λ x xh. says (bit_now w (present_row n) x) (bit_now v (present_row n) x) (e.present x xh) (s.present x xh)
+          (present_older ls l x) (same_present ls l x (no_node_brings p x));
       missing = λ x xh. bit_more (bit_now w (missing_row n) x) (bit_now v (missing_row n) x) x p (e.missing x xh) (s.missing x xh) (older ls l (NoNode x))
           (λ f. let P : ℕ → Type 0 = λ z. Contains (more ls l) (NoNode z) in subst P (sym f) (newest ls l))
           (λ q. elim (which ls l (NoNode x) q) [ inl old ↦ inl old | inr new ↦ inr cc ]);
@@ -75,7 +79,8 @@ represents_more n v w ls (NoNode p) s below wide same e c =
 represents_more n v w ls (NoEdge p r) s below wide same e c =
     let l : Literal ℕ = NoEdge p r in
     record {
-      reach = λ x y xh yh. says (bit_now w x y) (bit_now v x y) (e.reach x y xh (omega arith)) (s.reach x y xh (omega arith)) (chain_older ls l x y) (chain_newer ls l (no_edge_is_none p r) x y);
+      reach = λ x y xh yh. says (bit_now w x y) (bit_now v x y) (e.reach x y xh (omega arith)) (s.reach x y xh (omega arith))
+          (chain_older ls l x y) (chain_newer ls l (no_edge_is_none p r) x y);
       pairs = λ x y xh yh.
           let old : Bool = bit_now v (pair_row n x) y in
           let f = s.pairs x y xh (omega arith) in
@@ -92,8 +97,10 @@ represents_more n v w ls (NoEdge p r) s below wide same e c =
               | inr new ↦ or_right old ((x == p) && (y == r)) (and_from (x == p) (y == r) (eq-eqb x p cc) (eq-eqb y r cc))
             ]),
           );
-      present = λ x xh. says (bit_now w (present_row n) x) (bit_now v (present_row n) x) (e.present x xh) (s.present x xh) (present_older ls l x) (same_present ls l x (no_edge_brings p r x));
-      missing = λ x xh. says (bit_now w (missing_row n) x) (bit_now v (missing_row n) x) (e.missing x xh) (s.missing x xh) (older ls l (NoNode x)) (same_contained ls l (NoNode x) (λ f. cc));
+      present = λ x xh. says (bit_now w (present_row n) x) (bit_now v (present_row n) x) (e.present x xh) (s.present x xh)
+          (present_older ls l x) (same_present ls l x (no_edge_brings p r x));
+      missing = λ x xh. says (bit_now w (missing_row n) x) (bit_now v (missing_row n) x) (e.missing x xh) (s.missing x xh)
+          (older ls l (NoNode x)) (same_contained ls l (NoNode x) (λ f. cc));
       denying = λ x y xh h. e.denying x xh ∙ elim (which ls l (NoEdge x y) h) [
         | inl old ↦ or_left (bit_now v (denier_row n) x) (x == p) (s.denying x y xh old)
         | inr new ↦ or_right (bit_now v (denier_row n) x) (x == p) (eq-eqb x p cc)
@@ -141,7 +148,8 @@ represents_more n v w ls (Edge p r) s below wide same e c =
               ]
             ]),
           );
-      missing = λ x xh. says (bit_now w (missing_row n) x) (bit_now v (missing_row n) x) (e.missing x xh) (s.missing x xh) (older ls l (NoNode x)) (same_contained ls l (NoNode x) (λ f. cc));
+      missing = λ x xh. says (bit_now w (missing_row n) x) (bit_now v (missing_row n) x) (e.missing x xh) (s.missing x xh)
+          (older ls l (NoNode x)) (same_contained ls l (NoNode x) (λ f. cc));
       denying = λ x y xh h. e.denying x xh ∙ s.denying x y xh (same_contained ls l (NoEdge x y) (λ f. cc) h);
       below = All-push (IsBelow n) ls l s.below below;
       consistent = c;

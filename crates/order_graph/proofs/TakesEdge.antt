@@ -4,7 +4,7 @@ use Rattle.std.proofs.lemmas.Bool.{false_from_ne_true}
 use Rattle.pc_common.specs.Chain.{Chain}
 use Rattle.pc_common.proofs.Chains.{chain_reach, reach_chain}
 use Rattle.pc_ground.specs.declared.literal.Literal.{Literal}
-use Rattle.pc_ground.specs.declared.literal.Literal.TheVariants.{Node, Edge, NoNode, NoEdge}
+use Rattle.pc_ground.specs.declared.literal.Literal.TheVariants.{Edge}
 use Rattle.pc_ground.specs.Literals.{Joins, IsConsistent}
 use Rattle.undo_trail.specs.BitTable.{BitTable}
 use Rattle.order_graph.specs.Ways.{IsBelow}
@@ -25,9 +25,6 @@ known_consistent ls p q c chain =
 -- rows that represent consistent literals can take one that is consistent with them
 pub takes : (n : ℕ) (v : BitTable) (ls : List (Literal ℕ)) (l : Literal ℕ) → Represents n v.words ls v.now → n ≤ 64 * v.words → IsBelow n l
     → IsConsistent (more ls l) → Takes n l v
-takes n v ls (Node a) s wide below c = tt
-takes n v ls (NoNode a) s wide below c = tt
-takes n v ls (NoEdge a b) s wide below c = tt
 takes n v ls (Edge a b) s wide below c = record {
   no_cycle = false_from_ne_true (leads_to v b a) (λ e. back_refutes ls a b ((leads_reach n v ls s b a below.1 (let h = below.0 in omega arith)).0 e) c);
   transitive = λ x z y xh zh yh bit leads.
@@ -39,3 +36,4 @@ takes n v ls (Edge a b) s wide below c = record {
       let ends = (consistent_generate ls s.consistent).ends a b chain in
       ((s.present a below.0).1 ends.0, (s.present b below.1).1 ends.1);
 }
+takes n v ls l s wide below c = tt

@@ -35,25 +35,35 @@ HasListed (Node a) heads links now link_now = (now ≡ heads) × (link_now ≡ l
 HasListed (NoNode a) heads links now link_now = (now ≡ heads) × (link_now ≡ links ++ 0 ∷ [])
 HasListed (NoEdge a b) heads links now link_now = (now ≡ heads) × (link_now ≡ links ++ 0 ∷ [])
 
+-- what a search backwards has: the level and the next node of each node, and the nodes with a level as they were found
+pub record Found : Type 0 where
+  pub levels : List ℕ
+  pub nexts : List ℕ
+  pub queue : List ℕ
+
+abbrev pub found : List ℕ → List ℕ → List ℕ → Found
+found levels nexts queue = record { levels = levels; nexts = nexts; queue = queue }
+
 -- what an edge changes: its first node gets the level after that of its second, or the second as a lower next node
-pub data HasRaised (levels nexts queue : List ℕ) (from to : ℕ) (now next_now queue_now : List ℕ) : Type 0 where
-  fresh : slice_index levels from ≡ far → now ≡ slice_set levels from (slice_index levels to + 1)
-      → next_now ≡ slice_set nexts from to
-      → queue_now ≡ queue ++ from ∷ [] → HasRaised levels nexts queue from to now next_now queue_now
-  nearer : slice_index levels from ≡ slice_index levels to + 1 → now ≡ levels → next_now ≡ slice_set nexts from to
-      → queue_now ≡ queue
-      → HasRaised levels nexts queue from to now next_now queue_now
-  known : slice_index levels from ≢ far → now ≡ levels → next_now ≡ nexts → queue_now ≡ queue
-      → HasRaised levels nexts queue from to now next_now queue_now
+pub data HasRaised (old : Found) (from to : ℕ) (new : Found) : Type 0 where
+  fresh : slice_index old.levels from ≡ far → new.levels ≡ slice_set old.levels from (slice_index old.levels to + 1)
+      → new.nexts ≡ slice_set old.nexts from to
+      → new.queue ≡ old.queue ++ from ∷ [] → HasRaised old from to new
+  nearer : slice_index old.levels from ≡ slice_index old.levels to + 1 → new.levels ≡ old.levels
+      → new.nexts ≡ slice_set old.nexts from to
+      → new.queue ≡ old.queue → HasRaised old from to new
+  known : slice_index old.levels from ≢ far → new.levels ≡ old.levels → new.nexts ≡ old.nexts → new.queue ≡ old.queue
+      → HasRaised old from to new
+
+abbrev pub HasSame : Found → Found → Type 0
+HasSame old new = (new.levels ≡ old.levels) × (new.nexts ≡ old.nexts) × (new.queue ≡ old.queue)
 
 -- a literal that asserts an edge to the node changes that, and another nothing
-abbrev pub HasFollowed : Literal ℕ → ℕ → List ℕ → List ℕ → List ℕ → List ℕ → List ℕ → List ℕ → Type 0
-HasFollowed (Edge a b) node levels nexts queue now next_now queue_now =
-    ((b ≡ node) × HasRaised levels nexts queue a node now next_now queue_now)
-    ⊎ ((b ≢ node) × (now ≡ levels) × (next_now ≡ nexts) × (queue_now ≡ queue))
-HasFollowed (Node a) node levels nexts queue now next_now queue_now = (now ≡ levels) × (next_now ≡ nexts) × (queue_now ≡ queue)
-HasFollowed (NoNode a) node levels nexts queue now next_now queue_now = (now ≡ levels) × (next_now ≡ nexts) × (queue_now ≡ queue)
-HasFollowed (NoEdge a b) node levels nexts queue now next_now queue_now = (now ≡ levels) × (next_now ≡ nexts) × (queue_now ≡ queue)
+abbrev pub HasFollowed : Literal ℕ → ℕ → Found → Found → Type 0
+HasFollowed (Edge a b) node old new = ((b ≡ node) × HasRaised old a node new) ⊎ ((b ≢ node) × HasSame old new)
+HasFollowed (Node a) node old new = HasSame old new
+HasFollowed (NoNode a) node old new = HasSame old new
+HasFollowed (NoEdge a b) node old new = HasSame old new
 
 -- only the target is at level 0, and a node further away has a next node one level nearer
 abbrev pub HasNext : ℕ → List ℕ → List ℕ → Type 0
@@ -80,7 +90,3 @@ pub record IsSearched (ls : List (Literal ℕ)) (target nodes h : ℕ) (levels n
   pub count : far_count levels + length queue ≡ nodes
   pub low : h ≤ length queue
   pub closed : (j a : ℕ) → j < h → Contains ls (Edge a (slice_index queue j)) → slice_index levels a ≢ far
-
--- no edge leads from a node with no level to one with a level
-abbrev pub IsClosed : List (Literal ℕ) → List ℕ → Type 0
-IsClosed ls levels = (a b : ℕ) → Contains ls (Edge a b) → slice_index levels b ≢ far → slice_index levels a ≢ far

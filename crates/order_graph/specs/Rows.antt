@@ -10,10 +10,6 @@ use Rattle.undo_trail.specs.Bits.{has}
 use Rattle.undo_trail.specs.BitTable.{BitTable, bit_now}
 use Rattle.order_graph.specs.Ways.{IsBelow}
 
--- row x: what chains from x lead to
-abbrev pub reach_row : ℕ → ℕ
-reach_row x = x
-
 -- row n + x: the nodes that x is denied to come before
 abbrev pub pair_row : ℕ → ℕ → ℕ
 pair_row n x = n + x

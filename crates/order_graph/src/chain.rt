@@ -4,7 +4,7 @@ ghost use Rattle.pc_common.specs.declared.limits.TheConstants.{MAX_NODES};
 ghost use Rattle.order_graph.specs.Ways.{IsBelow, IsWay};
 ghost use Rattle.pc_ground.specs.Literals.{Joins};
 ghost use Rattle.pc_ground.specs.declared.literal.Literal.TheVariants.{Edge};
-ghost use Rattle.order_graph.specs.Levels.{AreLists, HasFollowed, HasListed, HasRaised, HasNext, IsNext, IsSearched, OnList, far};
+ghost use Rattle.order_graph.specs.Levels.{AreLists, HasFollowed, HasListed, HasRaised, HasNext, IsNext, IsSearched, OnList, far, found};
 
 use pc_common::Memory;
 use pc_ground::Literal;
@@ -68,7 +68,7 @@ fn raise(
     requires all { length nexts.old ≡ length levels.old }
     requires low { slice_index levels.old to + 1 < far }
     ensures { OnOk result
-        (HasRaised levels.old nexts.old queue.old.items from to levels.new nexts.new queue.new.items) }
+        (HasRaised (found levels.old nexts.old queue.old.items) from to (found levels.new nexts.new queue.new.items)) }
 {
     let level = levels[to as usize] + 1;
     if levels[from as usize] == FAR {
@@ -97,7 +97,8 @@ fn follow(
     requires all { length nexts.old ≡ length levels.old }
     requires low { slice_index levels.old node + 1 < far }
     ensures { OnOk result
-        (HasFollowed literal node levels.old nexts.old queue.old.items levels.new nexts.new queue.new.items) }
+        (HasFollowed literal node
+        (found levels.old nexts.old queue.old.items) (found levels.new nexts.new queue.new.items)) }
 {
     match literal {
         Literal::Edge(from, to) => {

@@ -13,7 +13,7 @@ pub enum Clash {
     Absent(u32),
 }
 
-// Written out, so that a proof of what drops the value meets one call and no variant.
+// By hand: docs/DECISIONS.md, "Drops are written by hand".
 impl Drop for Clash {
     fn drop(self) {
         match self {

@@ -33,7 +33,7 @@ pub struct OrderGraph {
     live: u64,
 }
 
-// Written out, so that a proof of what drops the value meets one call and no field.
+// By hand: docs/DECISIONS.md, "Drops are written by hand".
 impl Drop for OrderGraph {
     fn drop(self) {
         let OrderGraph {

@@ -1,5 +1,8 @@
 //! A graph over numbered nodes that holds a list of literals: nodes and edges, asserted or denied.
 //!
+//! Clause: `assert_literal` adds a literal, or returns a clash exactly where the list would be inconsistent (`added`,
+//! `err`).
+//!
 //! ```rust
 //! // `steps` counts in the caller's ledger
 //! let mut graph = OrderGraph::new(alloc, 2)?;

@@ -46,7 +46,8 @@ choices_more c opens o = ap (choices_of c) (ops_more opens o) ∙ map-append (va
 
 -- before the first open value
 pub read_none : (c : Case) (reads : List OpenRead) → reads ≡ [] → AreRead c reads 1 []
-read_none c reads is = subst (λ rs. AreRead c rs 1 []) (sym is) (record { ops = refl; choices = refl; rows_are = refl; few = omega arith; some = λ k d inside. absurd (omega (arith, inside)) })
+read_none c reads is = subst (λ rs. AreRead c rs 1 []) (sym is)
+    (record { ops = refl; choices = refl; rows_are = refl; few = omega arith; some = λ k d inside. absurd (omega (arith, inside)) })
 
 -- and with one more
 pub read_more : (c : Case) (reads new : List OpenRead) (rows more : ℕ) (opens : List Open) (o : Open)
@@ -105,7 +106,8 @@ pub next_read : (c : Case) (reads new : List OpenRead) (rows more : ℕ) (opens 
 next_read c reads new rows more opens k o here r a =
     subst (AreRead c new more) (sym (taken opens k o here)) (read_more c reads new rows more (map plain_open (take k opens)) (plain_open o) r a)
 
-pub too_many_here : (c : Case) (reads : List OpenRead) (rows : ℕ) (opens : List CodeOpen) (k : ℕ) (o : CodeOpen) (fault : CaseFault) → slice_get opens k ≡ Some o
+pub too_many_here : (c : Case) (reads : List OpenRead) (rows : ℕ) (opens : List CodeOpen) (k : ℕ) (o : CodeOpen) (fault : CaseFault)
+    → slice_get opens k ≡ Some o
     → AreRead c reads rows (map plain_open (take k opens)) → IsTooManyAt c o rows fault → IsTooMany c (map plain_open opens) fault
 too_many_here c reads rows opens k o fault here r many =
     too_many c reads rows (map plain_open opens) k o fault (slice_get-map plain_open opens k ∙ ap (option_map plain_open) here)

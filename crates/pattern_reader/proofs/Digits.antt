@@ -77,13 +77,15 @@ pub found_at : (reads : List OpenRead) (row k place : ℕ) (v : Value) → value
     → value_among reads row place ≡ value_among (drop k reads) row place → Some v ≡ value_among reads row place
 found_at reads row k place v e before = found reads k e ∙ sym before
   where
-    found : (rs : List OpenRead) (j : ℕ) → value_at_place (map op_in rs) (row_values (map values_in rs) row) j place ≡ Some v → Some v ≡ value_among (drop j rs) row place
+    found : (rs : List OpenRead) (j : ℕ) → value_at_place (map op_in rs) (row_values (map values_in rs) row) j place ≡ Some v
+        → Some v ≡ value_among (drop j rs) row place
     found [] j e = cc
     found (r ∷ rs) zero e = first_of (r.op == place) _ v (value_among rs row place) e
     found (r ∷ rs) (suc j) e = found rs j e
 
 -- and one that is not is passed over
-pub passed_at : (reads : List OpenRead) (row k place : ℕ) → k < length reads → value_at_place (map op_in reads) (row_values (map values_in reads) row) k place ≡ None
+pub passed_at : (reads : List OpenRead) (row k place : ℕ) → k < length reads
+    → value_at_place (map op_in reads) (row_values (map values_in reads) row) k place ≡ None
     → value_among reads row place ≡ value_among (drop k reads) row place → value_among reads row place ≡ value_among (drop (k + 1) reads) row place
 passed_at reads row k place within e before =
     before ∙ passed reads k within e ∙ ap (λ j. value_among (drop j reads) row place) (sym (plus_one k))

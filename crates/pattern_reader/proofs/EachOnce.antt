@@ -2,10 +2,9 @@
 use Rattle.std.proofs.Common.{◌≡◌, ℕ, zero, suc, ◌⊎◌, inl, inr, ⊎_elim, Bool, true, false, cond, List, [], ◌∷◌, ◌++◌, Option, Some, None, length, refl, sym, ◌∙◌, ap, subst, eq-eqb}
 use Rattle.std.specs.Prelude.{unwrap_or}
 use Rattle.std.specs.List.{fold, list_any, slice_get}
-use Rattle.std.proofs.lemmas.Bool.{true≢false}
+use Rattle.std.proofs.lemmas.Bool.{true≢false, or_left, or_right}
 use Rattle.pc_common.specs.Case.{Address, Value, number, entry, Touch, MicroOp, Case}
 use Rattle.pc_common.specs.Addresses.{same_value, initial_at}
-use Rattle.pc_common.proofs.Elements.{or_first, or_later}
 use Rattle.pattern_reader.specs.Rows.{written_at, once_more, values_touched, touch_of_op, values_of, choices_of}
 use Rattle.pattern_reader.specs.Combinations.{IsEachOnce}
 use Rattle.pattern_reader.proofs.ReadableValues.{add_written}
@@ -21,8 +20,8 @@ none_past i x at = cc
 any_here : (vs : List Value) (i : ℕ) (v : Value) → slice_get vs i ≡ Some v → list_any (same_value v) vs ≡ true
 any_here [] i v at = absurd (none_past i v at)
 any_here (w ∷ vs) zero v at =
-    or_first (same_value v w) (list_any (same_value v) vs) (ap (λ o. same_value v (unwrap_or o v)) at ∙ same_self v)
-any_here (w ∷ vs) (suc i) v at = or_later (same_value v w) (list_any (same_value v) vs) (any_here vs i v at)
+    or_left (same_value v w) (list_any (same_value v) vs) (ap (λ o. same_value v (unwrap_or o v)) at ∙ same_self v)
+any_here (w ∷ vs) (suc i) v at = or_right (same_value v w) (list_any (same_value v) vs) (any_here vs i v at)
 
 -- what stands in a list with one value more
 last_or : (vs : List Value) (v x : Value) (i : ℕ) → slice_get (vs ++ v ∷ []) i ≡ Some x

@@ -9,7 +9,7 @@ use Rattle.uspec_lexer.proofs.Totality.{spells-or_fault}
 use Rattle.litmus_reader.specs.Answer.{CaseOf}
 use Rattle.litmus_reader.specs.declared.fault.CaseFault.{CaseFault}
 use Rattle.litmus_reader.specs.declared.fault.CaseFault.TheVariants.{Lexical, Content, Memory}
-use Rattle.uspec_lexer.specs.Fault.{IsRefusal}
+use Rattle.uspec_lexer.specs.Fault.{IsLexicalRefusal}
 use Rattle.uspec_lexer.specs.declared.fault.LexFault.{LexFault}
 use Rattle.uspec_lexer.specs.declared.fault.LexFault.TheVariants.{Lexical as a_lexical_fault, Memory as no_room}
 use Rattle.litmus_reader.specs.Rows.{fault_from}
@@ -78,7 +78,8 @@ of_rows bytes opens c said = ⊎_elim
 
 of_opens : (bytes : List ℕ) (opens : List Open)
     → ((p : Pattern) × ClosesTo bytes opens p) ⊎ ((f : CaseFault) × IsClosedFault bytes opens f)
-of_opens bytes opens = ⊎_elim (λ (c, said). of_rows bytes opens c said) (λ (f, some, is). inr (f, in_test (some, is))) (case_or_fault (closed_bytes bytes opens))
+of_opens bytes opens = ⊎_elim (λ (c, said). of_rows bytes opens c said) (λ (f, some, is). inr (f, in_test (some, is)))
+    (case_or_fault (closed_bytes bytes opens))
 
 pub pattern_or_fault_of : (bytes : List ℕ) → ((p : Pattern) × PatternOf bytes p) ⊎ ((f : CaseFault) × IsPatternFault bytes f)
 pattern_or_fault_of bytes = ⊎_elim
@@ -102,6 +103,6 @@ no_memory_fault bytes is = no_memory bytes Memory refl is
     no_memory bytes f e (closed spelled (too_many said many)) = unlike_content f e many
 
 -- the fault of the tokens is that of the pattern
-pub tokens_end : (bytes : List ℕ) (f : LexFault) → IsRefusal bytes f → fault_from f ≢ Memory → IsPatternFault bytes (fault_from f)
+pub tokens_end : (bytes : List ℕ) (f : LexFault) → IsLexicalRefusal bytes f → fault_from f ≢ Memory → IsPatternFault bytes (fault_from f)
 tokens_end bytes (a_lexical_fault place) is some = lexical is
 tokens_end bytes no_room is some = absurd (some refl)

@@ -81,7 +81,8 @@ each_combination (c ∷ cs) s (v ∷ vs) ((i, at), rest) =
     let within : i < length c = slice_get_within c i v at in
     let all : i * w + r < length c * w = subst (λ n. i * w + r < n) (mul_comm w (length c)) (mul-add-lt i w r (length c) within below) in
     let place : left_by cs (i * w + r) % length c ≡ i = first_is c cs s.1 (i * w + r) all ∙ div-mul-add i w r below in
-    let first : get_or c (left_by cs (i * w + r) % length c) (number 0) ≡ v = ap (λ m. get_or c m (number 0)) place ∙ get_or_from_slice_get c i v (number 0) at in
+    let first : get_or c (left_by cs (i * w + r) % length c) (number 0) ≡ v = ap (λ m. get_or c m (number 0)) place
+    ∙ get_or_from_slice_get c i v (number 0) at in
     (i * w + r, all, ap (λ x. x ∷ row_values cs (i * w + r)) first ∙ ap (λ xs. v ∷ xs) (rounds cs s.1 i r ∙ same))
 
 digits_before : (w j k : ℕ) → 0 < w → j < k → (j / w < k / w) ⊎ ((j / w ≡ k / w) × (j % w < k % w))

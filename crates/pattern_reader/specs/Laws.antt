@@ -14,5 +14,5 @@ abbrev pub HasOneFault : List ℕ → Type 0
 HasOneFault bytes = (e f : CaseFault) → IsPatternFault bytes e → IsPatternFault bytes f → e ≡ f
 
 -- not both
-abbrev pub HasNoFaultBeside : List ℕ → Type 0
-HasNoFaultBeside bytes = (p : Pattern) (f : CaseFault) → PatternOf bytes p → IsPatternFault bytes f → ⊥
+abbrev pub PatternExcludesFault : List ℕ → Type 0
+PatternExcludesFault bytes = (p : Pattern) (f : CaseFault) → PatternOf bytes p → IsPatternFault bytes f → ⊥

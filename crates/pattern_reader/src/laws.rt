@@ -1,6 +1,6 @@
 // Laws of the definitions in specs/. Each function does nothing: its contract is the law.
 ghost use Rattle.std.specs.Prelude.{◌≡◌};
-ghost use Rattle.pattern_reader.specs.Laws.{HasPatternOrFault, HasOnePattern, HasOneFault, HasNoFaultBeside};
+ghost use Rattle.pattern_reader.specs.Laws.{HasPatternOrFault, HasOnePattern, HasOneFault, PatternExcludesFault};
 ghost use Rattle.pattern_reader.specs.Combinations.{HasEachValueOnce, HasRowsOfValues, HasEachCombination};
 ghost use Rattle.pattern_reader.specs.Combinations.{HasEachRowOnce, HasRowsInOrder};
 
@@ -28,7 +28,7 @@ pub fn one_fault(bytes: &[u8])
 
 /// Bytes that say a pattern have no fault.
 pub fn no_fault(bytes: &[u8])
-    ensures { HasNoFaultBeside bytes.now }
+    ensures { PatternExcludesFault bytes.now }
 {}
 
 /// No value is listed twice among those that an open read may read.

@@ -1,5 +1,8 @@
 //! Patterns: tests in which reads may leave their value open, and the case of each combination of values.
 //!
+//! Clause: `read_pattern` returns the pattern of a test with open reads, or its first fault (`ok`, `err`); `row_case`
+//! returns the case of a row (its clause).
+//!
 //! ```rust
 //! let text = b"Litmus \"p\".
 //! Microop 0 0 0 0 (Write (VA 0 0) (PA 0 0) (Data 1)).

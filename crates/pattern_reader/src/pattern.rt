@@ -21,7 +21,7 @@ pub struct Pattern {
     rows: usize,
 }
 
-// Written out, so that a proof of what drops the value meets one call and no field.
+// By hand: docs/DECISIONS.md, "Drops are written by hand".
 impl Drop for Pattern {
     fn drop(self) {
         let Pattern {

@@ -16,7 +16,7 @@ pub(crate) struct OpenRead {
     pub(crate) values: Values,
 }
 
-// Written out, so that a proof of what drops the value meets one call and no field.
+// By hand: docs/DECISIONS.md, "Drops are written by hand".
 impl Drop for OpenRead {
     fn drop(self) {
         let OpenRead { op: _, values: _ } = self;

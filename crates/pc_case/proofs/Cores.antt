@@ -1,16 +1,10 @@
 -- The greatest core of a list, one micro-op at a time from the end.
-use Rattle.std.proofs.Common.{◌≡◌, ℕ, ◌+◌, List, ◌∷◌, Some, map, drop, ap, ◌∙◌}
+use Rattle.std.proofs.Common.{◌≡◌, ℕ, ◌+◌, List, Some, map, drop, ap}
 use Rattle.std.specs.Prelude.{slice_get, max}
 use Rattle.pc_common.specs.Case.{cores_of}
+use Rattle.pc_common.proofs.Places.{drop_at}
 use Rattle.pc_case.specs.declared.op.Op.{Op}
 use Rattle.pc_case.specs.Plain.{micro_op}
-use Rattle.std.proofs.lemmas.List.{drop_more}
-use Rattle.std.proofs.lemmas.Option.{slice_get_within, get_or_from_slice_get}
-
-drop_at : {X : Type 0} (xs : List X) (i : ℕ) (x : X) → slice_get xs i ≡ Some x → drop i xs ≡ x ∷ drop (i + 1) xs
-drop_at xs i x e =
-    let at = get_or_from_slice_get xs i x x e in
-    drop_more xs i x (slice_get_within xs i x e) ∙ ap (λ y. y ∷ drop (i + 1) xs) at
 
 -- the count at i is the greater of the micro-op's there and the count after it
 pub cores_more : (ops : List Op) (i : ℕ) (o : Op) → slice_get ops i ≡ Some o

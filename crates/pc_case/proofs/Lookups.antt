@@ -4,35 +4,24 @@ use Rattle.std.specs.Prelude.{⊤, is_some, cond}
 use Rattle.std.specs.List.{list_any}
 use Rattle.std.specs.Map.{lookup, set_value, IsKeyTest, AreApart, KeepsOthers}
 use Rattle.std.specs.Cmp.Lexicographic.{bytes_decides}
-use Rattle.std.proofs.lemmas.Bool.{eqb-true, eq-eqb}
+use Rattle.std.proofs.lemmas.Bool.{eqb-true, eq-eqb, false_from_ne_true}
 use Rattle.std.proofs.lemmas.Bool.Decides.{nat_tests}
 use Rattle.std.proofs.lemmas.Map.Made.{is_some-lookup}
 use Rattle.std.specs.declared.alloc.Global.{Global}
 use Rattle.std.specs.HashMap.{HashMap, keys, get_by, Updates}
 use Rattle.pc_common.specs.Names.{same_name}
+use Rattle.pc_common.proofs.Bools.{or_true, and_false}
 use Rattle.pc_case.specs.declared.dependency.Ends.{Ends}
 use Rattle.pc_case.specs.declared.name_set.NameSet.{NameSet}
 use Rattle.pc_case.specs.NameSets.{is_known, has_name}
 use Rattle.pc_case.specs.Tables.{are_ends, has_kind, goes_between}
 
-none_some : {X : Type 0} {x : X} → None ≡ Some x → ⊥
+pub none_some : {X : Type 0} {x : X} → None ≡ Some x → ⊥
 none_some e = cc
 
 pub or_false : (s : Bool) → s ≡ (s || false)
 or_false true = refl
 or_false false = refl
-
-or_true : (s : Bool) → (s || true) ≡ true
-or_true true = refl
-or_true false = refl
-
-pub not_so : (b : Bool) → (b ≡ true → ⊥) → b ≡ false
-not_so false f = refl
-not_so true f = absurd (f refl)
-
-and_false : (s : Bool) → (s && false) ≡ false
-and_false true = refl
-and_false false = refl
 
 -- `same` answers whether two keys are one
 abbrev Tests : {K : Type 0} → (K → K → Bool) → Type 0
@@ -53,10 +42,10 @@ module _ {K V : Type 0} (same : K → K → Bool) (tests : Tests same) (f : V �
   met p q x e g = (tests p q).1 ((tests p x).0 e ∙ sym ((tests q x).0 g))
 
   apart : (p q x : K) → same p x ≡ true → same q x ≡ false → same p q ≡ false
-  apart p q x e g = not_so (same p q) (λ h. true≢false (sym e ∙ ap (λ r. same r x) ((tests p q).0 h) ∙ g))
+  apart p q x e g = false_from_ne_true (same p q) (λ h. true≢false (sym e ∙ ap (λ r. same r x) ((tests p q).0 h) ∙ g))
 
   apart_else : (p q x : K) → same p x ≡ false → same q x ≡ true → same p q ≡ false
-  apart_else p q x e g = not_so (same p q) (λ h. true≢false (sym g ∙ sym (ap (λ r. same r x) ((tests p q).0 h)) ∙ e))
+  apart_else p q x e g = false_from_ne_true (same p q) (λ h. true≢false (sym g ∙ sym (ap (λ r. same r x) ((tests p q).0 h)) ∙ e))
 
   -- one entry and those after it, where the value at p becomes w
   written_more : (p q : K) (x : K × V) (es : List (K × V)) (s w : V) (b : Bool) → f w ≡ (f s || b) → at p (x ∷ es) ≡ Some s
@@ -127,7 +116,7 @@ ends_tests a b = (is, λ e. rw e (both (eq-eqb b.source b.source refl) (eq-eqb b
         by true false e f h = absurd (true≢false (sym h))
         by false t e f h = absurd (true≢false (sym h))
 
-eqb_flip : (a b : ℕ) → (a == b) ≡ (b == a)
+pub eqb_flip : (a b : ℕ) → (a == b) ≡ (b == a)
 eqb_flip a b = grind (arith, nat_tests)
 
 -- the same ends and b, the other way round
@@ -159,7 +148,7 @@ module _ {K : Type 0} (items : K → List ℕ) (q : List ℕ) where
     where
       by : (b : Bool) → same_name p q ≡ b → same_name q p ≡ same_name p q
       by true e = (bytes_decides q p).1 (sym ((bytes_decides p q).0 e)) ∙ sym e
-      by false e = not_so (same_name q p) (λ h. true≢false (sym ((bytes_decides p q).1 (sym ((bytes_decides q p).0 h))) ∙ e)) ∙ sym e
+      by false e = false_from_ne_true (same_name q p) (λ h. true≢false (sym ((bytes_decides p q).1 (sym ((bytes_decides q p).0 h))) ∙ e)) ∙ sym e
 
   -- a look-up of q asks for one key and those equal to it
   asks : IsKeyTest same_item (λ k. same_name q (items k))
@@ -180,7 +169,8 @@ module _ {K : Type 0} (items : K → List ℕ) (q : List ℕ) where
       by false e =
           let apart : AreApart (same_item v) (λ k. same_name q (items k)) =
           λ k h. turned (items k) ∙ ap (λ r. same_name r q) (sym ((bytes_decides (items v) (items k)).0 h) ∙ is) ∙ e in
-          ap is_some (kept_apart same_item (same_item v) m.entries new.entries put.3 (λ k. same_name q (items k)) asks apart) ∙ is_some-lookup (λ k. same_name q (items k)) m.entries
+          ap is_some (kept_apart same_item (same_item v) m.entries new.entries put.3 (λ k. same_name q (items k)) asks apart)
+          ∙ is_some-lookup (λ k. same_name q (items k)) m.entries
           ∙ or_false (has (keys m))
 
 -- sets of names, each with the length of its names

@@ -3,14 +3,14 @@ use Rattle.std.proofs.Common.{◌≡◌, ℕ, ◌+◌, ◌-◌, ◌≤◌, nat_l
 use Rattle.std.specs.Prelude.{is_some}
 use Rattle.std.specs.Map.{lookup}
 use Rattle.std.specs.Cmp.Lexicographic.{bytes_decides}
-use Rattle.std.proofs.lemmas.Bool.{leb-true}
+use Rattle.std.proofs.lemmas.Bool.{leb-true, false_from_ne_true}
 use Rattle.std.proofs.lemmas.List.{take-append-le, take_all, length-append, length-replicate, drop-replicate, replicate_more, append_assoc}
 use Rattle.std.proofs.lemmas.Map.Made.{is_some-lookup}
 use Rattle.std.specs.HashMap.{Updates}
 use Rattle.pc_common.specs.Names.{same_name}
 use Rattle.pc_case.specs.declared.name_set.NameSet.{NameSet}
 use Rattle.pc_case.specs.NameSets.{padded, is_short, has_long, has_name}
-use Rattle.pc_case.proofs.Lookups.{not_so, or_false, key_put}
+use Rattle.pc_case.proofs.Lookups.{or_false, key_put}
 
 -- the last of a list is written
 put_last : (xs : List ℕ) (x y : ℕ) → set (xs ++ x ∷ []) (length xs) y ≡ xs ++ y ∷ []
@@ -65,7 +65,7 @@ module _ (p q : List ℕ) (p_fits : length p ≤ 15) (q_fits : length q ≤ 15) 
       by : (b : Bool) → same_name p q ≡ b → same_name (padded p) (padded q) ≡ same_name p q
       by true e = (bytes_decides (padded p) (padded q)).1 (ap padded ((bytes_decides p q).0 e)) ∙ sym e
       by false e =
-          not_so (same_name (padded p) (padded q))
+          false_from_ne_true (same_name (padded p) (padded q))
           (λ h. true≢false (sym ((bytes_decides p q).1 (unpadded ((bytes_decides (padded p) (padded q)).0 h))) ∙ e))
           ∙ sym e
 
@@ -89,7 +89,7 @@ short_known names name key fits is =
 -- a short name is no long one
 short_or_long : (p q : List ℕ) → nat_le (length p) 15 ≡ true → nat_le (length q) 15 ≡ false → same_name p q ≡ false
 short_or_long p q e f =
-    not_so (same_name p q) (λ h. true≢false (sym e ∙ ap (λ n. nat_le (length n) 15) ((bytes_decides p q).0 h) ∙ f))
+    false_from_ne_true (same_name p q) (λ h. true≢false (sym e ∙ ap (λ n. nat_le (length n) 15) ((bytes_decides p q).0 h) ∙ f))
 
 nothing_more : (a b s : Bool) → s ≡ false → a ≡ (a || (b && s))
 nothing_more a true s e = or_false a ∙ ap (λ t. a || t) (sym e)

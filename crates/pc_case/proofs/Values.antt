@@ -3,7 +3,6 @@ use Rattle.std.proofs.Common.{◌≡◌, ℕ, ◌+◌, ◌<◌, Bool, true, fals
 use Rattle.std.specs.Prelude.{slice_get}
 use Rattle.std.proofs.lemmas.List.{take_more, map-append}
 use Rattle.std.proofs.lemmas.Bool.{eqb-true}
-use Rattle.std.proofs.lemmas.Bool.Decides.{nat_tests}
 use Rattle.std.proofs.lemmas.Option.{slice_get-map, slice_get-get_or}
 use Rattle.std.specs.Option.{option_map}
 use Rattle.std.specs.Map.{lookup}
@@ -18,9 +17,7 @@ use Rattle.pc_case.specs.Plain.{address_at, plain_value, stated_value}
 use Rattle.pc_common.specs.Addresses.{same_page, same_address, stated_at}
 use Rattle.pc_case.specs.Stated.{IsStatedOnce}
 use Rattle.pc_case.specs.Tables.{AreValuesOf}
-
-eqb_flip : (a b : ℕ) → (a == b) ≡ (b == a)
-eqb_flip a b = grind (arith, nat_tests)
+use Rattle.pc_case.proofs.Lookups.{none_some, eqb_flip}
 
 -- what `==` says of two addresses
 abbrev Same : (Address → Address → Bool) → Type 0
@@ -36,9 +33,6 @@ address_eq_flips (Entry a) (Entry t) = eqb_flip a t
 pub lookup_stated : (eq : Address → Address → Bool) → Same eq → (pa : Address) (es : List (Address × Value))
     (ss : List (PlainAddress × PlainValue)) → AreValuesOf es ss → option_map plain_value (lookup (eq pa) es) ≡ stated_at ss (address_at pa)
 lookup_stated eq same pa es ss are = ap (option_map plain_value) (λ i. lookup (λ k. same pa k i) es) ∙ are pa
-
-none_some : {X : Type 0} {x : X} → None ≡ Some x → ⊥
-none_some e = cc
 
 -- the list before place i
 before : {X Y : Type 0} (f : X → Y) (xs : List X) (i k : ℕ) (s : Y) → slice_get (map f (take i xs)) k ≡ Some s
@@ -63,7 +57,8 @@ same_is (page p) (entry_of t) h = absurd (true≢false (sym h))
 same_is (entry_of s) (page q) h = absurd (true≢false (sym h))
 same_is (entry_of s) (entry_of t) h = ap entry_of (eqb-true s t h)
 
-absent_here : (s : PlainAddress × PlainValue) (ss : List (PlainAddress × PlainValue)) (a : PlainAddress) → (s.0 ≡ a → ⊥) → stated_at ss a ≡ None → stated_at (s ∷ ss) a ≡ None
+absent_here : (s : PlainAddress × PlainValue) (ss : List (PlainAddress × PlainValue)) (a : PlainAddress) → (s.0 ≡ a → ⊥) → stated_at ss a ≡ None
+    → stated_at (s ∷ ss) a ≡ None
 absent_here s ss a apart rest = by (same_address s.0 a) refl
   where
     by : (b : Bool) → same_address s.0 a ≡ b → stated_at (s ∷ ss) a ≡ None
@@ -71,7 +66,8 @@ absent_here s ss a apart rest = by (same_address s.0 a) refl
     by false e = rw e rest
 
 -- nothing is stated at an address that no line is for
-absent : (ss : List (PlainAddress × PlainValue)) (a : PlainAddress) → ((k : ℕ) (s : PlainAddress × PlainValue) → slice_get ss k ≡ Some s → s.0 ≡ a → ⊥) → stated_at ss a ≡ None
+absent : (ss : List (PlainAddress × PlainValue)) (a : PlainAddress) → ((k : ℕ) (s : PlainAddress × PlainValue) → slice_get ss k ≡ Some s → s.0 ≡ a → ⊥)
+    → stated_at ss a ≡ None
 absent [] a none = refl
 absent (s ∷ ss) a none = absent_here s ss a (none zero s refl) (absent ss a (λ k. none (suc k)))
 

@@ -33,10 +33,10 @@ abbrev pub touch_of : Option Memop → Option Touch
 touch_of None = None
 touch_of (Some m) = Some (touch_at m)
 
-abbrev pub kind_of : Access → Kind
-kind_of Read = read
-kind_of Write = write
-kind_of Fence = fence
+abbrev pub kind_of_access : Access → Kind
+kind_of_access Read = read
+kind_of_access Write = write
+kind_of_access Fence = fence
 
 abbrev pub micro_op : Op → MicroOp
 micro_op o =
@@ -46,7 +46,7 @@ micro_op o =
       core = o.core;
       thread = o.thread;
       types = o.types;
-      kind = kind_of o.access;
+      kind = kind_of_access o.access;
       touch = touch_of o.memop;
     }
 

@@ -5,14 +5,14 @@ ghost use Rattle.pc_case.specs.Plain.{address_at, plain_value};
 use pc_common::Value;
 
 /// A virtual page: its tag and the index inside it.
-#[derive(Clone, Copy, Debug, PartialEq, Eq, Hash)]
+#[derive(Clone, Copy, PartialEq, Eq, Hash)]
 pub struct Page {
     pub tag: u64,
     pub index: u64,
 }
 
 /// A physical address: a page of memory, or the page-table entry of a virtual tag.
-#[derive(Clone, Copy, Debug, PartialEq, Eq, Hash)]
+#[derive(Clone, Copy, PartialEq, Eq, Hash)]
 pub enum Address {
     Page { tag: u64, index: u64 },
     Entry { tag: u64 },

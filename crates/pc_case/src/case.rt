@@ -37,7 +37,7 @@ pub struct Case {
     expect: Expect,
 }
 
-// Written out, so that a proof of what drops the value meets one call and no field.
+// By hand: docs/DECISIONS.md, "Drops are written by hand".
 impl Drop for Case {
     fn drop(self) {
         let Case {

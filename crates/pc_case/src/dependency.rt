@@ -16,7 +16,7 @@ pub struct Dependency {
     pub target: u8,
 }
 
-// Written out, so that a proof of what drops the value meets one call and no field.
+// By hand: docs/DECISIONS.md, "Drops are written by hand".
 impl Drop for Dependency {
     fn drop(self) {
         let Dependency {
@@ -61,7 +61,7 @@ pub(crate) struct DependencyTable {
     kinds: KindsByEnds,
 }
 
-// Written out, so that a proof of what drops the value meets one call and no field.
+// By hand: docs/DECISIONS.md, "Drops are written by hand".
 impl Drop for DependencyTable {
     fn drop(self) {
         let DependencyTable {

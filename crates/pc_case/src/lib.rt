@@ -1,4 +1,7 @@
-//! A case: all that a test file says.
+//! A case: all that a test says, in a type that keeps its conditions.
+//!
+//! Clause: a case keeps what its type lists of micro-ops, dependencies and stated values (`kept`, `once`, `within`);
+//! its readers return them (`op`, `value`).
 //!
 //! ```rust
 //! let id = OpId { g: 7, n: 0 };

@@ -13,7 +13,7 @@ pub(crate) struct LongNames {
     by_length: HashMap<usize, HashMap<Vec<u8>, ()>>,
 }
 
-// Written out, so that a proof of what drops the value meets one call and no field.
+// By hand: docs/DECISIONS.md, "Drops are written by hand".
 impl Drop for LongNames {
     fn drop(self) {
         let LongNames { by_length: _ } = self;

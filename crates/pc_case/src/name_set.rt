@@ -31,7 +31,7 @@ pub(crate) struct NameSet {
     long: LongNames,
 }
 
-// Written out, so that a proof of what drops the value meets one call and no field.
+// By hand: docs/DECISIONS.md, "Drops are written by hand".
 impl Drop for NameSet {
     fn drop(self) {
         let NameSet { short: _, long: _ } = self;

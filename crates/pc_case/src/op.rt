@@ -6,14 +6,14 @@ use pc_common::{Memory, Value};
 use std::alloc::Global;
 
 /// A micro-op's name: the number of its instruction and its number inside it.
-#[derive(Clone, Copy, Debug, PartialEq, Eq, Hash)]
+#[derive(Clone, Copy, PartialEq, Eq, Hash)]
 pub struct OpId {
     pub g: u64,
     pub n: u64,
 }
 
 /// What a read or a write touches: its virtual address, its physical address and its value.
-#[derive(Clone, Copy, Debug, PartialEq, Eq)]
+#[derive(Clone, Copy, PartialEq, Eq)]
 pub struct Memop {
     pub va: Page,
     pub pa: Address,
@@ -38,7 +38,7 @@ pub struct Op {
     pub memop: Option<Memop>,
 }
 
-// Written out, so that a proof of what drops the value meets one call and no field.
+// By hand: docs/DECISIONS.md, "Drops are written by hand".
 impl Drop for Op {
     fn drop(self) {
         let Op {

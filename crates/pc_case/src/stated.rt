@@ -11,7 +11,7 @@ use std::collections::HashMap;
 use std::marker::Model;
 
 /// What a line states: the value at a physical address.
-#[derive(Clone, Copy, Debug, PartialEq, Eq)]
+#[derive(Clone, Copy)]
 pub struct Stated {
     pub pa: Address,
     pub value: Value,
@@ -26,7 +26,7 @@ pub(crate) struct ValueTable {
     by_address: HashMap<Address, Value>,
 }
 
-// Written out, so that a proof of what drops the value meets one call and no field.
+// By hand: docs/DECISIONS.md, "Drops are written by hand".
 impl Drop for ValueTable {
     fn drop(self) {
         let ValueTable {

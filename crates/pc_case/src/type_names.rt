@@ -17,7 +17,7 @@ pub struct TypeNames {
     known: NameSet,
 }
 
-// Written out, so that a proof of what drops the value meets one call and no field.
+// By hand: docs/DECISIONS.md, "Drops are written by hand".
 impl Drop for TypeNames {
     fn drop(self) {
         let TypeNames {

@@ -1,12 +1,10 @@
 -- Elements of lists by recursion: what maps and flat maps have, and tests of all elements.
-use Rattle.std.proofs.Common.{◌≡◌, ℕ, zero, suc, ◌+◌, ◌<◌, ◌≤◌, ◌⊎◌, inl, inr, Bool, true, false, ◌&&◌, ◌||◌, List, [], ◌∷◌, ◌++◌, map, length, get_or, refl, sym, ap, subst, arith}
+use Rattle.std.proofs.Common.{◌≡◌, ℕ, zero, suc, ◌+◌, ◌<◌, ◌≤◌, ◌⊎◌, inl, inr, Bool, true, List, [], ◌∷◌, ◌++◌, map, length, get_or, refl, sym, ap, subst, arith, ◌∙◌}
 use Rattle.std.specs.Prelude.{Contains}
-use Rattle.std.proofs.lemmas.Bool.{cases_lt}
-use Rattle.std.specs.List.{list_all, list_any, flat_map, range_with_len}
-
-abbrev pub In : {X : Type 0} → X → List X → Type 0
-In x [] = ⊥
-In x (y ∷ ys) = (y ≡ x) ⊎ In x ys
+use Rattle.std.specs.List.{list_all, list_any, flat_map, range_with_len, filter}
+pub use Rattle.pc_common.specs.Elements.{In}
+use Rattle.std.proofs.lemmas.Bool.{or_left, or_right}
+use Rattle.pc_common.proofs.Bools.{true_or_false, and_first, and_second, or_second}
 
 pub in_from_contains : {X : Type 0} (x : X) (xs : List X) → Contains xs x → In x xs
 in_from_contains x xs has = at x xs has.0 has.1 has.2
@@ -61,51 +59,16 @@ from_flat f y (x ∷ xs) i =
       | inr later ↦ (let r = from_flat f y xs later in (r.0, inr r.1, r.2))
     ]
 
-pub in_range : (a n i : ℕ) → a ≤ i → i < a + n → In i (range_with_len a n)
-in_range a zero i low high = absurd (omega arith)
-in_range a (suc n) i low high = elim (first_or_later a i low) [ inl e ↦ inl e | inr h ↦ inr (in_range (a + 1) n i (omega arith) (omega arith)) ]
-  where
-    first_or_later : (a i : ℕ) → a ≤ i → (a ≡ i) ⊎ (a + 1 ≤ i)
-    first_or_later a i low = elim (cases_lt a i) [ inl less ↦ inr (omega arith) | inr not ↦ inl (omega arith) ]
-
 pub from_range : (a n i : ℕ) → In i (range_with_len a n) → (a ≤ i) × (i < a + n)
 from_range a zero i h = absurd h
 from_range a (suc n) i (inl e) = (omega arith, omega arith)
 from_range a (suc n) i (inr h) = let r = from_range (a + 1) n i h in let low = r.0 in let high = r.1 in (omega arith, omega arith)
-
-pub and_first : (a b : Bool) → (a && b) ≡ true → a ≡ true
-and_first true b e = refl
-and_first false b e = cc
-
-pub and_second : (a b : Bool) → (a && b) ≡ true → b ≡ true
-and_second true b e = e
-and_second false b e = cc
-
-pub true_or_false : (b : Bool) → (b ≡ true) ⊎ (b ≡ false)
-true_or_false true = inl refl
-true_or_false false = inr refl
-
-pub or_second : (a b : Bool) → a ≡ false → (a || b) ≡ true → b ≡ true
-or_second true b h e = cc
-or_second false b h e = e
-
-pub or_first : (a b : Bool) → a ≡ true → (a || b) ≡ true
-or_first true b h = refl
-or_first false b h = cc
-
-pub or_later : (a b : Bool) → b ≡ true → (a || b) ≡ true
-or_later true b h = refl
-or_later false b h = h
 
 -- a test of all elements
 pub all_holds : {X : Type 0} (p : X → Bool) (xs : List X) → list_all p xs ≡ true → (x : X) → In x xs → p x ≡ true
 all_holds {X} p [] e x i = absurd i
 all_holds {X} p (y ∷ ys) e x (inl h) = let P : X → Type 0 = λ z. p z ≡ true in subst P h (and_first (p y) (list_all p ys) e)
 all_holds {X} p (y ∷ ys) e x (inr i) = all_holds p ys (and_second (p y) (list_all p ys) e) x i
-
-pub holds_all : {X : Type 0} (p : X → Bool) (xs : List X) → ((x : X) → In x xs → p x ≡ true) → list_all p xs ≡ true
-holds_all p [] h = refl
-holds_all p (y ∷ ys) h = rw (h y (inl refl)) (holds_all p ys (λ x i. h x (inr i)))
 
 -- a test of some element
 pub any_holds : {X : Type 0} (p : X → Bool) (xs : List X) → list_any p xs ≡ true → (x : X) × In x xs × (p x ≡ true)
@@ -118,5 +81,22 @@ any_holds {X} p (y ∷ ys) e =
 
 pub holds_any : {X : Type 0} (p : X → Bool) (x : X) (xs : List X) → In x xs → p x ≡ true → list_any p xs ≡ true
 holds_any p x [] i h = absurd i
-holds_any {X} p x (y ∷ ys) (inl e) h = or_first (p y) (list_any p ys) (let P : X → Type 0 = λ z. p z ≡ true in subst P (sym e) h)
-holds_any p x (y ∷ ys) (inr i) h = or_later (p y) (list_any p ys) (holds_any p x ys i h)
+holds_any {X} p x (y ∷ ys) (inl e) h = or_left (p y) (list_any p ys) (let P : X → Type 0 = λ z. p z ≡ true in subst P (sym e) h)
+holds_any p x (y ∷ ys) (inr i) h = or_right (p y) (list_any p ys) (holds_any p x ys i h)
+
+pub in_filter : {X : Type 0} (p : X → Bool) (x : X) (xs : List X) → In x xs → p x ≡ true → In x (filter p xs)
+in_filter p x [] i h = absurd i
+in_filter {X} p x (y ∷ ys) (inl e) h = rw (ap p e ∙ h) (inl e)
+in_filter {X} p x (y ∷ ys) (inr i) h =
+    elim (true_or_false (p y)) [ inl t ↦ rw t (inr (in_filter p x ys i h)) | inr f ↦ rw f (in_filter p x ys i h) ]
+
+pub from_filter : {X : Type 0} (p : X → Bool) (x : X) (xs : List X) → In x (filter p xs) → In x xs × (p x ≡ true)
+from_filter p x [] i = absurd i
+from_filter {X} p x (y ∷ ys) i =
+    elim (true_or_false (p y)) [
+      | inl t ↦ elim (rw t at i) [
+        | inl e ↦ (inl e, let P : X → Type 0 = λ z. p z ≡ true in subst P e t)
+        | inr j ↦ (let r = from_filter p x ys j in (inr r.0, r.1))
+      ]
+      | inr f ↦ (let r = from_filter p x ys (rw f at i) in (inr r.0, r.1))
+    ]

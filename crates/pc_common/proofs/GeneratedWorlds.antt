@@ -1,30 +1,13 @@
 -- The world that a graph without a cycle generates, over any things that a test tells apart.
-use Rattle.std.proofs.Common.{◌≡◌, ◌⊎◌, inl, inr, Bool, true, List, [], ◌∷◌, ◌++◌, map, refl, sym, ◌∙◌, ap, subst, nat_eq, eq-eqb, eqb-true}
+use Rattle.std.proofs.Common.{◌≡◌, ◌⊎◌, inl, inr, Bool, true, List, [], ◌∷◌, ◌++◌, map, refl, sym, ◌∙◌, ap, subst}
 use Rattle.std.specs.Prelude.{Contains, ◌↔◌}
 use Rattle.std.specs.List.{flat_map, filter}
 use Rattle.pc_common.specs.World.{same_node, World, IsWorld}
 use Rattle.pc_common.specs.Chain.{Leads, Chain, Reach, Acyclic}
 use Rattle.pc_common.specs.Generated.{IsListed, HasEnds, IsGenerated}
-use Rattle.pc_common.proofs.Elements.{In, in_from_contains, contains_from_in, in_front, in_back, in_either, in_map, from_map, in_flat, from_flat, true_or_false}
+use Rattle.pc_common.proofs.Elements.{In, in_from_contains, contains_from_in, in_front, in_back, in_either, in_map, from_map, in_flat, from_flat, in_filter, from_filter}
 use Rattle.pc_common.proofs.Nodes.{same_node-true, same_node-self}
 use Rattle.pc_common.proofs.Chains.{chain_join, chain_with}
-
-in_filter : {X : Type 0} (p : X → Bool) (x : X) (xs : List X) → In x xs → p x ≡ true → In x (filter p xs)
-in_filter p x [] i h = absurd i
-in_filter {X} p x (y ∷ ys) (inl e) h = rw (ap p e ∙ h) (inl e)
-in_filter {X} p x (y ∷ ys) (inr i) h =
-    elim (true_or_false (p y)) [ inl t ↦ rw t (inr (in_filter p x ys i h)) | inr f ↦ rw f (in_filter p x ys i h) ]
-
-from_filter : {X : Type 0} (p : X → Bool) (x : X) (xs : List X) → In x (filter p xs) → In x xs × (p x ≡ true)
-from_filter p x [] i = absurd i
-from_filter {X} p x (y ∷ ys) i =
-    elim (true_or_false (p y)) [
-      | inl t ↦ elim (rw t at i) [
-        | inl e ↦ (inl e, let P : X → Type 0 = λ z. p z ≡ true in subst P e t)
-        | inr j ↦ (let r = from_filter p x ys j in (inr r.0, r.1))
-      ]
-      | inr f ↦ (let r = from_filter p x ys (rw f at i) in (inr r.0, r.1))
-    ]
 
 -- a test of equality, and that it is one
 pub record Tells {N : Type 0} (same : N → N → Bool) : Type 0 where
@@ -207,6 +190,3 @@ generates same tells ns es ends acyclic =
 
 pub node_tells : Tells same_node
 node_tells = record { is_same = same_node-true; self = same_node-self }
-
-pub number_tells : Tells nat_eq
-number_tells = record { is_same = eqb-true; self = λ n. eq-eqb n n refl }

@@ -1,3 +1,5 @@
+pub mod Bools
+pub mod Places
 pub mod Elements
 pub mod Nodes
 pub mod Chains

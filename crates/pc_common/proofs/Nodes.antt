@@ -2,12 +2,13 @@
 use Rattle.std.proofs.Common.{◌≡◌, ℕ, true, ◌&&◌, refl, ◌∙◌, ap, subst, nat_eq, eq-eqb, eqb-true}
 use Rattle.std.specs.Prelude.{IsTrue, Contains, ◌↔◌}
 use Rattle.pc_common.specs.World.{Node, Edge, World, same_node, same_edge, has_node, has_edge}
-use Rattle.pc_common.proofs.Elements.{In, in_from_contains, contains_from_in, any_holds, holds_any, and_first, and_second}
+use Rattle.pc_common.proofs.Elements.{In, in_from_contains, contains_from_in, any_holds, holds_any}
+use Rattle.pc_common.proofs.Bools.{and_first, and_second}
 
 abbrev node_with : ℕ → ℕ → ℕ → Node
 node_with o c s = record { op = o; core = c; stage = s }
 
-node_parts : (a b : Node) → a.op ≡ b.op → a.core ≡ b.core → a.stage ≡ b.stage → a ≡ b
+pub node_parts : (a b : Node) → a.op ≡ b.op → a.core ≡ b.core → a.stage ≡ b.stage → a ≡ b
 node_parts a b o c s = ap (λ x. node_with x a.core a.stage) o ∙ ap (λ x. node_with b.op x a.stage) c ∙ ap (λ x. node_with b.op b.core x) s
 
 pub same_node-true : (a b : Node) → same_node a b ≡ true → a ≡ b

@@ -2,10 +2,6 @@
 use Rattle.std.proofs.Common.{◌≤◌, ℕ, arith}
 use Rattle.pc_common.specs.Faults.{Rose}
 
--- it rose in the first call, and did not fall after
-pub rose_before : (a b c : ℕ) → a ≤ b → b ≤ c → Rose a b → Rose a c
-rose_before a b c first next rose = λ below. grind (arith, rose)
-
 -- it did not fall in the first call, and rose in the second
 pub rose_after : (a b c : ℕ) → a ≤ b → Rose b c → Rose a c
 rose_after a b c first rose = λ below. omega (arith, rose below)

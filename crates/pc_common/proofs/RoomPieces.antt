@@ -1,30 +1,20 @@
 -- Pieces put into a room one after another, as one text.
-use Rattle.std.proofs.Common.{◌≡◌, ℕ, ◌+◌, ◌<◌, List, [], ◌∷◌, ◌++◌, Result, length, get_or, take, drop, refl, sym, ◌∙◌, ap, append_assoc, add-one}
+use Rattle.std.proofs.Common.{◌≡◌, ℕ, ◌+◌, ◌<◌, List, ◌∷◌, ◌++◌, Result, length, get_or, take, drop, refl, sym, ◌∙◌, ap}
 use Rattle.std.specs.Prelude.{IsOk, IsErr}
 use Rattle.std.specs.List.{flat_map}
-use Rattle.std.proofs.Math.Seq.{take-suc}
 use Rattle.std.proofs.lemmas.List.{take-append-drop, drop_more, append-nil}
+use Rattle.std.proofs.lemmas.List.Concat.{flat_map-append}
 use Rattle.pc_common.specs.Outside.{SinkView}
 use Rattle.pc_common.specs.Writes.{success}
 use Rattle.pc_common.specs.Room.{Puts}
 use Rattle.pc_common.specs.declared.room.Room.{Room}
 use Rattle.pc_common.proofs.Rooms.{puts_then, puts_stop, puts_nothing, puts_text}
-
-flat_append : {X : Type 0} (f : X → List ℕ) (xs ys : List X) → flat_map f (xs ++ ys) ≡ flat_map f xs ++ flat_map f ys
-flat_append f [] ys = refl
-flat_append f (x ∷ xs) ys = ap (λ zs. f x ++ zs) (flat_append f xs ys) ∙ sym (append_assoc (f x) (flat_map f xs) (flat_map f ys))
-
-flat_next : {X : Type 0} (f : X → List ℕ) (xs : List X) (k : ℕ) (d : X) → k < length xs
-    → flat_map f (take k xs) ++ f (get_or xs k d) ≡ flat_map f (take (k + 1) xs)
-flat_next f xs k d inside =
-    ap (λ ys. flat_map f (take k xs) ++ ys) (sym (append-nil (f (get_or xs k d))))
-    ∙ sym (flat_append f (take k xs) (get_or xs k d ∷ []))
-    ∙ ap (flat_map f) (sym (take-suc xs k d inside) ∙ ap (λ n. take n xs) (sym (add-one k)))
+use Rattle.pc_common.proofs.Writes.{flat_more}
 
 flat_split : {X : Type 0} (f : X → List ℕ) (xs : List X) (k : ℕ) (d : X) → k < length xs
     → flat_map f (take k xs) ++ (f (get_or xs k d) ++ flat_map f (drop (k + 1) xs)) ≡ flat_map f xs
 flat_split f xs k d inside =
-    sym (flat_append f (take k xs) (get_or xs k d ∷ drop (k + 1) xs))
+    sym (flat_map-append f (take k xs) (get_or xs k d ∷ drop (k + 1) xs))
     ∙ ap (flat_map f) (ap (λ ys. take k xs ++ ys) (sym (drop_more xs k d inside)) ∙ take-append-drop k xs)
 
 -- what was put without an error
@@ -39,7 +29,7 @@ pub puts_next : {K X : Type 0} {view : K → SinkView} {old mid new : Room K}
     → Puts view old mid success (flat_map f (take k xs)) → Puts view mid new r (f (get_or xs k d))
     → Puts view old new success (flat_map f (take (k + 1) xs))
 puts_next f xs k d inside ok before puts =
-    puts_text (flat_map f (take (k + 1) xs)) (flat_next f xs k d inside) (puts_then refl before (puts_done ok puts))
+    puts_text (flat_map f (take (k + 1) xs)) (flat_more f xs k d inside) (puts_then refl before (puts_done ok puts))
 
 -- the texts of the first k things, of which the next failed
 pub puts_failed : {K X : Type 0} {view : K → SinkView} {old mid new : Room K}

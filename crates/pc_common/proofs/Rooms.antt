@@ -11,14 +11,15 @@ use Rattle.pc_common.specs.Waiting.{waiting_bytes}
 use Rattle.pc_common.specs.Room.{waits, room_view, Puts, Flushes}
 use Rattle.pc_common.specs.declared.room.Room.{Room}
 use Rattle.pc_common.specs.declared.waiting.Waiting.{Waiting}
-use Rattle.pc_common.proofs.Writes.{writes_then, writes_stop}
+use Rattle.pc_common.proofs.Writes.{writes_then, writes_stop, on_more}
 
 still : (b c : Bool) → c ≡ b → IsTrue b → IsTrue c
 still b c same is = let P : Bool → Type 0 = λ x. IsTrue x in subst P (sym same) is
 
 -- what a sink took only grew in each of two calls
 grows_then : {K : Type 0} (view : K → SinkView) (a b c : K) → (view b).modelled ≡ (view a).modelled
-    → (IsTrue (view a).modelled → (sent : List ℕ) × ((view b).taken ≡ (view a).taken ++ sent)) → (IsTrue (view b).modelled → (sent : List ℕ) × ((view c).taken ≡ (view b).taken ++ sent))
+    → (IsTrue (view a).modelled → (sent : List ℕ) × ((view b).taken ≡ (view a).taken ++ sent))
+    → (IsTrue (view b).modelled → (sent : List ℕ) × ((view c).taken ≡ (view b).taken ++ sent))
     → IsTrue (view a).modelled → (sent : List ℕ) × ((view c).taken ≡ (view a).taken ++ sent)
 grows_then view a b c same first next is =
     let f = first is in
@@ -120,7 +121,8 @@ sent_cut before sent wait text after n is whole within fewer =
     record {
       shown = length sent;
       short = omega arith;
-      bytes = is ∙ ap (λ xs. before ++ xs) (sym (take_at sent wait (length sent) refl) ∙ ap (take (length sent)) both ∙ take-take (length sent) n text (omega arith));
+      bytes = is ∙ ap (λ xs. before ++ xs) (sym (take_at sent wait (length sent) refl) ∙ ap (take (length sent)) both
+          ∙ take-take (length sent) n text (omega arith));
     }
 
 cut_err : {U F : Type 0} (s : Result U F) (before text after : List ℕ) → IsErr s → IsCutShort before text after → Went s before text after
@@ -141,7 +143,8 @@ stopped : {K : Type 0} {view : K → SinkView} {old new : Room K}
 stopped {view = view} {old} {new} {r = r} s {text} empty err fails puts = record {
   same_modelled = puts.writes.same_modelled;
   count = puts.writes.count;
-  cause = on_err r s (Rose (view old.out.now).faults (view new.out.now).faults) (Rose (view old.out.now).faults (view new.out.now).faults) err (λ rose. rose) puts.writes.cause;
+  cause = on_err r s (Rose (view old.out.now).faults (view new.out.now).faults) (Rose (view old.out.now).faults (view new.out.now).faults) err
+      (λ rose. rose) puts.writes.cause;
   went = λ is.
       let sent = puts.grows is in
       let P : List ℕ → Type 0 = λ xs. Went r ((view old.out.now).taken ++ xs) text (room_view view new).taken in
@@ -158,10 +161,6 @@ none_waits : {K U F : Type 0} (s : Result U F) (room : Room K) → OnOk s (room.
 none_waits (Ok x) room used = ap (λ n. drop room.waiting.from (take n room.waiting.bytes)) used ∙ drop_all room.waiting.from [] (omega arith)
 none_waits (Err e) room used = tt
 
-on_same : {U F : Type 0} (s : Result U F) (P Q : Type 0) → (P → Q) → OnErr s P → OnErr s Q
-on_same (Ok x) P Q f given = tt
-on_same (Err e) P Q f given = f given
-
 flushed : {K : Type 0} {view : K → SinkView} {old mid new : Room K}
     {T E U F : Type 0} {r : Result T E} {s : Result U F} {text : List ℕ} → waits old ≡ [] → IsOk r
     → Puts view old mid r text → Flushes view mid new s → Writes view old.out.now new.out.now s text
@@ -169,12 +168,13 @@ flushed {view = view} {old} {mid} {new} {s = s} {text} empty ok puts flush =
     let both = puts_then ok puts flush.puts in record {
       same_modelled = both.writes.same_modelled;
       count = both.writes.count;
-      cause = on_same s (Rose (view mid.out.now).faults (view new.out.now).faults) (Rose (view old.out.now).faults (view new.out.now).faults)
+      cause = on_more s (Rose (view mid.out.now).faults (view new.out.now).faults) (Rose (view old.out.now).faults (view new.out.now).faults)
           (λ rose below. let after = rose below in omega (arith, puts.writes.count)) flush.cause;
       went = λ is.
           let sent = both.grows is in
           flush_went s (view old.out.now).taken sent.0 (waits new) text (view new.out.now).taken sent.1
-          (both.writes.went is ∙ ap (λ xs. ((view old.out.now).taken ++ xs) ++ (text ++ [])) empty ∙ ap (λ xs. xs ++ (text ++ [])) (append-nil (view old.out.now).taken) ∙ ap (λ xs. (view old.out.now).taken ++ xs) (append-nil text))
+          (both.writes.went is ∙ ap (λ xs. ((view old.out.now).taken ++ xs) ++ (text ++ [])) empty
+          ∙ ap (λ xs. xs ++ (text ++ [])) (append-nil (view old.out.now).taken) ∙ ap (λ xs. (view old.out.now).taken ++ xs) (append-nil text))
           (none_waits s new flush.empty) flush.left;
     }
 

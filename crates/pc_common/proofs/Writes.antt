@@ -1,9 +1,10 @@
 -- Texts written by several calls, as one text.
-use Rattle.std.proofs.Common.{◌≡◌, ◌<◌, ◌≤◌, ◌+◌, ℕ, Bool, List, [], ◌∷◌, ◌++◌, Result, Ok, Err, length, get_or, take, drop, refl, sym, ◌∙◌, ap, subst, arith, add-one, append_assoc}
+use Rattle.std.proofs.Common.{◌≡◌, ◌<◌, ◌≤◌, ◌+◌, ℕ, Bool, List, [], ◌∷◌, ◌++◌, Result, Ok, Err, length, get_or, take, drop, refl, sym, ◌∙◌, ap, subst, arith, add-one}
 use Rattle.std.specs.Prelude.{IsOk, IsErr, IsTrue, OnErr}
 use Rattle.std.specs.List.{flat_map}
 use Rattle.std.proofs.Math.Seq.{take-suc}
 use Rattle.std.proofs.lemmas.List.{take-append-drop, take_all, append-nil}
+use Rattle.std.proofs.lemmas.List.Concat.{flat_map-append}
 use Rattle.pc_common.specs.Faults.{Rose}
 use Rattle.pc_common.specs.Outside.{SinkView}
 use Rattle.pc_common.specs.Writes.{Went, Writes, success}
@@ -29,7 +30,7 @@ on_rose (Ok x) s P err given = cc
 on_rose (Err e) (Ok y) P err given = tt
 on_rose (Err e) (Err f) P err given = given
 
-on_more : {U F : Type 0} (s : Result U F) (P Q : Type 0) → (P → Q) → OnErr s P → OnErr s Q
+pub on_more : {U F : Type 0} (s : Result U F) (P Q : Type 0) → (P → Q) → OnErr s P → OnErr s Q
 on_more (Ok y) P Q f given = tt
 on_more (Err e) P Q f given = f given
 
@@ -41,7 +42,8 @@ pub writes_then : {K : Type 0} {view : K → SinkView} {old mid new : K}
 writes_then {K} {view} {old} {mid} {new} {r = r} {s = s} {first} {next} ok one two = record {
   same_modelled = two.same_modelled ∙ one.same_modelled;
   count = omega (arith, one.count, two.count);
-  cause = on_more s (Rose (view mid).faults (view new).faults) (Rose (view old).faults (view new).faults) (rose_after (view old).faults (view mid).faults (view new).faults one.count) two.cause;
+  cause = on_more s (Rose (view mid).faults (view new).faults) (Rose (view old).faults (view new).faults)
+      (rose_after (view old).faults (view mid).faults (view new).faults one.count) two.cause;
   went = λ is. went_then r s (view old).taken first (view mid).taken next (view new).taken ok (one.went is)
       (two.went (let P : Bool → Type 0 = λ b. IsTrue b in subst P (sym one.same_modelled) is));
 }
@@ -70,21 +72,17 @@ writes_fail {r = r} {s = s} err fails one = same r s err fails one
     same (Err e) (Ok y) err fails one = cc
     same (Err e) (Err f) err fails one = record { same_modelled = one.same_modelled; count = one.count; cause = one.cause; went = one.went }
 
-flat_append : {X Y : Type 0} (f : X → List Y) (xs ys : List X) → flat_map f (xs ++ ys) ≡ flat_map f xs ++ flat_map f ys
-flat_append f [] ys = refl
-flat_append f (x ∷ xs) ys = ap (λ zs. f x ++ zs) (flat_append f xs ys) ∙ sym (append_assoc (f x) (flat_map f xs) (flat_map f ys))
-
 take_more : {X : Type 0} (xs : List X) (k : ℕ) (d : X) → k < length xs → take (k + 1) xs ≡ take k xs ++ get_or xs k d ∷ []
 take_more xs k d within = ap (λ n. take n xs) (add-one k) ∙ take-suc xs k d within
 
 pub flat_more : {X : Type 0} (f : X → List ℕ) (xs : List X) (k : ℕ) (d : X) → k < length xs
     → flat_map f (take k xs) ++ f (get_or xs k d) ≡ flat_map f (take (k + 1) xs)
 flat_more f xs k d within =
-    ap (λ ys. flat_map f (take k xs) ++ ys) (sym (append-nil (f (get_or xs k d)))) ∙ sym (flat_append f (take k xs) (get_or xs k d ∷ []))
+    ap (λ ys. flat_map f (take k xs) ++ ys) (sym (append-nil (f (get_or xs k d)))) ∙ sym (flat_map-append f (take k xs) (get_or xs k d ∷ []))
     ∙ ap (flat_map f) (sym (take_more xs k d within))
 
 pub flat_rest : {X : Type 0} (f : X → List ℕ) (xs : List X) (k : ℕ) → flat_map f (take k xs) ++ flat_map f (drop k xs) ≡ flat_map f xs
-flat_rest f xs k = sym (flat_append f (take k xs) (drop k xs)) ∙ ap (flat_map f) (take-append-drop k xs)
+flat_rest f xs k = sym (flat_map-append f (take k xs) (drop k xs)) ∙ ap (flat_map f) (take-append-drop k xs)
 
 -- the same text
 pub writes_text : {K : Type 0} {view : K → SinkView} {old new : K}

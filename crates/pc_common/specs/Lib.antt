@@ -20,3 +20,4 @@ pub mod Shared
 pub mod Status
 pub mod LineColumn
 pub mod Schedule
+pub mod Elements

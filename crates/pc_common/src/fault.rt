@@ -11,7 +11,7 @@ pub enum Which {
 }
 
 /// What is wrong with an input file: one variant for each fault word, with what it carries.
-#[derive(Clone, Copy, Debug, PartialEq, Eq)]
+#[derive(Clone, Copy)]
 pub enum FaultKind {
     /// `too-large`: more bytes than the limit.
     TooLarge { limit: u64 },
@@ -82,7 +82,7 @@ pub enum FaultKind {
 }
 
 /// A fault of an input file: where it stands, and what is wrong.
-#[derive(Clone, Copy, Debug, PartialEq, Eq)]
+#[derive(Clone, Copy)]
 pub struct InputFault {
     pub file: Which,
     pub place: Place,

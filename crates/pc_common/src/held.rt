@@ -7,7 +7,7 @@ pub struct HeldFile {
     pub bytes: Bytes,
 }
 
-// Written out, so that a proof of what drops the value meets one call and no field.
+// By hand: docs/DECISIONS.md, "Drops are written by hand".
 impl Drop for HeldFile {
     fn drop(self) {
         let HeldFile { name: _, bytes: _ } = self;

@@ -1,7 +1,9 @@
-//! The ground floor: places and faults of the input files, the generic list, a list whose copies share
-//! their items, the outside world as two traits (files that are read, a sink that is written), reading
-//! and writing whole, a room of 4,096 bytes in front of a sink, and how many cores and micro-ops there
-//! may be.
+//! The ground floor: places and faults of files, lists, the outside world as two traits, reading and writing whole, and
+//! how many cores and micro-ops there may be. One kind of list has copies that share their items, and a room of 4,096
+//! bytes stands in front of a sink. `specs/` has what all layers speak of: case, node, world, chain, certificate lines.
+//!
+//! Clause: `read_all` returns what a modelled file holds, within a limit (`whole`, `within`); `write_all` and a `Room`
+//! lose nothing and repeat nothing (`Writes`, `Puts`).
 //!
 //! ```rust
 //! use pc_common::{Calls, MemSink, Place, line_col, write_all};

@@ -23,7 +23,7 @@ pub struct MemFiles {
     ghost moves: { 0 < step },
 }
 
-// Written out, so that a proof of what drops the value meets one call and no field.
+// By hand: docs/DECISIONS.md, "Drops are written by hand".
 impl Drop for MemFiles {
     fn drop(self) {
         let MemFiles {

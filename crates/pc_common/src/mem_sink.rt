@@ -20,7 +20,7 @@ pub struct MemSink {
     ghost moves: { 0 < step },
 }
 
-// Written out, so that a proof of what drops the value meets one call and no field.
+// By hand: docs/DECISIONS.md, "Drops are written by hand".
 impl Drop for MemSink {
     fn drop(self) {
         let MemSink {

@@ -16,7 +16,7 @@ pub struct Schedule {
     faults: u64,
 }
 
-// Written out, so that a proof of what drops the value meets one call and no field.
+// By hand: docs/DECISIONS.md, "Drops are written by hand".
 impl Drop for Schedule {
     fn drop(self) {
         let Schedule {

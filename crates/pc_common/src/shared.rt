@@ -15,7 +15,7 @@ pub struct Shared<T> {
     items: Option<RcSlice<T>>,
 }
 
-// Written out, so that a proof of what drops the value meets one call and no field.
+// By hand: docs/DECISIONS.md, "Drops are written by hand".
 impl<T: Drop> Drop for Shared<T> {
     fn drop(self) {
         let Shared { alloc: _, items: _ } = self;

@@ -17,7 +17,7 @@ pub struct Shelf {
     started: Option<Started>,
 }
 
-// Written out, so that a proof of what drops the value meets one call and no field.
+// By hand: docs/DECISIONS.md, "Drops are written by hand".
 impl Drop for Shelf {
     fn drop(self) {
         let Shelf {

@@ -13,7 +13,7 @@ pub struct SureFiles {
     shelf: Shelf,
 }
 
-// Written out, so that a proof of what drops the value meets one call and no field.
+// By hand: docs/DECISIONS.md, "Drops are written by hand".
 impl Drop for SureFiles {
     fn drop(self) {
         let SureFiles { shelf: _ } = self;

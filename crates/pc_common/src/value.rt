@@ -1,5 +1,5 @@
 /// What is written or read: a number, or a page-table entry.
-#[derive(Clone, Copy, Debug, PartialEq, Eq)]
+#[derive(Clone, Copy, PartialEq, Eq)]
 pub enum Value {
     Number(u64),
     /// The physical tag that the entry maps to, its accessed mark and its dirty mark. In a test without a

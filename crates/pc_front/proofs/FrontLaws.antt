@@ -21,13 +21,13 @@ use Rattle.pc_syntax.specs.Closing.{closing_of}
 use Rattle.pc_syntax.proofs.ExpansionLaws.{expansion_true, expansion_faults}
 use Rattle.pc_syntax.proofs.ClosingTruth.{closing_true}
 use Rattle.pc_syntax.proofs.NoFault.{none_first, none_second, none_where}
-use Rattle.uspec_lexer.specs.Fault.{IsRefusal}
+use Rattle.uspec_lexer.specs.Fault.{IsLexicalRefusal}
 use Rattle.uspec_lexer.specs.declared.fault.LexFault.{LexFault}
 use Rattle.uspec_lexer.specs.declared.fault.LexFault.TheVariants.{Lexical as a_lexical_fault, Memory as no_memory}
 use Rattle.uspec_lexer.specs.Token.{Token}
 use Rattle.uspec_lexer.specs.Spells.{Spells}
 use Rattle.uspec_parser.specs.Marks.{IsMarkedModel}
-use Rattle.uspec_parser.specs.Answers.{terminals, IsRefusal as IsParseRefusal}
+use Rattle.uspec_parser.specs.Answers.{terminals, IsParseRefusal}
 use Rattle.uspec_parser.specs.declared.fault.ParseFault.{ParseFault}
 use Rattle.uspec_parser.specs.declared.fault.ParseFault.TheVariants.{Syntax as a_syntax_fault, Depth as a_depth_fault, Memory as no_memory_to_parse}
 use Rattle.macro_expand.specs.Faults.{AreExpansions}
@@ -150,7 +150,7 @@ pub first_end : (bytes : List ℕ) (m : WrittenModel) → ModelOf bytes m → (e
 first_end bytes m of e (o, is, end) = subst (IsModelEnd bytes) (sym end) (front_end bytes m of o is)
 
 -- a fault of the bytes, as an end
-pub lexical_is_end : (bytes : List ℕ) (fault : LexFault) → IsRefusal bytes fault → IsModelEnd bytes (lexical_end fault)
+pub lexical_is_end : (bytes : List ℕ) (fault : LexFault) → IsLexicalRefusal bytes fault → IsModelEnd bytes (lexical_end fault)
 lexical_is_end bytes (a_lexical_fault place) is = (refl, lexical is)
 lexical_is_end bytes no_memory is = tt
 

@@ -2,7 +2,7 @@
 use Rattle.std.proofs.Common.{◌≡◌, ℕ, List, Some, None, unwrap_or, refl, sym, ◌∙◌, ap, subst}
 use Rattle.pc_common.specs.declared.place.Place.{Place}
 use Rattle.pc_common.specs.declared.fault.FaultKind.{FaultKind}
-use Rattle.ll_grammar.specs.FirstFault.{IsFirstFault}
+use Rattle.ll_grammar.specs.FirstFault.{IsFirstTokenFault}
 use Rattle.ll_grammar.specs.declared.fault.Fault.{Fault as TokenFault}
 use Rattle.ll_grammar.specs.declared.fault.Fault.TheVariants.{Syntax as a_syntax_fault, Depth as a_depth_fault}
 use Rattle.ll_grammar.proofs.Faults.{one_answer}
@@ -23,9 +23,9 @@ one_whole_model bytes m n x y =
     one_model x.tokens m n x.tree (subst P (spells-unique y.spelled x.spelled) y.tree)
 
 accepted_alone : (bytes : List ℕ) (m : WrittenModel) (ts : List Token) (f : TokenFault) → ModelOf bytes m → Spells bytes ts
-    → IsFirstFault IsMarkedModel (terminals ts) f → ⊥
+    → IsFirstTokenFault IsMarkedModel (terminals ts) f → ⊥
 accepted_alone bytes m ts f x spelled fault =
-    let P : List Token → Type 0 = λ us. IsFirstFault IsMarkedModel (terminals us) f in
+    let P : List Token → Type 0 = λ us. IsFirstTokenFault IsMarkedModel (terminals us) f in
     let here = one_answer IsMarkedModel (terminals x.tokens) None (Some f) x.accepted (subst P (spells-unique spelled x.spelled) fault) in
     cc
 
@@ -45,9 +45,9 @@ place_is p q same = λ i. record { offset = same i }
 
 -- tokens have one first fault
 one_token_fault : (bytes : List ℕ) (ts us : List Token) (f g : TokenFault) → Spells bytes ts → Spells bytes us
-    → IsFirstFault IsMarkedModel (terminals ts) f → IsFirstFault IsMarkedModel (terminals us) g → f ≡ g
+    → IsFirstTokenFault IsMarkedModel (terminals ts) f → IsFirstTokenFault IsMarkedModel (terminals us) g → f ≡ g
 one_token_fault bytes ts us f g spelled other x y =
-    let P : List Token → Type 0 = λ vs. IsFirstFault IsMarkedModel (terminals vs) g in
+    let P : List Token → Type 0 = λ vs. IsFirstTokenFault IsMarkedModel (terminals vs) g in
     let same = one_answer IsMarkedModel (terminals ts) (Some f) (Some g) x (subst P (spells-unique other spelled) y) in
     ap (λ o. unwrap_or o f) same
 

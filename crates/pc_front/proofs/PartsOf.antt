@@ -24,7 +24,7 @@ use Rattle.pc_ground.specs.declared.parts.Parts.{Parts}
 use Rattle.pc_ground.specs.declared.front.Front.{Front}
 use Rattle.pc_front.specs.declared.model_front.FrontEnd.{FrontEnd}
 use Rattle.pc_front.specs.declared.model_front.FrontEnd.TheVariants.{Refused, Memory}
-use Rattle.pc_front.specs.Front.{SaysModel, IsFirstFault, in_model, in_test, ArePartsOf, IsFrontOf, IsEnd}
+use Rattle.pc_front.specs.Front.{SaysModel, IsFirstFrontFault, in_model, in_test, ArePartsOf, IsFrontOf, IsEnd}
 use Rattle.pc_front.specs.Ends.{case_end}
 use Rattle.pc_ground.specs.Rows.{rows_of}
 use Rattle.pc_ground.specs.GroundTree.{closed_ground_tree}
@@ -74,7 +74,7 @@ module _ (m : WrittenModel) (no_fault : first_model_fault m ≡ None) where
 -- the first fault of a model is that of the two files
 pub model_end : (model test : List ℕ) (e : FrontEnd) → IsModelEnd model e → IsEnd model test e
 model_end model test (Refused fault) is =
-    subst (λ (file : Which). IsFirstFault model test (record { file = file; place = fault.place; kind = fault.kind })) (sym is.0) (in_model is.1)
+    subst (λ (file : Which). IsFirstFrontFault model test (record { file = file; place = fault.place; kind = fault.kind })) (sym is.0) (in_model is.1)
 model_end model test Memory is = tt
 
 -- beside a model without fault, the first fault of a test is that of the two files

@@ -29,13 +29,13 @@ abbrev pub lexical_end : LexFault → FrontEnd
 lexical_end (a_lexical_fault place) = Refused (fault_at Model Lexical place)
 lexical_end no_memory = Memory
 
-abbrev pub place_of : List ℕ → List Token → ℕ → Place
-place_of bytes ts k = record { offset = token_place bytes ts k }
+abbrev pub place_of_token : List ℕ → List Token → ℕ → Place
+place_of_token bytes ts k = record { offset = token_place bytes ts k }
 
 -- the fault of a parser tells the number of a token
 abbrev pub parse_end : List ℕ → List Token → ParseFault → FrontEnd
-parse_end bytes ts (a_syntax_fault k) = Refused (fault_at Model Syntax (place_of bytes ts k))
-parse_end bytes ts (a_depth_fault k) = Refused (fault_at Model (Depth MAX_OPENERS) (place_of bytes ts k))
+parse_end bytes ts (a_syntax_fault k) = Refused (fault_at Model Syntax (place_of_token bytes ts k))
+parse_end bytes ts (a_depth_fault k) = Refused (fault_at Model (Depth MAX_OPENERS) (place_of_token bytes ts k))
 parse_end bytes ts no_memory_to_parse = Memory
 
 abbrev pub macro_end : MacroFault → FrontEnd

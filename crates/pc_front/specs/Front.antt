@@ -44,11 +44,11 @@ pub record SaysModel (bytes : List ℕ) (m : WrittenModel) : Type 0 where
   pub no_fault : first_model_fault m ≡ None
 
 -- the first fault of two files: the model's, and where it has none, the test's
-pub data IsFirstFault (model test : List ℕ) : InputFault → Type 0 where
+pub data IsFirstFrontFault (model test : List ℕ) : InputFault → Type 0 where
   in_model : {kind : FaultKind} {at : Place} → IsModelFault model kind at
-      → IsFirstFault model test (fault_at Model kind at)
+      → IsFirstFrontFault model test (fault_at Model kind at)
   in_test : {m : WrittenModel} {fault : InputFault} → SaysModel model m → IsTestFault test fault
-      → IsFirstFault model test fault
+      → IsFirstFrontFault model test fault
 
 -- these are the parts of a model and a case: the case, the model's stages, and its axioms, closed
 pub record ArePartsOf (m : WrittenModel) (c : Case) (d : Case) (stages : List Stage)
@@ -79,5 +79,5 @@ pub record SayFront (model test : List ℕ) (front : Front) : Type 0 where
 
 -- a refusal is the first fault of the two; want of memory is tied to nothing
 abbrev pub IsEnd : List ℕ → List ℕ → FrontEnd → Type 0
-IsEnd model test (Refused fault) = IsFirstFault model test fault
+IsEnd model test (Refused fault) = IsFirstFrontFault model test fault
 IsEnd model test Memory = ⊤

@@ -19,6 +19,6 @@ HasOneModelFault bytes =
     (j k : FaultKind) (p q : Place) → IsModelFault bytes j p → IsModelFault bytes k q → (j ≡ k) × (p ≡ q)
 
 -- not both
-abbrev pub HasNoFaultBeside : List ℕ → Type 0
-HasNoFaultBeside bytes =
+abbrev pub ModelExcludesFault : List ℕ → Type 0
+ModelExcludesFault bytes =
     (m : WrittenModel) → SaysModel bytes m → (kind : FaultKind) (at : Place) → IsModelFault bytes kind at → ⊥

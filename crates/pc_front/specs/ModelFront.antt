@@ -6,7 +6,7 @@ use Rattle.pc_common.specs.declared.place.Place.{Place}
 use Rattle.pc_common.specs.declared.fault.FaultKind.{FaultKind}
 use Rattle.pc_common.specs.declared.fault.FaultKind.TheVariants.{Lexical, Syntax, Depth}
 use Rattle.pc_common.specs.declared.fault.Which.TheVariants.{Model}
-use Rattle.ll_grammar.specs.FirstFault.{IsAccepted, IsFirstFault}
+use Rattle.ll_grammar.specs.FirstFault.{IsAccepted, IsFirstTokenFault}
 use Rattle.ll_grammar.specs.declared.fault.Fault.TheVariants.{Syntax as a_syntax_fault, Depth as a_depth_fault}
 use Rattle.uspec_lexer.specs.Token.{Token, token_place}
 use Rattle.uspec_lexer.specs.Spells.{Spells, IsLexicalFault}
@@ -37,10 +37,10 @@ pub record ModelOf (bytes : List ℕ) (m : WrittenModel) : Type 0 where
 pub data IsModelFault (bytes : List ℕ) : FaultKind → Place → Type 0 where
   lexical : {at : Place} → IsLexicalFault bytes at.offset → IsModelFault bytes Lexical at
   syntax : {ts : List Token} {k : ℕ} {at : Place} → Spells bytes ts
-      → IsFirstFault IsMarkedModel (terminals ts) (a_syntax_fault k)
+      → IsFirstTokenFault IsMarkedModel (terminals ts) (a_syntax_fault k)
       → at.offset ≡ token_place bytes ts k → IsModelFault bytes Syntax at
   depth : {ts : List Token} {k : ℕ} {at : Place} → Spells bytes ts
-      → IsFirstFault IsMarkedModel (terminals ts) (a_depth_fault k)
+      → IsFirstTokenFault IsMarkedModel (terminals ts) (a_depth_fault k)
       → at.offset ≡ token_place bytes ts k → IsModelFault bytes (Depth MAX_OPENERS) at
   of_tree : {m : WrittenModel} {kind : FaultKind} {at : Place} → ModelOf bytes m
       → first_model_fault m ≡ Some (kind, at)

@@ -1,6 +1,6 @@
 // Laws of the definitions in specs/. Each function does nothing: its contract is the law.
 ghost use Rattle.std.specs.Prelude.{◌≡◌};
-ghost use Rattle.pc_front.specs.Laws.{HasModelOrFault, HasOneModel, HasOneModelFault, HasNoFaultBeside};
+ghost use Rattle.pc_front.specs.Laws.{HasModelOrFault, HasOneModel, HasOneModelFault, ModelExcludesFault};
 
 use super::limits::MAX_FILE;
 
@@ -26,5 +26,5 @@ pub fn one_model_fault(bytes: &[u8])
 
 /// Bytes that say a whole model without a fault have no first fault.
 pub fn no_model_fault(bytes: &[u8])
-    ensures { HasNoFaultBeside bytes.now }
+    ensures { ModelExcludesFault bytes.now }
 {}

@@ -1,5 +1,7 @@
 //! From the bytes of a model and a test to the ground tree, or the exact first fault.
 //!
+//! Clause: `front` and `read_parts` return what two files say, or their first fault (`ok`, `err`).
+//!
 //! ```rust
 //! use pc_front::front;
 //!

@@ -9,7 +9,7 @@ pub struct ModelFront {
 }
 
 /// Why a file gives no front.
-#[derive(Clone, Copy, Debug, PartialEq, Eq)]
+#[derive(Clone, Copy)]
 pub enum FrontEnd {
     /// The file has a fault, and this is the first.
     Refused(InputFault),

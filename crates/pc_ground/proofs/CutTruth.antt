@@ -2,15 +2,16 @@
 use Rattle.std.proofs.Common.{◌≡◌, inl, inr, Bool, true, false, not, ◌&&◌, ◌||◌, List, [], ◌∷◌, ◌++◌, refl, sym, ◌∙◌, ap}
 use Rattle.std.specs.Prelude.{Contains, filter}
 use Rattle.std.specs.List.{list_any}
+use Rattle.std.proofs.lemmas.Bool.{and_from}
 use Rattle.pc_common.specs.World.{Node, Edge, World, has_node, has_edge, same_node, same_edge, IsWorld}
-use Rattle.pc_common.proofs.Elements.{In, in_from_contains, contains_from_in, in_front, in_back, holds_any}
+use Rattle.pc_common.proofs.Elements.{In, in_from_contains, contains_from_in, in_front, in_back, holds_any, in_filter, from_filter}
 use Rattle.pc_common.proofs.Nodes.{same_node-true, same_node-self, same_edge-true}
+use Rattle.pc_common.proofs.Bools.{true_or_false, and_first, and_second}
 use Rattle.pc_ground.specs.declared.literal.Literal.{Literal}
 use Rattle.pc_ground.specs.declared.literal.Literal.TheVariants.{Node as a_node, Edge as an_edge, NoNode, NoEdge}
 use Rattle.pc_ground.specs.Tree.{Tree, always, never, leaf, both, either, literal_true, tree_true}
 use Rattle.pc_ground.specs.Numbers.{nodes_of_literal, nodes_of_tree}
 use Rattle.pc_ground.specs.CutWorlds.{is_among, cut_to}
-use Rattle.pc_ground.proofs.Bools.{true_or_false, and_first, and_second, and_both}
 
 -- by recursion over the nodes
 abbrev Agree : List Node → World Node → World Node → Type 0
@@ -72,31 +73,15 @@ cut_edge : (nodes : List Node) (w : World Node) (a b : Node) → In a nodes → 
 cut_edge nodes w a b i j =
     any_filtered (λ e. same_edge e (a, b)) (λ e. is_among nodes e.0 && is_among nodes e.1)
     (λ e same. ap (λ (f : Edge). is_among nodes f.0 && is_among nodes f.1) (same_edge-true e (a, b) same)
-    ∙ and_both (is_among nodes a) (is_among nodes b) (among nodes a i) (among nodes b j)) w.order
+    ∙ and_from (is_among nodes a) (is_among nodes b) (among nodes a i) (among nodes b j)) w.order
 
 pub cut_keeps : (t : Tree Node) (w : World Node) → tree_true w t ≡ tree_true (cut_to (nodes_of_tree t) w) t
 cut_keeps t w = agrees t w (cut_to (nodes_of_tree t) w) (cut_node (nodes_of_tree t) w, cut_edge (nodes_of_tree t) w)
 
-in_filter : {X : Type 0} (q : X → Bool) (x : X) (xs : List X) → In x xs → q x ≡ true → In x (filter q xs)
-in_filter q x [] i h = i
-in_filter q x (y ∷ ys) (inl e) h = (let here : q y ≡ true = ap q e ∙ h in rw here (inl e))
-in_filter q x (y ∷ ys) (inr i) h =
-    elim (true_or_false (q y)) [
-      | inl k ↦ rw k (inr (in_filter q x ys i h))
-      | inr k ↦ rw k (in_filter q x ys i h)
-    ]
-
-kept_first : {X : Type 0} (q : X → Bool) (x y : X) (ys zs : List X) → q y ≡ true → (In x zs → In x ys × (q x ≡ true)) → In x (y ∷ zs) → In x (y ∷ ys) × (q x ≡ true)
+kept_first : {X : Type 0} (q : X → Bool) (x y : X) (ys zs : List X) → q y ≡ true → (In x zs → In x ys × (q x ≡ true)) → In x (y ∷ zs)
+    → In x (y ∷ ys) × (q x ≡ true)
 kept_first q x y ys zs k rest (inl e) = (inl e, ap q (sym e) ∙ k)
 kept_first q x y ys zs k rest (inr j) = (let r = rest j in (inr r.0, r.1))
-
-from_filter : {X : Type 0} (q : X → Bool) (x : X) (xs : List X) → In x (filter q xs) → In x xs × (q x ≡ true)
-from_filter q x [] i = elim i [ ]
-from_filter q x (y ∷ ys) i =
-    elim (true_or_false (q y)) [
-      | inl k ↦ kept_first q x y ys (filter q ys) k (from_filter q x ys) (rw k at i)
-      | inr k ↦ (let r = from_filter q x ys (rw k at i) in (inr r.0, r.1))
-    ]
 
 -- whether both ends are among the nodes
 abbrev both_among : List Node → Edge → Bool
@@ -113,8 +98,10 @@ cut_world nodes w h = record {
   ends = λ a b e.
       let r = kept nodes w a b e in
       let ends = h.ends a b r.0 in (
-        contains_from_in a (filter (is_among nodes) w.nodes) (in_filter (is_among nodes) a w.nodes (in_from_contains a w.nodes ends.0) (and_first (is_among nodes a) (is_among nodes b) r.1)),
-        contains_from_in b (filter (is_among nodes) w.nodes) (in_filter (is_among nodes) b w.nodes (in_from_contains b w.nodes ends.1) (and_second (is_among nodes a) (is_among nodes b) r.1)),
+        contains_from_in a (filter (is_among nodes) w.nodes)
+            (in_filter (is_among nodes) a w.nodes (in_from_contains a w.nodes ends.0) (and_first (is_among nodes a) (is_among nodes b) r.1)),
+        contains_from_in b (filter (is_among nodes) w.nodes)
+            (in_filter (is_among nodes) b w.nodes (in_from_contains b w.nodes ends.1) (and_second (is_among nodes a) (is_among nodes b) r.1)),
       );
   irreflexive = λ a e. h.irreflexive a (kept nodes w a a e).0;
   transitive = λ a b c e f.
@@ -122,5 +109,6 @@ cut_world nodes w h = record {
       let s = kept nodes w b c f in
       contains_from_in (a, c) (filter (both_among nodes) w.order)
       (in_filter (both_among nodes) (a, c) w.order (in_from_contains (a, c) w.order (h.transitive a b c r.0 s.0))
-      (and_both (is_among nodes a) (is_among nodes c) (and_first (is_among nodes a) (is_among nodes b) r.1) (and_second (is_among nodes b) (is_among nodes c) s.1)));
+      (and_from (is_among nodes a) (is_among nodes c) (and_first (is_among nodes a) (is_among nodes b) r.1)
+      (and_second (is_among nodes b) (is_among nodes c) s.1)));
 }

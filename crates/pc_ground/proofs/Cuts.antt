@@ -1,5 +1,5 @@
 -- Words that are cut at a byte.
-use Rattle.std.proofs.Common.{◌≡◌, ℕ, ◌-◌, subst, Bool, true, false, ◌||◌, ◌==◌, List, [], ◌∷◌, ◌++◌, length, take, drop, refl, sym, ◌∙◌, ap, eq-eqb, append_assoc}
+use Rattle.std.proofs.Common.{◌≡◌, ℕ, ◌-◌, subst, Bool, true, false, ◌||◌, ◌==◌, List, [], ◌∷◌, ◌++◌, length, take, drop, refl, sym, ◌∙◌, ap, eq-eqb, append_assoc, ◌+◌}
 use Rattle.std.specs.Prelude.{codes, IsTrue}
 use Rattle.std.specs.List.{list_any}
 use Rattle.std.specs.Str.{all_ascii_digits}
@@ -13,17 +13,18 @@ use Rattle.pc_ground.specs.NodeForm.{IsNodeForm}
 use Rattle.pc_ground.specs.declared.node_words.NodeWords.{NodeWords}
 use Rattle.pc_ground.specs.NodeWords.{Lacks, IsCut, AreWords}
 use Rattle.std.specs.Fmt.{decimal}
-use Rattle.pc_ground.proofs.Bools.{and_first, and_second, or_none, not_both}
+use Rattle.pc_common.proofs.Bools.{and_first, and_second, or_none, not_both}
 use Rattle.pc_ground.proofs.Decimals.{decimal_digits}
+use Rattle.pc_ground.specs.Words.{words}
 
-lacks_head : (m c : ℕ) (cs : List ℕ) → Lacks m (c ∷ cs) → (c == m) ≡ false
+pub lacks_head : (m c : ℕ) (cs : List ℕ) → Lacks m (c ∷ cs) → (c == m) ≡ false
 lacks_head m c cs h = or_left (c == m) (list_any (λ d. d == m) cs) h
   where
     or_left : (a b : Bool) → (a || b) ≡ false → a ≡ false
     or_left true b e = cc
     or_left false b e = refl
 
-lacks_tail : (m c : ℕ) (cs : List ℕ) → Lacks m (c ∷ cs) → Lacks m cs
+pub lacks_tail : (m c : ℕ) (cs : List ℕ) → Lacks m (c ∷ cs) → Lacks m cs
 lacks_tail m c cs h = or_none (c == m) (list_any (λ d. d == m) cs) h
 
 -- a word is cut in one way
@@ -95,9 +96,6 @@ form_second word f = (decimal_lacks 64 f.n refl f.n_number, refl)
 form_third : (word : List ℕ) (f : IsNodeForm word) → IsCut 58 (f.core ++ 58 ∷ f.stage) f.core f.stage
 form_third word f = (decimal_lacks 58 f.core refl f.core_number, refl)
 
-pub no_first : (word : List ℕ) → Lacks 46 word → IsNodeForm word → ⊥
-no_first word lacks f = cut_has 46 word f.g _ (form_cut word f) lacks
-
 pub no_second : (word g behind : List ℕ) → IsCut 46 word g behind → Lacks 64 behind → IsNodeForm word → ⊥
 no_second word g behind first lacks f =
     let same = cut_is 46 word f.g (f.n ++ 64 ∷ (f.core ++ 58 ∷ f.stage)) g behind (form_cut word f) first in
@@ -131,27 +129,16 @@ no_name {word} {g} {n} {core} {stage} c other f = not_both (is_name stage) (rw (
 
 -- a part that is no decimal
 pub no_g : {word g n core stage : List ℕ} → Cuts word g n core stage → ((k : ℕ) → IsDecimal g k → ⊥) → IsNodeForm word → ⊥
-no_g {word} {g} {n} {core} {stage} c other f = (let P : List ℕ → Type 0 = λ xs. (k : ℕ) × IsDecimal xs k in let h = subst P (same_cuts (form_cuts f) c).0 f.g_number in other h.0 h.1)
+no_g {word} {g} {n} {core} {stage} c other f =
+    (let P : List ℕ → Type 0 = λ xs. (k : ℕ) × IsDecimal xs k in let h = subst P (same_cuts (form_cuts f) c).0 f.g_number in other h.0 h.1)
 
 pub no_n : {word g n core stage : List ℕ} → Cuts word g n core stage → ((k : ℕ) → IsDecimal n k → ⊥) → IsNodeForm word → ⊥
-no_n {word} {g} {n} {core} {stage} c other f = (let P : List ℕ → Type 0 = λ xs. (k : ℕ) × IsDecimal xs k in let h = subst P (same_cuts (form_cuts f) c).1 f.n_number in other h.0 h.1)
+no_n {word} {g} {n} {core} {stage} c other f =
+    (let P : List ℕ → Type 0 = λ xs. (k : ℕ) × IsDecimal xs k in let h = subst P (same_cuts (form_cuts f) c).1 f.n_number in other h.0 h.1)
 
 pub no_core : {word g n core stage : List ℕ} → Cuts word g n core stage → ((k : ℕ) → IsDecimal core k → ⊥) → IsNodeForm word → ⊥
-no_core {word} {g} {n} {core} {stage} c other f = (let P : List ℕ → Type 0 = λ xs. (k : ℕ) × IsDecimal xs k in let h = subst P (same_cuts (form_cuts f) c).2 f.core_number in other h.0 h.1)
-
--- the words of a word that is cut so
-pub words_of : (word g n core stage : List ℕ) (w : NodeWords) → Cuts word g n core stage → IsDecimal g w.g → IsDecimal n w.n → IsDecimal core w.core
-    → w.stage.now ≡ stage → AreWords word w
-words_of word g n core stage w c dg dn dc is = record {
-  g = dg.0;
-  n = dn.0;
-  core = dc.0;
-  is = c.is ∙ ap (λ xs. xs ++ 46 ∷ (n ++ 64 ∷ (core ++ 58 ∷ stage))) dg.1
-      ∙ ap (λ xs. decimal w.g ++ 46 ∷ (xs ++ 64 ∷ (core ++ 58 ∷ stage))) dn.1
-      ∙ ap (λ xs. decimal w.g ++ 46 ∷ (decimal w.n ++ 64 ∷ (xs ++ 58 ∷ stage))) dc.1
-      ∙ ap (λ xs. decimal w.g ++ 46 ∷ (decimal w.n ++ 64 ∷ (decimal w.core ++ 58 ∷ xs))) (sym is)
-      ∙ sym (form_grouped (decimal w.g) (decimal w.n) (decimal w.core) w.stage.now);
-}
+no_core {word} {g} {n} {core} {stage} c other f =
+    (let P : List ℕ → Type 0 = λ xs. (k : ℕ) × IsDecimal xs k in let h = subst P (same_cuts (form_cuts f) c).2 f.core_number in other h.0 h.1)
 
 pub all_left : (j : ℕ) (word : List ℕ) → take (length word - j) (drop j word) ≡ drop j word
 all_left j word = ap (λ n. take n (drop j word)) (sym (length-drop j word)) ∙ take-length (drop j word)
@@ -177,3 +164,12 @@ words_form {word} {w} h name = record {
   stage_name = name;
   is = h.is;
 }
+
+-- the last word, and the first of several
+pub words_last : (xs : List ℕ) → Lacks 32 xs → words xs ≡ xs ∷ []
+words_last [] h = refl
+words_last (x ∷ xs) h = rw (lacks_head 32 x xs h, words_last xs (lacks_tail 32 x xs h))
+
+pub words_more : (xs ys : List ℕ) → Lacks 32 xs → words (xs ++ 32 ∷ ys) ≡ xs ∷ words ys
+words_more [] ys h = refl
+words_more (x ∷ xs) ys h = rw (lacks_head 32 x xs h, words_more xs ys (lacks_tail 32 x xs h))

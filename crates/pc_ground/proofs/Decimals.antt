@@ -8,8 +8,8 @@ use Rattle.std.specs.Char.{is_ascii_digit}
 use Rattle.std.proofs.lemmas.List.{drop_more}
 use Rattle.std.proofs.lemmas.Fmt.{digits_decimal, digits_value-decimal, decimal-digits_value, decimal_digit, first_decimal, decimal_nonempty}
 use Rattle.std.proofs.lemmas.Str.Parse.{IsNumeralModel, numerals_by_fold, tells_all_ascii_digits}
+use Rattle.pc_common.proofs.Bools.{and_first, not_both}
 use Rattle.pc_ground.specs.Decimals.{IsDecimal, IsDigits, read_on}
-use Rattle.pc_ground.proofs.Bools.{and_first, not_both}
 
 pub own : IsNumeralModel (λ ds. all_ascii_digits ds ≡ true) (read_on 0)
 own = numerals_by_fold _ tells_all_ascii_digits read_on (search rules)

@@ -1,18 +1,14 @@
 -- The numbered nodes of a tree are the nodes of its literals, each once.
-use Rattle.std.proofs.Common.{◌≡◌, ℕ, zero, suc, inl, inr, Bool, true, false, ◌||◌, List, [], ◌∷◌, Some, refl, sym, ◌∙◌, ap, subst}
-use Rattle.std.specs.Prelude.{◌↔◌, slice_get, Contains}
+use Rattle.std.proofs.Common.{◌≡◌, zero, suc, inl, inr, Bool, true, false, ◌||◌, List, [], ◌∷◌, refl, sym, ◌∙◌, ap, subst}
+use Rattle.std.specs.Prelude.{◌↔◌, Contains}
 use Rattle.std.specs.List.{list_any}
 use Rattle.pc_common.specs.World.{Node, same_node}
 use Rattle.pc_common.proofs.Elements.{In, in_from_contains, contains_from_in}
+use Rattle.pc_common.proofs.Bools.{true_or_false, or_none, not_both}
+use Rattle.pc_common.proofs.Nodes.{same_node-true, same_node-self}
+use Rattle.pc_common.proofs.Places.{in_at}
 use Rattle.pc_ground.specs.Tree.{Tree}
 use Rattle.pc_ground.specs.Numbers.{nodes_of_tree, first_seen, numbered, AreDistinct}
-use Rattle.pc_ground.proofs.Bools.{true_or_false, or_none, not_both}
-use Rattle.pc_ground.proofs.Nodes.{same_node-true, same_node-self}
-
-in_at : (xs : List Node) (k : ℕ) (a : Node) → slice_get xs k ≡ Some a → In a xs
-in_at [] k a e = cc
-in_at (x ∷ xs) zero a e = (let same : x ≡ a = cc in inl same)
-in_at (x ∷ xs) (suc k) a e = inr (in_at xs k a e)
 
 -- what is seen first is there
 from_first : (seen xs : List Node) (a : Node) → In a (first_seen seen xs) → In a xs
@@ -55,7 +51,8 @@ in_first seen (x ∷ xs) a i new =
     ]
   where
     passed : (x a : Node) (xs seen : List Node) → list_any (same_node x) seen ≡ true → list_any (same_node a) seen ≡ false → In a (x ∷ xs) → In a xs
-    passed x a xs seen h new (inl e) = absurd (not_both (list_any (same_node a) seen) (let P : Node → Type 0 = λ b. list_any (same_node b) seen ≡ true in subst P e h) new)
+    passed x a xs seen h new (inl e) = absurd
+        (not_both (list_any (same_node a) seen) (let P : Node → Type 0 = λ b. list_any (same_node b) seen ≡ true in subst P e h) new)
     passed x a xs seen h new (inr j) = j
 
     beside : (x a : Node) (xs : List Node) → same_node a x ≡ false → In a (x ∷ xs) → In a xs

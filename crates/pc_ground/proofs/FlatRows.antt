@@ -1,19 +1,22 @@
 -- Rows and the trees that they spell: subtrees, sizes, children, literals, and that no two trees have the same rows.
 use Rattle.std.proofs.Common.{◌≡◌, ℕ, zero, suc, ◌+◌, ◌-◌, ◌<◌, ◌≤◌, inl, inr, false, List, [], ◌∷◌, ◌++◌, Some, None, length, drop, refl, sym, ◌∙◌, ap, subst, arith, append_assoc, length-append, length-drop}
-use Rattle.std.specs.Prelude.{slice_get, nat_lt}
+use Rattle.std.specs.Prelude.{slice_get, nat_lt, Option}
 use Rattle.std.specs.Option.{unwrap_or}
-use Rattle.std.proofs.lemmas.Bool.{ltb-true, ltb-false}
+use Rattle.std.proofs.lemmas.Bool.{ltb-true, ltb-false, false_from_ne_true}
 use Rattle.std.proofs.lemmas.Option.{slice_get_within, slice_get_past}
+use Rattle.pc_common.proofs.Bools.{true_or_false}
 use Rattle.pc_ground.specs.declared.row.RowKind.TheVariants.{True, False, Lit, And, Or}
 use Rattle.pc_ground.specs.declared.row.Row.{Row}
 use Rattle.pc_ground.specs.Tree.{Tree, always, never, leaf, both, either, size_of}
-use Rattle.pc_ground.specs.Rows.{root_kind, rows_of}
+use Rattle.pc_ground.specs.Rows.{root_kind, rows_of, literals_of_kind}
 use Rattle.pc_ground.specs.Refutes.{subtree_at, literal_of}
-use Rattle.pc_ground.specs.Walks.{literals_of_row}
-use Rattle.pc_ground.proofs.Bools.{true_or_false, false_from_not}
+use Rattle.pc_ground.specs.declared.node_key.NodeKey.{NodeKey}
+use Rattle.pc_ground.specs.Keys.{key_node, renamed_kind}
+use Rattle.pc_ground.specs.declared.row.RowKind.{RowKind}
+use Rattle.pc_ground.specs.declared.literal.Literal.{Literal}
 
 not_lt : (p n : ℕ) → n ≤ p → nat_lt p n ≡ false
-not_lt p n past = false_from_not (nat_lt p n) (λ h. omega (arith, past, ltb-true p n h))
+not_lt p n past = false_from_ne_true (nat_lt p n) (λ h. omega (arith, past, ltb-true p n h))
 
 -- the rows from p on begin with those of s
 abbrev pub IsPart : {N : Type 0} → List (Row N) → ℕ → Tree N → Type 0
@@ -24,17 +27,12 @@ root_of t = record { kind = root_kind t; skip = size_of t }
 
 pub size_pos : {N : Type 0} (t : Tree N) → 0 < size_of t
 size_pos always = omega arith
-size_pos never = omega arith
-size_pos (leaf l) = omega arith
-size_pos (both a b) = omega arith
-size_pos (either a b) = omega arith
+size_pos t = omega arith
 
 pub length_rows : {N : Type 0} (t : Tree N) → length (rows_of t) ≡ size_of t
-length_rows always = refl
-length_rows never = refl
-length_rows (leaf l) = refl
 length_rows (both a b) = omega (arith, length-append (rows_of a) (rows_of b), length_rows a, length_rows b)
 length_rows (either a b) = omega (arith, length-append (rows_of a) (rows_of b), length_rows a, length_rows b)
+length_rows t = refl
 
 -- the root's row, and the rest
 pub first_row : {N : Type 0} (t : Tree N) → (rest : List (Row N)) × (rows_of t ≡ root_of t ∷ rest)
@@ -67,22 +65,24 @@ drop_more p rows (x ∷ xs) ys e =
 part_below : {N : Type 0} (rows : List (Row N)) (p : ℕ) (r : Row N) (a b : Tree N) (rest : List (Row N)) → drop p rows ≡ (r ∷ (rows_of a ++ rows_of b)) ++ rest
     → IsPart rows (p + 1) a × IsPart rows (p + 1 + size_of a) b
 part_below rows p r a b rest e =
-    let left : drop (p + 1) rows ≡ rows_of a ++ (rows_of b ++ rest) = drop_first p rows r ((rows_of a ++ rows_of b) ++ rest) e ∙ append_assoc (rows_of a) (rows_of b) rest in
+    let left : drop (p + 1) rows ≡ rows_of a ++ (rows_of b ++ rest) = drop_first p rows r ((rows_of a ++ rows_of b) ++ rest) e
+    ∙ append_assoc (rows_of a) (rows_of b) rest in
     let right : drop (p + 1 + length (rows_of a)) rows ≡ rows_of b ++ rest = drop_more (p + 1) rows (rows_of a) (rows_of b ++ rest) left in
     ((rows_of b ++ rest, left), (rest, ap (λ n. drop (p + 1 + n) rows) (sym (length_rows a)) ∙ right))
 
 -- the children of a part: the left one stands at p + 1, the right one after it
-pub parts_both : {N : Type 0} (rows : List (Row N)) (p : ℕ) (a b : Tree N) → IsPart rows p (both a b) → IsPart rows (p + 1) a × IsPart rows (p + 1 + size_of a) b
+pub parts_both : {N : Type 0} (rows : List (Row N)) (p : ℕ) (a b : Tree N) → IsPart rows p (both a b)
+    → IsPart rows (p + 1) a × IsPart rows (p + 1 + size_of a) b
 parts_both rows p a b (rest, e) = part_below rows p _ a b rest e
 
-pub parts_either : {N : Type 0} (rows : List (Row N)) (p : ℕ) (a b : Tree N) → IsPart rows p (either a b) → IsPart rows (p + 1) a × IsPart rows (p + 1 + size_of a) b
+pub parts_either : {N : Type 0} (rows : List (Row N)) (p : ℕ) (a b : Tree N) → IsPart rows p (either a b)
+    → IsPart rows (p + 1) a × IsPart rows (p + 1 + size_of a) b
 parts_either rows p a b (rest, e) = part_below rows p _ a b rest e
 
 get_first : {X : Type 0} (p : ℕ) (rows : List X) (x : X) (rest : List X) → drop p rows ≡ x ∷ rest → slice_get rows p ≡ Some x
 get_first zero [] x rest e = cc
-get_first zero (y ∷ ys) x rest e = cc
-get_first (suc p) [] x rest e = cc
 get_first (suc p) (y ∷ ys) x rest e = get_first p ys x rest e
+get_first p rows x rest e = cc
 
 pub part_row : {N : Type 0} (rows : List (Row N)) (p : ℕ) (s : Tree N) → IsPart rows p s → slice_get rows p ≡ Some (root_of s)
 part_row rows p s (rest, e) =
@@ -108,7 +108,8 @@ one_tree s t xs ys e = go s t xs ys e
         ap (λ (r : Row N). r.kind) roots
 
     -- the rows below two roots
-    below_roots : {N : Type 0} (r q : Row N) (a b c d : Tree N) (xs ys : List (Row N)) → (r ∷ (rows_of a ++ rows_of b)) ++ xs ≡ (q ∷ (rows_of c ++ rows_of d)) ++ ys
+    below_roots : {N : Type 0} (r q : Row N) (a b c d : Tree N) (xs ys : List (Row N))
+        → (r ∷ (rows_of a ++ rows_of b)) ++ xs ≡ (q ∷ (rows_of c ++ rows_of d)) ++ ys
         → rows_of a ++ (rows_of b ++ xs) ≡ rows_of c ++ (rows_of d ++ ys)
     below_roots r q a b c d xs ys e =
         let tails : (rows_of a ++ rows_of b) ++ xs ≡ (rows_of c ++ rows_of d) ++ ys = cc in
@@ -167,16 +168,14 @@ drop_in (x ∷ xs) ys zs rest (suc p) inside e = drop_in xs ys zs rest p (omega 
 part_in_left : {N : Type 0} (r : Row N) (a b s : Tree N) (p : ℕ) → p < size_of a → IsPart (rows_of a) p s → IsPart (r ∷ (rows_of a ++ rows_of b)) (suc p) s
 part_in_left r a b s p inside (rest, e) = (rest ++ rows_of b, drop_in (rows_of a) (rows_of b) (rows_of s) rest p (omega (arith, inside, length_rows a)) e)
 
-part_in_right : {N : Type 0} (r : Row N) (a b s : Tree N) (p : ℕ) → size_of a ≤ p → IsPart (rows_of b) (p - size_of a) s → IsPart (r ∷ (rows_of a ++ rows_of b)) (suc p) s
+part_in_right : {N : Type 0} (r : Row N) (a b s : Tree N) (p : ℕ) → size_of a ≤ p → IsPart (rows_of b) (p - size_of a) s
+    → IsPart (r ∷ (rows_of a ++ rows_of b)) (suc p) s
 part_in_right r a b s p past (rest, e) =
     (rest, drop_over (rows_of a) (rows_of b) p (omega (arith, past, length_rows a)) ∙ ap (λ n. drop (p - n) (rows_of b)) (length_rows a) ∙ e)
 
 -- the subtree at a position is spelled from there on
 pub subtree_part : {N : Type 0} (t : Tree N) (p : ℕ) (s : Tree N) → subtree_at t p ≡ Some s → IsPart (rows_of t) p s
 subtree_part t zero s e = (let same : t ≡ s = cc in subst (λ x. IsPart (rows_of t) zero x) same (part_whole t))
-subtree_part always (suc p) s e = cc
-subtree_part never (suc p) s e = cc
-subtree_part (leaf l) (suc p) s e = cc
 subtree_part (both a b) (suc p) s e =
     elim (true_or_false (nat_lt p (size_of a))) [
       | inl h ↦ part_in_left (root_of (both a b)) a b s p (ltb-true p (size_of a) h) (subtree_part a p s (rw h at e))
@@ -187,13 +186,11 @@ subtree_part (either a b) (suc p) s e =
       | inl h ↦ part_in_left (root_of (either a b)) a b s p (ltb-true p (size_of a) h) (subtree_part a p s (rw h at e))
       | inr h ↦ part_in_right (root_of (either a b)) a b s p (ltb-false p (size_of a) h) (subtree_part b (p - size_of a) s (rw h at e))
     ]
+subtree_part t p s e = cc
 
 -- there is a subtree at each position
 pub subtree_within : {N : Type 0} (t : Tree N) (p : ℕ) → p < size_of t → (s : Tree N) × (subtree_at t p ≡ Some s)
 subtree_within t zero inside = (t, refl)
-subtree_within always (suc p) inside = absurd (omega (arith, inside))
-subtree_within never (suc p) inside = absurd (omega (arith, inside))
-subtree_within (leaf l) (suc p) inside = absurd (omega (arith, inside))
 subtree_within (both a b) (suc p) inside =
     elim (true_or_false (nat_lt p (size_of a))) [
       | inl h ↦ rw h (subtree_within a p (ltb-true p (size_of a) h))
@@ -204,6 +201,7 @@ subtree_within (either a b) (suc p) inside =
       | inl h ↦ rw h (subtree_within a p (ltb-true p (size_of a) h))
       | inr h ↦ rw h (subtree_within b (p - size_of a) (let past = ltb-false p (size_of a) h in omega (arith, inside)))
     ]
+subtree_within t p inside = absurd (omega (arith, inside))
 
 -- what the rows spell from a position on is the subtree there
 pub part_subtree : {N : Type 0} (t : Tree N) (p : ℕ) (s : Tree N) → IsPart (rows_of t) p s → subtree_at t p ≡ Some s
@@ -257,15 +255,18 @@ or_subtree {N} t p r e k = go (row_subtree t p r e)
 -- after its last position a tree has no subtree
 pub subtree_past : {N : Type 0} (t : Tree N) (p : ℕ) → size_of t ≤ p → subtree_at t p ≡ None
 subtree_past t zero past = absurd (omega (arith, past, size_pos t))
-subtree_past always (suc p) past = refl
-subtree_past never (suc p) past = refl
-subtree_past (leaf l) (suc p) past = refl
 subtree_past (both a b) (suc p) past =
     let out : nat_lt p (size_of a) ≡ false = not_lt p (size_of a) (omega (arith, past)) in
     rw out (subtree_past b (p - size_of a) (omega (arith, past)))
 subtree_past (either a b) (suc p) past =
     let out : nat_lt p (size_of a) ≡ false = not_lt p (size_of a) (omega (arith, past)) in
     rw out (subtree_past b (p - size_of a) (omega (arith, past)))
+subtree_past t p past = refl
+
+-- the literal of a row, if it is one's
+abbrev pub literals_of_row : {N : Type 0} → Option (Row N) → List (Literal N)
+literals_of_row None = []
+literals_of_row (Some r) = literals_of_kind r.kind
 
 -- the literal at a position, by its row
 pub literal_by_row : {N : Type 0} (t : Tree N) (p : ℕ) → literal_of (subtree_at t p) ≡ literals_of_row (slice_get (rows_of t) p)
@@ -276,3 +277,7 @@ literal_by_row t p =
       | inr h ↦ (let past = ltb-false p (size_of t) h in
           ap literal_of (subtree_past t p past) ∙ ap literals_of_row (sym (slice_get_past (rows_of t) p (omega (arith, past, length_rows t)))))
     ]
+
+pub renamed_false : (k : RowKind NodeKey) → renamed_kind key_node k ≡ False → k ≡ False
+renamed_false False e = refl
+renamed_false k e = cc

@@ -1,5 +1,5 @@
 -- Expansion and closing keep what a formula says of a test, connective by connective.
-use Rattle.std.proofs.Common.{◌≡◌, ℕ, Bool, true, false, List, [], ◌∷◌, ◌++◌, None, length, map, cond, refl, sym, ◌∙◌, ap}
+use Rattle.std.proofs.Common.{◌≡◌, ℕ, List, [], ◌∷◌, ◌++◌, None, length, map, refl, sym, ◌∙◌, ap}
 use Rattle.pc_common.specs.Case.{Case, cores_of}
 use Rattle.pc_common.specs.Names.{same_name}
 use Rattle.pc_common.specs.World.{Node, World}
@@ -25,15 +25,11 @@ use Rattle.pc_syntax.specs.Sizes.{first_size_fault}
 use Rattle.std.specs.Option.{option_or}
 use Rattle.pc_syntax.proofs.NoFault.{none_first, none_second}
 use Rattle.pc_syntax.proofs.Slots.{Fits-quantified}
-use Rattle.pc_syntax.proofs.ExpansionLaws.{expansion_faults}
+use Rattle.pc_syntax.proofs.ExpansionLaws.{expansion_faults, choose}
 use Rattle.pc_syntax.proofs.ClosingTruth.{node_law, static_true, bound_fits, bound_slots, one_more}
 use Rattle.pc_ground.specs.PlainGround.{PlainGround, ground_not, ground_and, ground_or, normal}
 use Rattle.pc_ground.specs.Unfolded.{all_of, some_of, decided, node_said, edge_said, unfolded, closed_unfolded}
 use Rattle.pc_ground.specs.GroundTree.{ground_tree, closed_ground_tree}
-
-choose : (f : Written → PlainGround) (b : Bool) (x y : PlainGround) (v w : Written) → x ≡ f v → y ≡ f w → cond b x y ≡ f (cond b v w)
-choose f true x y v w p q = p
-choose f false x y v w p q = q
 
 -- an expansion says what its formula says
 pub unfolded_expansion : (ss : List StageItem) (c : Case) (ms : List MacroAt) (env : Environment) (w : Written)
@@ -47,24 +43,23 @@ unfolded_expansion ss c ms env (forall_ at sort name p) =
     λ i. all_of (map (λ v. unfolded_expansion ss c ms ((name, v) ∷ env) p i) (range_of c sort))
 unfolded_expansion ss c ms env (exists_ at sort name p) =
     λ i. some_of (map (λ v. unfolded_expansion ss c ms ((name, v) ∷ env) p i) (range_of c sort))
-unfolded_expansion ss c ms env (static_ pred args) = refl
-unfolded_expansion ss c ms env (nodes_ ts) = refl
-unfolded_expansion ss c ms env (edges_ ts) = refl
 unfolded_expansion ss c ms env (bind_ at names args p) = unfolded_expansion ss c ms (bound_to env names args ++ env) p
-unfolded_expansion ss c [] env (expand_ at name args) = refl
 unfolded_expansion ss c (m ∷ ms) env (expand_ at name args) =
     choose (λ w. unfolded ss c [] env w) (same_name m.name.name name.name) _ _
     (bind_ at (parameter_names m) args (expansion_of ms m.body))
     (expansion_of ms (expand_ at name args))
     (unfolded_expansion ss c ms (bound_to env (parameter_names m) args ++ env) m.body)
     (unfolded_expansion ss c ms env (expand_ at name args))
+unfolded_expansion ss c ms env w = refl
 
 -- what two functions make of a sort's range, where they agree on each meaning of the sort
-over_ops : (f g : Meaning → PlainGround) → ((v : Meaning) → sort_of_meaning v ≡ Microop → f v ≡ g v) → (xs : List ℕ) → map f (map an_op xs) ≡ map g (map an_op xs)
+over_ops : (f g : Meaning → PlainGround) → ((v : Meaning) → sort_of_meaning v ≡ Microop → f v ≡ g v) → (xs : List ℕ)
+    → map f (map an_op xs) ≡ map g (map an_op xs)
 over_ops f g h [] = refl
 over_ops f g h (x ∷ xs) = λ i. h (an_op x) refl i ∷ over_ops f g h xs i
 
-over_cores : (f g : Meaning → PlainGround) → ((v : Meaning) → sort_of_meaning v ≡ Core → f v ≡ g v) → (xs : List ℕ) → map f (map a_core xs) ≡ map g (map a_core xs)
+over_cores : (f g : Meaning → PlainGround) → ((v : Meaning) → sort_of_meaning v ≡ Core → f v ≡ g v) → (xs : List ℕ)
+    → map f (map a_core xs) ≡ map g (map a_core xs)
 over_cores f g h [] = refl
 over_cores f g h (x ∷ xs) = λ i. h (a_core x) refl i ∷ over_cores f g h xs i
 
@@ -105,11 +100,13 @@ unfolded_closing ss c slots env scope same fits (not_ p) f = λ i. ground_not (u
 unfolded_closing ss c slots env scope same fits (and_ p q) f =
     let a = name_fault ss [] scope p in
     let b = name_fault ss [] scope q in
-    λ i. ground_and (unfolded_closing ss c slots env scope same fits p (none_first a b f) i) (unfolded_closing ss c slots env scope same fits q (none_second a b f) i)
+    λ i. ground_and (unfolded_closing ss c slots env scope same fits p (none_first a b f) i)
+    (unfolded_closing ss c slots env scope same fits q (none_second a b f) i)
 unfolded_closing ss c slots env scope same fits (or_ p q) f =
     let a = name_fault ss [] scope p in
     let b = name_fault ss [] scope q in
-    λ i. ground_or (unfolded_closing ss c slots env scope same fits p (none_first a b f) i) (unfolded_closing ss c slots env scope same fits q (none_second a b f) i)
+    λ i. ground_or (unfolded_closing ss c slots env scope same fits p (none_first a b f) i)
+    (unfolded_closing ss c slots env scope same fits q (none_second a b f) i)
 unfolded_closing ss c slots env scope same fits (implies_ p q) f =
     let a = name_fault ss [] scope p in
     let b = name_fault ss [] scope q in
@@ -152,7 +149,8 @@ pub expanded_tree : (m : WrittenModel) (c : Case)
     → normal (all_of (map (unfolded m.stages c [] []) (map (expansion_of (macros_of m)) (axioms_of m)))) ≡ ground_tree m c
 expanded_tree m c = ap (λ gs. normal (all_of gs)) (each (axioms_of m))
   where
-    each : (axioms : List Written) → map (unfolded m.stages c [] []) (map (expansion_of (macros_of m)) axioms) ≡ map (unfolded m.stages c (macros_of m) []) axioms
+    each : (axioms : List Written) → map (unfolded m.stages c [] []) (map (expansion_of (macros_of m)) axioms) ≡ map (unfolded m.stages c (macros_of m) [])
+        axioms
     each [] = refl
     each (a ∷ as_) = λ i. sym (unfolded_expansion m.stages c (macros_of m) [] a) i ∷ each as_ i
 
@@ -161,7 +159,8 @@ pub closed_tree : (m : WrittenModel) (c : Case) → first_name_fault m ≡ None
 closed_tree m c none = ap (λ gs. normal (all_of gs)) (each (axioms_of m) none)
   where
     each : (axioms : List Written) → first_fault (name_fault m.stages (macros_of m) []) axioms ≡ None
-        → map (closed_unfolded c []) (map (λ a. closing_of m.stages [] (expansion_of (macros_of m) a)) axioms) ≡ map (unfolded m.stages c (macros_of m) []) axioms
+        → map (closed_unfolded c []) (map (λ a. closing_of m.stages [] (expansion_of (macros_of m) a)) axioms) ≡ map (unfolded m.stages c (macros_of m) [])
+        axioms
     each [] f = refl
     each (a ∷ as_) f =
         let here = none_first (name_fault m.stages (macros_of m) [] a) (first_fault (name_fault m.stages (macros_of m) []) as_) f in

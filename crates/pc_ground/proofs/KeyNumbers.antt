@@ -7,14 +7,16 @@ use Rattle.std.proofs.lemmas.List.Sums.{fails_before_first, passes_at_first}
 use Rattle.std.proofs.lemmas.Option.{slice_get_within, slice_get-get_or, slice_get-map}
 use Rattle.std.proofs.lemmas.Map.Keys.{IsDistinct-head, IsDistinct-tail}
 use Rattle.std.proofs.lemmas.Map.Steps.{length-le_from_distinct_below}
-use Rattle.std.proofs.lemmas.Bool.{ltb-true, ltb-false}
+use Rattle.std.proofs.lemmas.Bool.{ltb-true, ltb-false, and_from, false_from_ne_true}
 use Rattle.indexmap.specs.IndexSet.{insert_key}
 use Rattle.pc_common.specs.World.{Node, same_node}
+use Rattle.pc_common.proofs.Bools.{true_or_false, or_either, not_both}
+use Rattle.pc_common.proofs.Nodes.{same_node-true, same_node-self}
+use Rattle.pc_common.proofs.Places.{map_length}
 use Rattle.pc_ground.specs.declared.node_key.NodeKey.{NodeKey}
 use Rattle.pc_ground.specs.Keys.{key_node}
 use Rattle.pc_ground.specs.Numbers.{seen, IsNumberOf, AreDistinct}
-use Rattle.pc_ground.proofs.Bools.{true_or_false, or_either, and_both, not_both, false_from_not}
-use Rattle.pc_ground.proofs.Nodes.{key_eq, key_eq-same, any_key, same_node-true, same_node-self}
+use Rattle.pc_ground.proofs.Nodes.{key_eq, key_eq-same, any_key}
 
 map_push : (ks : List NodeKey) (k : NodeKey) → map key_node (ks ++ k ∷ []) ≡ map key_node ks ++ key_node k ∷ []
 map_push [] k = refl
@@ -31,15 +33,15 @@ abbrev code : NodeKey → ℕ
 code k = k.op * 4096 + k.core * 64 + k.stage
 
 code_apart : (a b : NodeKey) → key_eq a b ≡ false → eqb (code a) (code b) ≡ false
-code_apart a b e = false_from_not (eqb (code a) (code b)) (λ h. not_both (key_eq a b) (both (eqb-true (code a) (code b) h)) e)
+code_apart a b e = false_from_ne_true (eqb (code a) (code b)) (λ h. not_both (key_eq a b) (both (eqb-true (code a) (code b) h)) e)
   where
     both : code a ≡ code b → key_eq a b ≡ true
     both same =
         let s : a.stage ≡ b.stage = omega (arith, same, a.in_range.1, a.in_range.2, b.in_range.1, b.in_range.2) in
         let c : a.core ≡ b.core = omega (arith, same, s, a.in_range.1, b.in_range.1) in
         let o : a.op ≡ b.op = omega (arith, same, s, c) in
-        and_both (nat_eq a.op b.op) (nat_eq a.core b.core && nat_eq a.stage b.stage) (eq-eqb a.op b.op o)
-        (and_both (nat_eq a.core b.core) (nat_eq a.stage b.stage) (eq-eqb a.core b.core c) (eq-eqb a.stage b.stage s))
+        and_from (nat_eq a.op b.op) (nat_eq a.core b.core && nat_eq a.stage b.stage) (eq-eqb a.op b.op o)
+        (and_from (nat_eq a.core b.core) (nat_eq a.stage b.stage) (eq-eqb a.core b.core c) (eq-eqb a.stage b.stage s))
 
 all_apart : (k : NodeKey) (ks : List NodeKey) → AllByRecursion (λ y. key_eq k y ≡ false) ks → AllByRecursion (λ y. eqb (code k) y ≡ false) (map code ks)
 all_apart k [] h = h
@@ -57,10 +59,6 @@ code_below (k ∷ ks) q h =
       | inl e ↦ (let is = eqb-true q (code k) e in omega (arith, k.in_range.0, k.in_range.1, k.in_range.2))
       | inr e ↦ code_below ks q e
     ]
-
-map_length : {X Y : Type 0} (f : X → Y) (xs : List X) → length (map f xs) ≡ length xs
-map_length f [] = refl
-map_length f (x ∷ xs) = omega (arith, map_length f xs)
 
 pub few_keys : (ks : List NodeKey) → IsDistinct key_eq ks → length ks ≤ 262144
 few_keys ks h =
@@ -92,14 +90,16 @@ distinct_nodes (x ∷ xs) h (suc j) (suc k) a e f = ap suc (distinct_nodes xs (I
 -- the place of a key among the keys is its node's number
 placed_at : (a : NodeKey) (ks : List NodeKey) (k : ℕ) → k < length ks → key_eq a (get_or ks k a) ≡ true → IsNumberOf (map key_node ks) k (key_node a)
 placed_at a ks k inside passes =
-    let same : key_node (get_or ks k a) ≡ key_node a = sym (same_node-true (key_node a) (key_node (get_or ks k a)) (sym (key_eq-same a (get_or ks k a)) ∙ passes)) in
+    let same : key_node (get_or ks k a) ≡ key_node a = sym
+    (same_node-true (key_node a) (key_node (get_or ks k a)) (sym (key_eq-same a (get_or ks k a)) ∙ passes)) in
     slice_get-map key_node ks k ∙ ap (option_map key_node) (slice_get-get_or ks k a inside) ∙ ap Some same
 
 absent : (a : NodeKey) (ks : List NodeKey) (n : ℕ) → n ≡ position_or_len (key_eq a) ks → length ks ≤ n
     → (k : ℕ) → IsNumberOf (map key_node ks) k (key_node a) → ⊥
 absent a ks n first past k at =
     let inside : k < length ks = omega (arith, slice_get_within (map key_node ks) k (key_node a) at, map_length key_node ks) in
-    let here : Some (key_node (get_or ks k a)) ≡ Some (key_node a) = sym (slice_get-map key_node ks k ∙ ap (option_map key_node) (slice_get-get_or ks k a inside)) ∙ at in
+    let here : Some (key_node (get_or ks k a)) ≡ Some (key_node a) = sym
+    (slice_get-map key_node ks k ∙ ap (option_map key_node) (slice_get-get_or ks k a inside)) ∙ at in
     let same : key_node (get_or ks k a) ≡ key_node a = cc in
     not_both (key_eq a (get_or ks k a)) (key_eq-same a (get_or ks k a) ∙ ap (λ b. same_node (key_node a) b) same ∙ same_node-self (key_node a))
     (fails_before_first (key_eq a) ks k a (omega arith))

@@ -1,4 +1,3 @@
-pub mod Bools
 pub mod Nodes
 pub mod MapKeys
 pub mod KeyNumbers

@@ -9,7 +9,8 @@ use Rattle.pc_ground.proofs.StageWalks.{some_same}
 abbrev pub SmallBelow : List MicroOp → ℕ → Type 0
 SmallBelow ops k = (j : ℕ) → j < k → (o : MicroOp) → slice_get ops j ≡ Some o → (o.g ≤ 18446744073709551615) × (o.n ≤ 18446744073709551615)
 
-pub small_more : (ops : List MicroOp) (k : ℕ) (o : MicroOp) → SmallBelow ops k → slice_get ops k ≡ Some o → (o.g ≤ 18446744073709551615) × (o.n ≤ 18446744073709551615)
+pub small_more : (ops : List MicroOp) (k : ℕ) (o : MicroOp) → SmallBelow ops k → slice_get ops k ≡ Some o
+    → (o.g ≤ 18446744073709551615) × (o.n ≤ 18446744073709551615)
     → SmallBelow ops (k + 1)
 small_more ops k o before at small = below_more _ _ before here
   where

@@ -7,11 +7,11 @@ use Rattle.std.proofs.lemmas.Option.{slice_get-get_or, slice_get_within}
 use Rattle.pc_common.specs.Case.{MicroOp}
 use Rattle.pc_common.specs.World.{Node}
 use Rattle.pc_common.specs.Lines.{StageName, Names, op_text, stage_name, node_text}
+use Rattle.pc_common.proofs.Nodes.{node_parts}
 use Rattle.pc_ground.specs.declared.node_words.NodeWords.{NodeWords}
 use Rattle.pc_ground.specs.Stages.{AreStages}
 use Rattle.pc_ground.specs.NodeForm.{IsNodeForm, IsNodeIn, AreReadable}
 use Rattle.pc_ground.specs.NodeWords.{IsStage, AreSmall, AreWords, NamesNode, AreKept}
-use Rattle.pc_ground.proofs.Nodes.{node_parts}
 use Rattle.pc_ground.proofs.Cuts.{Cuts, same_cuts, words_cuts, form_grouped, decimal_lacks}
 use Rattle.pc_ground.proofs.StageWalks.{some_same, stage_name_is, stage_from_number, number_from_stage}
 
@@ -28,14 +28,16 @@ op_at names a h = found names.ops a.op h.op_of_test
     found (o ∷ os) k inside = (get_or (o ∷ os) k o, slice_get-get_or (o ∷ os) k o inside)
 
 -- what words name is what they spell
-pub named_text : (names : Names) (word : List ℕ) (w : NodeWords) (a : Node) → AreStages names.stages → AreWords word w → NamesNode names w a → word ≡ node_text names a
+pub named_text : (names : Names) (word : List ℕ) (w : NodeWords) (a : Node) → AreStages names.stages → AreWords word w → NamesNode names w a
+    → word ≡ node_text names a
 named_text names word w a stages words h =
     let (o, at, g, n) = h.op in
     words.is
     ∙ ap (λ k. decimal k ++ codes "." ++ decimal w.n ++ codes "@" ++ decimal w.core ++ codes ":" ++ w.stage.now) (sym g)
     ∙ ap (λ k. decimal o.g ++ codes "." ++ decimal k ++ codes "@" ++ decimal w.core ++ codes ":" ++ w.stage.now) (sym n)
     ∙ ap (λ k. decimal o.g ++ codes "." ++ decimal o.n ++ codes "@" ++ decimal k ++ codes ":" ++ w.stage.now) (sym h.core)
-    ∙ ap (λ name. decimal o.g ++ codes "." ++ decimal o.n ++ codes "@" ++ decimal a.core ++ codes ":" ++ name) (sym (stage_name_is names.stages stages a.stage w.stage.now h.stage))
+    ∙ ap (λ name. decimal o.g ++ codes "." ++ decimal o.n ++ codes "@" ++ decimal a.core ++ codes ":" ++ name)
+    (sym (stage_name_is names.stages stages a.stage w.stage.now h.stage))
     ∙ sym (node_text_is names a o at)
 
 pub named_in : (names : Names) (w : NodeWords) (a : Node) → a.core < 64 → NamesNode names w a → IsNodeIn names a
@@ -60,7 +62,13 @@ named_by names word w a small stages words inside is =
     let same = same_cuts cuts (words_cuts words) in
     let named = stage_from_number names.stages a.stage inside.stage_of_model in
     record {
-      op = (o.0, o.1, decimal_injective o.0.g w.g (omega (arith, bits.0)) (omega (arith, words.g)) same.0, decimal_injective o.0.n w.n (omega (arith, bits.1)) (omega (arith, words.n)) same.1);
+      op = (
+        o.0,
+        o.1,
+        decimal_injective o.0.g w.g (omega (arith, bits.0)) (omega (arith, words.g)) same.0,
+        decimal_injective o.0.n w.n
+            (omega (arith, bits.1)) (omega (arith, words.n)) same.1,
+      );
       core = decimal_injective a.core w.core (omega (arith, inside.core_in_range)) (omega (arith, words.core)) same.2;
       stage = (let P : List ℕ → Type 0 = λ name. IsStage names.stages a.stage name in
           subst P (sym (stage_name_is names.stages stages a.stage named.0 named.1) ∙ same.3) named.1);
@@ -120,7 +128,8 @@ readable names kept = record {
         let bits = kept.small a.op o.0 o.1 in
         let others = kept.small b.op p.0 p.1 in
         let first = text_cuts names a f kept.small in
-        let second : Cuts (node_text names a) (decimal p.0.g) (decimal p.0.n) (decimal b.core) (stage_name names.stages b.stage) = rw e (text_cuts names b g kept.small) in
+        let second : Cuts (node_text names a) (decimal p.0.g) (decimal p.0.n) (decimal b.core) (stage_name names.stages b.stage) = rw e
+        (text_cuts names b g kept.small) in
         let same = same_cuts first second in
         let here = stage_known names a kept.stages f in
         let there = stage_known names b kept.stages g in

@@ -6,6 +6,7 @@ use Rattle.pc_common.specs.Chain.{Leads}
 use Rattle.pc_common.specs.Steps.{Leaf, Step, split, close}
 use Rattle.pc_common.proofs.Elements.{In, in_from_contains, in_either, from_flat, from_map}
 use Rattle.pc_common.proofs.Nodes.{has_node_is, has_edge_is}
+use Rattle.pc_common.proofs.Bools.{and_first, and_second}
 use Rattle.pc_ground.specs.declared.literal.Literal.{Literal}
 use Rattle.pc_ground.specs.declared.literal.Literal.TheVariants.{Node as a_node, Edge, NoNode, NoEdge}
 use Rattle.pc_ground.specs.Tree.{Tree, always, never, leaf, both, either, negation, turned, size_of, literal_true, tree_true}
@@ -13,7 +14,6 @@ use Rattle.pc_ground.specs.declared.version.Version.{Version}
 use Rattle.pc_ground.specs.declared.version.Version.TheVariants.{One, Two}
 use Rattle.pc_ground.specs.Literals.{Joins, IsPresent, as_node, as_start, as_end}
 use Rattle.pc_ground.specs.Refutes.{subtree_at, asserted, Signed, signed, all_signed, part_at, Branch, literal_of, literals_of, IsContradiction, a_cycle, a_path, an_absence, Closes, a_contradiction, a_falsity, with_side, left_branch, right_branch, Runs, IsPartial, IsRefutation}
-use Rattle.pc_ground.proofs.Bools.{and_first, and_second}
 use Rattle.pc_ground.proofs.FlatRows.{children_both, children_either}
 use Rattle.pc_ground.proofs.Turned.{subtree_denied, negation_true}
 
@@ -74,7 +74,8 @@ module _ (w : World Node) (is_world : IsWorld w) where
   literal_known (both a b) is l i = elim i [ ]
   literal_known (either a b) is l i = elim i [ ]
 
-  at_position : (o : Option (Tree Node)) → ((s : Tree Node) → o ≡ Some s → tree_true w s ≡ true) → (l : Literal Node) → In l (literal_of o) → literal_true w l ≡ true
+  at_position : (o : Option (Tree Node)) → ((s : Tree Node) → o ≡ Some s → tree_true w s ≡ true) → (l : Literal Node) → In l (literal_of o)
+      → literal_true w l ≡ true
   at_position None each l i = elim i [ ]
   at_position (Some s) each l i = literal_known s (each s refl) l i
 
@@ -83,7 +84,8 @@ module _ (w : World Node) (is_world : IsWorld w) where
       let r = from_flat (λ q. literal_of (part_at t q)) l ps (in_from_contains l (literals_of t ps) has) in
       at_position (part_at t r.0) (h r.0 r.1) l r.2
 
-  here : (t s : Tree Node) (q : ℕ) → subtree_at t q ≡ Some s → tree_true w s ≡ true → (p : ℕ) → q ≡ p → (u : Tree Node) → subtree_at t p ≡ Some u → tree_true w u ≡ true
+  here : (t s : Tree Node) (q : ℕ) → subtree_at t q ≡ Some s → tree_true w s ≡ true → (p : ℕ) → q ≡ p → (u : Tree Node) → subtree_at t p ≡ Some u
+      → tree_true w u ≡ true
   here t s q at is p same u f =
       let found : Some s ≡ Some u = sym at ∙ ap (subtree_at t) same ∙ f in
       let one : s ≡ u = cc in
@@ -136,7 +138,8 @@ module _ (w : World Node) (is_world : IsWorld w) where
   one_side false b e = inr (refl, e)
 
   -- steps that close all branches leave no branch that is true
-  closed_none : (v : Version) (t : Tree Node) → tree_true w t ≡ true → (steps : List (Step Node)) (opens : List Branch) → Runs v t steps opens [] → SomeTrue t opens → ⊥
+  closed_none : (v : Version) (t : Tree Node) → tree_true w t ≡ true → (steps : List (Step Node)) (opens : List Branch) → Runs v t steps opens []
+      → SomeTrue t opens → ⊥
   closed_none v t is [] opens r some = (let P : List Branch → Type 0 = λ x. SomeTrue t x in subst P r some)
   closed_none v t is (s ∷ ss) [] r some = some
   closed_none v t is (split n p ∷ ss) (ps ∷ opens) r (inr some) = closed_none v t is ss _ r.3 (inr (inr some))
@@ -156,7 +159,8 @@ module _ (w : World Node) (is_world : IsWorld w) where
   refuted_none v t steps r is =
       closed_none v t is steps (all_signed false (asserted t 0) ∷ []) r (inl (signed_true t false (asserted t 0) (side_true t t 0 refl is)))
 
-pub refutation_sound : (v : Version) (t : Tree Node) (steps : List (Step Node)) → IsRefutation v t steps → (w : World Node) → IsWorld w → IsTrue (tree_true w t) → ⊥
+pub refutation_sound : (v : Version) (t : Tree Node) (steps : List (Step Node)) → IsRefutation v t steps → (w : World Node) → IsWorld w
+    → IsTrue (tree_true w t) → ⊥
 refutation_sound v t steps r w is_world is = refuted_none w is_world v t steps r is
 
 -- no position of the branch has a sign

@@ -4,25 +4,17 @@ use Rattle.std.specs.Prelude.{slice_get, Contains}
 use Rattle.pc_common.proofs.Elements.{In, in_from_contains, contains_from_in}
 use Rattle.std.specs.Option.{option_map, unwrap_or}
 use Rattle.std.specs.Cmp.Lexicographic.{pointwise}
-use Rattle.std.proofs.lemmas.List.{drop_more}
-use Rattle.std.proofs.lemmas.Option.{slice_get_within, get_or_from_slice_get, slice_get-map}
-use Rattle.std.proofs.lemmas.Bool.{ne_eqb}
+use Rattle.std.proofs.lemmas.Option.{slice_get_within, slice_get-map}
+use Rattle.std.proofs.lemmas.Bool.{ne_eqb, and_from}
 use Rattle.pc_common.specs.Lines.{StageName, stage_name}
+use Rattle.pc_common.proofs.Bools.{true_or_false, and_first, and_second, not_both}
+use Rattle.pc_common.proofs.Places.{drop_at, map_length}
 use Rattle.pc_ground.specs.declared.stage.Stage.{Stage}
 use Rattle.pc_ground.specs.Stages.{plain_stage, AreStages, numbers_of}
 use Rattle.pc_ground.specs.NodeWords.{IsStage}
-use Rattle.pc_ground.proofs.Bools.{and_first, and_second, and_both, true_or_false, not_both}
 
 pub some_same : {X : Type 0} {x y : X} → Some x ≡ Some y → x ≡ y
 some_same {X} {x} {y} e = ap (λ o. unwrap_or o x) e
-
-map_length : {X Y : Type 0} (f : X → Y) (xs : List X) → length (map f xs) ≡ length xs
-map_length f [] = refl
-map_length f (x ∷ xs) = omega (arith, map_length f xs)
-
-pub drop_at : {X : Type 0} (xs : List X) (i : ℕ) (x : X) → slice_get xs i ≡ Some x → drop i xs ≡ x ∷ drop (i + 1) xs
-drop_at xs i x e =
-    drop_more xs i x (slice_get_within xs i x e) ∙ ap (λ y. y ∷ drop (i + 1) xs) (get_or_from_slice_get xs i x x e)
 
 abbrev Named : List Stage → ℕ → ℕ → Type 0
 Named stages n k = stage_name (map plain_stage stages) n ≡ stage_name (map plain_stage (drop k stages)) n
@@ -55,7 +47,7 @@ bytes_same a b e = ap (λ x. pointwise nat_eq x b) e ∙ self b
   where
     self : (b : List ℕ) → pointwise nat_eq b b ≡ true
     self [] = refl
-    self (y ∷ ys) = and_both (nat_eq y y) (pointwise nat_eq ys ys) (eq-eqb y y refl) (self ys)
+    self (y ∷ ys) = and_from (nat_eq y y) (pointwise nat_eq ys ys) (eq-eqb y y refl) (self ys)
 
 -- no stage before k has this name
 abbrev pub NoneNamed : List Stage → List ℕ → ℕ → Type 0

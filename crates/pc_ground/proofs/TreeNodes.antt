@@ -28,7 +28,7 @@ use Rattle.pc_ground.specs.GroundTree.{closed_ground_tree}
 use Rattle.pc_ground.specs.Numbers.{nodes_of_literal, nodes_of_tree}
 use Rattle.pc_ground.specs.Stages.{plain_axioms, AxiomsWithin}
 
-cores_few : (ops : List MicroOp) → ((k : ℕ) (o : MicroOp) → slice_get ops k ≡ Some o → o.core < 64) → cores_of ops ≤ 64
+pub cores_few : (ops : List MicroOp) → ((k : ℕ) (o : MicroOp) → slice_get ops k ≡ Some o → o.core < 64) → cores_of ops ≤ 64
 cores_few [] h = omega arith
 cores_few (o ∷ os) h =
     let here : o.core < 64 = h zero o refl in
@@ -65,7 +65,8 @@ module _ (numbers : List ℕ) (c : Case) (kept : AreMicroOps c.ops) where
   good_at (t ∷ ts) (v ∷ vs) zero s h e = (let same : t ≡ s = cc in let P : Sort → Type 0 = λ x. IsGood x v in subst P same h.0)
   good_at (t ∷ ts) (v ∷ vs) (suc k) s h e = good_at ts vs k s h.1 e
 
-  good_value : (scope : List Sort) (slots : List Meaning) (a : ClosedArg) → AreGood scope slots → HasValue scope a → IsGood (sort_of scope a) (closed_value slots a)
+  good_value : (scope : List Sort) (slots : List Meaning) (a : ClosedArg) → AreGood scope slots → HasValue scope a
+      → IsGood (sort_of scope a) (closed_value slots a)
   good_value scope slots (Slot k) h inside =
       let there = slice_get-get_or scope k Core inside in
       let P : Sort → Type 0 = λ s. IsGood s (value_at slots k) in
@@ -224,14 +225,16 @@ module _ (numbers : List ℕ) (c : Case) (kept : AreMicroOps c.ops) where
   core_there_is scope slots None core h own fits = tt
   core_there_is scope slots (Some o) core h own fits = core_is scope slots o core h (own o refl) fits
 
-  op_node : (scope : List Sort) (slots : List Meaning) (v : Meaning) (core : Option ClosedArg) (stage : ℕ) → AreGood scope slots → IsGood Microop v → FitsCore scope core
+  op_node : (scope : List Sort) (slots : List Meaning) (v : Meaning) (core : Option ClosedArg) (stage : ℕ) → AreGood scope slots → IsGood Microop v
+      → FitsCore scope core
       → IsAmong numbers stage → OptionOf (node_at (op_of (Some v)) (core_at_op c slots (op_of (Some v)) core) (Some stage))
   op_node scope slots (an_op i) core stage h good fits among =
       node_of_parts i stage (core_at_op c slots (Some i) core) good
       (core_there_is scope slots (slice_get c.ops i) core h (λ o at. kept.cores i o at) fits) among
   op_node scope slots (a_core k) core stage h good fits among = absurd good
 
-  node_is : (scope : List Sort) (slots : List Meaning) (t : ClosedNode) → AreGood scope slots → FitsNode scope t → IsAmong numbers t.stage → OptionOf (closed_node c slots t)
+  node_is : (scope : List Sort) (slots : List Meaning) (t : ClosedNode) → AreGood scope slots → FitsNode scope t → IsAmong numbers t.stage
+      → OptionOf (closed_node c slots t)
   node_is scope slots t h fits among = op_node scope slots (value_at slots t.op) t.core t.stage h (good_at scope slots t.op Microop h fits.0) fits.1 among
 
   node_said_of : (o : Option Node) → OptionOf o → GroundOf (node_said o)
@@ -253,11 +256,13 @@ module _ (numbers : List ℕ) (c : Case) (kept : AreMicroOps c.ops) where
       → GroundOf (all_of (map (λ t. edge_said (closed_node c slots t.from) (closed_node c slots t.to)) ts))
   edges_of scope slots [] h fits within = tt
   edges_of scope slots (t ∷ ts) h fits within = (
-    edge_said_of (closed_node c slots t.from) (closed_node c slots t.to) (node_is scope slots t.from h fits.0 within.0) (node_is scope slots t.to h fits.1 within.1),
+    edge_said_of (closed_node c slots t.from) (closed_node c slots t.to) (node_is scope slots t.from h fits.0 within.0)
+        (node_is scope slots t.to h fits.1 within.1),
     edges_of scope slots ts h fits.2 within.2,
   )
 
-  closed_of : (scope : List Sort) (slots : List Meaning) (p : PlainClosed) → AreGood scope slots → IsClosed scope p → StagesWithin numbers p → GroundOf (closed_unfolded c slots p)
+  closed_of : (scope : List Sort) (slots : List Meaning) (p : PlainClosed) → AreGood scope slots → IsClosed scope p → StagesWithin numbers p
+      → GroundOf (closed_unfolded c slots p)
   closed_of scope slots (closed_not p) h is within = closed_of scope slots p h is within
   closed_of scope slots (closed_and p q) h is within = (closed_of scope slots p h is.0 within.0, closed_of scope slots q h is.1 within.1)
   closed_of scope slots (closed_or p q) h is within = (closed_of scope slots p h is.0 within.0, closed_of scope slots q h is.1 within.1)
@@ -300,7 +305,8 @@ module _ (numbers : List ℕ) (c : Case) (kept : AreMicroOps c.ops) where
   tree_node_of (either x y) a h i =
       elim (in_either a (nodes_of_tree x) (nodes_of_tree y) i) [ inl j ↦ tree_node_of x a h.0 j | inr j ↦ tree_node_of y a h.1 j ]
 
-  tree_nodes_of : (axioms : List Closed) → AxiomsWithin numbers (plain_axioms axioms) → (a : Node) → Contains (nodes_of_tree (closed_ground_tree c (plain_axioms axioms))) a → IsOf a
+  tree_nodes_of : (axioms : List Closed) → AxiomsWithin numbers (plain_axioms axioms) → (a : Node)
+      → Contains (nodes_of_tree (closed_ground_tree c (plain_axioms axioms))) a → IsOf a
   tree_nodes_of axioms within a has =
       let g = all_of (map (closed_unfolded c []) (plain_axioms axioms)) in
       tree_node_of (closed_ground_tree c (plain_axioms axioms)) a (folded_of (pushed true g) (pushed_of true g (axioms_of axioms within)))

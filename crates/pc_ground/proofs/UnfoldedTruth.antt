@@ -45,7 +45,8 @@ choose w true x y g h p q = p
 choose w false x y g h p q = q
 
 -- a written formula
-pub unfolded_true : (s : Setting) (ms : List MacroAt) (env : Environment) (f : Written) → is_true s ms env f ≡ ground_holds s.world (unfolded s.stages s.case ms env f)
+pub unfolded_true : (s : Setting) (ms : List MacroAt) (env : Environment) (f : Written)
+    → is_true s ms env f ≡ ground_holds s.world (unfolded s.stages s.case ms env f)
 unfolded_true s ms env (not_ p) = λ i. not (unfolded_true s ms env p i)
 unfolded_true s ms env (and_ p q) = λ i. unfolded_true s ms env p i && unfolded_true s ms env q i
 unfolded_true s ms env (or_ p q) = λ i. unfolded_true s ms env p i || unfolded_true s ms env q i
@@ -74,7 +75,8 @@ unfolded_true s (m ∷ ms) env (expand_ at name args) =
     (unfolded_true s ms env (expand_ at name args))
 
 -- a closed formula
-pub closed_unfolded_true : (c : Case) (w : World Node) (slots : List Meaning) (p : PlainClosed) → closed_true c w slots p ≡ ground_holds w (closed_unfolded c slots p)
+pub closed_unfolded_true : (c : Case) (w : World Node) (slots : List Meaning) (p : PlainClosed)
+    → closed_true c w slots p ≡ ground_holds w (closed_unfolded c slots p)
 closed_unfolded_true c w slots (closed_not p) = λ i. not (closed_unfolded_true c w slots p i)
 closed_unfolded_true c w slots (closed_and p q) = λ i. closed_unfolded_true c w slots p i && closed_unfolded_true c w slots q i
 closed_unfolded_true c w slots (closed_or p q) = λ i. closed_unfolded_true c w slots p i || closed_unfolded_true c w slots q i
@@ -89,7 +91,8 @@ closed_unfolded_true c w slots (closed_static pred args) = decided_true w (predi
 closed_unfolded_true c w slots (closed_nodes ts) =
     all_true w (λ t. node_said (closed_node c slots t)) (λ t. node_holds w (closed_node c slots t)) (λ t. node_true w (closed_node c slots t)) ts
 closed_unfolded_true c w slots (closed_edges ts) =
-    all_true w (λ t. edge_said (closed_node c slots t.from) (closed_node c slots t.to)) (λ t. edge_holds w (closed_node c slots t.from) (closed_node c slots t.to))
+    all_true w (λ t. edge_said (closed_node c slots t.from) (closed_node c slots t.to))
+    (λ t. edge_holds w (closed_node c slots t.from) (closed_node c slots t.to))
     (λ t. edge_true w (closed_node c slots t.from) (closed_node c slots t.to)) ts
 closed_unfolded_true c w slots (closed_bind args p) = closed_unfolded_true c w (slots ++ map (closed_value slots) args) p
 
@@ -100,7 +103,8 @@ ground_tree_true m c w =
     (unfolded_true (setting m c w) (macros_of m) []) (axioms_of m)
     ∙ sym (normal_true w (all_of (map (unfolded m.stages c (macros_of m) []) (axioms_of m))))
 
-pub closed_ground_tree_true : (c : Case) (axioms : List PlainClosed) (w : World Node) → list_all (closed_true c w []) axioms ≡ tree_true w (closed_ground_tree c axioms)
+pub closed_ground_tree_true : (c : Case) (axioms : List PlainClosed) (w : World Node)
+    → list_all (closed_true c w []) axioms ≡ tree_true w (closed_ground_tree c axioms)
 closed_ground_tree_true c axioms w =
     all_true w (closed_unfolded c []) (closed_true c w []) (closed_unfolded_true c w []) axioms
     ∙ sym (normal_true w (all_of (map (closed_unfolded c []) axioms)))

@@ -19,7 +19,8 @@ walk_through rows end (either a b) p ps part within walk =
 walk_through {N} rows end (both a b) p ps part within walk =
     let parts = parts_both rows p a b part in
     let P : ℕ → Type 0 = λ n. Walk rows end n ps in
-    let behind : Walk rows end (p + 1 + size_of a + size_of b) ps = subst P (let same : p + size_of (both a b) ≡ p + 1 + size_of a + size_of b = omega arith in same) walk in
+    let behind : Walk rows end (p + 1 + size_of a + size_of b) ps =
+    subst P (let same : p + size_of (both a b) ≡ p + 1 + size_of a + size_of b = omega arith in same) walk in
     let right = walk_through rows end b (p + 1 + size_of a) ps parts.1 (omega (arith, within)) behind in
     let left = walk_through rows end a (p + 1) (asserted b (p + 1 + size_of a) ++ ps) parts.0 (omega (arith, within)) right in
     let Q : List ℕ → Type 0 = λ xs. Walk rows end (p + 1) xs in

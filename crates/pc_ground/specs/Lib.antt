@@ -16,3 +16,5 @@ pub mod Decimals
 pub mod NodeForm
 pub mod LineParts
 pub mod NodeWords
+pub mod LawsOfStages
+pub mod Words

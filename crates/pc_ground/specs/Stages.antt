@@ -1,12 +1,9 @@
 -- The stages of a model: their numbers and names, and that axioms name no others.
 use Rattle.std.specs.Prelude.{ℕ, ◌≡◌, ◌<◌, List, [], ◌∷◌, Some, map, slice_get, IsTrue}
-use Rattle.std.specs.Coded.{le_prop}
-use Rattle.std.proofs.Math.Nat.{ℕ_set}
-use Rattle.std.proofs.Math.Bool.{Bool-set}
 use Rattle.pc_common.specs.Lines.{StageName}
 use Rattle.pc_syntax.specs.declared.closed.Closed.{Closed}
 use Rattle.pc_syntax.specs.Closed.{PlainClosed, plain_closed}
-use Rattle.pc_syntax.specs.StagesWithin.{StagesWithin, StagesWithin-prop}
+use Rattle.pc_syntax.specs.StagesWithin.{StagesWithin}
 use Rattle.uspec_lexer.specs.Bytes.{is_name}
 use Rattle.pc_ground.specs.declared.stage.Stage.{Stage}
 
@@ -25,9 +22,6 @@ pub record AreStages (stages : List StageName) : Type 0 where
   pub one_name : (j k : ℕ) (s t : StageName) → slice_get stages j ≡ Some s → slice_get stages k ≡ Some t → s.1 ≡ t.1
       → j ≡ k
 
-pub AreStages-prop : (stages : List StageName) → IsProp (AreStages stages)
-AreStages-prop stages = hlevel (le_prop, ℕ_set, Bool-set)
-
 abbrev pub numbers_of : List StageName → List ℕ
 numbers_of stages = map (λ s. s.0) stages
 
@@ -35,7 +29,3 @@ numbers_of stages = map (λ s. s.0) stages
 abbrev pub AxiomsWithin : List ℕ → List PlainClosed → Type 0
 AxiomsWithin numbers [] = Unit {0}
 AxiomsWithin numbers (p ∷ ps) = StagesWithin numbers p × AxiomsWithin numbers ps
-
-pub AxiomsWithin-prop : (numbers : List ℕ) (axioms : List PlainClosed) → IsProp (AxiomsWithin numbers axioms)
-AxiomsWithin-prop numbers [] = hlevel
-AxiomsWithin-prop numbers (p ∷ ps) = hlevel (StagesWithin-prop numbers p, AxiomsWithin-prop numbers ps)

@@ -1,10 +1,8 @@
 -- The walk over the rows of a side that gives the positions which the side asserts.
-use Rattle.std.specs.Prelude.{ℕ, ◌≡◌, ◌<◌, ◌+◌, List, [], ◌∷◌, Option, Some, None, slice_get}
-use Rattle.pc_ground.specs.declared.literal.Literal.{Literal}
+use Rattle.std.specs.Prelude.{ℕ, ◌≡◌, ◌<◌, ◌+◌, List, [], ◌∷◌, Some, slice_get}
 use Rattle.pc_ground.specs.declared.row.RowKind.{RowKind}
 use Rattle.pc_ground.specs.declared.row.RowKind.TheVariants.{True, False, Lit, And, Or}
 use Rattle.pc_ground.specs.declared.row.Row.{Row}
-use Rattle.pc_ground.specs.Rows.{literals_of_kind}
 
 abbrev pub stride_of : {N : Type 0} → RowKind N → ℕ → ℕ
 stride_of True skip = 1
@@ -22,8 +20,3 @@ pub data Walk {N : Type 0} (rows : List (Row N)) (end : ℕ) : ℕ → List ℕ 
   at_end : Walk rows end end []
   onward : {ps : List ℕ} (at : ℕ) (r : Row N) → at < end → slice_get rows at ≡ Some r → Walk rows end (at + stride r) ps
       → Walk rows end at (at ∷ ps)
-
--- the literal of a row, if it is one's
-abbrev pub literals_of_row : {N : Type 0} → Option (Row N) → List (Literal N)
-literals_of_row None = []
-literals_of_row (Some r) = literals_of_kind r.kind

@@ -14,7 +14,7 @@ pub struct Flat {
     rows: Listed<Row<NodeKey>>,
 }
 
-// Written out, so that a proof of what drops the value meets one call and no field.
+// By hand: docs/DECISIONS.md, "Drops are written by hand".
 impl Drop for Flat {
     fn drop(self) {
         let Flat { rows: _ } = self;

@@ -6,7 +6,8 @@ ghost use Rattle.pc_ground.specs.Keys.{key_node};
 ghost use Rattle.pc_ground.specs.Rows.{rows_of};
 ghost use Rattle.pc_ground.specs.GroundTree.{closed_ground_tree};
 ghost use Rattle.pc_ground.specs.Numbers.{numbered};
-ghost use Rattle.pc_ground.specs.Stages.{plain_stage, plain_axioms, numbers_of, AreStages, AreStages-prop, AxiomsWithin, AxiomsWithin-prop};
+ghost use Rattle.pc_ground.specs.Stages.{plain_stage, plain_axioms, numbers_of, AreStages, AxiomsWithin};
+ghost use Rattle.pc_ground.specs.LawsOfStages.{AreStages-prop, AxiomsWithin-prop};
 
 use super::flat::Flat;
 use super::numbering::Numbering;
@@ -36,7 +37,7 @@ pub struct Front {
             (numbered (closed_ground_tree case (plain_axioms axioms))) },
 }
 
-// Written out, so that a proof of what drops the value meets one call and no field.
+// By hand: docs/DECISIONS.md, "Drops are written by hand".
 impl Drop for Front {
     fn drop(self) {
         let Front {

@@ -10,7 +10,6 @@ use std::alloc::Global;
 /// A formula over literals, with no quantifier, predicate or name.
 ///
 /// Its drop loops on the right side, and nests a call only for a left side.
-#[derive(Debug)]
 pub enum Ground {
     True,
     False,

@@ -1,5 +1,8 @@
 //! The ground tree: what a model says of one test, with no quantifier and no name left in it.
 //!
+//! Clause: a `Front` keeps the ground tree of its axioms in its case (`grounded` of the type); a `NodeText` reads and
+//! writes the text of a node (`read`, `again`).
+//!
 //! ```rust
 //! // the front of a model with stage 5, `S`, and of a test whose first micro-op is 7.0
 //! let names = NodeText::of(&front);

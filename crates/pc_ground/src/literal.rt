@@ -2,7 +2,7 @@ ghost use Rattle.std.specs.Prelude.{◌≡◌};
 ghost use Rattle.pc_ground.specs.Tree.{contrary as contrary_of};
 
 /// What is asserted or denied of nodes: that one is there, or that the first happens before the second.
-#[derive(Clone, Copy, Debug, PartialEq, Eq)]
+#[derive(Clone, Copy, PartialEq, Eq)]
 pub enum Literal<N> {
     Node(N),
     /// The first node happens before the second.

@@ -6,7 +6,8 @@ ghost use Rattle.pc_common.specs.Room.{Puts};
 ghost use Rattle.pc_common.specs.Writes.{Writes};
 ghost use Rattle.pc_case.specs.MicroOps.{AreMicroOps, IsNamed};
 ghost use Rattle.pc_ground.specs.Keys.{key_node};
-ghost use Rattle.pc_ground.specs.Stages.{plain_stage, AreStages, AreStages-prop};
+ghost use Rattle.pc_ground.specs.Stages.{plain_stage, AreStages};
+ghost use Rattle.pc_ground.specs.LawsOfStages.{AreStages-prop};
 ghost use Rattle.pc_ground.specs.NodeForm.{names_by, names_of, names_of_parts, IsNodeIn, ReadsNode, Answers, AreReadable};
 ghost use Rattle.pc_ground.specs.NodeWords.{IsStage, AreSmall, AreKept, NamesNode};
 

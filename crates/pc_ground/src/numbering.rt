@@ -15,7 +15,7 @@ pub struct Numbering {
     keys: IndexMap<NodeKey, ()>,
 }
 
-// Written out, so that a proof of what drops the value meets one call and no field.
+// By hand: docs/DECISIONS.md, "Drops are written by hand".
 impl Drop for Numbering {
     fn drop(self) {
         let Numbering { keys: _ } = self;

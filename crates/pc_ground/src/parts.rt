@@ -1,5 +1,6 @@
 ghost use Rattle.std.specs.Prelude.{map};
-ghost use Rattle.pc_ground.specs.Stages.{plain_stage, plain_axioms, numbers_of, AreStages, AreStages-prop, AxiomsWithin, AxiomsWithin-prop};
+ghost use Rattle.pc_ground.specs.Stages.{plain_stage, plain_axioms, numbers_of, AreStages, AxiomsWithin};
+ghost use Rattle.pc_ground.specs.LawsOfStages.{AreStages-prop, AxiomsWithin-prop};
 
 use super::stage::{Axioms, Stages};
 use pc_case::Case;

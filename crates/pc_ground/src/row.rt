@@ -5,7 +5,7 @@ ghost use Rattle.pc_ground.specs.Walks.{stride as stride_by};
 use super::literal::Literal;
 
 /// What stands at a position of a tree.
-#[derive(Clone, Copy, Debug, PartialEq, Eq)]
+#[derive(Clone, Copy)]
 pub enum RowKind<N> {
     True,
     False,
@@ -15,7 +15,7 @@ pub enum RowKind<N> {
 }
 
 /// One position of a tree in preorder.
-#[derive(Clone, Copy, Debug, PartialEq, Eq)]
+#[derive(Clone, Copy)]
 pub struct Row<N> {
     pub kind: RowKind<N>,
     /// How many positions the tree below has, this one among them: 1 for a leaf. The left child of

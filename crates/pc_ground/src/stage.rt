@@ -11,7 +11,7 @@ pub struct Stage {
     pub name: Name,
 }
 
-// Written out, so that a proof of what drops the value meets one call and no field.
+// By hand: docs/DECISIONS.md, "Drops are written by hand".
 impl Drop for Stage {
     fn drop(self) {
         let Stage { number: _, name: _ } = self;

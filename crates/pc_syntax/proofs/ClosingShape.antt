@@ -16,6 +16,7 @@ use Rattle.pc_syntax.specs.declared.model.StageItem.{StageItem}
 use Rattle.pc_syntax.specs.declared.pred.Pred.{Pred}
 use Rattle.pc_syntax.specs.declared.pred.Pred.TheVariants.{True}
 use Rattle.pc_common.specs.Names.{same_name}
+use Rattle.pc_common.proofs.Places.{slice_get-more}
 use Rattle.pc_syntax.specs.declared.pred.Takes.{Takes}
 use Rattle.pc_syntax.specs.declared.pred.Takes.TheVariants.{Op as takes_op, Core as takes_core, Plain as takes_plain}
 use Rattle.pc_syntax.specs.Predicates.{pred_with_name, takes_of}
@@ -28,7 +29,7 @@ use Rattle.pc_syntax.specs.StageFaults.{number_fault, number_again, name_again, 
 use Rattle.pc_syntax.specs.NameFaults.{sort_fault, variable_fault, core_fault, argument_fault, arguments_fault, arity_fault, location_fault, stage_name_fault, node_fault, edge_fault, value_fault, scope_fault, binding_fault, name_fault}
 use Rattle.pc_syntax.specs.Closing.{slot_of, closing_of_value, closing_of_bound, closing_of_arg, closing_of_args, closing_of_node, closing_of_edge, closing_of_static, closing_of}
 use Rattle.pc_syntax.proofs.NoFault.{none_first, none_second, none_where, none_unless}
-use Rattle.pc_syntax.proofs.Slots.{slice_get-more, slice_get-end}
+use Rattle.pc_syntax.proofs.Slots.{slice_get-end}
 use Rattle.pc_syntax.proofs.ClosingTruth.{sorts_equal, bound_length}
 
 -- each stage's number is below 64

@@ -1,10 +1,8 @@
 -- Closing a formula without name faults names stages of the model alone.
-use Rattle.std.proofs.Common.{◌≡◌, ℕ, Bool, true, false, ◌||◌, List, [], ◌∷◌, Option, Some, None, map, cond, option_map, refl, unwrap_or, eq-eqb, eqb-true, nat_eq, subst}
-use Rattle.std.specs.Prelude.{Contains}
+use Rattle.std.proofs.Common.{◌≡◌, ℕ, Bool, true, false, ◌||◌, List, [], ◌∷◌, Option, Some, None, map, cond, option_map, refl, unwrap_or, eq-eqb, nat_eq}
 use Rattle.std.specs.List.{list_any}
 use Rattle.std.specs.Option.{option_or}
 use Rattle.pc_common.specs.Names.{same_name}
-use Rattle.pc_common.proofs.Elements.{In, any_holds, contains_from_in}
 use Rattle.pc_common.specs.declared.fault.FaultKind.TheVariants.{StageUnknown}
 use Rattle.pc_syntax.specs.declared.term.Sort.TheVariants.{Microop}
 use Rattle.pc_syntax.specs.declared.term.Word.{Word}
@@ -107,9 +105,3 @@ module _ (stages : List StageItem) where
   closing_within scope (bind_ at names args p) f =
       let inside = bound_in scope names args in
       closing_within inside p (none_second (binding_fault scope at names args) (name_fault stages [] inside p) f)
-
--- what a closed formula keeps of its stages, as a world asks it of its nodes
-pub among_contains : (numbers : List ℕ) (k : ℕ) → IsAmong numbers k → Contains numbers k
-among_contains numbers k h =
-    let found = any_holds (λ n. nat_eq n k) numbers h in
-    contains_from_in k numbers (subst (λ (n : ℕ). In n numbers) (eqb-true found.0 k found.2) found.1)

@@ -161,7 +161,8 @@ module _ (slots : List Meaning) (env : Environment) (scope : Scope) (fits : Fits
       let rest = none_second (variable_fault scope Microop t.op) (option_or (location_fault scope t.core) (stage_name_fault stages t.stage)) f in
       let core = none_first (location_fault scope t.core) (stage_name_fault stages t.stage) rest in
       let stage = none_second (location_fault scope t.core) (stage_name_fault stages t.stage) rest in
-      let v = variable_value Microop t.op (none_first (variable_fault scope Microop t.op) (option_or (location_fault scope t.core) (stage_name_fault stages t.stage)) f) in
+      let v = variable_value Microop t.op
+      (none_first (variable_fault scope Microop t.op) (option_or (location_fault scope t.core) (stage_name_fault stages t.stage)) f) in
       let op : op_of (value_of env t.op.name) ≡ op_of (Some (value_at slots (slot_of scope t.op))) =
       ap op_of (v.is_value ∙ ap Some (sym v.in_slot)) in
       (λ i. node_at (op i) (core_there c env (op i) t.core) (stage_number_of stages t.stage.name))

@@ -46,9 +46,6 @@ expansion_expanded ms earlier (implies_ p q) f = (
 )
 expansion_expanded ms earlier (forall_ at sort name p) f = expansion_expanded ms earlier p f
 expansion_expanded ms earlier (exists_ at sort name p) f = expansion_expanded ms earlier p f
-expansion_expanded ms earlier (static_ pred args) f = tt
-expansion_expanded ms earlier (nodes_ ts) f = tt
-expansion_expanded ms earlier (edges_ ts) f = tt
 expansion_expanded ms earlier (bind_ at names args p) f = expansion_expanded ms earlier p f
 expansion_expanded [] earlier (expand_ at name args) f = absurd (cc)
 expansion_expanded (m ∷ ms) earlier (expand_ at name args) f =
@@ -58,6 +55,7 @@ expansion_expanded (m ∷ ms) earlier (expand_ at name args) f =
     (expansion_expanded ms earlier.1 m.body earlier.0)
     (λ later. expansion_expanded ms earlier.1 (expand_ at name args) later)
     f
+expansion_expanded ms earlier w f = tt
 
 -- the macros of these items, latest first, before the earlier ones
 abbrev after : List MacroAt → List WrittenItem → List MacroAt

@@ -1,18 +1,17 @@
 -- Expansion keeps the truth, the size, the height and the first name fault of a formula.
-use Rattle.std.proofs.Common.{◌≡◌, ◌+◌, max, Bool, true, false, not, ◌&&◌, ◌||◌, List, [], ◌∷◌, ◌++◌, cond, refl}
+use Rattle.std.proofs.Common.{◌≡◌, ◌+◌, Bool, true, false, not, ◌&&◌, ◌||◌, List, [], ◌∷◌, ◌++◌, cond, refl}
 use Rattle.std.specs.List.{list_any, list_all}
 use Rattle.std.specs.Option.{option_or}
 use Rattle.pc_syntax.specs.declared.model.StageItem.{StageItem}
 use Rattle.pc_common.specs.Names.{same_name}
-use Rattle.pc_syntax.specs.Written.{Written, not_, and_, or_, implies_, forall_, exists_, static_, nodes_, edges_, expand_, bind_, MacroAt}
+use Rattle.pc_syntax.specs.Written.{Written, not_, and_, or_, implies_, forall_, exists_, expand_, bind_, MacroAt}
 use Rattle.pc_syntax.specs.Truth.{Environment, Setting, bound_to, range_of, is_true}
-use Rattle.pc_syntax.specs.Expansion.{parameter_names, expansion_of, IsExpanded}
-use Rattle.pc_syntax.specs.Sizes.{expanded_size, expanded_height}
+use Rattle.pc_syntax.specs.Expansion.{parameter_names, expansion_of}
 use Rattle.pc_syntax.specs.Scope.{Scope, quantified_in, bound_in}
 use Rattle.pc_syntax.specs.NameFaults.{scope_fault, binding_fault, name_fault}
 
 -- what is read off the formula that a test chooses
-choose : {A : Type 0} (f : Written → A) (b : Bool) (x y : A) (v w : Written)
+pub choose : {A : Type 0} (f : Written → A) (b : Bool) (x y : A) (v w : Written)
     → x ≡ f v → y ≡ f w → cond b x y ≡ f (cond b v w)
 choose f true x y v w p q = p
 choose f false x y v w p q = q
@@ -27,72 +26,14 @@ expansion_true s ms env (forall_ at sort name p) =
     λ i. list_all (λ v. expansion_true s ms ((name, v) ∷ env) p i) (range_of s.case sort)
 expansion_true s ms env (exists_ at sort name p) =
     λ i. list_any (λ v. expansion_true s ms ((name, v) ∷ env) p i) (range_of s.case sort)
-expansion_true s ms env (static_ pred args) = refl
-expansion_true s ms env (nodes_ ts) = refl
-expansion_true s ms env (edges_ ts) = refl
 expansion_true s ms env (bind_ at names args p) = expansion_true s ms (bound_to env names args ++ env) p
-expansion_true s [] env (expand_ at name args) = refl
 expansion_true s (m ∷ ms) env (expand_ at name args) =
     choose (λ w. is_true s [] env w) (same_name m.name.name name.name) _ _
     (bind_ at (parameter_names m) args (expansion_of ms m.body))
     (expansion_of ms (expand_ at name args))
     (expansion_true s ms (bound_to env (parameter_names m) args ++ env) m.body)
     (expansion_true s ms env (expand_ at name args))
-
--- the truth of an expanded formula does not depend on the macros
-pub expanded_true : (s : Setting) (ms : List MacroAt) (env : Environment) (w : Written)
-    → IsExpanded w → is_true s ms env w ≡ is_true s [] env w
-expanded_true s ms env (not_ p) h = λ i. not (expanded_true s ms env p h i)
-expanded_true s ms env (and_ p q) h = λ i. expanded_true s ms env p h.0 i && expanded_true s ms env q h.1 i
-expanded_true s ms env (or_ p q) h = λ i. expanded_true s ms env p h.0 i || expanded_true s ms env q h.1 i
-expanded_true s ms env (implies_ p q) h = λ i. not (expanded_true s ms env p h.0 i) || expanded_true s ms env q h.1 i
-expanded_true s ms env (forall_ at sort name p) h =
-    λ i. list_all (λ v. expanded_true s ms ((name, v) ∷ env) p h i) (range_of s.case sort)
-expanded_true s ms env (exists_ at sort name p) h =
-    λ i. list_any (λ v. expanded_true s ms ((name, v) ∷ env) p h i) (range_of s.case sort)
-expanded_true s ms env (static_ pred args) h = refl
-expanded_true s ms env (nodes_ ts) h = refl
-expanded_true s ms env (edges_ ts) h = refl
-expanded_true s ms env (bind_ at names args p) h = expanded_true s ms (bound_to env names args ++ env) p h
-expanded_true s ms env (expand_ at name args) h = elim h [ ]
-
-pub expansion_size : (ms : List MacroAt) (w : Written) → expanded_size ms w ≡ expanded_size [] (expansion_of ms w)
-expansion_size ms (not_ p) = λ i. 1 + expansion_size ms p i
-expansion_size ms (and_ p q) = λ i. 1 + (expansion_size ms p i + expansion_size ms q i)
-expansion_size ms (or_ p q) = λ i. 1 + (expansion_size ms p i + expansion_size ms q i)
-expansion_size ms (implies_ p q) = λ i. 1 + (expansion_size ms p i + expansion_size ms q i)
-expansion_size ms (forall_ at sort name p) = λ i. 1 + expansion_size ms p i
-expansion_size ms (exists_ at sort name p) = λ i. 1 + expansion_size ms p i
-expansion_size ms (static_ pred args) = refl
-expansion_size ms (nodes_ ts) = refl
-expansion_size ms (edges_ ts) = refl
-expansion_size ms (bind_ at names args p) = λ i. 1 + expansion_size ms p i
-expansion_size [] (expand_ at name args) = refl
-expansion_size (m ∷ ms) (expand_ at name args) =
-    choose (λ w. expanded_size [] w) (same_name m.name.name name.name) _ _
-    (bind_ at (parameter_names m) args (expansion_of ms m.body))
-    (expansion_of ms (expand_ at name args))
-    (λ i. 1 + expansion_size ms m.body i)
-    (expansion_size ms (expand_ at name args))
-
-pub expansion_height : (ms : List MacroAt) (w : Written) → expanded_height ms w ≡ expanded_height [] (expansion_of ms w)
-expansion_height ms (not_ p) = λ i. 1 + expansion_height ms p i
-expansion_height ms (and_ p q) = λ i. 1 + max (expansion_height ms p i) (expansion_height ms q i)
-expansion_height ms (or_ p q) = λ i. 1 + max (expansion_height ms p i) (expansion_height ms q i)
-expansion_height ms (implies_ p q) = λ i. 1 + max (expansion_height ms p i) (expansion_height ms q i)
-expansion_height ms (forall_ at sort name p) = λ i. 1 + expansion_height ms p i
-expansion_height ms (exists_ at sort name p) = λ i. 1 + expansion_height ms p i
-expansion_height ms (static_ pred args) = refl
-expansion_height ms (nodes_ ts) = refl
-expansion_height ms (edges_ ts) = refl
-expansion_height ms (bind_ at names args p) = λ i. 1 + expansion_height ms p i
-expansion_height [] (expand_ at name args) = refl
-expansion_height (m ∷ ms) (expand_ at name args) =
-    choose (λ w. expanded_height [] w) (same_name m.name.name name.name) _ _
-    (bind_ at (parameter_names m) args (expansion_of ms m.body))
-    (expansion_of ms (expand_ at name args))
-    (λ i. 1 + expansion_height ms m.body i)
-    (expansion_height ms (expand_ at name args))
+expansion_true s ms env w = refl
 
 pub expansion_faults : (stages : List StageItem) (ms : List MacroAt) (scope : Scope) (w : Written)
     → name_fault stages ms scope w ≡ name_fault stages [] scope (expansion_of ms w)
@@ -109,12 +50,8 @@ expansion_faults stages ms scope (forall_ at sort name p) =
 expansion_faults stages ms scope (exists_ at sort name p) =
     let inside = quantified_in scope name sort in
     λ i. option_or (scope_fault at inside) (expansion_faults stages ms inside p i)
-expansion_faults stages ms scope (static_ pred args) = refl
-expansion_faults stages ms scope (nodes_ ts) = refl
-expansion_faults stages ms scope (edges_ ts) = refl
 expansion_faults stages ms scope (bind_ at names args p) =
     λ i. option_or (binding_fault scope at names args) (expansion_faults stages ms (bound_in scope names args) p i)
-expansion_faults stages [] scope (expand_ at name args) = refl
 expansion_faults stages (m ∷ ms) scope (expand_ at name args) =
     choose (λ w. name_fault stages [] scope w) (same_name m.name.name name.name) _ _
     (bind_ at (parameter_names m) args (expansion_of ms m.body))
@@ -123,3 +60,4 @@ expansion_faults stages (m ∷ ms) scope (expand_ at name args) =
     (binding_fault scope at (parameter_names m) args)
     (expansion_faults stages ms (bound_in scope (parameter_names m) args) m.body i))
     (expansion_faults stages ms scope (expand_ at name args))
+expansion_faults stages ms scope w = refl

@@ -2,6 +2,7 @@
 use Rattle.std.proofs.Common.{◌≡◌, ℕ, zero, suc, Bool, true, false, List, [], ◌∷◌, ◌++◌, Option, Some, None, length, cond, refl, sym, subst, slice_get, arith}
 use Rattle.pc_syntax.specs.declared.term.Sort.{Sort}
 use Rattle.pc_common.specs.Names.{same_name}
+use Rattle.pc_common.proofs.Places.{slice_get-more}
 use Rattle.pc_syntax.specs.Truth.{Meaning, Environment, value_of}
 use Rattle.pc_syntax.specs.Scope.{Binding, Scope, binding_of, quantified_in}
 use Rattle.pc_syntax.specs.Fits.{sort_of_meaning, Fits}
@@ -27,11 +28,6 @@ found slots (e ∷ es) (b ∷ bs) h name =
     (λ (n : List ℕ). SameFound slots (cond (same_name n name) (Some e.1) (value_of es name)) (binding_of (b ∷ bs) name))
     (sym h.0)
     (pick slots (same_name b.name name) (Some e.1) (value_of es name) (Some b) (binding_of bs name) (h.1, h.2) (found slots es bs h.3 name))
-
-pub slice_get-more : {A : Type 0} (xs ys : List A) (k : ℕ) (x : A) → slice_get xs k ≡ Some x → slice_get (xs ++ ys) k ≡ Some x
-slice_get-more [] ys k x h = cc
-slice_get-more (y ∷ xs) ys zero x h = h
-slice_get-more (y ∷ xs) ys (suc k) x h = slice_get-more xs ys k x h
 
 pub slice_get-end : {A : Type 0} (xs : List A) (y : A) (ys : List A) (k : ℕ) → length xs ≡ k → slice_get (xs ++ y ∷ ys) k ≡ Some y
 slice_get-end [] y ys zero h = refl

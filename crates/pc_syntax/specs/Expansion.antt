@@ -1,5 +1,5 @@
 -- What expansion makes of a formula, and what an expanded formula is.
-use Rattle.std.specs.Prelude.{◌≡◌, ℕ, List, [], ◌∷◌, map, if◌then◌else◌}
+use Rattle.std.specs.Prelude.{ℕ, List, [], ◌∷◌, map, if◌then◌else◌}
 use Rattle.pc_common.specs.Names.{same_name}
 use Rattle.pc_syntax.specs.Written.{Written, not_, and_, or_, implies_, forall_, exists_, static_, nodes_, edges_, expand_, bind_, MacroAt}
 
@@ -25,10 +25,6 @@ expansion_of (m ∷ ms) (expand_ at name args) =
     then bind_ at (parameter_names m) args (expansion_of ms m.body)
     else expansion_of ms (expand_ at name args)
 
--- e is what expansion makes of w; the macros that w may name are listed latest first
-abbrev pub IsExpansionOf : List MacroAt → Written → Written → Type 0
-IsExpansionOf ms w e = e ≡ expansion_of ms w
-
 -- no expansion is left
 abbrev pub IsExpanded : Written → Type 0
 IsExpanded (not_ p) = IsExpanded p
@@ -42,16 +38,3 @@ IsExpanded (nodes_ ts) = Unit {0}
 IsExpanded (edges_ ts) = Unit {0}
 IsExpanded (expand_ at name args) = ⊥
 IsExpanded (bind_ at names args p) = IsExpanded p
-
-pub IsExpanded-prop : (w : Written) → IsProp (IsExpanded w)
-IsExpanded-prop (not_ p) = IsExpanded-prop p
-IsExpanded-prop (and_ p q) = hlevel (IsExpanded-prop p, IsExpanded-prop q)
-IsExpanded-prop (or_ p q) = hlevel (IsExpanded-prop p, IsExpanded-prop q)
-IsExpanded-prop (implies_ p q) = hlevel (IsExpanded-prop p, IsExpanded-prop q)
-IsExpanded-prop (forall_ at sort name p) = IsExpanded-prop p
-IsExpanded-prop (exists_ at sort name p) = IsExpanded-prop p
-IsExpanded-prop (static_ pred args) = hlevel
-IsExpanded-prop (nodes_ ts) = hlevel
-IsExpanded-prop (edges_ ts) = hlevel
-IsExpanded-prop (expand_ at name args) = hlevel
-IsExpanded-prop (bind_ at names args p) = IsExpanded-prop p

@@ -1,7 +1,5 @@
 -- What a closed formula keeps. A scope lists the sorts of the slots, from the outermost binding.
 use Rattle.std.specs.Prelude.{◌≡◌, ℕ, ◌<◌, ◌≤◌, ◌+◌, List, [], ◌∷◌, ◌++◌, Option, Some, None, length, map, slice_get, unwrap_or}
-use Rattle.std.specs.Coded.{Coded-set, coded_option, le_prop}
-use Rattle.pc_syntax.specs.contracts.term.Sort as sort_row
 use Rattle.pc_common.specs.declared.limits.TheConstants.{MAX_CORE}
 use Rattle.pc_syntax.specs.declared.limits.TheConstants.{MAX_STAGE, MAX_VARIABLES}
 use Rattle.pc_syntax.specs.declared.term.Sort.{Sort}
@@ -84,58 +82,3 @@ IsClosed scope (closed_nodes ts) = FitNodes scope ts
 IsClosed scope (closed_edges ts) = FitEdges scope ts
 IsClosed scope (closed_bind args p) =
     HaveValues scope args × (length scope + length args ≤ MAX_VARIABLES) × IsClosed (with_sorts scope args) p
-
-pub IsBound-prop : (scope : List Sort) (k : ℕ) (sort : Sort) → IsProp (IsBound scope k sort)
-IsBound-prop scope k sort = Coded-set (coded_option sort_row.the_row.coded) (slice_get scope k) (Some sort)
-
-pub FitsArg-prop : (scope : List Sort) (t : Takes) (a : ClosedArg) → IsProp (FitsArg scope t a)
-FitsArg-prop scope takes_op (Slot k) = IsBound-prop scope k Microop
-FitsArg-prop scope takes_op (core_arg n) = hlevel
-FitsArg-prop scope takes_op (Plain name) = hlevel
-FitsArg-prop scope takes_core (Slot k) = IsBound-prop scope k Core
-FitsArg-prop scope takes_core (core_arg n) = le_prop
-FitsArg-prop scope takes_core (Plain name) = hlevel
-FitsArg-prop scope takes_plain (Slot k) = hlevel
-FitsArg-prop scope takes_plain (core_arg n) = hlevel
-FitsArg-prop scope takes_plain (Plain name) = hlevel
-
-pub FitArgs-prop : (scope : List Sort) (ts : List Takes) (args : List ClosedArg) → IsProp (FitArgs scope ts args)
-FitArgs-prop scope [] [] = hlevel
-FitArgs-prop scope [] (a ∷ as_) = hlevel
-FitArgs-prop scope (t ∷ ts) [] = hlevel
-FitArgs-prop scope (t ∷ ts) (a ∷ as_) = hlevel (FitsArg-prop scope t a, FitArgs-prop scope ts as_)
-
-pub FitsCore-prop : (scope : List Sort) (core : Option ClosedArg) → IsProp (FitsCore scope core)
-FitsCore-prop scope None = hlevel
-FitsCore-prop scope (Some a) = FitsArg-prop scope takes_core a
-
-pub FitsNode-prop : (scope : List Sort) (t : ClosedNode) → IsProp (FitsNode scope t)
-FitsNode-prop scope t = hlevel (IsBound-prop scope t.op Microop, FitsCore-prop scope t.core, le_prop)
-
-pub FitNodes-prop : (scope : List Sort) (ts : List ClosedNode) → IsProp (FitNodes scope ts)
-FitNodes-prop scope [] = hlevel
-FitNodes-prop scope (t ∷ ts) = hlevel (FitsNode-prop scope t, FitNodes-prop scope ts)
-
-pub FitEdges-prop : (scope : List Sort) (ts : List ClosedEdge) → IsProp (FitEdges scope ts)
-FitEdges-prop scope [] = hlevel
-FitEdges-prop scope (t ∷ ts) =
-    hlevel (FitsNode-prop scope t.from, FitsNode-prop scope t.to, FitEdges-prop scope ts)
-
-pub HaveValues-prop : (scope : List Sort) (args : List ClosedArg) → IsProp (HaveValues scope args)
-HaveValues-prop scope [] = hlevel
-HaveValues-prop scope (Slot k ∷ as_) = hlevel (le_prop, HaveValues-prop scope as_)
-HaveValues-prop scope (core_arg n ∷ as_) = hlevel (le_prop, HaveValues-prop scope as_)
-HaveValues-prop scope (Plain name ∷ as_) = hlevel (HaveValues-prop scope as_)
-
-pub IsClosed-prop : (scope : List Sort) (p : PlainClosed) → IsProp (IsClosed scope p)
-IsClosed-prop scope (closed_not p) = IsClosed-prop scope p
-IsClosed-prop scope (closed_and p q) = hlevel (IsClosed-prop scope p, IsClosed-prop scope q)
-IsClosed-prop scope (closed_or p q) = hlevel (IsClosed-prop scope p, IsClosed-prop scope q)
-IsClosed-prop scope (closed_implies p q) = hlevel (IsClosed-prop scope p, IsClosed-prop scope q)
-IsClosed-prop scope (closed_forall sort p) = hlevel (le_prop, IsClosed-prop (with_sort scope sort) p)
-IsClosed-prop scope (closed_exists sort p) = hlevel (le_prop, IsClosed-prop (with_sort scope sort) p)
-IsClosed-prop scope (closed_static pred args) = FitArgs-prop scope (takes_of pred) args
-IsClosed-prop scope (closed_nodes ts) = FitNodes-prop scope ts
-IsClosed-prop scope (closed_edges ts) = FitEdges-prop scope ts
-IsClosed-prop scope (closed_bind args p) =
-    hlevel (HaveValues-prop scope args, le_prop, IsClosed-prop (with_sorts scope args) p)

@@ -18,3 +18,4 @@ pub mod NameFaults
 pub mod Closing
 pub mod ModelFault
 pub mod Renaming
+pub mod LawsOfFormulas

@@ -1,7 +1,6 @@
 -- Which stages a closed formula names.
-use Rattle.std.specs.Prelude.{ℕ, true, List, [], ◌∷◌, ◌==◌, IsTrue}
+use Rattle.std.specs.Prelude.{ℕ, List, [], ◌∷◌, ◌==◌, IsTrue}
 use Rattle.std.specs.List.{list_any}
-use Rattle.std.specs.Coded.{Coded-set, coded_bool}
 use Rattle.pc_syntax.specs.declared.closed_term.ClosedNode.{ClosedNode}
 use Rattle.pc_syntax.specs.declared.closed_term.ClosedEdge.{ClosedEdge}
 use Rattle.pc_syntax.specs.Closed.{PlainClosed, closed_not, closed_and, closed_or, closed_implies, closed_forall, closed_exists, closed_static, closed_nodes, closed_edges, closed_bind}
@@ -30,27 +29,3 @@ StagesWithin numbers (closed_static pred args) = Unit {0}
 StagesWithin numbers (closed_nodes ts) = NodesWithin numbers ts
 StagesWithin numbers (closed_edges ts) = EdgesWithin numbers ts
 StagesWithin numbers (closed_bind args p) = StagesWithin numbers p
-
-pub IsAmong-prop : (numbers : List ℕ) (k : ℕ) → IsProp (IsAmong numbers k)
-IsAmong-prop numbers k = Coded-set coded_bool (list_any (λ n. n == k) numbers) true
-
-pub NodesWithin-prop : (numbers : List ℕ) (ts : List ClosedNode) → IsProp (NodesWithin numbers ts)
-NodesWithin-prop numbers [] = hlevel
-NodesWithin-prop numbers (t ∷ ts) = hlevel (IsAmong-prop numbers t.stage, NodesWithin-prop numbers ts)
-
-pub EdgesWithin-prop : (numbers : List ℕ) (ts : List ClosedEdge) → IsProp (EdgesWithin numbers ts)
-EdgesWithin-prop numbers [] = hlevel
-EdgesWithin-prop numbers (t ∷ ts) =
-    hlevel (IsAmong-prop numbers t.from.stage, IsAmong-prop numbers t.to.stage, EdgesWithin-prop numbers ts)
-
-pub StagesWithin-prop : (numbers : List ℕ) (p : PlainClosed) → IsProp (StagesWithin numbers p)
-StagesWithin-prop numbers (closed_not p) = StagesWithin-prop numbers p
-StagesWithin-prop numbers (closed_and p q) = hlevel (StagesWithin-prop numbers p, StagesWithin-prop numbers q)
-StagesWithin-prop numbers (closed_or p q) = hlevel (StagesWithin-prop numbers p, StagesWithin-prop numbers q)
-StagesWithin-prop numbers (closed_implies p q) = hlevel (StagesWithin-prop numbers p, StagesWithin-prop numbers q)
-StagesWithin-prop numbers (closed_forall sort p) = StagesWithin-prop numbers p
-StagesWithin-prop numbers (closed_exists sort p) = StagesWithin-prop numbers p
-StagesWithin-prop numbers (closed_static pred args) = hlevel
-StagesWithin-prop numbers (closed_nodes ts) = NodesWithin-prop numbers ts
-StagesWithin-prop numbers (closed_edges ts) = EdgesWithin-prop numbers ts
-StagesWithin-prop numbers (closed_bind args p) = StagesWithin-prop numbers p

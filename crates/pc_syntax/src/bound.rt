@@ -2,7 +2,7 @@ use super::limits::MAX_VARIABLES;
 use arrayvec::ArrayVec;
 
 /// What a slot stands for.
-#[derive(Clone, Copy, Debug, PartialEq, Eq)]
+#[derive(Clone, Copy)]
 pub enum Bound {
     /// A micro-op by its place in test order, from 0.
     Op(u8),

@@ -1,6 +1,7 @@
 ghost use Rattle.std.specs.Prelude.{◌≡◌, [], IfOk};
 ghost use Rattle.pc_syntax.specs.Closed.{plain_closed};
-ghost use Rattle.pc_syntax.specs.IsClosed.{IsClosed, IsClosed-prop};
+ghost use Rattle.pc_syntax.specs.IsClosed.{IsClosed};
+ghost use Rattle.pc_syntax.specs.LawsOfFormulas.{IsClosed-prop};
 
 use super::closed_formula::ClosedFormula;
 use pc_common::Memory;
@@ -14,7 +15,7 @@ pub struct Closed {
     pub ghost closed: { IsClosed [] (plain_closed body) } by { IsClosed-prop [] (plain_closed body) },
 }
 
-// Written out, so that a proof of what drops the value meets one call and no field.
+// By hand: docs/DECISIONS.md, "Drops are written by hand".
 impl Drop for Closed {
     fn drop(self) {
         let Closed { body: _ } = self;

@@ -40,7 +40,7 @@ pub enum ClosedFormula {
     },
 }
 
-// Written out, so that a proof of what drops the value meets one call and no variant.
+// By hand: docs/DECISIONS.md, "Drops are written by hand".
 impl Drop for ClosedFormula {
     fn drop(self) {
         match self {

@@ -49,7 +49,7 @@ pub struct ClosedNode {
     pub stage: u8,
 }
 
-// Written out, so that a proof of what drops the value meets one call and no field.
+// By hand: docs/DECISIONS.md, "Drops are written by hand".
 impl Drop for ClosedNode {
     fn drop(self) {
         let ClosedNode {
@@ -96,7 +96,7 @@ pub struct ClosedEdge {
     pub to: ClosedNode,
 }
 
-// Written out, so that a proof of what drops the value meets one call and no field.
+// By hand: docs/DECISIONS.md, "Drops are written by hand".
 impl Drop for ClosedEdge {
     fn drop(self) {
         let ClosedEdge { from: _, to: _ } = self;

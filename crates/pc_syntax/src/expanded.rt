@@ -1,5 +1,6 @@
 ghost use Rattle.pc_syntax.specs.Written.{written};
-ghost use Rattle.pc_syntax.specs.Expansion.{IsExpanded, IsExpanded-prop};
+ghost use Rattle.pc_syntax.specs.Expansion.{IsExpanded};
+ghost use Rattle.pc_syntax.specs.LawsOfFormulas.{IsExpanded-prop};
 
 use super::formula::Formula;
 
@@ -9,7 +10,7 @@ pub struct Expanded {
     pub ghost expanded: { IsExpanded (written body) } by { IsExpanded-prop (written body) },
 }
 
-// Written out, so that a proof of what drops the value meets one call and no field.
+// By hand: docs/DECISIONS.md, "Drops are written by hand".
 impl Drop for Expanded {
     fn drop(self) {
         let Expanded { body: _ } = self;

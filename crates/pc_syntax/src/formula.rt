@@ -49,7 +49,7 @@ pub enum Formula {
     },
 }
 
-// Written out, so that a proof of what drops the value meets one call and no variant.
+// By hand: docs/DECISIONS.md, "Drops are written by hand".
 impl Drop for Formula {
     fn drop(self) {
         match self {

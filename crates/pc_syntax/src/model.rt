@@ -9,7 +9,7 @@ pub struct StageItem {
     pub name: Word,
 }
 
-// Written out, so that a proof of what drops the value meets one call and no field.
+// By hand: docs/DECISIONS.md, "Drops are written by hand".
 impl Drop for StageItem {
     fn drop(self) {
         let StageItem {
@@ -36,7 +36,7 @@ pub enum Item {
     },
 }
 
-// Written out, so that a proof of what drops the value meets one call and no variant.
+// By hand: docs/DECISIONS.md, "Drops are written by hand".
 impl Drop for Item {
     fn drop(self) {
         match self {
@@ -58,7 +58,7 @@ pub struct ModelFile {
     pub items: Items,
 }
 
-// Written out, so that a proof of what drops the value meets one call and no field.
+// By hand: docs/DECISIONS.md, "Drops are written by hand".
 impl Drop for ModelFile {
     fn drop(self) {
         let ModelFile {

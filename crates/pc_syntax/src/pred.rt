@@ -4,7 +4,7 @@ ghost use Rattle.pc_common.specs.Names.{same_name};
 ghost use Rattle.pc_syntax.specs.Predicates.{pred_name, pred_with_name, takes_of};
 
 /// The static predicates, named as models spell them.
-#[derive(Clone, Copy, Debug, PartialEq, Eq)]
+#[derive(Clone, Copy, PartialEq, Eq)]
 pub enum Pred {
     True,
     False,

@@ -52,7 +52,7 @@ pub struct NodeTerm {
     pub stage: Word,
 }
 
-// Written out, so that a proof of what drops the value meets one call and no field.
+// By hand: docs/DECISIONS.md, "Drops are written by hand".
 impl Drop for NodeTerm {
     fn drop(self) {
         let NodeTerm {
@@ -72,7 +72,7 @@ pub struct EdgeTerm {
     pub to: NodeTerm,
 }
 
-// Written out, so that a proof of what drops the value meets one call and no field.
+// By hand: docs/DECISIONS.md, "Drops are written by hand".
 impl Drop for EdgeTerm {
     fn drop(self) {
         let EdgeTerm { from: _, to: _ } = self;

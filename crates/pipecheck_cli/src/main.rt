@@ -1,14 +1,16 @@
 //! The program `pipecheck`: hands its words, the real files and standard output to `run`, and ends
 //! with the number of the status that this answers.
 //!
+//! Clause: none says what `main` does; `tests/program` shows that it ends with the number of the status of `run`.
+//!
 //! Where the words themselves can't be had nothing is written, and the number is of this crate: 7
 //! where memory for them was refused, as for any want of memory, and 8 for any other cause.
 #![tactic(auto)]
 
-use command_line::run;
 use real_outside::{RealFiles, RealSink, number_without};
 use std::process::ExitCode;
 use std::{env, io};
+use top_call::run;
 
 fn main(rt: HostRuntime) -> ExitCode {
     match words_after_name(&rt) {

@@ -302,7 +302,7 @@ fn each_predicate_says_what_the_case_says(rt: HostRuntime) -> Result<(), Fail> {
     let case = read_case(rt.alloc(), CASE)?;
     let wrong = first_wrong(rt.alloc(), &case);
     drop(case);
-    assert_eq!(rt; wrong?, None);
+    assert!(rt; wrong?.is_none());
     Ok(())
 }
 
@@ -319,6 +319,6 @@ fn a_dependency_that_is_stated_again_changes_no_answer(rt: HostRuntime) -> Resul
     let case = read_case(rt.alloc(), &text)?;
     let wrong = first_wrong(rt.alloc(), &case);
     drop(case);
-    assert_eq!(rt; wrong?, None);
+    assert!(rt; wrong?.is_none());
     Ok(())
 }

@@ -1,5 +1,7 @@
 //! The outside as it is: the files and a writer of the system, behind the traits that the top call takes.
 //!
+//! Clause: real files and standard output keep the contracts of `Files` and `Sink`, and count each fault (`counted`).
+//!
 //! ```rust
 //! let mut files = RealFiles::new(rt);
 //! let mut out = RealSink::new(rt.stdout());

@@ -1,35 +1,16 @@
 -- Lines that are cut at their spaces.
-use Rattle.std.proofs.Common.{◌≡◌, ℕ, ◌+◌, ◌-◌, ◌<◌, ◌≤◌, length, get_or, take, drop, Bool, true, false, ◌||◌, ◌==◌, List, [], ◌∷◌, ◌++◌, refl, sym, ◌∙◌, ap, subst}
+use Rattle.std.proofs.Common.{◌≡◌, ℕ, ◌+◌, ◌-◌, ◌<◌, ◌≤◌, length, get_or, take, drop, List, [], ◌∷◌, ◌++◌, sym, ◌∙◌, ap, subst}
 use Rattle.std.specs.Prelude.{All}
-use Rattle.std.specs.List.{list_any, join_with_byte}
+use Rattle.std.specs.List.{join_with_byte}
 use Rattle.std.proofs.lemmas.List.{append-nil, drop_more, take_all, take-append-drop}
 use Rattle.std.proofs.lemmas.List.Elements.{All-head, All-tail, All-weaker}
 use Rattle.std.proofs.lemmas.List.Splits.{join_with_byte-slice_split}
 use Rattle.pc_ground.specs.NodeForm.{IsNodeForm}
 use Rattle.pc_ground.specs.NodeWords.{Lacks}
-use Rattle.pc_ground.proofs.Bools.{or_none}
-use Rattle.pc_ground.proofs.Cuts.{all_left}
+use Rattle.pc_ground.proofs.Cuts.{all_left, words_last, words_more}
 use Rattle.pc_ground.proofs.Outside.{a_space, form_lacks}
-use Rattle.refutation.specs.Words.{words_text, words}
-
-lacks_head : (m c : ℕ) (cs : List ℕ) → Lacks m (c ∷ cs) → (c == m) ≡ false
-lacks_head m c cs h = or_left (c == m) (list_any (λ d. d == m) cs) h
-  where
-    or_left : (a b : Bool) → (a || b) ≡ false → a ≡ false
-    or_left true b e = cc
-    or_left false b e = refl
-
-lacks_tail : (m c : ℕ) (cs : List ℕ) → Lacks m (c ∷ cs) → Lacks m cs
-lacks_tail m c cs h = or_none (c == m) (list_any (λ d. d == m) cs) h
-
--- the last word, and the first of several
-pub words_last : (xs : List ℕ) → Lacks 32 xs → words xs ≡ xs ∷ []
-words_last [] h = refl
-words_last (x ∷ xs) h = rw (lacks_head 32 x xs h, words_last xs (lacks_tail 32 x xs h))
-
-pub words_more : (xs ys : List ℕ) → Lacks 32 xs → words (xs ++ 32 ∷ ys) ≡ xs ∷ words ys
-words_more [] ys h = refl
-words_more (x ∷ xs) ys h = rw (lacks_head 32 x xs h, words_more xs ys (lacks_tail 32 x xs h))
+use Rattle.pc_ground.specs.Words.{words}
+use Rattle.refutation.specs.Words.{words_text}
 
 pub words_spaced : (w : List ℕ) (ws : List (List ℕ)) → Lacks 32 w → All (Lacks 32) ws → words (w ++ words_text ws) ≡ w ∷ ws
 words_spaced w [] h all = ap words (append-nil w) ∙ words_last w h

@@ -1,9 +1,9 @@
 -- The words that were read as nodes so far.
-use Rattle.std.proofs.Common.{◌≡◌, ℕ, ◌+◌, ◌≤◌, ◌<◌, Bool, true, false, ◌||◌, List, [], ◌∷◌, ◌++◌, Ok, Err, map, length, not, inl, Option, Some, None, refl, sym, ◌∙◌, ap, arith, append_assoc, subst}
+use Rattle.std.proofs.Common.{◌≡◌, ℕ, ◌+◌, ◌≤◌, Bool, true, false, ◌||◌, List, [], ◌∷◌, ◌++◌, Ok, Err, map, length, not, inl, Option, Some, None, refl, sym, ◌∙◌, ap, arith, append_assoc, subst}
 use Rattle.std.specs.Prelude.{All}
 use Rattle.std.specs.Option.{option_map_or}
 use Rattle.std.proofs.lemmas.List.{append-nil, length-append, map-append}
-use Rattle.std.proofs.lemmas.List.Elements.{All-nil, All-push, All-contains}
+use Rattle.std.proofs.lemmas.List.Elements.{All-push, All-contains}
 use Rattle.pc_common.proofs.Elements.{In, in_front, in_back, from_map, contains_from_in}
 use Rattle.pc_common.specs.World.{Node}
 use Rattle.pc_common.specs.Lines.{Names, node_text}
@@ -23,22 +23,6 @@ pub record SoFar (names : Names) (ws left : List (List ℕ)) (foreign : Bool) (n
   pub count : length nodes ≤ length done
   pub own : foreign ≡ false → AreSpelled names done nodes
   pub other : foreign ≡ true → (w : List ℕ) × In w done × IsOther names w
-
-pub walk_start : (names : Names) (ws : List (List ℕ)) → SoFar names ws ws false []
-walk_start names ws = record {
-  done = [];
-  are = refl;
-  forms = All-nil IsNodeForm;
-  count = omega arith;
-  own = λ e. (All-nil (IsNodeIn names), refl);
-  other = λ e. cc;
-}
-
-pub walk_room : (names : Names) (ws : List (List ℕ)) (w : List ℕ) (left : List (List ℕ)) (foreign : Bool) (nodes : List Node) (spare : ℕ)
-    → SoFar names ws (w ∷ left) foreign nodes → length ws ≤ spare → length nodes < spare
-walk_room names ws w left foreign nodes spare h room =
-    let all : length ws ≡ length h.done + length (w ∷ left) = ap length h.are ∙ length-append h.done (w ∷ left) in
-    omega (arith, all, h.count, room)
 
 walk_moved : {ws : List (List ℕ)} (done : List (List ℕ)) (w : List ℕ) (left : List (List ℕ)) → ws ≡ done ++ w ∷ left → ws ≡ (done ++ w ∷ []) ++ left
 walk_moved done w left e = e ∙ sym (append_assoc done (w ∷ []) left)
@@ -69,13 +53,6 @@ walk_other names ws w left foreign nodes h form other = record {
   own = λ e. cc;
   other = λ e. (w, in_back w h.done (w ∷ []) (inl refl), other);
 }
-
--- a word of no node
-pub walk_stop : (names : Names) (ws : List (List ℕ)) (w : List ℕ) (left : List (List ℕ)) (foreign : Bool) (nodes : List Node)
-    → SoFar names ws (w ∷ left) foreign nodes → (IsNodeForm w → ⊥) → All IsNodeForm ws → ⊥
-walk_stop names ws w left foreign nodes h none all =
-    none (All-contains IsNodeForm ws w all (contains_from_in w ws
-    (let P : List (List ℕ) → Type 0 = λ vs. In w vs in subst P (sym h.are) (in_back w h.done (w ∷ left) (inl refl)))))
 
 walk_all : {names : Names} {ws : List (List ℕ)} {foreign : Bool} {nodes : List Node} (h : SoFar names ws [] foreign nodes) → ws ≡ h.done
 walk_all h = h.are ∙ append-nil h.done

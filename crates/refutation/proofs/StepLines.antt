@@ -12,8 +12,9 @@ use Rattle.pc_ground.specs.Decimals.{IsDecimal}
 use Rattle.pc_ground.specs.NodeForm.{IsNodeForm, IsNodeIn, AreReadable}
 use Rattle.pc_ground.specs.NodeWords.{Lacks}
 use Rattle.pc_ground.proofs.Cuts.{decimal_lacks}
+use Rattle.pc_ground.specs.Words.{words}
 use Rattle.refutation.specs.Steps.{IsLeafIn, IsStepIn, HasLine}
-use Rattle.refutation.specs.Words.{words_text, words}
+use Rattle.refutation.specs.Words.{words_text}
 use Rattle.refutation.specs.StepWords.{words_of_leaf, words_of_step, AreWordsOf, AreOfForm, of_split, of_cycle, of_path, of_absence, of_falsity}
 use Rattle.refutation.specs.Reading.{IsLineOf, IsStepForm, a_split, a_cycle, a_path, an_absence, a_falsity}
 use Rattle.refutation.proofs.LineWords.{words_spaced, line_spaced, form_spaceless, forms_lack}
@@ -145,21 +146,10 @@ initial ws = get_or (first_text ws) 0 0
 same_leaf : (names : Names) → AreReadable names → (k l : Leaf Node) → IsLeafIn names k → IsLeafIn names l
     → words_of_leaf names k ≡ words_of_leaf names l → k ≡ l
 same_leaf names readable (cycle xs) (cycle ys) i j e = ap cycle (same_nodes names readable xs ys i j (ap behind e))
-same_leaf names readable (cycle xs) (path ys) i j e = let d = ap initial e in absurd (omega (arith, d))
-same_leaf names readable (cycle xs) (absent b) i j e = let d = ap initial e in absurd (omega (arith, d))
-same_leaf names readable (cycle xs) false_step i j e = let d = ap initial e in absurd (omega (arith, d))
-same_leaf names readable (path xs) (cycle ys) i j e = let d = ap initial e in absurd (omega (arith, d))
 same_leaf names readable (path xs) (path ys) i j e = ap path (same_nodes names readable xs ys i j (ap behind e))
-same_leaf names readable (path xs) (absent b) i j e = let d = ap initial e in absurd (omega (arith, d))
-same_leaf names readable (path xs) false_step i j e = let d = ap initial e in absurd (omega (arith, d))
-same_leaf names readable (absent a) (cycle ys) i j e = let d = ap initial e in absurd (omega (arith, d))
-same_leaf names readable (absent a) (path ys) i j e = let d = ap initial e in absurd (omega (arith, d))
 same_leaf names readable (absent a) (absent b) i j e = ap absent (readable.apart a b i j (ap (λ ws. first_text (behind ws)) e))
-same_leaf names readable (absent a) false_step i j e = let d = ap initial e in absurd (omega (arith, d))
-same_leaf names readable false_step (cycle ys) i j e = let d = ap initial e in absurd (omega (arith, d))
-same_leaf names readable false_step (path ys) i j e = let d = ap initial e in absurd (omega (arith, d))
-same_leaf names readable false_step (absent b) i j e = let d = ap initial e in absurd (omega (arith, d))
 same_leaf names readable false_step false_step i j e = refl
+same_leaf names readable k l i j e = let d = ap initial e in absurd (omega (arith, d))
 
 -- a split's word begins otherwise than each leaf's
 split_apart : (names : Names) (negated : Bool) (p : ℕ) (l : Leaf Node) → words_of_step names (split negated p) ≡ words_of_leaf names l → ⊥
@@ -186,7 +176,8 @@ pub step_formed : (names : Names) → AreReadable names → (ws : List (List ℕ
 step_formed names readable ws s h = by_step s h.has_line h.inside h.are
   where
     forms : (nodes : List Node) → All (IsNodeIn names) nodes → All IsNodeForm (map (node_text names) nodes)
-    forms nodes inside = All-map IsNodeForm (node_text names) nodes (All-weaker (IsNodeIn names) (λ a. IsNodeForm (node_text names a)) readable.form nodes inside)
+    forms nodes inside = All-map IsNodeForm (node_text names) nodes
+        (All-weaker (IsNodeIn names) (λ a. IsNodeForm (node_text names a)) readable.form nodes inside)
 
     by_step : (s : PlainStep Node) → HasLine s → IsStepIn names s → ws ≡ words_of_step names s → AreOfForm ws
     by_step (split negated p) has inside are = of_split negated (decimal p) p (has, refl) are

@@ -12,30 +12,38 @@ use Rattle.pc_ground.specs.NodeForm.{IsNodeForm, IsNodeIn, AreReadable}
 use Rattle.pc_common.specs.Steps.{cycle, path, absent, false_step, Step as PlainStep, split, close}
 use Rattle.pc_ground.specs.declared.line_fault.LineFault.{LineFault}
 use Rattle.pc_ground.specs.declared.line_fault.LineFault.TheVariants.{Malformed, Foreign}
+use Rattle.pc_ground.specs.Words.{words}
+use Rattle.pc_ground.proofs.Cuts.{words_last}
 use Rattle.refutation.specs.Steps.{IsStepIn}
-use Rattle.refutation.specs.Words.{words, spaces}
+use Rattle.refutation.specs.Words.{spaces}
 use Rattle.refutation.specs.StepWords.{words_of_step, AreOfForm, of_split, of_cycle, of_path, of_absence, of_falsity, AreSpelled, ReadsNodes, ReadsWords}
 use Rattle.refutation.specs.Reading.{head_of, nodes_of, IsLineOf, ReadsStep}
 use Rattle.refutation.specs.declared.step_head.StepHead.{StepHead}
 use Rattle.refutation.specs.declared.step_head.StepHead.TheVariants.{Split, Cycle, Path, Absent}
-use Rattle.refutation.proofs.LineWords.{words_last, line_alone}
+use Rattle.refutation.proofs.LineWords.{line_alone}
 use Rattle.refutation.proofs.StepLines.{behind, first_text, initial, signed_lacks, no_sign, words_of_line, line_of_words, form_of_line, line_of_form, same_step, step_formed}
 
 pub split_read : (names : Names) (text : List ℕ) (negated : Bool) (digits : List ℕ) (p : ℕ) → text ≡ sign_text negated ++ digits → IsDecimal digits p
     → ReadsWords names (codes "split" ∷ words text) [] (Ok (Split negated p))
 split_read names text negated digits p is d =
-    let are : words text ≡ (sign_text negated ++ digits) ∷ [] = ap words is ∙ words_last (sign_text negated ++ digits) (signed_lacks negated digits p d) in
-    (split negated p, record { has_line = d.0; inside = tt; are = ap (λ ws. codes "split" ∷ ws) (are ∙ ap (λ w. (sign_text negated ++ w) ∷ []) d.1) }, refl, refl)
+    let are : words text ≡ (sign_text negated ++ digits) ∷ [] = ap words is ∙ words_last (sign_text negated ++ digits) (signed_lacks negated digits p d) in (
+      split negated p,
+      record { has_line = d.0; inside = tt; are = ap (λ ws. codes "split" ∷ ws) (are ∙ ap (λ w. (sign_text negated ++ w) ∷ []) d.1) },
+      refl,
+      refl,
+    )
 
 -- what is after the sign is all that can be a decimal
-behind_sign : (text : List ℕ) (negated : Bool) (digits : List ℕ) → text ≡ sign_text negated ++ digits → (negated ≡ false → (rest : List ℕ) → text ≢ codes "~" ++ rest)
+behind_sign : (text : List ℕ) (negated : Bool) (digits : List ℕ) → text ≡ sign_text negated ++ digits
+    → (negated ≡ false → (rest : List ℕ) → text ≢ codes "~" ++ rest)
     → (m : Bool) (ds : List ℕ) (p : ℕ) → IsDecimal ds p → text ≡ sign_text m ++ ds → ds ≡ digits
 behind_sign text true digits is plain true ds p d e = ap (λ xs. drop 1 xs) (sym e ∙ is)
 behind_sign text true digits is plain false ds p d e = absurd (no_sign ds digits p d (sym e ∙ is))
 behind_sign text false digits is plain true ds p d e = absurd (plain refl ds e)
 behind_sign text false digits is plain false ds p d e = sym e ∙ is
 
-pub split_none : (text : List ℕ) (negated : Bool) (digits : List ℕ) → text ≡ sign_text negated ++ digits → (negated ≡ false → (rest : List ℕ) → text ≢ codes "~" ++ rest)
+pub split_none : (text : List ℕ) (negated : Bool) (digits : List ℕ) → text ≡ sign_text negated ++ digits
+    → (negated ≡ false → (rest : List ℕ) → text ≢ codes "~" ++ rest)
     → ((p : ℕ) → IsDecimal digits p → ⊥) → AreOfForm (codes "split" ∷ words text) → ⊥
 split_none text negated digits is plain none (of_split m ds p d e) =
     let same : ds ≡ digits = behind_sign text negated digits is plain m ds p d (line_alone text (sign_text m ++ ds) (ap behind e)) in
@@ -98,13 +106,6 @@ absent_alone ws two (of_path a b more all e) = let d = ap initial e in omega (ar
 absent_alone ws (w, v, more, is) (of_absence a f e) = let n = ap length is in let m = ap length (ap behind e) in omega (arith, n, m)
 absent_alone ws two (of_falsity e) = let d = ap initial e in omega (arith, d)
 
-pub path_alone : (ws : List (List ℕ)) (w : List ℕ) → ws ≡ w ∷ [] → AreOfForm (codes "path" ∷ ws) → ⊥
-path_alone ws w one (of_split m ds p d e) = let d = ap initial e in omega (arith, d)
-path_alone ws w one (of_cycle a more all e) = let d = ap initial e in omega (arith, d)
-path_alone ws w one (of_path a b more all e) = let n = ap length one in let m = ap length (ap behind e) in omega (arith, n, m)
-path_alone ws w one (of_absence a f e) = let d = ap initial e in omega (arith, d)
-path_alone ws w one (of_falsity e) = let d = ap initial e in omega (arith, d)
-
 pub no_word : (word : List ℕ) (ws : List (List ℕ)) → (ws ≡ [] → ⊥) → (word ≡ codes "split" → ⊥) → (word ≡ codes "cycle" → ⊥) → (word ≡ codes "path" → ⊥)
     → (word ≡ codes "absent" → ⊥) → AreOfForm (word ∷ ws) → ⊥
 no_word word ws some ns nc np na (of_split m ds p d e) = ns (ap first_text e)
@@ -158,7 +159,8 @@ pub path_fault : (names : Names) (ws : List (List ℕ)) (nodes new : List Node) 
 path_fault names ws nodes new Malformed two h = no_path ws h
 path_fault names ws nodes new Foreign two h = (path_formed ws two h.0, λ s w. other_path names ws h.1 s w.inside w.are)
 
-pub absent_fault : (names : Names) (ws : List (List ℕ)) (w : List ℕ) (nodes new : List Node) (fault : LineFault) → ws ≡ w ∷ [] → ReadsNodes names ws nodes (Err fault)
+pub absent_fault : (names : Names) (ws : List (List ℕ)) (w : List ℕ) (nodes new : List Node) (fault : LineFault) → ws ≡ w ∷ []
+    → ReadsNodes names ws nodes (Err fault)
     → ReadsWords names (codes "absent" ∷ ws) new (Err fault)
 absent_fault names ws w nodes new Malformed one h = no_absent ws h
 absent_fault names ws w nodes new Foreign one h = (absent_formed ws w one h.0, λ s a. other_absent names ws h.1 s a.inside a.are)
@@ -189,19 +191,22 @@ pub line_read : (names : Names) (line : List ℕ) (nodes : List Node) (result : 
 line_read names line nodes (Ok head) h is = (h.0, line_of_words names line h.0 h.1, h.2, h.3)
 line_read names line nodes (Err fault) h is = cc
 
-pub line_fault : (names : Names) → AreReadable names → (line : List ℕ) (nodes : List Node) (result : Result StepHead LineFault) → ReadsWords names (words line) nodes result
+pub line_fault : (names : Names) → AreReadable names → (line : List ℕ) (nodes : List Node) (result : Result StepHead LineFault)
+    → ReadsWords names (words line) nodes result
     → is_err result ≡ true → ReadsStep names line [] result
 line_fault names readable line nodes (Ok head) h is = cc
 line_fault names readable line nodes (Err Malformed) h is = (λ form. h (form_of_line line form), refl)
 line_fault names readable line nodes (Err Foreign) h is = (line_of_form line h.0, λ s of. h.1 s (words_of_line names readable line s of), refl)
 
-pub line_none : (names : Names) → AreReadable names → (line : List ℕ) (nodes : List Node) (result : Result StepHead LineFault) → ReadsWords names (words line) nodes result
+pub line_none : (names : Names) → AreReadable names → (line : List ℕ) (nodes : List Node) (result : Result StepHead LineFault)
+    → ReadsWords names (words line) nodes result
     → is_err result ≡ true → (s : PlainStep Node) → IsLineOf names line s → ⊥
 line_none names readable line nodes (Ok head) h is s of = cc
 line_none names readable line nodes (Err Malformed) h is s of = h (step_formed names readable (words line) s (words_of_line names readable line s of))
 line_none names readable line nodes (Err Foreign) h is s of = h.1 s (words_of_line names readable line s of)
 
-pub line_again : (names : Names) → AreReadable names → (line : List ℕ) (nodes : List Node) (result : Result StepHead LineFault) → ReadsWords names (words line) nodes result
+pub line_again : (names : Names) → AreReadable names → (line : List ℕ) (nodes : List Node) (result : Result StepHead LineFault)
+    → ReadsWords names (words line) nodes result
     → is_err result ≡ false → (s : PlainStep Node) → IsLineOf names line s → (result ≡ Ok (head_of s)) × (nodes ≡ nodes_of s)
 line_again names readable line nodes (Ok head) (t, are, at_head, at_nodes) is s of =
     let same : t ≡ s = same_step names readable (words line) t s are (words_of_line names readable line s of) in

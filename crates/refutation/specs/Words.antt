@@ -1,6 +1,6 @@
--- The words of a line, which stand between its spaces.
+-- The line_words of a line, which stand between its spaces.
 use Rattle.std.specs.Prelude.{ℕ, List, ◌++◌, ◌==◌, codes}
-use Rattle.std.specs.List.{flat_map, slice_split, count_by}
+use Rattle.std.specs.List.{flat_map, count_by}
 
 -- each word after a space
 abbrev pub words_text : List (List ℕ) → List ℕ
@@ -9,7 +9,3 @@ words_text ws = flat_map (λ w. codes " " ++ w) ws
 -- how many bytes of the line are spaces
 abbrev pub spaces : List ℕ → ℕ
 spaces line = count_by (λ c. c == 32) line
-
--- what stands between the spaces, so that two spaces in a row have an empty word between them
-abbrev pub words : List ℕ → List (List ℕ)
-words line = slice_split (λ c. c == 32) line

@@ -1,5 +1,8 @@
 //! Refutations as step lines: what shows that no world satisfies a ground tree.
 //!
+//! Clause: step lines are written as the format says, exactly such lines are read, and what was written is read again
+//! (`read`, `again`).
+//!
 //! ```rust
 //! // `names` are the names of a front, and `sink` is empty
 //! let mut refutation = Refutation::new(alloc);
@@ -7,7 +10,7 @@
 //! assert!(rt; write_refutation(&mut sink, &names, &refutation).is_ok());
 //! assert!(rt; sink.taken() == b"false\n".as_slice());
 //! let mut row = NodeRow::new(alloc);
-//! assert!(rt; read_line(&names, b"false", &mut row) == Ok(StepHead::False));
+//! assert!(rt; matches!(read_line(&names, b"false", &mut row), Ok(StepHead::False)));
 //! ```
 //!
 //! A refutation is a list of steps in prefix order: a split puts the two sides of an asserted Or in the

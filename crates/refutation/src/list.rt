@@ -13,7 +13,7 @@ pub struct Refutation {
     steps: Listed<Step>,
 }
 
-// Written out, so that a proof of what drops the value meets one call and no field.
+// By hand: docs/DECISIONS.md, "Drops are written by hand".
 impl Drop for Refutation {
     fn drop(self) {
         let Refutation { steps: _ } = self;

@@ -13,7 +13,7 @@ pub struct NodeRow {
     room: usize,
 }
 
-// Written out, so that a proof of what drops the value meets one call and no field.
+// By hand: docs/DECISIONS.md, "Drops are written by hand".
 impl Drop for NodeRow {
     fn drop(self) {
         let NodeRow { nodes: _, room: _ } = self;

@@ -1,6 +1,6 @@
 ghost use Rattle.std.specs.Prelude.{◌≡◌, ◌<◌, ◌≤◌, [], length};
-ghost use Rattle.refutation.specs.Words.{words};
 ghost use Rattle.refutation.specs.StepWords.{ReadsWord, ReadsNodes};
+ghost use Rattle.pc_ground.specs.Words.{words};
 
 use super::node_row::NodeRow;
 use super::words::first_word;

@@ -4,7 +4,8 @@ ghost use Rattle.pc_common.specs.World.{Node};
 ghost use Rattle.pc_common.specs.Steps.{Step as PlainStep};
 ghost use Rattle.refutation.specs.Reading.{head_of, nodes_of, IsLineOf, ReadsStep};
 ghost use Rattle.refutation.specs.StepWords.{ReadsWords};
-ghost use Rattle.refutation.specs.Words.{spaces, words};
+ghost use Rattle.refutation.specs.Words.{spaces};
+ghost use Rattle.pc_ground.specs.Words.{words};
 
 use super::node_row::NodeRow;
 use super::nodes::read_nodes;

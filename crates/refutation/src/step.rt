@@ -19,7 +19,7 @@ pub enum Step {
     False,
 }
 
-// Written out, so that a proof of what drops the value meets one call and no variant.
+// By hand: docs/DECISIONS.md, "Drops are written by hand".
 impl Drop for Step {
     fn drop(self) {
         match self {

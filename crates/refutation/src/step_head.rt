@@ -1,5 +1,5 @@
 /// What a step line says, its nodes aside.
-#[derive(Clone, Copy, Debug, PartialEq, Eq)]
+#[derive(Clone, Copy)]
 pub enum StepHead {
     /// `split P`, or, where negated, `split ~P`, with the position P.
     Split { negated: bool, position: u64 },

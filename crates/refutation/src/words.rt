@@ -1,6 +1,6 @@
 ghost use Rattle.std.specs.Prelude.{◌≡◌, ◌<◌, [], ◌∷◌, length, IfSome};
 ghost use Rattle.std.specs.Option.{option_map_or};
-ghost use Rattle.refutation.specs.Words.{words};
+ghost use Rattle.pc_ground.specs.Words.{words};
 
 /// The first word of a line, and what stands after its space; None where it is the only one.
 pub(crate) fn first_word(line: &[u8]) -> (&[u8], Option<&[u8]>)

@@ -1,5 +1,5 @@
 -- A query's first fault with its file: without the file it is the first name fault, and expansion keeps it.
-use Rattle.std.proofs.Common.{◌≡◌, Bool, true, false, List, [], ◌∷◌, Option, Some, None, cond, refl, sym, ap, ◌∙◌}
+use Rattle.std.proofs.Common.{◌≡◌, Bool, true, false, List, [], ◌∷◌, Option, Some, None, cond, refl, sym, ap, subst, ◌∙◌}
 use Rattle.std.specs.Option.{option_or}
 use Rattle.pc_common.specs.Names.{same_name}
 use Rattle.pc_common.specs.declared.fault.Which.{Which}
@@ -13,7 +13,9 @@ use Rattle.pc_syntax.specs.NameFaults.{scope_fault, static_fault, node_fault, ed
 use Rattle.pc_syntax.specs.Closed.{PlainClosed}
 use Rattle.pc_syntax.specs.Closing.{IsClosingOf}
 use Rattle.pc_syntax.proofs.ExpansionLaws.{expansion_faults}
-use Rattle.scope_check.specs.QueryFaults.{FiledFault, filed, query_fault, IsQueryClosing, unfiled}
+use Rattle.scope_check.specs.FirstFault.{IsNoneOr, Answers, name_fault_of}
+use Rattle.scope_check.specs.QueryFaults.{FiledFault, filed, query_fault, fault_within, IsClosingWithin, IsFiledOr, AnswersIn, unfiled}
+use Rattle.scope_check.specs.declared.fault.NameFault.{NameFault}
 
 -- without its file a fault is what it was
 pub unfiled_filed : (file : Which) (o : Option Fault) → unfiled (filed file o) ≡ o
@@ -69,11 +71,92 @@ query_faults stages (m ∷ ms) scope (expand_ at name args) =
     (unfiled_both (filed Query outer) (filed Model body) outer body (unfiled_filed Query outer) (unfiled_filed Model body))
     (query_faults stages ms scope (expand_ at name args))
 
--- so what closes a query's formula closes it
-pub query_closing : (stages : List StageItem) (scope : Scope) (w : Written) (c : PlainClosed) → IsQueryClosing stages scope w c
-    → IsClosingOf stages scope w c
-query_closing stages scope w c is =
-    record { no_fault = sym (query_faults stages [] scope w) ∙ ap unfiled is.no_fault; closing = is.closing }
+filed_or : (file : Which) (a b : Option Fault) → filed file (option_or a b) ≡ option_or (filed file a) (filed file b)
+filed_or file None b = refl
+filed_or file (Some f) b = refl
+
+-- in the model all faults of an expanded formula stand in the model
+pub within_model : (stages : List StageItem) (scope : Scope) (w : Written)
+    → fault_within Model stages scope w ≡ filed Model (name_fault stages [] scope w)
+within_model stages scope (not_ p) = within_model stages scope p
+within_model stages scope (and_ p q) =
+    (λ i. option_or (within_model stages scope p i) (within_model stages scope q i))
+    ∙ sym (filed_or Model (name_fault stages [] scope p) (name_fault stages [] scope q))
+within_model stages scope (or_ p q) =
+    (λ i. option_or (within_model stages scope p i) (within_model stages scope q i))
+    ∙ sym (filed_or Model (name_fault stages [] scope p) (name_fault stages [] scope q))
+within_model stages scope (implies_ p q) =
+    (λ i. option_or (within_model stages scope p i) (within_model stages scope q i))
+    ∙ sym (filed_or Model (name_fault stages [] scope p) (name_fault stages [] scope q))
+within_model stages scope (forall_ at sort name p) =
+    let inside = quantified_in scope name sort in
+    ap (option_or (filed Model (scope_fault at inside))) (within_model stages inside p)
+    ∙ sym (filed_or Model (scope_fault at inside) (name_fault stages [] inside p))
+within_model stages scope (exists_ at sort name p) =
+    let inside = quantified_in scope name sort in
+    ap (option_or (filed Model (scope_fault at inside))) (within_model stages inside p)
+    ∙ sym (filed_or Model (scope_fault at inside) (name_fault stages [] inside p))
+within_model stages scope (static_ pred args) = refl
+within_model stages scope (nodes_ ts) = refl
+within_model stages scope (edges_ ts) = refl
+within_model stages scope (bind_ at names args p) =
+    let inside = bound_in scope names args in
+    ap (option_or (filed Model (binding_fault scope at names args))) (within_model stages inside p)
+    ∙ sym (filed_or Model (binding_fault scope at names args) (name_fault stages [] inside p))
+within_model stages scope (expand_ at name args) = refl
+
+-- in the query they stand where `query_fault` has them
+pub within_query : (stages : List StageItem) (scope : Scope) (w : Written)
+    → fault_within Query stages scope w ≡ query_fault stages [] scope w
+within_query stages scope (not_ p) = within_query stages scope p
+within_query stages scope (and_ p q) = λ i. option_or (within_query stages scope p i) (within_query stages scope q i)
+within_query stages scope (or_ p q) = λ i. option_or (within_query stages scope p i) (within_query stages scope q i)
+within_query stages scope (implies_ p q) = λ i. option_or (within_query stages scope p i) (within_query stages scope q i)
+within_query stages scope (forall_ at sort name p) =
+    let inside = quantified_in scope name sort in
+    ap (option_or (filed Query (scope_fault at inside))) (within_query stages inside p)
+within_query stages scope (exists_ at sort name p) =
+    let inside = quantified_in scope name sort in
+    ap (option_or (filed Query (scope_fault at inside))) (within_query stages inside p)
+within_query stages scope (static_ pred args) = refl
+within_query stages scope (nodes_ ts) = refl
+within_query stages scope (edges_ ts) = refl
+within_query stages scope (bind_ at names args p) =
+    ap (option_or (filed Query (binding_fault scope at names args))) (within_model stages (bound_in scope names args) p)
+within_query stages scope (expand_ at name args) = refl
+
+-- so what the walk closes is a closing, and its faults are those
+pub model_closing : (stages : List StageItem) (scope : Scope) (w : Written) (c : PlainClosed)
+    → IsClosingWithin Model stages scope w c → IsClosingOf stages scope w c
+model_closing stages scope w c is = record {
+  no_fault = sym (unfiled_filed Model (name_fault stages [] scope w))
+      ∙ ap unfiled (sym (within_model stages scope w) ∙ is.no_fault);
+  closing = is.closing;
+}
+
+pub query_closing : (stages : List StageItem) (scope : Scope) (w : Written) (c : PlainClosed)
+    → IsClosingWithin Query stages scope w c → IsClosingOf stages scope w c
+query_closing stages scope w c is = record {
+  no_fault = sym (query_faults stages [] scope w) ∙ ap unfiled (sym (within_query stages scope w) ∙ is.no_fault);
+  closing = is.closing;
+}
+
+unfiled_answer : (first : Option FiledFault) (file : Which) (o : Option Fault) → IsFiledOr first file o
+    → IsNoneOr (unfiled first) o
+unfiled_answer first file None h = tt
+unfiled_answer first file (Some f) h = ap unfiled h
+
+pub model_answer : (stages : List StageItem) (scope : Scope) (w : Written) (file : Which) (f : NameFault)
+    → AnswersIn (fault_within Model stages scope w) file f → Answers (name_fault stages [] scope w) f
+model_answer stages scope w file f h =
+    let P : Option Fault → Type 0 = λ o. IsNoneOr o (name_fault_of f) in
+    subst P (ap unfiled (within_model stages scope w) ∙ unfiled_filed Model (name_fault stages [] scope w))
+    (unfiled_answer (fault_within Model stages scope w) file (name_fault_of f) h)
+
+pub query_answer : (stages : List StageItem) (scope : Scope) (w : Written) (file : Which) (f : NameFault)
+    → AnswersIn (fault_within Query stages scope w) file f → AnswersIn (query_fault stages [] scope w) file f
+query_answer stages scope w file f h =
+    let P : Option FiledFault → Type 0 = λ o. AnswersIn o file f in subst P (within_query stages scope w) h
 
 -- no fault without a file is none with one
 pub none_filed : (o : Option FiledFault) → unfiled o ≡ None → o ≡ None

@@ -3,3 +3,4 @@ pub mod FirstFault
 pub mod Laws
 pub mod QueryFaults
 pub mod Renaming
+pub mod Closings

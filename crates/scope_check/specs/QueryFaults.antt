@@ -52,10 +52,34 @@ query_fault stages (m ∷ ms) scope (expand_ at name args) =
     (filed Model (name_fault stages ms (bound_in scope (parameter_names m) args) m.body))
     else query_fault stages ms scope (expand_ at name args)
 
--- the file of a fault in a macro's body; want of memory stands in no file, and is told of the query
-abbrev pub body_file : Option Fault → Which
-body_file None = Query
-body_file (Some f) = Model
+-- the first name fault of an expanded formula that stands in this file; the body of a macro stands in the model
+abbrev pub fault_within : Which → List StageItem → Scope → Written → Option FiledFault
+fault_within file stages scope (not_ p) = fault_within file stages scope p
+fault_within file stages scope (and_ p q) =
+    option_or (fault_within file stages scope p) (fault_within file stages scope q)
+fault_within file stages scope (or_ p q) =
+    option_or (fault_within file stages scope p) (fault_within file stages scope q)
+fault_within file stages scope (implies_ p q) =
+    option_or (fault_within file stages scope p) (fault_within file stages scope q)
+fault_within file stages scope (forall_ at sort name p) =
+    let inside = quantified_in scope name sort in
+    option_or (filed file (scope_fault at inside)) (fault_within file stages inside p)
+fault_within file stages scope (exists_ at sort name p) =
+    let inside = quantified_in scope name sort in
+    option_or (filed file (scope_fault at inside)) (fault_within file stages inside p)
+fault_within file stages scope (static_ pred args) = filed file (static_fault scope pred args)
+fault_within file stages scope (nodes_ ts) = filed file (first_fault (node_fault stages scope) ts)
+fault_within file stages scope (edges_ ts) = filed file (first_fault (edge_fault stages scope) ts)
+fault_within file stages scope (bind_ at names args p) =
+    option_or
+    (filed file (binding_fault scope at names args))
+    (fault_within Model stages (bound_in scope names args) p)
+fault_within file stages scope (expand_ at name args) = None
+
+-- the file of a fault of what stands in this file; want of memory stands in no file, and is told of the query
+abbrev pub file_of_fault : Which → Option Fault → Which
+file_of_fault file None = Query
+file_of_fault file (Some f) = file
 
 -- no fault with the query's file, or the first fault with its own
 abbrev pub IsFiledOr : Option FiledFault → Which → Option Fault → Type 0
@@ -66,9 +90,9 @@ IsFiledOr first file (Some f) = first ≡ Some (file, f)
 abbrev pub AnswersIn : Option FiledFault → Which → NameFault → Type 0
 AnswersIn first file f = IsFiledOr first file (name_fault_of f)
 
--- c is what closing makes of the expanded formula e, which has no name fault in the scope, in no file
-pub record IsQueryClosing (stages : List StageItem) (scope : Scope) (e : Written) (c : PlainClosed) : Type 0 where
-  pub no_fault : query_fault stages [] scope e ≡ None
+-- c is what closing makes of the expanded formula e of this file, which has no name fault in the scope
+pub record IsClosingWithin (file : Which) (stages : List StageItem) (scope : Scope) (e : Written) (c : PlainClosed) : Type 0 where
+  pub no_fault : fault_within file stages scope e ≡ None
   pub closing : c ≡ closing_of stages scope e
 
 -- what a denial denies; of another formula itself

@@ -3,11 +3,12 @@ ghost use Rattle.scope_check.specs.declared.fault.NameFault.TheVariants.{Memory}
 
 use pc_common::Place;
 use std::alloc::{AllocError, AllocFailed};
+use std::fmt;
 use thiserror::Error;
 
 /// Why an axiom can't be closed: one variant for each fault word of names, with the place where the
 /// fault stands (in bytes from the file's start) and what the word carries.
-#[derive(Clone, Copy, Debug, PartialEq, Eq, Error)]
+#[derive(Clone, Copy, Error)]
 pub enum NameFault {
     /// A variable is asked for, and the name has no binding.
     #[error("no binding of the name at byte {}", .at.offset)]
@@ -34,6 +35,13 @@ pub enum NameFault {
     /// Memory was refused.
     #[error("out of memory")]
     Memory,
+}
+
+// By hand, since a derived one is proved variant by variant, and `Error` alone asks for one.
+impl fmt::Debug for NameFault {
+    fn fmt<W: fmt::Write>(&self, f: &mut fmt::Formatter<W>) -> fmt::Result {
+        fmt::Display::fmt(self, f)
+    }
 }
 
 impl From<pc_common::Memory> for NameFault {

@@ -1,6 +1,8 @@
 //! Names to numbers: an expanded axiom with slots for its variables, numbers for its stages and rows
 //! for its predicates.
 //!
+//! Clause: `close` returns an axiom with slots and numbers in place of names, or its first name fault (`ok`, `err`).
+//!
 //! ```rust
 //! use macro_expand::expand;
 //! use uspec_lexer::tokens;
@@ -30,6 +32,7 @@ mod nodes;
 mod query;
 mod scope;
 mod statics;
+mod walk;
 
 pub use closing::close;
 pub use fault::NameFault;

@@ -47,7 +47,7 @@ pub(crate) struct Scope<'a> {
     variables: Box<ArrayVec<Variable<'a>, MAX_VARIABLES>>,
 }
 
-// Written out, so that a proof of what drops the value meets one call and no field.
+// By hand: docs/DECISIONS.md, "Drops are written by hand".
 impl Drop for Scope<'_> {
     fn drop(self) {
         let Scope { variables: _ } = self;

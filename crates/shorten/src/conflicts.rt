@@ -41,7 +41,7 @@ struct Conflicts {
     cuts: Cuts,
 }
 
-// Written out, so that a proof of what drops the value meets one call and no field.
+// By hand: docs/DECISIONS.md, "Drops are written by hand".
 impl Drop for Conflicts {
     fn drop(self) {
         let Conflicts {

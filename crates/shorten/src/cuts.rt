@@ -8,7 +8,7 @@ pub(crate) struct Cuts {
     is_empty: bool,
 }
 
-// Written out, so that a proof of what drops the value meets one call and no field.
+// By hand: docs/DECISIONS.md, "Drops are written by hand".
 impl Drop for Cuts {
     fn drop(self) {
         let Cuts {

@@ -16,7 +16,7 @@ pub(crate) struct Part {
     kept: Vec<Word>,
 }
 
-// Written out, so that a proof of what drops the value meets one call and no field.
+// By hand: docs/DECISIONS.md, "Drops are written by hand".
 impl Drop for Part {
     fn drop(self) {
         let Part { words: _, kept: _ } = self;

@@ -2,13 +2,13 @@
 use Rattle.std.proofs.Common.{◌≡◌, ◌<◌, inl, inr, ℕ, ◌+◌, Bool, true, false, ◌&&◌, ◌||◌, List, [], Some, None, length, refl, sym, ap, ◌∙◌, subst, arith, set}
 use Rattle.std.specs.Prelude.{slice_get, ◌↔◌, IsTrue, replicate, All, Contains}
 use Rattle.std.proofs.lemmas.List.{get_or-set_same, get_or-set_other, get_or-replicate, get_or_past, length-replicate}
-use Rattle.std.proofs.lemmas.Bool.{cases_lt}
-use Rattle.pc_common.proofs.Elements.{and_first, and_second, true_or_false, or_first, or_later, or_second}
+use Rattle.std.proofs.lemmas.Bool.{cases_lt, or_left, or_right}
 use Rattle.pc_ground.specs.declared.literal.Literal.{Literal}
 use Rattle.pc_ground.specs.declared.row.Row.{Row}
 use Rattle.pc_ground.specs.declared.row.RowKind.{RowKind}
 use Rattle.pc_ground.specs.declared.row.RowKind.TheVariants.{True, False, Lit, And, Or}
 use Rattle.pc_common.specs.Chain.{Chain}
+use Rattle.pc_common.proofs.Bools.{true_or_false, and_first, and_second, or_second}
 use Rattle.pc_ground.specs.Literals.{Joins, IsPresent, Holds}
 use Rattle.pc_ground.specs.Tree.{Tree, always, never, leaf, both, either, negation, turned, size_of}
 use Rattle.pc_ground.specs.Rows.{root_kind, rows_of}
@@ -52,7 +52,8 @@ root_skip rows p r s flat inside at e =
     let there = row_root rows (spelled rows) p r flat inside at in
     ap (λ (x : Row ℕ). x.skip) there.2 ∙ ap size_of (some_same (sym there.1 ∙ e))
 
-pub right_is : (rows : List (Row ℕ)) (p right : ℕ) (r : Row ℕ) → IsSpelled rows → HasChildren (spelled rows) p right → slice_get rows (p + 1) ≡ Some r → right ≡ p + 1 + r.skip
+pub right_is : (rows : List (Row ℕ)) (p right : ℕ) (r : Row ℕ) → IsSpelled rows → HasChildren (spelled rows) p right
+    → slice_get rows (p + 1) ≡ Some r → right ≡ p + 1 + r.skip
 right_is rows p right r flat (of_both a b e) at =
     let t = spelled rows in
     let children = children_both t p a b e in
@@ -101,7 +102,8 @@ or_tree rows t p r flat inside at kind =
 
 pub or_children : (rows : List (Row ℕ)) (p : ℕ) (r : Row ℕ) → IsSpelled rows → p < length rows → slice_get rows p ≡ Some r → r.kind ≡ Or
     → SomeChildren (spelled rows) p
-or_children rows p r flat inside at kind = (let parts = or_tree rows (spelled rows) p r flat inside at kind in (p + 1 + size_of parts.0, of_either parts.0 parts.1 parts.2))
+or_children rows p r flat inside at kind = (let parts = or_tree rows (spelled rows) p r flat inside at kind in
+    (p + 1 + size_of parts.0, of_either parts.0 parts.1 parts.2))
 
 pub met_always : (ls : List (Literal ℕ)) (s : Tree ℕ) → root_kind s ≡ True → IsTrue true ↔ IsMet ls s
 met_always ls always e = ((λ h. tt), (λ h. refl))
@@ -162,13 +164,14 @@ met_either t ls p flags (either a b) pair e at truths children =
         | inr k ↦ inr (right.0 (sym are.1 ∙ or_second pair.0 pair.1 k h))
       ]),
       (λ h. elim h [
-        | inl k ↦ or_first pair.0 pair.1 (are.0 ∙ left.1 k)
-        | inr k ↦ or_later pair.0 pair.1 (are.1 ∙ right.1 k)
+        | inl k ↦ or_left pair.0 pair.1 (are.0 ∙ left.1 k)
+        | inr k ↦ or_right pair.0 pair.1 (are.1 ∙ right.1 k)
       ]),
     )
 
 -- no position is past the end
-pub truths_none : (rows : List (Row ℕ)) (ls : List (Literal ℕ)) (from : ℕ) (flags : List Bool) → IsSpelled rows → from ≡ length rows → AreTruths (spelled rows) ls from flags
+pub truths_none : (rows : List (Row ℕ)) (ls : List (Literal ℕ)) (from : ℕ) (flags : List Bool) → IsSpelled rows
+    → from ≡ length rows → AreTruths (spelled rows) ls from flags
 truths_none rows ls from flags flat e = λ p s past at.
     let none = subtree_past (spelled rows) p (omega (arith, past, e, length_spelled rows flat)) in
     absurd (no_some s (sym none ∙ at))
@@ -234,7 +237,8 @@ denied_in One t left inside = tt
 denied_in Two t left inside = inside
 
 -- the literal of a row is over numbers below n
-pub literal_at : (n : ℕ) (rows : List (Row ℕ)) (p : ℕ) (r : Row ℕ) (l : Literal ℕ) → All (IsRowBelow n) rows → slice_get rows p ≡ Some r → r.kind ≡ Lit l → IsBelow n l
+pub literal_at : (n : ℕ) (rows : List (Row ℕ)) (p : ℕ) (r : Row ℕ) (l : Literal ℕ) → All (IsRowBelow n) rows
+    → slice_get rows p ≡ Some r → r.kind ≡ Lit l → IsBelow n l
 literal_at n rows p r l all at kind =
     let P : RowKind ℕ → Type 0 = IsKindBelow n in
     subst P kind (All-contains (IsRowBelow n) rows r all (contains_at rows p r at))

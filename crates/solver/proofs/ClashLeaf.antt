@@ -9,8 +9,7 @@ use Rattle.pc_ground.specs.declared.row.Row.{Row}
 use Rattle.pc_ground.specs.declared.row.RowKind.{RowKind}
 use Rattle.pc_ground.specs.declared.row.RowKind.TheVariants.{True, False, Lit, And, Or}
 use Rattle.pc_ground.specs.Rows.{literals_of_kind, turned_row, turned_rows}
-use Rattle.pc_ground.specs.Walks.{literals_of_row}
-use Rattle.pc_ground.proofs.FlatRows.{literal_by_row}
+use Rattle.pc_ground.proofs.FlatRows.{literal_by_row, literals_of_row}
 use Rattle.solver.specs.Spelled.{spelled, IsSpelled}
 use Rattle.solver.specs.Below.{IsKindBelow, IsRowBelow}
 use Rattle.pc_common.specs.World.{Node as PlainNode}
@@ -50,7 +49,8 @@ map_append : {X Y : Type 0} (f : X → Y) (xs ys : List X) → map f (xs ++ ys) 
 map_append f [] ys = refl
 map_append f (x ∷ xs) ys = ap (λ zs. f x ∷ zs) (map_append f xs ys)
 
-contradiction_renamed : {M N : Type 0} (f : M → N) (ls : List (Literal M)) (l : Leaf M) → IsContradiction ls l → IsContradiction (map (renamed f) ls) (renamed_leaf f l)
+contradiction_renamed : {M N : Type 0} (f : M → N) (ls : List (Literal M)) (l : Leaf M) → IsContradiction ls l
+    → IsContradiction (map (renamed f) ls) (renamed_leaf f l)
 contradiction_renamed f ls l (a_cycle a via leads) = a_cycle (f a) (map f via) (renamed_leads f ls a via a leads)
 contradiction_renamed {M} {N} f ls l (a_path a via b leads has) =
     let P : List N → Type 0 = λ xs. IsContradiction (map (renamed f) ls) (path (f a ∷ xs)) in
@@ -114,7 +114,8 @@ turned_all n m rows all = all_by_in (IsRowBelow n) (turned_rows m rows) (λ r i.
 row_literals_below : (n : ℕ) (rows : List (Row ℕ)) (p : ℕ) → All (IsRowBelow n) rows → All (IsBelow n) (literals_of_row (slice_get rows p))
 row_literals_below n rows p all = go (slice_get_cases rows p)
   where
-    go : (slice_get rows p ≡ slice_get rows p) × (((x : Row ℕ) × (p < length rows) × (slice_get rows p ≡ Some x) × (get_or rows p x ≡ x)) ⊎ ((length rows ≤ p) × (slice_get rows p ≡ None)))
+    go : (slice_get rows p ≡ slice_get rows p)
+        × (((x : Row ℕ) × (p < length rows) × (slice_get rows p ≡ Some x) × (get_or rows p x ≡ x)) ⊎ ((length rows ≤ p) × (slice_get rows p ≡ None)))
         → All (IsBelow n) (literals_of_row (slice_get rows p))
     go (e, inl (x, inside, at, is)) =
         let Q : Option (Row ℕ) → Type 0 = λ o. All (IsBelow n) (literals_of_row o) in

@@ -55,7 +55,8 @@ joins_listed ls a b h =
     go (NoNode c) i j = absurd j
     go (NoEdge c d) i j = absurd j
 
-leads_back : (ls : List (Literal Node)) (a : Node) (via : List Node) (b : Node) → Leads (IsListed (flat_map literal_edges ls)) a via b → Leads (Joins ls) a via b
+leads_back : (ls : List (Literal Node)) (a : Node) (via : List Node) (b : Node) → Leads (IsListed (flat_map literal_edges ls)) a via b
+    → Leads (Joins ls) a via b
 leads_back ls a [] b h = joins_listed ls a b h
 leads_back ls a (x ∷ xs) b h = (joins_listed ls a x h.0, leads_back ls x xs b h.1)
 

@@ -16,8 +16,8 @@ use Rattle.pc_ground.specs.Tree.{Tree, always, never, leaf, both, either, contra
 use Rattle.pc_ground.specs.Rows.{rows_of, literals_of_kind, turned_kind, turned_row, turned_rows}
 use Rattle.pc_ground.specs.Literals.{Joins, IsPresent, as_node, as_start, as_end}
 use Rattle.pc_ground.specs.Refutes.{Signed, Branch, all_signed, subtree_at, part_at, asserted, literal_of, literals_of, IsContradiction, a_cycle, a_path, an_absence}
-use Rattle.pc_ground.specs.Walks.{stride, Walk, literals_of_row}
-use Rattle.pc_ground.proofs.FlatRows.{root_of, row_subtree, subtree_within, subtree_row, subtree_size, length_rows, literal_by_row}
+use Rattle.pc_ground.specs.Walks.{stride, Walk}
+use Rattle.pc_ground.proofs.FlatRows.{root_of, row_subtree, subtree_within, subtree_row, subtree_size, length_rows, literal_by_row, literals_of_row}
 use Rattle.pc_ground.proofs.Walks.{walk_side, walk_turn, walk_within}
 use Rattle.pc_ground.proofs.StageWalks.{some_same}
 use Rattle.order_graph.specs.Clashes.{leaf_of, IsClash}
@@ -34,7 +34,8 @@ use Rattle.solver.specs.Opens.{positions, IsFurther, HasAsserted, HasAddedRow}
 use Rattle.solver.specs.declared.place.Place.{Place}
 use Rattle.solver.proofs.IsSpelled.{turned_flat}
 
-pub asserted_is : {N : Type 0} (t : Tree N) (n : Bool) (p : ℕ) (s : Tree N) → subtree_at (turned n t) p ≡ Some s → asserted_at t n p ≡ all_signed n (asserted s p)
+pub asserted_is : {N : Type 0} (t : Tree N) (n : Bool) (p : ℕ) (s : Tree N) → subtree_at (turned n t) p ≡ Some s
+    → asserted_at t n p ≡ all_signed n (asserted s p)
 asserted_is {N} t n p s e = ap (λ (o : Option (Tree N)). all_signed n (asserted_in o p)) e
 
 -- the row at a position is its subtree's root

@@ -18,9 +18,9 @@ use Rattle.solver.specs.Below.{IsRowBelow}
 use Rattle.solver.specs.Renamed.{tree_over}
 use Rattle.solver.specs.Places.{place_signed, side_positions, left_side, right_side, IsCandidate, AreSides}
 use Rattle.solver.specs.Leaves.{IsClashBelow}
-use Rattle.solver.specs.Opens.{positions, waiting, IsLater, AreLater, opens, IsState, IsSame}
+use Rattle.solver.specs.Opens.{positions, waiting, IsLater, AreLater, opens, KeepsState, state_of, IsSame}
 use Rattle.solver.specs.Numbered.{Numbered}
-use Rattle.solver.specs.Branches.{branches_with, IsOpen}
+use Rattle.solver.specs.Branches.{branches_with, HasOpenBranch}
 use Rattle.solver.specs.declared.branch.Branch.{Branch as OpenBranch}
 use Rattle.solver.specs.Weights.{weight}
 use Rattle.solver.specs.Descents.{IsLonger, HasMore}
@@ -29,14 +29,15 @@ use Rattle.solver.specs.declared.side.Side.{Side}
 use Rattle.solver.specs.declared.later.Later.{Later}
 use Rattle.solver.proofs.Runs.{open_partial}
 use Rattle.solver.proofs.ClashLeaf.{clash_below, literals_below}
-use Rattle.solver.proofs.IsState.{split_kept, left_is, right_is}
+use Rattle.solver.proofs.KeepsState.{split_kept, left_is, right_is}
 use Rattle.solver.proofs.Weight.{weight_more, weight_split}
 use Rattle.pc_ground.proofs.FlatRows.{children_either}
 
-pub clash_in : (n : ℕ) (rows : List (Row ℕ)) (ps : Branch) (k : Clash) → IsSpelled rows → All (IsRowBelow n) rows → IsClash (literals_of (spelled rows) ps) k → IsClashBelow n k
+pub clash_in : (n : ℕ) (rows : List (Row ℕ)) (ps : Branch) (k : Clash) → IsSpelled rows → All (IsRowBelow n) rows
+    → IsClash (literals_of (spelled rows) ps) k → IsClashBelow n k
 clash_in n rows ps k flat all c = clash_below n (literals_of (spelled rows) ps) k (literals_below n rows ps flat all) c
 
-pub one_open : (v : Version) (t : Numbered) (b : OpenBranch) (more : Branch) → IsOpen v t b more → 0 < open_branches b.refutation
+pub one_open : (v : Version) (t : Numbered) (b : OpenBranch) (more : Branch) → HasOpenBranch v t b more → 0 < open_branches b.refutation
 one_open v t b more kept = omega (arith, open_partial v (tree_over t.nodes (spelled t.rows)) b.refutation (branches_with t b more) kept.partial)
 
 pub longer_push : (old mid new : List (Step Node)) (s : Step Node) → IsLonger old mid → new ≡ mid ++ s ∷ [] → IsLonger old new
@@ -50,7 +51,8 @@ pub lighter_closed : (t : Tree ℕ) (all rest : List Branch) (ps : Branch) (most
 lighter_closed t all rest ps most e h = (let less = weight_more t ps rest in omega (arith, less, ap (weight t) e, h))
 
 -- the waiting side's root is inside, and its mark is live
-pub next_inside : (v : Version) (t : Numbered) (b : OpenBranch) (more : Branch) (ms : List Later) (l : Later) → IsOpen v t b more → b.later.items ≡ ms ++ l ∷ []
+pub next_inside : (v : Version) (t : Numbered) (b : OpenBranch) (more : Branch) (ms : List Later) (l : Later)
+    → HasOpenBranch v t b more → b.later.items ≡ ms ++ l ∷ []
     → IsLater (spelled t.rows) (positions b.asserted) b.graph.marks l
 next_inside v t b more ms l kept popped =
     let W : List Later → Type 0 = AreLater (spelled t.rows) (positions b.asserted) b.graph.marks in
@@ -69,7 +71,8 @@ same_after g h i e same = (
 )
 
 -- the branches weigh less once the candidate is split
-pub lighter_split : (v : Version) (t : Tree ℕ) (here : List Place) (ls ms : List Later) (l : Later) (q : Signed) → (candidate : IsCandidate t (positions here) q)
+pub lighter_split : (v : Version) (t : Tree ℕ) (here : List Place) (ls ms : List Later) (l : Later) (q : Signed)
+    → (candidate : IsCandidate t (positions here) q)
     → l.count ≡ length here → l.side ≡ right_side v q (size_of candidate.left) → ms ≡ ls ++ l ∷ []
     → weight t (opens t (positions here ++ side_positions t (left_side q)) here ms) < weight t (opens t (positions here) here ls)
 lighter_split v t here ls ms l q candidate count side pushed =
@@ -98,18 +101,21 @@ lighter_split v t here ls ms l q candidate count side pushed =
     take_whole [] = refl
     take_whole (x ∷ xs) = ap (λ ys. x ∷ ys) (take_whole xs)
 
-pub advanced : (v : Version) (nodes : List Node) (t : Tree ℕ) (g h i : Graph) (here there : List Place) (ls ms : List Later) (ss us : List (Step Node)) (l : Later) (q : Signed) (c : Side × Side)
-    → IsState v nodes t g here ls ss [] → IsCandidate t (positions here) q → h ≡ record g { marks = g.marks ++ length g.literals ∷ [] } → IsSame h i → there ≡ here
+pub advanced : (v : Version) (nodes : List Node) (t : Tree ℕ) (g h i : Graph) (here there : List Place) (ls ms : List Later)
+    (ss us : List (Step Node)) (l : Later) (q : Signed) (c : Side × Side)
+    → KeepsState v (state_of nodes t g here ls ss) [] → IsCandidate t (positions here) q → h ≡ record g { marks = g.marks ++ length g.literals ∷ [] }
+    → IsSame h i → there ≡ here
     → AreSides v t q c → l.count ≡ length here → l.mark ≡ length g.marks → l.side ≡ c.1 → ms ≡ ls ++ l ∷ [] → us ≡ ss ++ split q.negated q.position ∷ []
-    → IsState v nodes t i there ms us (side_positions t c.0)
+    → KeepsState v (state_of nodes t i there ms us) (side_positions t c.0)
     × (weight t (opens t (positions there ++ side_positions t c.0) there ms) < weight t (opens t (positions here) here ls))
 advanced v nodes t g h i here there ls ms ss us l q c kept candidate e same e_there are count mark side pushed steps =
     let a = candidate.left in
     let b = candidate.right in
     let after = same_after g h i e same in
     let sides = are a b candidate.is_or in
-    let next = split_kept v nodes t g i here ls ms ss us l q.negated q.position a b kept candidate.on_branch candidate.is_or after.0 after.1 after.2 count mark (side ∙ sides.1) pushed steps in
-    let P : List Place → Side → Type 0 = λ xs z. IsState v nodes t i xs ms us (side_positions t z) in
+    let next = split_kept v nodes t g i here ls ms ss us l q.negated q.position a b kept candidate.on_branch candidate.is_or
+    after.0 after.1 after.2 count mark (side ∙ sides.1) pushed steps in
+    let P : List Place → Side → Type 0 = λ xs z. KeepsState v (state_of nodes t i xs ms us) (side_positions t z) in
     let less = lighter_split v t here ls ms l q candidate count (side ∙ sides.1) pushed in
     let Q : List Place → Side → Type 0 = λ xs z. weight t (opens t (positions xs ++ side_positions t z) xs ms) < weight t (opens t (positions here) here ls) in
     (subst (λ xs. P xs c.0) (sym e_there) (subst (P here) (sym sides.0) next), subst (λ xs. Q xs c.0) (sym e_there) (subst (Q here) (sym sides.0) less))

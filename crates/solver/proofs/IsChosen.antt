@@ -42,7 +42,8 @@ length_turned n [] = refl
 length_turned n (r ∷ rs) = (let rest = length_turned n rs in omega (arith, rest))
 
 -- another row than an Or's
-pub other_chosen : (rows : List (Row ℕ)) (n : Bool) (p : ℕ) (r : Row ℕ) (ps : Branch) → IsSpelled rows → p < length rows → slice_get (turned_rows n rows) p ≡ Some r
+pub other_chosen : (rows : List (Row ℕ)) (n : Bool) (p : ℕ) (r : Row ℕ) (ps : Branch) → IsSpelled rows → p < length rows
+    → slice_get (turned_rows n rows) p ≡ Some r
     → (r.kind ≡ Or → ⊥) → IsChosen (spelled rows) ps (signed n p)
 other_chosen rows n p r ps flat inside at other = λ a b on e.
     let t = turned n (spelled rows) in
@@ -55,12 +56,14 @@ plain_part : (t : Tree ℕ) (n : Bool) (p : ℕ) (s : Tree ℕ) → subtree_at (
 plain_part t false p s e = e
 plain_part t true p s e = subtree_denied t true p s e
 
-met_under : (n : Bool) (ls : List (Literal ℕ)) (s : Tree ℕ) (b : Bool) → (b ≡ true → IsMet ls s) → (IsMet ls s → b ≡ true) → (if n then not b else b) ≡ true → IsMetUnder n ls s
+met_under : (n : Bool) (ls : List (Literal ℕ)) (s : Tree ℕ) (b : Bool) → (b ≡ true → IsMet ls s) → (IsMet ls s → b ≡ true)
+    → (if n then not b else b) ≡ true → IsMetUnder n ls s
 met_under false ls s b f g e = f e
 met_under true ls s true f g e = cc
 met_under true ls s false f g e = λ h. false_true (g h)
 
-unmet_under : (n : Bool) (ls : List (Literal ℕ)) (s : Tree ℕ) (b : Bool) → (b ≡ true → IsMet ls s) → (IsMet ls s → b ≡ true) → (if n then not b else b) ≡ false → IsMetUnder n ls s → ⊥
+unmet_under : (n : Bool) (ls : List (Literal ℕ)) (s : Tree ℕ) (b : Bool) → (b ≡ true → IsMet ls s) → (IsMet ls s → b ≡ true)
+    → (if n then not b else b) ≡ false → IsMetUnder n ls s → ⊥
 unmet_under false ls s b f g e = λ h. false_true (sym e ∙ g h)
 unmet_under true ls s true f g e = λ h. h (f refl)
 unmet_under true ls s false f g e = cc
@@ -70,7 +73,8 @@ cases : (t : Tree ℕ) (ps : Branch) (q : Signed) (a b : Tree ℕ) (here holds l
     → (holds ≡ true → IsMetUnder q.negated (literals_of t ps) (turned q.negated (either a b)))
     → (holds ≡ false → IsMetUnder q.negated (literals_of t ps) (turned q.negated (either a b)) → ⊥)
     → (left ≡ true → Contains ps (signed q.negated (q.position + 1))) → (left ≡ false → Contains ps (signed q.negated (q.position + 1)) → ⊥)
-    → (right ≡ true → Contains ps (signed q.negated (q.position + 1 + size_of a))) → (right ≡ false → Contains ps (signed q.negated (q.position + 1 + size_of a)) → ⊥)
+    → (right ≡ true → Contains ps (signed q.negated (q.position + 1 + size_of a)))
+    → (right ≡ false → Contains ps (signed q.negated (q.position + 1 + size_of a)) → ⊥)
     → MatchBool (((here && not holds) && not left) && not right) (IsCandidate t ps q) (IsChosen t ps q)
 cases t ps q a b false holds left right e f g h i j k l m = λ c d on at. absurd (g refl on)
 cases t ps q a b true true left right e f g h i j k l m = λ c d on at.
@@ -93,14 +97,17 @@ cases t ps q a b true false false false e f g h i j k l m = record {
 }
 
 -- the And or Or at an Or's place, or at that of the negation's
-pub turned_inner : (rows : List (Row ℕ)) (n : Bool) (p : ℕ) (r : Row ℕ) → IsSpelled rows → p < length rows → slice_get (turned_rows n rows) p ≡ Some r → r.kind ≡ Or
+pub turned_inner : (rows : List (Row ℕ)) (n : Bool) (p : ℕ) (r : Row ℕ) → IsSpelled rows → p < length rows
+    → slice_get (turned_rows n rows) p ≡ Some r → r.kind ≡ Or
     → SomeChildren (spelled rows) p
 turned_inner rows n p r flat inside at kind =
     let tree = or_tree (turned_rows n rows) (turned n (spelled rows)) p r (turned_flat n rows flat) (omega (arith, inside, length_turned n rows)) at kind in
     (p + 1 + size_of tree.0, signed_children (spelled rows) n p tree.0 tree.1 tree.2)
 
-pub or_chosen : (rows : List (Row ℕ)) (n : Bool) (p : ℕ) (r : Row ℕ) (ps : Branch) (truths on_flags : List Bool) (here truth holds : Bool) (pair : Bool × Bool) → IsSpelled rows → p < length rows
-    → slice_get (turned_rows n rows) p ≡ Some r → r.kind ≡ Or → here ≡ flag on_flags p → truth ≡ flag truths p → holds ≡ (if n then not truth else truth) → AreChildFlags (spelled rows) on_flags p pair
+pub or_chosen : (rows : List (Row ℕ)) (n : Bool) (p : ℕ) (r : Row ℕ) (ps : Branch) (truths on_flags : List Bool)
+    (here truth holds : Bool) (pair : Bool × Bool) → IsSpelled rows → p < length rows
+    → slice_get (turned_rows n rows) p ≡ Some r → r.kind ≡ Or → here ≡ flag on_flags p → truth ≡ flag truths p
+    → holds ≡ (if n then not truth else truth) → AreChildFlags (spelled rows) on_flags p pair
     → AreTruths (spelled rows) (literals_of (spelled rows) ps) 0 truths → ((q : ℕ) → flag on_flags q ≡ is_on (under n ps) q)
     → MatchBool (((here && not holds) && not pair.0) && not pair.1) (IsCandidate (spelled rows) ps (signed n p)) (IsChosen (spelled rows) ps (signed n p))
 or_chosen rows n p r ps truths on_flags here truth holds pair flat inside at kind e f is_holds children told flags =

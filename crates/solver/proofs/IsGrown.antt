@@ -141,7 +141,8 @@ AllGrown : {N : Type 0} → Tree N → List Branch → Type 0
 AllGrown t [] = Unit {0}
 AllGrown t (ps ∷ opens) = IsGrown t ps × AllGrown t opens
 
-grown_run : {N : Type 0} (v : Version) (t : Tree N) (ss : List (Step N)) (opens rest : List Branch) → Runs v t ss opens rest → AllGrown t opens → AllGrown t rest
+grown_run : {N : Type 0} (v : Version) (t : Tree N) (ss : List (Step N)) (opens rest : List Branch) → Runs v t ss opens rest
+    → AllGrown t opens → AllGrown t rest
 unfolding AllGrown
 grown_run {N} v t [] opens rest e g = let P : List Branch → Type 0 = AllGrown t in subst P e g
 grown_run v t (s ∷ ss) [] rest e g = absurd e
@@ -154,6 +155,7 @@ grown_run v t (split n p ∷ ss) (ps ∷ opens) rest e g =
 grown_run v t (close l ∷ ss) (ps ∷ opens) rest e g = grown_run v t ss opens rest e.1 g.1
 
 -- the first open branch of a partial refutation
-pub grown_first : {N : Type 0} (v : Version) (t : Tree N) (ss : List (Step N)) (ps : Branch) (opens : List Branch) → IsPartial v t ss (ps ∷ opens) → IsGrown t ps
+pub grown_first : {N : Type 0} (v : Version) (t : Tree N) (ss : List (Step N)) (ps : Branch) (opens : List Branch)
+    → IsPartial v t ss (ps ∷ opens) → IsGrown t ps
 unfolding AllGrown
 grown_first v t ss ps opens run = (grown_run v t ss (all_signed false (asserted t 0) ∷ []) (ps ∷ opens) run (grown_root t, tt)).0

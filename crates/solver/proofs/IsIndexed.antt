@@ -56,19 +56,20 @@ no_place plain negated = λ k q e. absurd (none_some q e)
 -- one that is there once more
 pub pushed_known : (items new : List Place) (plain negated : List ℕ) (q : Place) → IsIndexed items plain negated → Contains items q → new ≡ items ++ q ∷ []
     → IsIndexed new plain negated
-pushed_known items new plain negated q indexed has pushed = subst (λ (xs : List Place). IsIndexed xs plain negated) (sym pushed) (λ k x e. elim (cases_lt k (length items)) [
-  | inl before ↦
-      let old = indexed k x (sym (get_front items (q ∷ []) k before) ∙ e) in
-      let inside = slice_get_within items (index_of plain negated x) x old.1 in
-      (old.0, get_front items (q ∷ []) (index_of plain negated x) inside ∙ old.1)
-  | inr past ↦
-      let at : k ≡ length items = (let size = slice_get_within (items ++ q ∷ []) k x e in omega (arith, size, past, length-append items (q ∷ []))) in
-      let same : x ≡ q = some_is x q (sym e ∙ ap (slice_get (items ++ q ∷ [])) at ∙ get_last items q) in
-      let found : slice_get items (index_of plain negated x) ≡ Some x =
-      (let P : Place → Type 0 = λ y. slice_get items (index_of plain negated y) ≡ Some y in subst P (sym same) (found_at items plain negated q indexed has)) in
-      let inside = slice_get_within items (index_of plain negated x) x found in
-      (omega (arith, inside, at), get_front items (q ∷ []) (index_of plain negated x) inside ∙ found)
-])
+pushed_known items new plain negated q indexed has pushed =
+    subst (λ (xs : List Place). IsIndexed xs plain negated) (sym pushed) (λ k x e. elim (cases_lt k (length items)) [
+      | inl before ↦
+          let old = indexed k x (sym (get_front items (q ∷ []) k before) ∙ e) in
+          let inside = slice_get_within items (index_of plain negated x) x old.1 in
+          (old.0, get_front items (q ∷ []) (index_of plain negated x) inside ∙ old.1)
+      | inr past ↦
+          let at : k ≡ length items = (let size = slice_get_within (items ++ q ∷ []) k x e in omega (arith, size, past, length-append items (q ∷ []))) in
+          let same : x ≡ q = some_is x q (sym e ∙ ap (slice_get (items ++ q ∷ [])) at ∙ get_last items q) in
+          let found : slice_get items (index_of plain negated x) ≡ Some x =
+          (let P : Place → Type 0 = λ y. slice_get items (index_of plain negated y) ≡ Some y in subst P (sym same) (found_at items plain negated q indexed has)) in
+          let inside = slice_get_within items (index_of plain negated x) x found in
+          (omega (arith, inside, at), get_front items (q ∷ []) (index_of plain negated x) inside ∙ found)
+    ])
 
 -- the index of one that is not there may say anything
 pub put_kept : (items : List Place) (plain negated plains negateds : List ℕ) (q : Place) (n : ℕ) → IsIndexed items plain negated → (Contains items q → ⊥)
@@ -82,17 +83,18 @@ put_kept items plain negated plains negateds q n indexed other put = λ k x e.
 
 pub pushed_new : (items new : List Place) (plain negated : List ℕ) (q : Place) → IsIndexed items plain negated → index_of plain negated q ≡ length items
     → new ≡ items ++ q ∷ [] → IsIndexed new plain negated
-pushed_new items new plain negated q indexed put pushed = subst (λ (xs : List Place). IsIndexed xs plain negated) (sym pushed) (λ k x e. elim (cases_lt k (length items)) [
-  | inl before ↦
-      let old = indexed k x (sym (get_front items (q ∷ []) k before) ∙ e) in
-      let inside = slice_get_within items (index_of plain negated x) x old.1 in
-      (old.0, get_front items (q ∷ []) (index_of plain negated x) inside ∙ old.1)
-  | inr past ↦
-      let at : k ≡ length items = (let size = slice_get_within (items ++ q ∷ []) k x e in omega (arith, size, past, length-append items (q ∷ []))) in
-      let same : x ≡ q = some_is x q (sym e ∙ ap (slice_get (items ++ q ∷ [])) at ∙ get_last items q) in
-      let place : index_of plain negated x ≡ length items = ap (index_of plain negated) same ∙ put in
-      (omega (arith, place, at), ap (slice_get (items ++ q ∷ [])) place ∙ get_last items q ∙ ap Some (sym same))
-])
+pushed_new items new plain negated q indexed put pushed =
+    subst (λ (xs : List Place). IsIndexed xs plain negated) (sym pushed) (λ k x e. elim (cases_lt k (length items)) [
+      | inl before ↦
+          let old = indexed k x (sym (get_front items (q ∷ []) k before) ∙ e) in
+          let inside = slice_get_within items (index_of plain negated x) x old.1 in
+          (old.0, get_front items (q ∷ []) (index_of plain negated x) inside ∙ old.1)
+      | inr past ↦
+          let at : k ≡ length items = (let size = slice_get_within (items ++ q ∷ []) k x e in omega (arith, size, past, length-append items (q ∷ []))) in
+          let same : x ≡ q = some_is x q (sym e ∙ ap (slice_get (items ++ q ∷ [])) at ∙ get_last items q) in
+          let place : index_of plain negated x ≡ length items = ap (index_of plain negated) same ∙ put in
+          (omega (arith, place, at), ap (slice_get (items ++ q ∷ [])) place ∙ get_last items q ∙ ap Some (sym same))
+    ])
 
 pub cut_indexed : (items new : List Place) (plain negated : List ℕ) (n : ℕ) → IsIndexed items plain negated → new ≡ take n items → IsIndexed new plain negated
 cut_indexed items new plain negated n indexed cut =
@@ -104,22 +106,26 @@ cut_indexed items new plain negated n indexed cut =
     subst P (sym cut) front
 
 -- the index of a place, by that of its position
-pub put_plain : (plain negated plains : List ℕ) (q : Place) (n : ℕ) → q.negated ≡ false → IsPut plain q.position n plains → IsPlacePut plain negated q n plains negated
+pub put_plain : (plain negated plains : List ℕ) (q : Place) (n : ℕ) → q.negated ≡ false → IsPut plain q.position n plains
+    → IsPlacePut plain negated q n plains negated
 put_plain plain negated plains q n sign put = (at q sign put.0, λ x apart. other x.negated x.position (λ e f. apart (place_is x q (e ∙ sym sign) f)))
   where
     at : (q : Place) → q.negated ≡ false → slice_index plains q.position ≡ n → index_of plains negated q ≡ n
     at q sign e = rw sign e
 
-    other : (m : Bool) (p : ℕ) → (m ≡ false → p ≡ q.position → ⊥) → index_of plains negated (record { negated = m; position = p }) ≡ index_of plain negated (record { negated = m; position = p })
+    other : (m : Bool) (p : ℕ) → (m ≡ false → p ≡ q.position → ⊥)
+        → index_of plains negated (record { negated = m; position = p }) ≡ index_of plain negated (record { negated = m; position = p })
     other false p apart = put.1 p (λ e. apart refl e)
     other true p apart = refl
 
-pub put_negated : (plain negated negateds : List ℕ) (q : Place) (n : ℕ) → q.negated ≡ true → IsPut negated q.position n negateds → IsPlacePut plain negated q n plain negateds
+pub put_negated : (plain negated negateds : List ℕ) (q : Place) (n : ℕ) → q.negated ≡ true → IsPut negated q.position n negateds
+    → IsPlacePut plain negated q n plain negateds
 put_negated plain negated negateds q n sign put = (at q sign put.0, λ x apart. other x.negated x.position (λ e f. apart (place_is x q (e ∙ sym sign) f)))
   where
     at : (q : Place) → q.negated ≡ true → slice_index negateds q.position ≡ n → index_of plain negateds q ≡ n
     at q sign e = rw sign e
 
-    other : (m : Bool) (p : ℕ) → (m ≡ true → p ≡ q.position → ⊥) → index_of plain negateds (record { negated = m; position = p }) ≡ index_of plain negated (record { negated = m; position = p })
+    other : (m : Bool) (p : ℕ) → (m ≡ true → p ≡ q.position → ⊥)
+        → index_of plain negateds (record { negated = m; position = p }) ≡ index_of plain negated (record { negated = m; position = p })
     other true p apart = put.1 p (λ e. apart refl e)
     other false p apart = refl

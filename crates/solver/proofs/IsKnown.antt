@@ -14,20 +14,21 @@ use Rattle.pc_ground.specs.Rows.{rows_of}
 use Rattle.pc_ground.specs.Numbers.{nodes_of_literal, nodes_of_tree, numbered}
 use Rattle.pc_ground.proofs.FirstSeen.{numbered_has}
 use Rattle.solver.specs.Renamed.{node_at}
-use Rattle.solver.specs.Known.{IsKnown, IsLiteralKnown, IsRowKnown}
+use Rattle.solver.specs.Known.{IsNumbered, IsLiteralKnown, IsRowKnown}
 
 pub number_named : (nodes : List Node) (k : ℕ) (a : Node) → slice_get nodes k ≡ Some a → node_at nodes k ≡ a
 unfolding node_at
 number_named nodes k a at = (let other : Node = record { op = 0; core = 0; stage = 0 } in ap (λ (o : Option Node). unwrap_or o other) at)
 
-pub map_one_more : {X Y : Type 0} (f : X → Y) (old new : List X) (x : X) (ys : List Y) (k : ℕ) → new ≡ old ++ x ∷ [] → map f old ≡ take k ys → slice_get ys k ≡ Some (f x)
+pub map_one_more : {X Y : Type 0} (f : X → Y) (old new : List X) (x : X) (ys : List Y) (k : ℕ) → new ≡ old ++ x ∷ []
+    → map f old ≡ take k ys → slice_get ys k ≡ Some (f x)
     → map f new ≡ take (k + 1) ys
 map_one_more f old new x ys k e h at =
     ap (map f) e ∙ map_push f old x ∙ ap (λ zs. zs ++ f x ∷ []) h
     ∙ ap (λ y. take k ys ++ y ∷ []) (sym (get_or_from_slice_get ys k (f x) (f x) at)) ∙ sym (take_more ys k (f x) (slice_get_within ys k (f x) at))
 
 -- each node of a tree's rows has a number in the tree's numbering
-in_known : (nodes : List Node) (a : Node) → Contains nodes a → IsKnown nodes a
+in_known : (nodes : List Node) (a : Node) → Contains nodes a → IsNumbered nodes a
 in_known nodes a (k, inside, is) = (k, slice_get-get_or nodes k a inside ∙ ap Some is)
 
 literal_known : (nodes : List Node) (l : Literal Node) → ((a : Node) → In a (nodes_of_literal l) → Contains nodes a) → IsLiteralKnown nodes l
@@ -36,7 +37,8 @@ literal_known nodes (Edge a b) f = (in_known nodes a (f a (inl refl)), in_known 
 literal_known nodes (NoNode a) f = in_known nodes a (f a (inl refl))
 literal_known nodes (NoEdge a b) f = (in_known nodes a (f a (inl refl)), in_known nodes b (f b (inr (inl refl))))
 
-in_rows : (nodes : List Node) (t : Tree Node) → ((a : Node) → In a (nodes_of_tree t) → Contains nodes a) → (r : Row Node) → In r (rows_of t) → IsRowKnown nodes r
+in_rows : (nodes : List Node) (t : Tree Node) → ((a : Node) → In a (nodes_of_tree t) → Contains nodes a) → (r : Row Node)
+    → In r (rows_of t) → IsRowKnown nodes r
 in_rows nodes always f r (inl e) = (let P : Row Node → Type 0 = IsRowKnown nodes in subst P e tt)
 in_rows nodes always f r (inr i) = absurd i
 in_rows nodes never f r (inl e) = (let P : Row Node → Type 0 = IsRowKnown nodes in subst P e tt)
@@ -60,5 +62,6 @@ pub rows_known : (nodes : List Node) (t : Tree Node) (rows : List (Row Node)) �
     → (p : ℕ) (r : Row Node) → slice_get rows p ≡ Some r → IsRowKnown nodes r
 rows_known nodes t rows e n p r at =
     let P : List Node → Type 0 = λ ns. IsRowKnown ns r in
-    let here : Contains (rows_of t) r = (let Q : List (Row Node) → Type 0 = λ rs. Contains rs r in subst Q e (p, slice_get_within rows p r at, get_or_from_slice_get rows p r r at)) in
+    let here : Contains (rows_of t) r = (let Q : List (Row Node) → Type 0 = λ rs. Contains rs r in
+    subst Q e (p, slice_get_within rows p r at, get_or_from_slice_get rows p r r at)) in
     subst P (sym n) (in_rows (numbered t) t (λ a i. numbered_has t a (contains_from_in a (nodes_of_tree t) i)) r (in_from_contains r (rows_of t) here))

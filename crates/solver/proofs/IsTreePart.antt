@@ -32,7 +32,8 @@ tree_part rows p end r flat inside at e =
     let P : List (Row ℕ) → Type 0 = λ xs. IsPart xs p s in
     let part : IsPart rows p s = subst P (sym flat) (subtree_part t p s there.1) in
     let long : end - p ≡ length (rows_of s) = omega (arith, e, skip, length_rows s) in
-    let same : slice_range rows p end ≡ rows_of s = ap (λ n. take n (drop p rows)) long ∙ ap (take (length (rows_of s))) part.1 ∙ take_first (rows_of s) part.0 in
+    let same : slice_range rows p end ≡ rows_of s = ap (λ n. take n (drop p rows)) long ∙ ap (take (length (rows_of s))) part.1
+    ∙ take_first (rows_of s) part.0 in
     ((s, there.1, same), omega (arith, e, skip, size, len))
 
 pub part_spelled : (t : Tree ℕ) (p : ℕ) (part : List (Row ℕ)) → IsTreePart t p part → IsSpelled part

@@ -7,7 +7,8 @@ use Rattle.std.proofs.lemmas.List.Elements.{All-contains}
 use Rattle.std.proofs.lemmas.Option.{slice_get-get_or, get_or_from_slice_get}
 use Rattle.pc_common.specs.World.{Node}
 use Rattle.pc_common.specs.Steps.{Step, close, false_step}
-use Rattle.pc_common.proofs.Elements.{In, contains_from_in, in_map, in_front, in_back, true_or_false}
+use Rattle.pc_common.proofs.Elements.{In, contains_from_in, in_map, in_front, in_back}
+use Rattle.pc_common.proofs.Bools.{true_or_false, not_both}
 use Rattle.pc_ground.specs.declared.literal.Literal.{Literal}
 use Rattle.pc_ground.specs.declared.row.Row.{Row}
 use Rattle.pc_ground.specs.Rows.{rows_of}
@@ -19,7 +20,6 @@ use Rattle.pc_ground.specs.Refutes.{Branch, signed, all_signed, subtree_at, part
 use Rattle.pc_ground.specs.Rows.{root_kind}
 use Rattle.pc_ground.proofs.FlatRows.{subtree_size, size_pos}
 use Rattle.pc_ground.proofs.Turned.{subtree_denied, size_turned}
-use Rattle.pc_ground.proofs.Bools.{not_both}
 use Rattle.pc_ground.proofs.Refuted.{one_has_no_sign}
 use Rattle.pc_ground.proofs.StageWalks.{some_same}
 use Rattle.pc_ground.specs.Folded.{HasNoConstant, IsFolded}
@@ -34,14 +34,14 @@ use Rattle.solver.specs.Renamed.{tree_over, rows_over, node_at, renamed_tree}
 use Rattle.solver.specs.Below.{IsRowBelow}
 use Rattle.solver.specs.Met.{IsMet, IsMetUnder}
 use Rattle.solver.specs.Places.{place_signed, IsCandidate, HasSignsOf, AreChosen, root_side, side_positions}
-use Rattle.solver.specs.Opens.{positions, waiting, opens, IsState}
+use Rattle.solver.specs.Opens.{positions, waiting, opens, KeepsState, state_of}
 use Rattle.solver.specs.Shown.{ArePresent, AreEdges}
 use Rattle.solver.specs.Answers.{IsWitness, IsAnswer}
-use Rattle.solver.specs.Turns.{IsTurn, IsTurnOf}
+use Rattle.solver.specs.Turns.{IsTurnOfRows, IsTurnOfTree}
 use Rattle.solver.specs.declared.search.Turn.{Turn}
 use Rattle.solver.specs.declared.search.Turn.TheVariants.{More, Done}
-use Rattle.solver.specs.Branches.{branches_of, IsOpen, IsBlank}
-use Rattle.solver.specs.Searched.{IsSearching, IsSearch}
+use Rattle.solver.specs.Branches.{branches_of, HasOpenBranch, IsBlank}
+use Rattle.solver.specs.Searched.{HasUnmetBranch, HasCandidate}
 use Rattle.solver.specs.declared.branch.Branch.{Branch as OpenBranch}
 use Rattle.solver.specs.declared.place.Place.{Place}
 use Rattle.solver.specs.declared.later.Later.{Later}
@@ -72,18 +72,20 @@ grown_back f t ps g = record {
       (k.0, subst P (size_renamed f a) k.1);
 }
 
-kept_run : (v : Version) (t : Numbered) (b : OpenBranch) → IsOpen v t b [] → IsPartial v (tree_over t.nodes (spelled t.rows)) b.refutation (branches_of t b)
+kept_run : (v : Version) (t : Numbered) (b : OpenBranch) → HasOpenBranch v t b []
+    → IsPartial v (tree_over t.nodes (spelled t.rows)) b.refutation (branches_of t b)
 kept_run v t b kept =
     let P : Branch → Type 0 = λ ps. IsPartial v (tree_over t.nodes (spelled t.rows)) b.refutation (opens (spelled t.rows) ps b.asserted b.later.items) in
     subst P (append-nil (positions b.asserted)) kept.partial
 
-kept_grown : (v : Version) (t : Numbered) (b : OpenBranch) → IsOpen v t b [] → IsGrown (spelled t.rows) (positions b.asserted)
+kept_grown : (v : Version) (t : Numbered) (b : OpenBranch) → HasOpenBranch v t b [] → IsGrown (spelled t.rows) (positions b.asserted)
 kept_grown v t b kept =
     grown_back (node_at t.nodes) (spelled t.rows) (positions b.asserted)
     (grown_first v (tree_over t.nodes (spelled t.rows)) b.refutation (positions b.asserted) _ (kept_run v t b kept))
 
 -- asserted positions are inside
-pub positions_inside : (v : Version) (t : Numbered) (b : OpenBranch) → IsNumbered t → IsOpen v t b [] → All (λ (a : Place). a.position < length t.rows) b.asserted
+pub positions_inside : (v : Version) (t : Numbered) (b : OpenBranch) → IsNumbered t → HasOpenBranch v t b []
+    → All (λ (a : Place). a.position < length t.rows) b.asserted
 positions_inside v t b numbered kept =
     let s = spelled t.rows in
     let grown = kept_grown v t b kept in
@@ -93,7 +95,8 @@ positions_inside v t b numbered kept =
     omega (arith, size, size_pos there.0, size_turned a.negated s, length_spelled t.rows numbered.tree))
 
 -- on a branch with no candidate the whole tree is true
-kept_met : (v : Version) (t : Numbered) (b : OpenBranch) → IsOpen v t b [] → IsConsistent b.graph.literals → AreChosen (spelled t.rows) (positions b.asserted) → HasNoFalse t
+kept_met : (v : Version) (t : Numbered) (b : OpenBranch) → HasOpenBranch v t b [] → IsConsistent b.graph.literals
+    → AreChosen (spelled t.rows) (positions b.asserted) → HasNoFalse t
     → IsMet b.graph.literals (spelled t.rows)
 kept_met v t b kept consistent chosen none =
     let s = spelled t.rows in
@@ -126,7 +129,7 @@ named_in nodes k a inside e =
     (k, inside, get_or_from_slice_get nodes k a a (at ∙ ap Some same))
 
 -- the graph of such a branch shows that the tree is true in its world
-pub witness : (v : Version) (t : Numbered) (b : OpenBranch) (shown : PlainGraph) → IsNumbered t → HasNoFalse t → IsOpen v t b [] → IsGraph b.graph
+pub witness : (v : Version) (t : Numbered) (b : OpenBranch) (shown : PlainGraph) → IsNumbered t → HasNoFalse t → HasOpenBranch v t b [] → IsGraph b.graph
     → AreChosen (spelled t.rows) (positions b.asserted) → ArePresent t.nodes b.graph.literals (length t.nodes) (graph_nodes shown)
     → AreEdges t.nodes b.graph.literals (graph_edges shown) → IsWitness t.nodes (tree_over t.nodes (spelled t.rows)) shown
 witness v t b shown numbered none kept graph chosen present edges =
@@ -147,10 +150,11 @@ witness v t b shown numbered none kept graph chosen present edges =
     }
 
 -- in version 1 no position of the branch has a sign
-pub kept_signs : (v : Version) (t : Numbered) (b : OpenBranch) → IsOpen v t b [] → HasSignsOf v (positions b.asserted)
+pub kept_signs : (v : Version) (t : Numbered) (b : OpenBranch) → HasOpenBranch v t b [] → HasSignsOf v (positions b.asserted)
 kept_signs One t b kept =
     let ps = positions b.asserted in
-    λ q has. one_has_no_sign (tree_over t.nodes (spelled t.rows)) b.refutation (branches_of t b) (kept_run One t b kept) ps (contains_from_in ps (branches_of t b) (inl refl)) q has
+    λ q has. one_has_no_sign (tree_over t.nodes (spelled t.rows)) b.refutation (branches_of t b) (kept_run One t b kept)
+    ps (contains_from_in ps (branches_of t b) (inl refl)) q has
 kept_signs Two t b kept = tt
 
 plain_part : (t : Tree ℕ) (n : Bool) (p : ℕ) (s : Tree ℕ) → subtree_at (turned n t) p ≡ Some s → subtree_at t p ≡ Some (turned n s)
@@ -158,8 +162,8 @@ plain_part t false p s e = e
 plain_part t true p s e = subtree_denied t true p s e
 
 -- what the type of a search keeps, as its clauses say it
-pub searching : (v : Version) (tree : Numbered) (b : OpenBranch) (first : Place) → IsSearch v tree b first
-    → IsSearching (record { version = v; nodes = tree.nodes; rows = tree.rows; graph = b.graph; steps = b.refutation; branches = branches_of tree b })
+pub searching : (v : Version) (tree : Numbered) (b : OpenBranch) (first : Place) → HasCandidate v tree b first
+    → HasUnmetBranch (record { version = v; nodes = tree.nodes; rows = tree.rows; graph = b.graph; steps = b.refutation; branches = branches_of tree b })
 searching v tree b first s =
     let here = b.asserted in
     let t = spelled tree.rows in
@@ -191,7 +195,8 @@ not_zero zero b e f = absurd (not_both b e f)
 not_zero (suc n) b e f = omega arith
 
 -- rows of numbers that are named as those of a tree
-pub names_tree : (nodes : List Node) (rows : List (Row ℕ)) (t : Tree Node) → rows_over nodes rows ≡ rows_of t → IsSpelled rows × (tree_over nodes (spelled rows) ≡ t)
+pub names_tree : (nodes : List Node) (rows : List (Row ℕ)) (t : Tree Node) → rows_over nodes rows ≡ rows_of t → IsSpelled rows
+    × (tree_over nodes (spelled rows) ≡ t)
 names_tree nodes rows t e =
     let back = tree_of_names (node_at nodes) t rows e in
     (is_spelled rows back.0 back.1, ap (tree_over nodes) (spelled_is rows back.0 back.1) ∙ back.2)
@@ -258,10 +263,11 @@ not_false rows r flat at other e =
     other (ap (λ (x : Row ℕ). x.kind) there.2 ∙ ap root_kind same)
 
 -- what is kept before the root is entered
-pub first_kept : (v : Version) (t : Numbered) (b : OpenBranch) → IsBlank t b → IsOpen v t b (side_positions (spelled t.rows) root_side)
+pub first_kept : (v : Version) (t : Numbered) (b : OpenBranch) → IsBlank t b → HasOpenBranch v t b (side_positions (spelled t.rows) root_side)
 first_kept v t b blank =
     let s = spelled t.rows in
-    let A : List Place → List Later → List (Step Node) → Type 0 = λ as' ls' ss'. IsState v t.nodes s b.graph as' ls' ss' (side_positions s root_side) in
+    let A : List Place → List Later → List (Step Node) → Type 0 =
+    λ as' ls' ss'. KeepsState v (state_of t.nodes s b.graph as' ls' ss') (side_positions s root_side) in
     let first : A [] [] [] = record {
       literals = blank.literals;
       all_nodes = blank.nodes;
@@ -269,10 +275,12 @@ first_kept v t b blank =
       waits = tt;
       partial = ap (λ ps. all_signed false ps ∷ []) (asserted_renamed (node_at t.nodes) s 0);
     } in
-    subst (λ x. A b.asserted b.later.items x) (sym blank.steps) (subst (λ x. A b.asserted x []) (sym blank.later) (subst (λ x. A x [] []) (sym blank.asserted) first))
+    subst (λ x. A b.asserted b.later.items x) (sym blank.steps)
+    (subst (λ x. A b.asserted x []) (sym blank.later) (subst (λ x. A x [] []) (sym blank.asserted) first))
 
 -- the refutation of False
-pub false_refuted : (v : Version) (nodes : List Node) (t : Tree ℕ) (ss : List (Step Node)) → t ≡ never → ss ≡ close false_step ∷ [] → IsRefutation v (tree_over nodes t) ss
+pub false_refuted : (v : Version) (nodes : List Node) (t : Tree ℕ) (ss : List (Step Node)) → t ≡ never → ss ≡ close false_step ∷ []
+    → IsRefutation v (tree_over nodes t) ss
 false_refuted v nodes t ss e f =
     let T = tree_over nodes t in
     let is_never : T ≡ never = ap (tree_over nodes) e in
@@ -280,8 +288,9 @@ false_refuted v nodes t ss e f =
     let P : List (Step Node) → Type 0 = IsRefutation v T in
     subst P (sym f) run
 
-pub turn_of : (v : Version) (had nodes : List Node) (rows : List (Row ℕ)) (t : Tree Node) (turn : Turn) → had ≡ nodes → tree_over had (spelled rows) ≡ t → IsTurn v had rows turn
-    → IsTurnOf v nodes t turn
+pub turn_of : (v : Version) (had nodes : List Node) (rows : List (Row ℕ)) (t : Tree Node) (turn : Turn) → had ≡ nodes
+    → tree_over had (spelled rows) ≡ t → IsTurnOfRows v had rows turn
+    → IsTurnOfTree v nodes t turn
 turn_of v had nodes rows t (More s) e f h =
     (h.0, h.1 ∙ e, ap (λ ns. tree_over ns (spelled s.rows)) h.1 ∙ ap (λ rs. tree_over had (spelled rs)) h.2 ∙ f, h.3)
 turn_of v had nodes rows t (Done a) e f h =

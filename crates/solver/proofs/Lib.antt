@@ -7,7 +7,7 @@ pub mod Weight
 pub mod HasAsserted
 pub mod AreTruths
 pub mod IsChosen
-pub mod IsState
+pub mod KeepsState
 pub mod ClashLeaf
 pub mod HasDescended
 pub mod IsKnown

@@ -20,7 +20,8 @@ one_less : (ps : Branch) (opens : List Branch) → length (ps ∷ opens) - 1 ≡
 one_less ps opens = omega arith
 
 -- how many branches the steps leave open
-pub open_run : (v : Version) (t : Tree Node) (ss : List (Step Node)) (opens rest : List Branch) → Runs v t ss opens rest → fold open_after (length opens) ss ≡ length rest
+pub open_run : (v : Version) (t : Tree Node) (ss : List (Step Node)) (opens rest : List Branch) → Runs v t ss opens rest
+    → fold open_after (length opens) ss ≡ length rest
 open_run v t [] opens rest e = ap length e
 open_run v t (s ∷ ss) [] rest e = absurd e
 open_run v t (split n p ∷ ss) (ps ∷ opens) rest e =

@@ -8,7 +8,8 @@ use Rattle.std.proofs.lemmas.List.Elements.{All-contains, All-nil, All-cons}
 use Rattle.std.proofs.lemmas.Option.{slice_get_within, get_or_from_slice_get}
 use Rattle.indexmap.specs.IndexSet.{insert_key}
 use Rattle.pc_common.specs.World.{Node, Edge}
-use Rattle.pc_common.proofs.Elements.{In, in_from_contains, contains_from_in, in_front, in_back, in_either, in_map, from_map, true_or_false, any_holds, and_first, and_second}
+use Rattle.pc_common.proofs.Elements.{In, in_from_contains, contains_from_in, in_front, in_back, in_either, in_map, from_map, any_holds}
+use Rattle.pc_common.proofs.Bools.{true_or_false, and_first, and_second}
 use Rattle.pc_ground.specs.declared.literal.Literal.{Literal}
 use Rattle.pc_ground.specs.declared.literal.Literal.TheVariants.{Edge as an_edge}
 use Rattle.pc_ground.specs.Literals.{Joins, IsPresent}
@@ -47,7 +48,8 @@ present_more nodes ls k old new (inl (is, e)) are = λ a. (from a, to a)
               (in_from_contains a old ((are a).1 (h.0, before, h.2, h.3)))))
           | inr past ↦
               let same : h.0 ≡ k = omega (arith, h.1, past) in
-              subst P (sym e) (contains_from_in a (old ++ node_at nodes k ∷ []) (in_back a old (node_at nodes k ∷ []) (inl (ap (node_at nodes) (sym same) ∙ h.3))))
+              subst P (sym e) (contains_from_in a (old ++ node_at nodes k ∷ [])
+              (in_back a old (node_at nodes k ∷ []) (inl (ap (node_at nodes) (sym same) ∙ h.3))))
         ]
 present_more nodes ls k old new (inr (never, e)) are = λ a. (from a, to a)
   where
@@ -133,7 +135,8 @@ pub edges_more : (ls : List (Literal ℕ)) (n : ℕ) (l : Literal ℕ) (old new 
     → ((j k : ℕ) → Contains new (j, k) ↔ (Contains old (j, k) ⊎ (l ≡ an_edge j k)))
     → (j k : ℕ) → Contains new (j, k) ↔ Contains (take (n + 1) ls) (an_edge j k)
 edges_more ls n l old new at before noted j k =
-    let whole : take (n + 1) ls ≡ take n ls ++ l ∷ [] = take_more ls n l (slice_get_within ls n l at) ∙ ap (λ x. take n ls ++ x ∷ []) (get_or_from_slice_get ls n l l at) in
+    let whole : take (n + 1) ls ≡ take n ls ++ l ∷ [] = take_more ls n l (slice_get_within ls n l at)
+    ∙ ap (λ x. take n ls ++ x ∷ []) (get_or_from_slice_get ls n l l at) in
     let P : List (Literal ℕ) → Type 0 = λ xs. Contains xs (an_edge j k) in (
       (λ h. subst P (sym whole) (contains_from_in (an_edge j k) (take n ls ++ l ∷ []) (elim ((noted j k).0 h) [
         | inl x ↦ in_front (an_edge j k) (take n ls) (l ∷ []) (in_from_contains (an_edge j k) (take n ls) ((before j k).0 x))
@@ -149,7 +152,8 @@ edges_more ls n l old new at before noted j k =
     last (inl h) = h
     last (inr h) = absurd h
 
-pub edges_none : (ls : List (Literal ℕ)) (pairs : List (ℕ × ℕ)) (n : ℕ) → pairs ≡ [] → n ≡ 0 → (j k : ℕ) → Contains pairs (j, k) ↔ Contains (take n ls) (an_edge j k)
+pub edges_none : (ls : List (Literal ℕ)) (pairs : List (ℕ × ℕ)) (n : ℕ) → pairs ≡ [] → n ≡ 0 → (j k : ℕ)
+    → Contains pairs (j, k) ↔ Contains (take n ls) (an_edge j k)
 edges_none ls pairs n e f j k =
     let P : List (ℕ × ℕ) → Type 0 = λ xs. Contains xs (j, k) in
     let Q : ℕ → Type 0 = λ m. Contains (take m ls) (an_edge j k) in
@@ -167,7 +171,8 @@ edges_shown nodes ls pairs es e are a b =
           let Q : Node → Node → Type 0 = λ x y. Contains es (x, y) in
           let here : Q (node_at nodes h.0) (node_at nodes h.1) =
           (let R : List Edge → Type 0 = λ xs. Contains xs (f (h.0, h.1)) in
-          subst R (sym e) (contains_from_in (f (h.0, h.1)) (map f pairs) (in_map f (h.0, h.1) pairs (in_from_contains (h.0, h.1) pairs ((are h.0 h.1).1 h.2))))) in
+          subst R (sym e) (contains_from_in (f (h.0, h.1)) (map f pairs)
+          (in_map f (h.0, h.1) pairs (in_from_contains (h.0, h.1) pairs ((are h.0 h.1).1 h.2))))) in
           subst (λ y. Q a y) h.4 (subst (λ x. Q x (node_at nodes h.1)) h.3 here)),
     )
 
@@ -178,7 +183,8 @@ pairs_from n ls pairs all are = (
   all_by_in (λ (p : ℕ × ℕ). p.1 < n) pairs (λ p i. (All-contains (IsBelow n) ls (an_edge p.0 p.1) all ((are p.0 p.1).0 (contains_from_in p pairs i))).1),
 )
 
-pub edges_all : (ls : List (Literal ℕ)) (pairs : List (ℕ × ℕ)) (n : ℕ) → length ls ≤ n → ((j k : ℕ) → Contains pairs (j, k) ↔ Contains (take n ls) (an_edge j k))
+pub edges_all : (ls : List (Literal ℕ)) (pairs : List (ℕ × ℕ)) (n : ℕ) → length ls ≤ n
+    → ((j k : ℕ) → Contains pairs (j, k) ↔ Contains (take n ls) (an_edge j k))
     → (j k : ℕ) → Contains pairs (j, k) ↔ Joins ls j k
 edges_all ls pairs n past are j k =
     let P : List (Literal ℕ) → Type 0 = λ xs. Contains pairs (j, k) ↔ Contains xs (an_edge j k) in

@@ -3,10 +3,10 @@ use Rattle.std.proofs.Common.{◌≡◌, ◌<◌, inl, inr, ℕ, Bool, true, fal
 use Rattle.std.specs.Prelude.{Contains, All, IsTrue, not}
 use Rattle.std.proofs.lemmas.List.Elements.{All-contains}
 use Rattle.std.proofs.lemmas.Option.{slice_get-get_or}
+use Rattle.std.proofs.lemmas.Bool.{or_left, or_right}
 use Rattle.pc_common.specs.World.{Node, Edge, World, IsWorld, has_node, has_edge, same_node}
 use Rattle.pc_common.specs.Chain.{Leads, Chain, Acyclic}
 use Rattle.pc_common.specs.Generated.{IsListed, HasEnds, IsGenerated}
-use Rattle.pc_common.proofs.Elements.{or_first, or_later}
 use Rattle.pc_common.proofs.Nodes.{has_node_is, has_edge_is}
 use Rattle.pc_common.proofs.GeneratedWorlds.{generates, node_tells}
 use Rattle.pc_ground.specs.declared.literal.Literal.{Literal}
@@ -125,12 +125,16 @@ met_true nodes ls ns es w s g (leaf (NoEdge a b)) below h =
     let Q : ℕ → Type 0 = λ k. Chain (Joins ls) a k in
     h (subst Q same back.3))
 met_true nodes ls ns es w s g (both a b) below h =
-    and_both (tree_true w (tree_over nodes a)) (tree_true w (tree_over nodes b)) (met_true nodes ls ns es w s g a below.0 h.0) (met_true nodes ls ns es w s g b below.1 h.1)
-met_true nodes ls ns es w s g (either a b) below (inl h) = or_first (tree_true w (tree_over nodes a)) (tree_true w (tree_over nodes b)) (met_true nodes ls ns es w s g a below.0 h)
-met_true nodes ls ns es w s g (either a b) below (inr h) = or_later (tree_true w (tree_over nodes a)) (tree_true w (tree_over nodes b)) (met_true nodes ls ns es w s g b below.1 h)
+    and_both (tree_true w (tree_over nodes a)) (tree_true w (tree_over nodes b)) (met_true nodes ls ns es w s g a below.0 h.0)
+    (met_true nodes ls ns es w s g b below.1 h.1)
+met_true nodes ls ns es w s g (either a b) below (inl h) =
+    or_left (tree_true w (tree_over nodes a)) (tree_true w (tree_over nodes b)) (met_true nodes ls ns es w s g a below.0 h)
+met_true nodes ls ns es w s g (either a b) below (inr h) =
+    or_right (tree_true w (tree_over nodes a)) (tree_true w (tree_over nodes b)) (met_true nodes ls ns es w s g b below.1 h)
 
 -- the world of the graph, in which the tree is true
-pub shown_world : (nodes : List Node) (ls : List (Literal ℕ)) (ns : List Node) (es : List Edge) (t : Tree ℕ) → Shows nodes ls ns es → AreBelow (length nodes) t → IsMet ls t
+pub shown_world : (nodes : List Node) (ls : List (Literal ℕ)) (ns : List Node) (es : List Edge) (t : Tree ℕ) → Shows nodes ls ns es
+    → AreBelow (length nodes) t → IsMet ls t
     → HasEnds ns es × ((w : World Node) × IsGenerated ns es w × IsWorld w × IsTrue (tree_true w (tree_over nodes t)))
 shown_world nodes ls ns es t s below met =
     let ends = has_ends nodes ls ns es s in

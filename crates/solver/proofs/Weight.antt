@@ -3,8 +3,9 @@ use Rattle.std.proofs.Common.{◌≡◌, ◌≤◌, ◌<◌, inl, inr, ℕ, zero
 use Rattle.std.specs.Prelude.{if◌then◌else◌, nat_lt, ◌==◌}
 use Rattle.std.proofs.Math.Nat.{pow-le-pow_right, pow-suc, one-le-pow}
 use Rattle.std.proofs.lemmas.List.Sums.{sum_by-cons}
-use Rattle.std.proofs.lemmas.Bool.{ltb-false}
-use Rattle.pc_common.proofs.Elements.{In, in_from_contains, contains_from_in, in_front, in_back, in_map, any_holds, holds_any, true_or_false, or_first, or_later, or_second}
+use Rattle.std.proofs.lemmas.Bool.{ltb-false, or_left, or_right}
+use Rattle.pc_common.proofs.Elements.{In, in_from_contains, contains_from_in, in_front, in_back, in_map, any_holds, holds_any}
+use Rattle.pc_common.proofs.Bools.{true_or_false, or_second}
 use Rattle.pc_ground.specs.Tree.{Tree, always, never, leaf, both, either, negation, turned, size_of}
 use Rattle.pc_ground.specs.declared.version.Version.{Version}
 use Rattle.pc_ground.specs.declared.version.Version.TheVariants.{One, Two}
@@ -41,8 +42,8 @@ count_more false false f = omega arith
 sides_more : (ps qs : List ℕ) (p r : ℕ) → IsWithin ps qs → (is_on ps p || is_on ps r) ≡ true → (is_on qs p || is_on qs r) ≡ true
 sides_more ps qs p r w e =
     elim (true_or_false (is_on ps p)) [
-      | inl h ↦ or_first (is_on qs p) (is_on qs r) (on_more ps qs p w h)
-      | inr h ↦ or_later (is_on qs p) (is_on qs r) (on_more ps qs r w (or_second (is_on ps p) (is_on ps r) h e))
+      | inl h ↦ or_left (is_on qs p) (is_on qs r) (on_more ps qs p w h)
+      | inr h ↦ or_right (is_on qs p) (is_on qs r) (on_more ps qs r w (or_second (is_on ps p) (is_on ps r) h e))
     ]
 
 -- with more positions no more Ors are pending_ors
@@ -52,7 +53,8 @@ pending_more never p ps qs w = omega arith
 pending_more (leaf l) p ps qs w = omega arith
 pending_more (both a b) p ps qs w = omega (arith, pending_more a (p + 1) ps qs w, pending_more b (p + 1 + size_of a) ps qs w)
 pending_more (either a b) p ps qs w =
-    let here = count_more (is_on ps (p + 1) || is_on ps (p + 1 + size_of a)) (is_on qs (p + 1) || is_on qs (p + 1 + size_of a)) (sides_more ps qs (p + 1) (p + 1 + size_of a) w) in
+    let here = count_more (is_on ps (p + 1) || is_on ps (p + 1 + size_of a)) (is_on qs (p + 1) || is_on qs (p + 1 + size_of a))
+    (sides_more ps qs (p + 1) (p + 1 + size_of a) w) in
     omega (arith, here, pending_more a (p + 1) ps qs w, pending_more b (p + 1 + size_of a) ps qs w)
 
 -- an Or has no side in the one list, and one in the other
@@ -96,7 +98,8 @@ pending_one_less (both x y) p (suc q) a b ps qs w e d =
     let right_more = pending_more y (p + 1 + size_of x) ps qs w in
     elim (true_or_false (nat_lt q (size_of x))) [
       | inl h ↦
-          let less = pending_one_less x (p + 1) q a b ps qs w (at_left (nat_lt q (size_of x)) (subtree_at x q) (subtree_at y (q - size_of x)) (Some (either a b)) h e)
+          let less = pending_one_less x (p + 1) q a b ps qs w
+          (at_left (nat_lt q (size_of x)) (subtree_at x q) (subtree_at y (q - size_of x)) (Some (either a b)) h e)
           (moved (p + suc q) (p + 1 + q) (size_of a) ps qs (omega arith) d) in
           omega (arith, less, right_more)
       | inr h ↦
@@ -107,12 +110,14 @@ pending_one_less (both x y) p (suc q) a b ps qs w e d =
           omega (arith, less, left_more)
     ]
 pending_one_less (either x y) p (suc q) a b ps qs w e d =
-    let here = count_more (is_on ps (p + 1) || is_on ps (p + 1 + size_of x)) (is_on qs (p + 1) || is_on qs (p + 1 + size_of x)) (sides_more ps qs (p + 1) (p + 1 + size_of x) w) in
+    let here = count_more (is_on ps (p + 1) || is_on ps (p + 1 + size_of x)) (is_on qs (p + 1) || is_on qs (p + 1 + size_of x))
+    (sides_more ps qs (p + 1) (p + 1 + size_of x) w) in
     let left_more = pending_more x (p + 1) ps qs w in
     let right_more = pending_more y (p + 1 + size_of x) ps qs w in
     elim (true_or_false (nat_lt q (size_of x))) [
       | inl h ↦
-          let less = pending_one_less x (p + 1) q a b ps qs w (at_left (nat_lt q (size_of x)) (subtree_at x q) (subtree_at y (q - size_of x)) (Some (either a b)) h e)
+          let less = pending_one_less x (p + 1) q a b ps qs w
+          (at_left (nat_lt q (size_of x)) (subtree_at x q) (subtree_at y (q - size_of x)) (Some (either a b)) h e)
           (moved (p + suc q) (p + 1 + q) (size_of a) ps qs (omega arith) d) in
           omega (arith, here, less, right_more)
       | inr h ↦
@@ -209,7 +214,8 @@ on_push n [] a p =
 on_push n (x ∷ xs) a p =
     let rest = on_push n xs a p in
     elim (true_or_false (is_sign n x.negated)) [
-      | inl h ↦ rw h (ap (λ b. (x.position == p) || b) rest ∙ or_assoc (x.position == p) (is_on (under n (positions xs)) p) (is_sign n a.negated && (a.position == p)))
+      | inl h ↦ rw h (ap (λ b. (x.position == p) || b) rest
+          ∙ or_assoc (x.position == p) (is_on (under n (positions xs)) p) (is_sign n a.negated && (a.position == p)))
       | inr h ↦ rw h rest
     ]
 
@@ -239,11 +245,12 @@ pending_less t n p a b ps qs w e no_left no_right some =
     let new = under n qs in
     let before : (is_on old (p + 1) || is_on old (p + 1 + size_of a)) ≡ false =
     neither (is_on old (p + 1)) (is_on old (p + 1 + size_of a))
-    (λ h. no_left (from_under n ps (p + 1) (in_from_on old (p + 1) h))) (λ h. no_right (from_under n ps (p + 1 + size_of a) (in_from_on old (p + 1 + size_of a) h))) in
+    (λ h. no_left (from_under n ps (p + 1) (in_from_on old (p + 1) h)))
+    (λ h. no_right (from_under n ps (p + 1 + size_of a) (in_from_on old (p + 1 + size_of a) h))) in
     let after : (is_on new (p + 1) || is_on new (p + 1 + size_of a)) ≡ true =
     elim some [
-      | inl h ↦ or_first (is_on new (p + 1)) (is_on new (p + 1 + size_of a)) (on_from_in new (p + 1) (in_under n qs (p + 1) h))
-      | inr h ↦ or_later (is_on new (p + 1)) (is_on new (p + 1 + size_of a)) (on_from_in new (p + 1 + size_of a) (in_under n qs (p + 1 + size_of a) h))
+      | inl h ↦ or_left (is_on new (p + 1)) (is_on new (p + 1 + size_of a)) (on_from_in new (p + 1) (in_under n qs (p + 1) h))
+      | inr h ↦ or_right (is_on new (p + 1)) (is_on new (p + 1 + size_of a)) (on_from_in new (p + 1 + size_of a) (in_under n qs (p + 1 + size_of a) h))
     ] in
     let less = pending_one_less (turned n t) 0 p a b old new (within_under n ps qs w) e
     (moved p (0 + p) (size_of a) old new (omega arith) (record { before = before; after = after })) in

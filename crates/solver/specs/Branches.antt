@@ -5,7 +5,7 @@ use Rattle.pc_ground.specs.Refutes.{Branch as Positions}
 use Rattle.order_graph.specs.State.{IsCut}
 use Rattle.solver.specs.Numbered.{Numbered}
 use Rattle.solver.specs.Spelled.{spelled}
-use Rattle.solver.specs.Opens.{positions, opens, IsState}
+use Rattle.solver.specs.Opens.{positions, opens, KeepsState, state_of}
 use Rattle.solver.specs.declared.branch.Branch.{Branch}
 use Rattle.solver.specs.declared.later.Later.{Later}
 use Rattle.solver.specs.declared.side.Side.{Side}
@@ -19,8 +19,8 @@ abbrev pub branches_with : Numbered → Branch → Positions → List Positions
 branches_with t b more = opens (spelled t.rows) (positions b.asserted ++ more) b.asserted b.later.items
 
 -- what is kept of a branch between the steps, where it is to assert `more`
-abbrev pub IsOpen : Version → Numbered → Branch → Positions → Type 0
-IsOpen v t b more = IsState v t.nodes (spelled t.rows) b.graph b.asserted b.later.items b.refutation more
+abbrev pub HasOpenBranch : Version → Numbered → Branch → Positions → Type 0
+HasOpenBranch v t b more = KeepsState v (state_of t.nodes (spelled t.rows) b.graph b.asserted b.later.items b.refutation) more
 
 -- nothing is asserted, not even the root
 pub record IsBlank (t : Numbered) (b : Branch) : Type 0 where

@@ -7,13 +7,13 @@ use Rattle.pc_ground.specs.Refutes.{IsPartial}
 use Rattle.solver.specs.Numbered.{Numbered}
 use Rattle.solver.specs.Spelled.{spelled}
 use Rattle.solver.specs.Renamed.{tree_over}
-use Rattle.solver.specs.Branches.{branches_with, IsOpen}
+use Rattle.solver.specs.Branches.{branches_with, HasOpenBranch}
 use Rattle.solver.specs.Weights.{weight}
 use Rattle.solver.specs.declared.branch.Branch.{Branch}
 
 -- a branch is open, and what is open weighs less than `most`; or all are closed
 abbrev pub HasDescended : Version → Numbered → ℕ → Branch → Bool → Type 0
-HasDescended v t most b true = IsOpen v t b [] × (weight (spelled t.rows) (branches_with t b []) < most)
+HasDescended v t most b true = HasOpenBranch v t b [] × (weight (spelled t.rows) (branches_with t b []) < most)
 HasDescended v t most b false = IsPartial v (tree_over t.nodes (spelled t.rows)) b.refutation []
 
 -- the steps begin with those there were

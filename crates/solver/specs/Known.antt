@@ -8,14 +8,14 @@ use Rattle.pc_ground.specs.declared.row.RowKind.{RowKind}
 use Rattle.pc_ground.specs.declared.row.RowKind.TheVariants.{True, False, Lit, And, Or}
 use Rattle.pc_ground.specs.Numbers.{IsNumberOf}
 
-abbrev pub IsKnown : List Node → Node → Type 0
-IsKnown nodes a = (k : ℕ) × IsNumberOf nodes k a
+abbrev pub IsNumbered : List Node → Node → Type 0
+IsNumbered nodes a = (k : ℕ) × IsNumberOf nodes k a
 
 abbrev pub IsLiteralKnown : List Node → Literal Node → Type 0
-IsLiteralKnown nodes (a_node a) = IsKnown nodes a
-IsLiteralKnown nodes (Edge a b) = IsKnown nodes a × IsKnown nodes b
-IsLiteralKnown nodes (NoNode a) = IsKnown nodes a
-IsLiteralKnown nodes (NoEdge a b) = IsKnown nodes a × IsKnown nodes b
+IsLiteralKnown nodes (a_node a) = IsNumbered nodes a
+IsLiteralKnown nodes (Edge a b) = IsNumbered nodes a × IsNumbered nodes b
+IsLiteralKnown nodes (NoNode a) = IsNumbered nodes a
+IsLiteralKnown nodes (NoEdge a b) = IsNumbered nodes a × IsNumbered nodes b
 
 abbrev pub IsKindKnown : List Node → RowKind Node → Type 0
 IsKindKnown nodes True = Unit {0}

@@ -40,13 +40,26 @@ AreLater t ps marks (l ∷ ls) = IsLater t ps marks l × AreLater t (take l.coun
 abbrev pub opens : {N : Type 0} → Tree N → Branch → List Place → List Later → List Branch
 opens t ps asserted later = ps ∷ waiting t (positions asserted) (reverse later)
 
--- what is kept between the steps; the first open branch has the asserted positions and those of `more`
-pub record IsState (v : Version) (nodes : List Node) (t : Tree ℕ) (graph : Graph) (asserted : List Place) (later : List Later) (steps : List (Step Node)) (more : Branch) : Type 0 where
-  pub literals : graph.literals ≡ literals_of t (positions asserted)
-  pub all_nodes : graph.nodes ≡ length nodes
-  pub marks : length graph.marks ≤ length steps
-  pub waits : AreLater t (positions asserted) graph.marks (reverse later)
-  pub partial : IsPartial v (tree_over nodes t) steps (opens t (positions asserted ++ more) asserted later)
+-- what a search has between its steps
+pub record SearchState : Type 0 where
+  pub nodes : List Node
+  pub tree : Tree ℕ
+  pub graph : Graph
+  pub asserted : List Place
+  pub later : List Later
+  pub steps : List (Step Node)
+
+abbrev pub state_of : List Node → Tree ℕ → Graph → List Place → List Later → List (Step Node) → SearchState
+state_of ns t g ps ls ss = record { nodes = ns; tree = t; graph = g; asserted = ps; later = ls; steps = ss }
+
+-- it fits together; the first open branch has the asserted positions and those of `more`
+pub record KeepsState (v : Version) (s : SearchState) (more : Branch) : Type 0 where
+  pub literals : s.graph.literals ≡ literals_of s.tree (positions s.asserted)
+  pub all_nodes : s.graph.nodes ≡ length s.nodes
+  pub marks : length s.graph.marks ≤ length s.steps
+  pub waits : AreLater s.tree (positions s.asserted) s.graph.marks (reverse s.later)
+  pub partial :
+      IsPartial v (tree_over s.nodes s.tree) s.steps (opens s.tree (positions s.asserted ++ more) s.asserted s.later)
 
 -- literals were put after those there were
 pub record IsFurther (old new : Graph) : Type 0 where

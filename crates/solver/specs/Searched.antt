@@ -13,7 +13,7 @@ use Rattle.solver.specs.Renamed.{tree_over}
 use Rattle.solver.specs.Met.{IsMetUnder}
 use Rattle.solver.specs.Places.{place_signed, IsCandidate}
 use Rattle.solver.specs.Opens.{positions}
-use Rattle.solver.specs.Branches.{IsOpen}
+use Rattle.solver.specs.Branches.{HasOpenBranch}
 use Rattle.solver.specs.declared.place.Place.{Place}
 use Rattle.solver.specs.declared.branch.Branch.{Branch}
 
@@ -36,7 +36,7 @@ number_tree s = spelled s.rows
 abbrev pub searched_tree : Searched → Tree Node
 searched_tree s = tree_over s.nodes (number_tree s)
 
-pub record IsSearching (s : Searched) : Type 0 where
+pub record HasUnmetBranch (s : Searched) : Type 0 where
   -- a branch is open
   pub first : Positions
   pub others : List Positions
@@ -54,8 +54,8 @@ pub record IsSearching (s : Searched) : Type 0 where
   pub not_met : IsMetUnder place.negated s.graph.literals part → ⊥
 
 -- what a search keeps between its turns: its first open branch has this candidate
-pub record IsSearch (v : Version) (t : Numbered) (b : Branch) (first : Place) : Type 0 where
+pub record HasCandidate (v : Version) (t : Numbered) (b : Branch) (first : Place) : Type 0 where
   pub no_false : HasNoFalse t
-  pub state : IsOpen v t b []
+  pub state : HasOpenBranch v t b []
   pub candidate : IsCandidate (spelled t.rows) (positions b.asserted) (place_signed first)
   pub small : first.position < 2 ^ 63

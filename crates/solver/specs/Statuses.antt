@@ -6,7 +6,7 @@ use Rattle.solver.specs.Numbered.{Numbered}
 use Rattle.solver.specs.Spelled.{spelled}
 use Rattle.solver.specs.Renamed.{tree_over}
 use Rattle.solver.specs.Branches.{branches_of}
-use Rattle.solver.specs.Searched.{IsSearch}
+use Rattle.solver.specs.Searched.{HasCandidate}
 use Rattle.solver.specs.Answers.{IsWitness}
 use Rattle.solver.specs.Weights.{weight}
 use Rattle.solver.specs.declared.branch.Branch.{Branch}
@@ -16,7 +16,7 @@ use Rattle.solver.specs.declared.find.SearchStatus.TheVariants.{Refuted, Satisfi
 abbrev pub IsStatus : Version → Numbered → Branch → SearchStatus → Type 0
 IsStatus v t b Refuted = IsPartial v (tree_over t.nodes (spelled t.rows)) b.refutation []
 IsStatus v t b (Satisfied shown) = IsWitness t.nodes (tree_over t.nodes (spelled t.rows)) shown
-IsStatus v t b (Undecided first) = IsSearch v t b first
+IsStatus v t b (Undecided first) = HasCandidate v t b first
 
 -- how far the search is from its end
 abbrev pub status_weight : Numbered → Branch → SearchStatus → ℕ

@@ -5,7 +5,7 @@ use Rattle.pc_common.specs.Steps.{Step}
 use Rattle.pc_ground.specs.declared.row.Row.{Row}
 use Rattle.pc_ground.specs.Tree.{Tree}
 use Rattle.pc_ground.specs.declared.version.Version.{Version}
-use Rattle.solver.specs.Searched.{number_tree, searched_tree, IsSearching}
+use Rattle.solver.specs.Searched.{number_tree, searched_tree, HasUnmetBranch}
 use Rattle.solver.specs.Answers.{IsAnswer}
 use Rattle.solver.specs.Weights.{weight}
 use Rattle.solver.specs.Renamed.{tree_over}
@@ -19,14 +19,14 @@ turn_weight (More s) = 1 + weight (number_tree s) s.branches
 turn_weight (Done a) = 0
 
 -- a search of this version over these nodes and rows that goes on, or its answer
-abbrev pub IsTurn : Version → List Node → List (Row ℕ) → Turn → Type 0
-IsTurn v nodes rows (More s) = (s.version ≡ v) × (s.nodes ≡ nodes) × (s.rows ≡ rows) × IsSearching s
-IsTurn v nodes rows (Done a) = IsAnswer v nodes (tree_over nodes (spelled rows)) a
+abbrev pub IsTurnOfRows : Version → List Node → List (Row ℕ) → Turn → Type 0
+IsTurnOfRows v nodes rows (More s) = (s.version ≡ v) × (s.nodes ≡ nodes) × (s.rows ≡ rows) × HasUnmetBranch s
+IsTurnOfRows v nodes rows (Done a) = IsAnswer v nodes (tree_over nodes (spelled rows)) a
 
 -- the same over the tree itself
-abbrev pub IsTurnOf : Version → List Node → Tree Node → Turn → Type 0
-IsTurnOf v nodes t (More s) = (s.version ≡ v) × (s.nodes ≡ nodes) × (searched_tree s ≡ t) × IsSearching s
-IsTurnOf v nodes t (Done a) = IsAnswer v nodes t a
+abbrev pub IsTurnOfTree : Version → List Node → Tree Node → Turn → Type 0
+IsTurnOfTree v nodes t (More s) = (s.version ≡ v) × (s.nodes ≡ nodes) × (searched_tree s ≡ t) × HasUnmetBranch s
+IsTurnOfTree v nodes t (Done a) = IsAnswer v nodes t a
 
 -- where the search goes on, its steps go on from these
 abbrev pub GoesOn : (List (Step Node) → List (Step Node) → Type 0) → List (Step Node) → Turn → Type 0

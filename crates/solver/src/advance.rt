@@ -1,7 +1,7 @@
 ghost use Rattle.std.specs.Prelude.{◌<◌, ◌+◌, IfOk};
 ghost use Rattle.solver.specs.Spelled.{spelled};
 ghost use Rattle.solver.specs.Branches.{branches_of};
-ghost use Rattle.solver.specs.Searched.{IsSearch};
+ghost use Rattle.solver.specs.Searched.{HasCandidate};
 ghost use Rattle.solver.specs.Weights.{weight};
 ghost use Rattle.solver.specs.Descents.{HasMore};
 ghost use Rattle.solver.specs.Statuses.{IsStatus, status_weight};
@@ -28,12 +28,13 @@ pub(crate) fn advance<L: Ledger>(
     branch: &mut Branch,
     steps: &mut Steps<L>,
 ) -> Result<SearchStatus, Memory>
-    requires { IsSearch version tree.now branch.old first }
+    requires { HasCandidate version tree.now branch.old first }
     ensures found { IfOk result (IsStatus version tree.now branch.new) }
     ensures lighter { IfOk result (λ found. status_weight tree.now branch.new found
         < 1 + weight (spelled tree.now.rows) (branches_of tree.now branch.old)) }
     ensures longer { IfOk result (λ _. HasMore branch.old.refutation branch.new.refutation) }
 {
+    // for the proof alone: there are fewer than 2^63 steps
     let _steps_so_far = branch.refutation.len();
     let mark = branch.graph.mark();
     let place = choose(alloc, tree, version, first, mark, branch, steps)?;

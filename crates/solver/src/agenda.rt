@@ -24,18 +24,18 @@ struct Change {
     standing: Standing,
 }
 
-/// Where the search looks next: the pending Ors of the first open branch, with what is known of each, so that
-/// a turn looks only where something changed. All of it are hints. No clause speaks of them, since what they
-/// propose is tested, and where they propose nothing all rows are looked at.
+/// Where the search looks next: the pending Ors of the first open branch, each with its standing, so that a turn looks
+/// only where something changed. No clause speaks of it: what it proposes is tested, and where it proposes nothing all
+/// rows are looked at.
 pub(crate) struct Agenda {
     watch: Watch,
     standings: Vec<Standing>,
     /// The moment at which each position was last put on the trail.
     stamps: Vec<u64>,
-    /// How often the search split or went back: what the trail has of a moment, it takes back together.
+    /// How often the search split or went back. What the trail has of one moment is undone together.
     moment: u64,
-    /// The pending Ors of which it is known whether they are true, or whether enough sides are closed; and those of which
-    /// the latter is known.
+    /// The pending Ors whose truth or whose closed sides are known, which a literal may change; and those whose closed
+    /// sides are known.
     known_truths: Bits,
     known_sides: Bits,
     open: Bits,
@@ -52,7 +52,7 @@ pub(crate) struct Agenda {
     gains: Gains,
 }
 
-// Written out, so that a proof of what drops the value meets one call and no field.
+// By hand: docs/DECISIONS.md, "Drops are written by hand".
 impl Drop for Agenda {
     fn drop(self) {
         let Agenda {
@@ -105,7 +105,7 @@ impl Agenda {
         }
     }
 
-    /// Sets what is known of the position. Of the three sets those are left alone where nothing changes.
+    /// Sets the standing of the position, and of the four sets those that it changes.
     fn set(&mut self, position: usize, standing: Standing) {
         if position >= self.standings.len() {
             return;
@@ -126,8 +126,8 @@ impl Agenda {
         }
     }
 
-    /// Puts what is known of the position on the trail, where a split waits. What comes later at the same
-    /// moment need not be put there, since all of it is taken back together.
+    /// Puts the standing of the position on the trail, if a split waits. Once at each moment is enough, since one
+    /// moment is undone together.
     fn record(&mut self, position: usize) -> Result<(), Memory> {
         if self.marks.is_empty() || position >= self.stamps.len() {
             return Ok(());
@@ -141,7 +141,7 @@ impl Agenda {
         Ok(())
     }
 
-    /// Sets what is known of the position. What was known can be taken back.
+    /// Changes the standing of the position. The change can be undone.
     pub(crate) fn change(&mut self, position: usize, standing: Standing) -> Result<(), Memory> {
         if self.standing(position).is_same(standing) {
             return Ok(());
@@ -151,8 +151,8 @@ impl Agenda {
         Ok(())
     }
 
-    /// Makes what is needed to know what a literal changes, where there is nothing yet: before the first split nothing is
-    /// known that could.
+    /// Makes the lists of what a literal changes, at the first split: before it no standing is known that a literal
+    /// could change.
     fn begin_watch(
         &mut self,
         alloc: Global,
@@ -184,7 +184,7 @@ impl Agenda {
         Ok(())
     }
 
-    /// Takes back what came after the last split that waits, before which so many positions were asserted.
+    /// Undoes what came after the last split that waits, before which so many positions were asserted.
     pub(crate) fn go_back(&mut self, count: usize) {
         let Some(length) = self.marks.pop() else {
             return;
@@ -224,7 +224,7 @@ impl Agenda {
         self.take(tree, asserted)
     }
 
-    /// What the literals of the side at hand may have changed is to be asked again.
+    /// Makes stale what the literals of the side at hand may have changed.
     fn touch_all(&mut self, tree: &NumberedTree, graph: &OrderGraph) -> Result<(), Memory>
         requires { graph.now.nodes ≡ length tree.now.nodes }
     {
@@ -251,7 +251,7 @@ impl Agenda {
         self.gains.foresee(tree, side, graph)
     }
 
-    /// The Ors of which something is known that a literal may change.
+    /// The pending Ors with a standing that a literal may change.
     fn touchable(&self, in_truth: bool) -> &Bits {
         if in_truth {
             &self.known_truths
@@ -260,9 +260,8 @@ impl Agenda {
         }
     }
 
-    /// What is known of the pending Or that this is within may have changed: whether a side is closed at once, and
-    /// with `in_truth` whether it is true. Returns from which position on the next such Or may be: where there
-    /// is none, past the last one.
+    /// Makes the pending Or that this is within stale: its closed sides, and with `in_truth` its truth. Returns the
+    /// position from which on the next such Or may stand: past the last row if there is none.
     fn touch(
         &mut self,
         rows: &[Row<u32>],
@@ -284,8 +283,8 @@ impl Agenda {
         }
     }
 
-    /// The same where the other node is one of those that the list is looked at for. Returns the other node and the
-    /// position from which on there may be more.
+    /// The same for a pair whose other node is among those of the gain. Returns the other node and the position from
+    /// which on there may be more.
     fn touch_watched(
         &mut self,
         rows: &[Row<u32>],
@@ -302,8 +301,8 @@ impl Agenda {
         Ok((other, position))
     }
 
-    /// The same of all that is on the list. What is of other nodes, or in no Or of which something is known, is passed
-    /// over.
+    /// The same for all pairs on the list. Pairs with other nodes are passed over, and so are those within no Or that a
+    /// literal may change.
     fn touch_list(&mut self, rows: &[Row<u32>], gained: Gained) -> Result<(), Memory> {
         let (from, end) = self.watch.places(gained.list);
         let mut at = from;
@@ -330,7 +329,7 @@ impl Agenda {
         Ok(())
     }
 
-    /// What is known of the Or once it is asked whether it is true now, where that may have changed.
+    /// The standing of the Or with its truth as it is now: it is asked again where it is stale.
     pub(crate) fn look(&mut self, rows: &[Row<u32>], graph: &OrderGraph, p: usize) -> Standing
         requires { All (IsRowBelow graph.now.nodes) rows.now }
     {
@@ -398,13 +397,13 @@ impl Agenda {
         self.failures.learn(clash, graph)
     }
 
-    /// The choice by which a part of the search failed that is to fail again, if there is one.
+    /// The Or to split next where a failure is replayed, if one is.
     pub(crate) fn guide(&self) -> Option<Place> {
         self.failures.guide()
     }
 
-    /// The choice whose splits took part in the newest failures, of several the one with the most, and of several
-    /// the first; `first` is the first, and the one where none took part in a failure.
+    /// The choice with the newest record: the newest failures, of several the most, of several the first by position.
+    /// Without any record it is `first`, the first choice.
     pub(crate) fn newest(
         &mut self,
         rows: &[Row<u32>],

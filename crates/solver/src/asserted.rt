@@ -16,7 +16,7 @@ pub(crate) struct Asserted {
     negated: Vec<usize>,
 }
 
-// Written out, so that a proof of what drops the value meets one call and no field.
+// By hand: docs/DECISIONS.md, "Drops are written by hand".
 impl Drop for Asserted {
     fn drop(self) {
         let Asserted {

@@ -23,7 +23,7 @@ pub(crate) struct Branch {
     pub(crate) refutation: Refutation,
 }
 
-// Written out, so that a proof of what drops the value meets one call and no field.
+// By hand: docs/DECISIONS.md, "Drops are written by hand".
 impl Drop for Branch {
     fn drop(self) {
         let Branch {

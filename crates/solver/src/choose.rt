@@ -114,7 +114,7 @@ fn is_closed<L: Ledger>(
     Ok(clashes)
 }
 
-/// Whether the side is closed at once, where it is not known that it is, as it stays on a branch.
+/// Whether the side is closed at once. One that was is not asked again: on its branch a closed side stays closed.
 fn ask_side<L: Ledger>(
     is_known: bool,
     tree: &NumberedTree,
@@ -134,8 +134,8 @@ fn ask_side<L: Ledger>(
     is_closed(tree, side, mark, graph, steps)
 }
 
-/// The same standing, once the sides of the Or have been asked, the left one first. In version 1 the right
-/// one is asked only where the left one is open.
+/// The standing with its closed sides as they are now. The left side is asked first, and in version 1 the right one
+/// only if the left one is open.
 fn with_sides<L: Ledger>(
     tree: &NumberedTree,
     version: Version,
@@ -169,7 +169,7 @@ fn with_sides<L: Ledger>(
     Ok(standing.asked(left_closed, right_closed, settled))
 }
 
-/// What is known of the position, once its sides were asked where that may have changed.
+/// The standing of the position, with its sides asked again where they are stale.
 fn ask<L: Ledger>(
     tree: &NumberedTree,
     version: Version,
@@ -197,8 +197,8 @@ fn ask<L: Ledger>(
     Ok(asked)
 }
 
-/// The first choice with enough sides closed at once, as far as the agenda knows: in version 1 one side, and
-/// in version 2 both. Where no choice has enough, the first with one.
+/// The first choice of the agenda with enough sides closed at once: one in version 1, both in version 2. If none has
+/// enough, the first with one.
 fn first_closed<L: Ledger>(
     tree: &NumberedTree,
     version: Version,
@@ -254,10 +254,10 @@ fn propose<L: Ledger>(
     agenda.newest(tree.rows(), graph, first)
 }
 
-/// The candidate to split. Where what failed on the left is to fail again, it is the one that was split there.
-/// Otherwise in version 1 it is the first with a side that is closed at once; in version 2 the
-/// first with both, and otherwise the first with one. Where none has one, it is the one whose split took part in
-/// the newest failure, or the first, which is given. What the agenda proposes is tested.
+/// The candidate to split. In a replay it is the Or that was split on the left. Otherwise version 1 takes the first
+/// with a side that is closed at once, and version 2 the first with both sides closed, or else with one. If no side of
+/// any is closed, it is the one with the newest record, and without any record `first`. What the agenda proposes is
+/// tested.
 pub(crate) fn choose<L: Ledger>(
     alloc: Global,
     tree: &NumberedTree,

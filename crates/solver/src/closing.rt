@@ -14,7 +14,7 @@ fn asserts_none(rows: &[Row<u32>], negated: bool, root: usize) -> bool {
     root < rows.len() && matches!(row_at(rows, root).turned(negated).kind, RowKind::Or)
 }
 
-/// Whether the denied pair of `a` and `b` is joined by an edge from `c` to `d`.
+/// Whether an edge from `c` to `d` would give a chain from `a` to `b`, which is denied.
 fn is_joined(graph: &OrderGraph, a: u32, b: u32, c: u32, d: u32) -> bool
     requires a_in { a < graph.now.nodes }
     requires b_in { b < graph.now.nodes }
@@ -24,8 +24,8 @@ fn is_joined(graph: &OrderGraph, a: u32, b: u32, c: u32, d: u32) -> bool
     comes_to(graph, a, c) && comes_to(graph, d, b)
 }
 
-/// Whether an edge from `a` to `b` and one from `c` to `d` clash, none of which clashes alone: where a chain leads from
-/// the one to the other, both are as one edge from the first node to the last.
+/// Whether an edge from `a` to `b` and one from `c` to `d` clash, though neither clashes by itself. Where a chain leads
+/// from one to the other, both together are as one edge from the first node to the last.
 fn edges_clash(graph: &OrderGraph, a: u32, b: u32, c: u32, d: u32) -> bool
     requires a_in { a < graph.now.nodes }
     requires b_in { b < graph.now.nodes }
@@ -38,7 +38,7 @@ fn edges_clash(graph: &OrderGraph, a: u32, b: u32, c: u32, d: u32) -> bool
     comes_to(graph, d, a) && graph.would_clash(Literal::Edge(c, b))
 }
 
-/// Whether two literals clash with each other and the graph's, none of which clashes alone.
+/// Whether two literals clash together with the graph's, though neither clashes by itself.
 fn pair_clashes(graph: &OrderGraph, first: Literal<u32>, second: Literal<u32>) -> bool
     requires first_in { IsBelow graph.now.nodes first }
     requires second_in { IsBelow graph.now.nodes second }

@@ -15,7 +15,7 @@ pub(crate) struct ConflictSets {
     waiting: Vec<usize>,
 }
 
-// Written out, so that a proof of what drops the value meets one call and no field.
+// By hand: docs/DECISIONS.md, "Drops are written by hand".
 impl Drop for ConflictSets {
     fn drop(self) {
         let ConflictSets {

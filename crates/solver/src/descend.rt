@@ -1,7 +1,7 @@
 ghost use Rattle.std.specs.Prelude.{◌+◌, IfOk};
 ghost use Rattle.solver.specs.Spelled.{spelled};
 ghost use Rattle.solver.specs.Places.{side_positions, IsSideIn};
-ghost use Rattle.solver.specs.Branches.{branches_with, IsOpen};
+ghost use Rattle.solver.specs.Branches.{branches_with, HasOpenBranch};
 ghost use Rattle.solver.specs.Weights.{weight};
 ghost use Rattle.solver.specs.Descents.{HasDescended, IsLonger};
 
@@ -27,13 +27,14 @@ pub(crate) fn descend<L: Ledger>(
     steps: &mut Steps<L>,
 ) -> Result<bool, Memory>
     requires side { IsSideIn (spelled tree.now.rows) side }
-    requires state { IsOpen version tree.now branch.old (side_positions (spelled tree.now.rows) side) }
+    requires state { HasOpenBranch version tree.now branch.old (side_positions (spelled tree.now.rows) side) }
     ensures descended { IfOk result (HasDescended version tree.now
         (weight (spelled tree.now.rows)
         (branches_with tree.now branch.old (side_positions (spelled tree.now.rows) side)) + 1)
         branch.new) }
     ensures longer { IfOk result (λ _. IsLonger branch.old.refutation branch.new.refutation) }
 {
+    // for the proof alone: what the type of the tree keeps
     let _positions = tree.len();
     let mut side = side;
     while let Some(clash) = enter_next(tree, side, branch, steps)? {

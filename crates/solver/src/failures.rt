@@ -12,7 +12,7 @@ use std::alloc::Global;
 /// How the left side of a split failed, while its right side is searched.
 #[derive(Clone, Copy)]
 struct LeftFailure {
-    /// Whether it failed without the split: then the right side is to fail in the same way.
+    /// Whether the split took no part in the failure: then the same refutation closes the right side.
     is_independent: bool,
     script: Option<usize>,
     /// How many scripts there were after it, and how many levels waited before its conflict set.
@@ -20,7 +20,7 @@ struct LeftFailure {
     waited: usize,
 }
 
-/// A split on the way to the first open branch.
+/// A split on the way to the first open branch: a decision level of the search.
 #[derive(Clone, Copy)]
 struct Fork {
     place: Place,
@@ -31,16 +31,17 @@ struct Fork {
     scripts: usize,
     /// The script that it follows.
     script: Option<usize>,
-    /// Whether its right side is at hand, and how the left one failed.
+    /// How the left side failed, once the right side is searched.
     left: Option<LeftFailure>,
 }
 
 /// What the search learns of its failures: which splits to make next. No clause speaks of it, since what it
 /// proposes is tested.
 ///
-/// A leaf closes a side by literals. Its conflict set has the levels at which they were asserted, and that of the side.
-/// Where both sides of a split have failed and each conflict set has its level, that of the split has the levels of both,
-/// with the one at which its Or was asserted in place of its own. Where one has it not, it stands alone (Prosser 1993).
+/// A leaf closes a side by literals that clash. Its *conflict set* has the levels at which they were asserted, and the
+/// level of the side. When both sides of a split have failed and both conflict sets have the level of the split, their
+/// union is the conflict set of the split, with the level at which its Or was asserted in place of its own level. A
+/// conflict set without the level of the split is that of the split as it is (Prosser 1993).
 ///
 /// The search still refutes each side, since a refutation has each of them. So where a left side has failed
 /// without its split, the right one is searched by the same splits: they are replayed.
@@ -52,7 +53,7 @@ pub(crate) struct Failures {
     /// asserts.
     positions: usize,
     levels: Vec<usize>,
-    /// That of the failure at hand, and those of left sides.
+    /// The conflict set of the failure at hand, and those of left sides.
     conflicts: ConflictSets,
     records: Records,
     scripts: Scripts,
@@ -61,7 +62,7 @@ pub(crate) struct Failures {
     guide: Option<usize>,
 }
 
-// Written out, so that a proof of what drops the value meets one call and no field.
+// By hand: docs/DECISIONS.md, "Drops are written by hand".
 impl Drop for Failures {
     fn drop(self) {
         let Failures {
@@ -163,8 +164,8 @@ impl Failures {
         Some(script.place)
     }
 
-    /// The Or is split, and its left side is at hand. Where it is not the one that the guide says, there is no guide to
-    /// follow any more.
+    /// The Or is split, and its left side is searched next. Where it is another Or than the replay has here, the replay
+    /// ends.
     pub(crate) fn split(&mut self, place: Place, graph: &OrderGraph) -> Result<(), Memory> {
         self.literals.add(graph)?;
         let mut script = self.guide;
@@ -205,7 +206,7 @@ impl Failures {
         Ok(())
     }
 
-    /// The level took part in the failure at hand. The whole tree takes part in each, and is not noted.
+    /// Puts the level into the conflict set at hand. Level 0, the whole tree, is in each and is not put there.
     fn add(&mut self, level: usize) -> Result<(), Memory> {
         if level == 0 {
             return Ok(());
@@ -213,7 +214,8 @@ impl Failures {
         self.conflicts.put(level)
     }
 
-    /// The literal at this place took part. Where it is none of those before the last split, it is one of the side at hand.
+    /// Puts the level of the literal at this place into the conflict set. A literal after the last split is of the side
+    /// at hand.
     fn add_place(&mut self, place: usize) -> Result<(), Memory> {
         if place == 0 {
             return Ok(());
@@ -222,7 +224,7 @@ impl Failures {
         self.add(level)
     }
 
-    /// The literals of the clash took part.
+    /// Puts the levels of the literals that clash into the conflict set.
     fn add_clash(&mut self, clash: &Clash, graph: &OrderGraph) -> Result<(), Memory> {
         match clash {
             Clash::Cycle(nodes) => self.add_cycle(nodes.as_slice(), graph),
@@ -239,7 +241,7 @@ impl Failures {
         self.add_place(place)
     }
 
-    /// The edges from each node to the next took part.
+    /// Puts the levels of the edges from each node to the next into it.
     fn add_edges(&mut self, nodes: &[u32], graph: &OrderGraph) -> Result<(), Memory> {
         for k in 1..nodes.len() {
             self.add_literal(Literal::Edge(nodes[k - 1], nodes[k]), graph)?;
@@ -247,7 +249,7 @@ impl Failures {
         Ok(())
     }
 
-    /// So did these edges, and the one from the last to the first.
+    /// The same, with the edge from the last node to the first.
     fn add_cycle(&mut self, nodes: &[u32], graph: &OrderGraph) -> Result<(), Memory> {
         if nodes.is_empty() {
             return Ok(());
@@ -256,7 +258,7 @@ impl Failures {
         self.add_literal(Literal::Edge(nodes[nodes.len() - 1], nodes[0]), graph)
     }
 
-    /// So did these edges, and that the pair of the first and the last is denied.
+    /// The same, with the denied edge from the first node to the last.
     fn add_path(&mut self, nodes: &[u32], graph: &OrderGraph) -> Result<(), Memory> {
         if nodes.is_empty() {
             return Ok(());
@@ -265,7 +267,7 @@ impl Failures {
         self.add_literal(Literal::NoEdge(nodes[0], nodes[nodes.len() - 1]), graph)
     }
 
-    /// Each Or whose split took part in the failure at hand gets a record of it.
+    /// Each Or whose split is in the conflict set at hand gets a record of it.
     fn record_conflict(&mut self) -> Result<(), Memory> {
         self.records.count_failure();
         for k in 0..self.conflicts.len() {
@@ -278,7 +280,7 @@ impl Failures {
         Ok(())
     }
 
-    /// What is at hand of the last fork failed. Returns whether a right side is at hand now.
+    /// The side of the last fork that is searched has failed. Returns whether a right side is searched next.
     fn go_up(&mut self, graph: &OrderGraph) -> Result<bool, Memory> {
         let Some(fork) = self.forks.pop() else {
             return Ok(true);
@@ -296,7 +298,7 @@ impl Failures {
         }
     }
 
-    /// The left side of the fork, which was the last, failed: its right side is at hand.
+    /// The left side of the fork, which was the last, has failed: its right side is searched next.
     fn turn_right(&mut self, fork: Fork) -> Result<(), Memory> {
         let level = self.forks.len().saturating_add(1);
         let is_independent = !self.conflicts.has(level);
@@ -324,7 +326,7 @@ impl Failures {
         self.scripts.script(script)?.right
     }
 
-    /// Both sides of the fork, which was the last, failed.
+    /// Both sides of the fork, which was the last, have failed.
     fn close(&mut self, fork: Fork, left: LeftFailure) -> Result<(), Memory> {
         let level = self.forks.len().saturating_add(1);
         if left.is_independent {
@@ -337,7 +339,7 @@ impl Failures {
         Ok(())
     }
 
-    /// The left side failed without the fork, and so what failed there stands for both sides.
+    /// The fork took no part in the failure of its left side: that conflict set and script stand for both sides.
     fn take_left(&mut self, left: LeftFailure) -> Result<(), Memory> {
         self.scripts.truncate(left.scripts);
         self.found = left.script;
@@ -345,13 +347,13 @@ impl Failures {
         self.conflicts.unite(left.waited)
     }
 
-    /// The right side failed without the fork, and so what failed there stands for both sides.
+    /// The fork took no part in the failure of its right side: that conflict set and script stand for both sides.
     fn take_right(&mut self, fork: Fork, left: LeftFailure) {
         self.conflicts.discard(left.waited);
         self.found = self.scripts.remove(fork.scripts, left.scripts, self.found);
     }
 
-    /// The fork took part in the failures of both sides: it is one of the splits by which the part that it begins failed.
+    /// The fork took part in the failures of both sides: their conflict sets and scripts are joined.
     fn join(&mut self, fork: Fork, left: LeftFailure) -> Result<(), Memory> {
         self.conflicts.unite(left.waited)?;
         self.record_conflict()?;

@@ -4,7 +4,7 @@ ghost use Rattle.solver.specs.Spelled.{spelled};
 ghost use Rattle.solver.specs.Numbered.{HasNoFalse};
 ghost use Rattle.solver.specs.Places.{place_signed, side_positions, IsCandidate, IsSideIn};
 ghost use Rattle.solver.specs.Opens.{positions};
-ghost use Rattle.solver.specs.Branches.{branches_with, IsOpen};
+ghost use Rattle.solver.specs.Branches.{branches_with, HasOpenBranch};
 ghost use Rattle.solver.specs.Weights.{weight};
 ghost use Rattle.solver.specs.Descents.{IsLonger};
 ghost use Rattle.solver.specs.Statuses.{IsStatus, status_weight};
@@ -74,7 +74,7 @@ pub(crate) fn find<L: Ledger>(
 ) -> Result<SearchStatus, Memory>
     requires side { IsSideIn (spelled tree.now.rows) side }
     requires no_false { HasNoFalse tree.now }
-    requires state { IsOpen version tree.now branch.old (side_positions (spelled tree.now.rows) side) }
+    requires state { HasOpenBranch version tree.now branch.old (side_positions (spelled tree.now.rows) side) }
     ensures found { IfOk result (IsStatus version tree.now branch.new) }
     ensures lighter { IfOk result (λ found. status_weight tree.now branch.new found
         ≤ 1 + weight (spelled tree.now.rows)
@@ -85,6 +85,7 @@ pub(crate) fn find<L: Ledger>(
     if !is_open {
         return Ok(SearchStatus::Refuted);
     }
+    // both for the proof alone: what the types of the graph and of the tree keep
     let _asserted_so_far = branch.graph.len();
     let _root = tree.row(0);
     if let Some(place) = next_place(

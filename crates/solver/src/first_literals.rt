@@ -4,8 +4,8 @@ use pc_common::Memory;
 use pc_ground::Literal;
 use std::alloc::Global;
 
-/// A look-up of where among the literals of a graph the first one stands that says something. It knows the literals that
-/// it was told of, and places are counted from 1: 0 is none.
+/// Finds the place of the first literal of a graph that is a given one, or that says whether a node is there. It has
+/// the literals that were added. Places are counted from 1, and 0 is none.
 pub(crate) struct FirstLiterals {
     /// For each literal the place of the one before it that has the same first node.
     befores: Vec<usize>,
@@ -17,7 +17,7 @@ pub(crate) struct FirstLiterals {
     tellers: Vec<usize>,
 }
 
-// Written out, so that a proof of what drops the value meets one call and no field.
+// By hand: docs/DECISIONS.md, "Drops are written by hand".
 impl Drop for FirstLiterals {
     fn drop(self) {
         let FirstLiterals {
@@ -67,12 +67,12 @@ impl FirstLiterals {
         }
     }
 
-    /// How many literals are known.
+    /// How many literals were added.
     pub(crate) fn len(&self) -> usize {
         self.befores.len()
     }
 
-    /// Comes to know the other literals of the graph.
+    /// Adds the literals of the graph that are not here yet.
     pub(crate) fn add(&mut self, graph: &OrderGraph) -> Result<(), Memory> {
         if self.heads.is_empty() {
             self.heads.resize(self.nodes, 0)?;
@@ -103,7 +103,7 @@ impl FirstLiterals {
         }
     }
 
-    /// Forgets the literals after the first `count`, which the graph has still.
+    /// Takes the literals after the first `count` out again, while the graph still has them.
     pub(crate) fn cut(&mut self, graph: &OrderGraph, count: usize) {
         for _ in count..self.befores.len() {
             let last = self.befores.len();

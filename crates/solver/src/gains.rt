@@ -13,7 +13,8 @@ use pc_common::Memory;
 use pc_ground::{Literal, Row, RowKind};
 use std::alloc::Global;
 
-/// Of which other nodes the pairs on a list are that a literal may change.
+/// Which pairs on a list a literal may change, by their other nodes: all pairs, or those whose other node is in the set
+/// of `Gains` that has this name.
 #[derive(Clone, Copy)]
 pub(crate) enum Others {
     All,
@@ -22,8 +23,8 @@ pub(crate) enum Others {
     Joined,
 }
 
-/// A list of `Watch` of which a literal may change what is known of some pairs: whether they clash, and with
-/// `in_truth` whether they are true.
+/// A list of `Watch` with pairs that a literal may change: whether an edge over them would clash, and with `in_truth`
+/// whether it is true.
 #[derive(Clone, Copy)]
 pub(crate) struct Gained {
     pub(crate) list: u32,
@@ -31,46 +32,51 @@ pub(crate) struct Gained {
     pub(crate) others: Others,
 }
 
-/// A pair that is denied.
+/// A denied edge.
 #[derive(Clone, Copy)]
 struct Denial {
     from: u32,
     to: u32,
-    /// How many literals there were before it.
+    /// How many literals were asserted before it.
     literals: usize,
 }
 
-/// Which pairs may have become true or a clash by the literals that a side asserts.
+/// Which pairs of nodes may have become true, or a clash, by the literals that a side asserts: by what newly reaches
+/// what.
 ///
-/// By an edge from `a` to `b` each node that comes to `a` *gains*: it comes to `b`, and to what `b` comes to. A pair
-/// becomes true where its first node gains and comes to its second one by that. It becomes a clash where its second node
-/// gains, and comes to its first one by that or to the end of a denied pair whose start comes to its first one. It does
-/// so too where the start of a denied pair gains, comes to its first node by that, and its second one comes to the end.
-/// A literal that says nothing new changes nothing.
+/// An edge from `a` to `b` lets each node that reaches `a` reach `b` too, and all that `b` reaches. A node that did not
+/// reach `b` before *gains*. An edge over a pair is true from then on where the first node gains and now reaches the
+/// second one. It clashes from then on in three cases:
+///
+/// - the second node gains and now reaches the first one, so the edge would close a cycle;
+/// - the second node gains and now reaches the end of a denied edge, whose start reaches the first node;
+/// - the start of a denied edge gains and now reaches the first node, and the second one reaches the end.
+///
+/// A literal that is implied by the graph changes nothing.
 pub(crate) struct Gains {
     nodes: u32,
-    /// The denied pairs of the branch, in order.
+    /// The denied edges of the branch, in order of assertion.
     denials: Vec<Denial>,
     lists: Vec<Gained>,
     /// The nodes that gain by the edge at hand.
     gaining: Vec<u32>,
-    /// What its second node comes to, and the node itself.
+    /// The second node of that edge, and all that it reaches.
     reached: Bits,
-    /// The same, and what the starts come to of the denied pairs that end in one of these.
+    /// These, the starts of the denied edges that end in one of them, and all that those starts reach.
     closing: Bits,
-    /// What comes to the end of a denied pair whose start gains.
+    /// The ends of the denied edges whose starts gain, and all that reaches such an end.
     joined: Bits,
-    /// Room for a set.
+    /// A set to work with.
     some: Bits,
-    /// How many literals there were before the side.
+    /// How many literals were asserted before the side.
     known: usize,
     /// Whether the side is one edge, whose lists were found before it was entered.
     foreseen: bool,
-    /// Whether each literal of the side says nothing new.
+    /// Whether each literal of the side was implied before it.
     implied: Vec<bool>,
 }
 
-// Written out, so that a proof of what drops the value meets one call and no field.
+// By hand: docs/DECISIONS.md, "Drops are written by hand".
 impl Drop for Gains {
     fn drop(self) {
         let Gains {
@@ -94,11 +100,12 @@ pub(crate) fn literal_of(graph: &OrderGraph, k: usize) -> Literal<u32>
     requires { k < length graph.now.literals }
     ensures { IsBelow graph.now.nodes result }
 {
+    // for the proof alone: what the type of the graph keeps
     let _literals = graph.len();
     graph.literal(k)
 }
 
-/// Whether `b` is `a`, or a chain leads from `a` to `b`.
+/// Whether `a` is `b`, or reaches it by a chain.
 pub(crate) fn comes_to(graph: &OrderGraph, a: u32, b: u32) -> bool
     requires a_in { a < graph.now.nodes }
     requires b_in { b < graph.now.nodes }
@@ -106,7 +113,8 @@ pub(crate) fn comes_to(graph: &OrderGraph, a: u32, b: u32) -> bool
     a == b || graph.reaches(a, b)
 }
 
-/// Whether `a` gains by an edge from `b` to `c` that is to be asserted. Where it was asserted, whether it may have.
+/// Whether the edge from `b` to `c` lets `a` reach more: `a` reaches `b`, and does not reach `c` yet. Once the edge is
+/// asserted the second is not seen any more, and the answer is whether it may have.
 fn may_gain(graph: &OrderGraph, a: u32, b: u32, c: u32, is_asserted: bool) -> bool
     requires a_in { a < graph.now.nodes }
     requires b_in { b < graph.now.nodes }
@@ -115,8 +123,8 @@ fn may_gain(graph: &OrderGraph, a: u32, b: u32, c: u32, is_asserted: bool) -> bo
     comes_to(graph, a, b) && (is_asserted || !graph.reaches(a, c))
 }
 
-/// Whether the literal says nothing new of which pairs can be true or clash. A denied pair says none where a chain leads
-/// from its second node to the first, since what would join it closes a cycle.
+/// Whether the literal is implied, so that it makes no pair true and none a clash. A denied edge is where its second
+/// node reaches the first: a chain over it would close a cycle anyway.
 fn is_implied(graph: &OrderGraph, literal: Literal<u32>) -> bool
     requires { IsBelow graph.now.nodes literal }
 {
@@ -168,7 +176,7 @@ impl Gains {
         Ok(gains)
     }
 
-    /// Remembers the pair that the literal denies, if it does.
+    /// Keeps the edge that the literal denies, if it denies one.
     fn note_denial(&mut self, literal: Literal<u32>, literals: usize) -> Result<(), Memory> {
         if let Literal::NoEdge(from, to) = literal {
             self.denials.push(Denial { from, to, literals })?;
@@ -184,7 +192,7 @@ impl Gains {
         }
     }
 
-    /// Forgets what was denied after the first `count` literals.
+    /// Forgets the denied edges after the first `count` literals.
     fn forget_denials(&mut self, count: usize) {
         let mut kept = self.denials.len();
         for _ in 0..self.denials.len() {
@@ -209,7 +217,7 @@ impl Gains {
         }
     }
 
-    /// The first of these other nodes from `from` on.
+    /// The first node from `from` on that is among these others.
     pub(crate) fn first_other(&self, others: Others, from: u32) -> Option<u32> {
         let set = match others {
             Others::All => return Some(from),
@@ -234,14 +242,14 @@ impl Gains {
         Ok(())
     }
 
-    /// What is known of the pairs that begin in the node may have changed, where the other node is a joined one.
+    /// Pairs that begin in the node may clash from now on: those whose other node is a joined one.
     fn put_joined(&mut self, node: u32) -> Result<(), Memory> {
         self.put(starts_of(node), false, Others::Joined)?;
         self.put(joins_of(node), false, Others::Joined)?;
         self.put(coarse_of(node), false, Others::All)
     }
 
-    /// Finds the nodes that gain.
+    /// Finds the nodes that gain by the edge from `a` to `b`.
     fn find_gaining(
         &mut self,
         graph: &OrderGraph,
@@ -279,7 +287,8 @@ impl Gains {
         self.reached.put(b as usize, true);
     }
 
-    /// Puts what the start of the denied pair comes to into the closing nodes, where it ends in a reached one.
+    /// Puts the start of the denied edge and all that it reaches into the closing nodes, where its end is a reached
+    /// one.
     fn note_closing(&mut self, graph: &OrderGraph, nodes: u32, denial: Denial)
         requires { nodes ≡ graph.now.nodes }
     {
@@ -305,7 +314,7 @@ impl Gains {
         }
     }
 
-    /// Puts the ends of the denied pairs that begin in a gaining node into the room. Whether there are some.
+    /// Puts the ends of the denied edges that begin in a gaining node into `some`. Returns whether there are any.
     fn find_ends(&mut self) -> bool {
         self.joined.clear();
         for k in 0..self.gaining.len() {
@@ -326,7 +335,7 @@ impl Gains {
         found
     }
 
-    /// Finds what comes to a node that is in the room.
+    /// Finds the joined nodes: those in `some`, and all that reaches one of them.
     fn find_joined(&mut self, graph: &OrderGraph, nodes: u32)
         requires { nodes ≡ graph.now.nodes }
     {
@@ -421,7 +430,7 @@ impl Gains {
         }
     }
 
-    /// Asks of each literal that the part asserts whether it says nothing new.
+    /// Notes of each literal that the part asserts whether it is implied.
     fn ask_part(
         &mut self,
         rows: &[Row<u32>],

@@ -5,9 +5,9 @@ use pc_common::Memory;
 use pc_ground::{Literal, Row, RowKind, Version};
 use std::alloc::Global;
 
-/// Which pairs of nodes a side of an Or joins that asserts several literals: where two of them clash that do not clash
-/// alone, a chain leads from the second node of such a pair to the first, or a denied pair would be joined by an edge
-/// between them.
+/// Which pairs of nodes a side joins that asserts several literals. Where two of its literals clash, and neither
+/// clashes by itself, there is such a pair of which the second node reaches the first, or an edge over it would give a
+/// chain over a denied edge.
 pub(crate) struct JointPairs {
     /// The literals of the side at hand, and the pairs of the Or at hand.
     side: Vec<Literal<u32>>,
@@ -16,7 +16,7 @@ pub(crate) struct JointPairs {
     sides: Bits,
 }
 
-// Written out, so that a proof of what drops the value meets one call and no field.
+// By hand: docs/DECISIONS.md, "Drops are written by hand".
 impl Drop for JointPairs {
     fn drop(self) {
         let JointPairs {

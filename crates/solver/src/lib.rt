@@ -1,5 +1,8 @@
 //! The search for a world that satisfies a ground tree: a graph that generates one, or a refutation.
 //!
+//! Clause: `solve` returns a graph that generates a world where the tree is true, or a refutation of the version asked
+//! for (its clause).
+//!
 //! ```rust
 //! // the tree is True, and `steps` counts in the caller's ledger
 //! let answer = solve(alloc, &front.tree, &front.numbering, Version::One, &mut steps)?;
@@ -16,12 +19,33 @@
 //! In version 2 a right side asserts first that the left one is false: its positions under a sign, which are
 //! positions of the tree's negation. In version 1 no position has a sign, and no flags are made for one.
 //!
-//! Which Or a turn splits is proposed by hints that no clause speaks of, and what they propose is tested. The
-//! `agenda` knows what may be split and which sides are closed at once, and `failures` which splits took part in
-//! what failed so far: those come first, and what failed for a reason that stands is refuted again by the same splits.
+//! One turn, with the file of each arrow:
 //!
-//! `solve` runs a `Search` from its first turn to its last. Between two turns the steps so far with the
-//! open branches are a partial refutation, and the graph's literals are those of the first open branch.
+//! ```text
+//! a candidate of the first open branch          search.rt
+//!   | choose the Or to split                    choose.rt; proposed by agenda.rt, failures.rt and records.rt,
+//!   |                                           and tested by candidate.rt
+//!   | its sides; the right one waits            ors.rt, advance.rt, later.rt
+//!   v
+//! assert the literals of a side    <---------+  enter.rt, asserted.rt; the graph is order_graph's
+//!   | a clash: a leaf closes the branch      |  leaf.rt, descend.rt
+//!   |   learn from the clash                 |  failures.rt, conflict_sets.rt, scripts.rt
+//!   |   undo to the next side that waits ----+  enter.rt
+//!   |   none waits: the refutation              find.rt, search.rt
+//!   | no clash: note what the literals changed  gains.rt, watch.rt, joint_pairs.rt, standing.rt
+//!   v
+//! look for a candidate                          find.rt; agenda.rt and hints.rt, and else all rows: candidates.rt
+//!   | there is one: the next turn               search.rt
+//!   | there is none: the graph                  answer.rt
+//! ```
+//!
+//! Which Or a turn splits is proposed by hints that no clause speaks of, and what they propose is tested. The `agenda`
+//! keeps which Ors are pending and which of their sides are closed at once. `failures` keeps the conflict sets: the
+//! splits of the newest ones come first. Where a left side failed without its split, the right side is refuted by the
+//! same splits again.
+//!
+//! `solve` runs a `Search` from its first turn to its last. Between two turns the steps so far with the open branches
+//! are a partial refutation, and the graph's literals are those of the first open branch.
 #![tactic(auto)]
 
 mod advance;

@@ -24,7 +24,7 @@ pub(crate) struct NumberedTree {
     rows: Vec<Row<u32>>,
 }
 
-// Written out, so that a proof of what drops the value meets one call and no field.
+// By hand: docs/DECISIONS.md, "Drops are written by hand".
 impl Drop for NumberedTree {
     fn drop(self) {
         let NumberedTree { keys: _, rows: _ } = self;
@@ -64,6 +64,7 @@ impl NumberedTree {
         ensures tree { IfOk result (λ made.
             (t : Tree PlainNode) → tree.now ≡ rows_of t → tree_over made.nodes (spelled made.rows) ≡ t) }
     {
+        // both for the proof alone: what the types of the tree and of its numbering keep
         let _positions = tree.len();
         let _count = numbering.len();
         let keys = keys_by_number(alloc, numbering)?;

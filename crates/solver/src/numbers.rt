@@ -5,7 +5,7 @@ ghost use Rattle.pc_ground.specs.Keys.{key_node, renamed, renamed_row, renamed_k
 ghost use Rattle.order_graph.specs.Ways.{IsBelow};
 ghost use Rattle.solver.specs.Renamed.{node_at, rows_over};
 ghost use Rattle.solver.specs.Below.{IsRowBelow};
-ghost use Rattle.solver.specs.Known.{IsKnown, IsLiteralKnown, IsRowKnown};
+ghost use Rattle.solver.specs.Known.{IsNumbered, IsLiteralKnown, IsRowKnown};
 
 use pc_common::Memory;
 use pc_ground::{Flat, Literal, NodeKey, Numbering, Row, RowKind};
@@ -13,7 +13,7 @@ use std::alloc::Global;
 
 /// The number of a key that has one.
 fn number_of(numbering: &Numbering, key: NodeKey) -> u32
-    requires { IsKnown numbering.now (key_node key) }
+    requires { IsNumbered numbering.now (key_node key) }
     ensures is { node_at numbering.now result ≡ key_node key }
     ensures below { result < length numbering.now }
 {

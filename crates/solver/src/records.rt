@@ -42,7 +42,7 @@ pub(crate) struct Records {
     failures: u64,
 }
 
-// Written out, so that a proof of what drops the value meets one call and no field.
+// By hand: docs/DECISIONS.md, "Drops are written by hand".
 impl Drop for Records {
     fn drop(self) {
         let Records {

@@ -16,7 +16,7 @@ pub(crate) struct Scripts {
     scripts: Vec<Script>,
 }
 
-// Written out, so that a proof of what drops the value meets one call and no field.
+// By hand: docs/DECISIONS.md, "Drops are written by hand".
 impl Drop for Scripts {
     fn drop(self) {
         let Scripts { scripts: _ } = self;

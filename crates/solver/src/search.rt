@@ -8,9 +8,9 @@ ghost use Rattle.solver.specs.Spelled.{spelled};
 ghost use Rattle.solver.specs.Weights.{weight};
 ghost use Rattle.solver.specs.Descents.{HasMore};
 ghost use Rattle.solver.specs.Branches.{IsBlank};
-ghost use Rattle.solver.specs.Searched.{IsSearching};
+ghost use Rattle.solver.specs.Searched.{HasUnmetBranch};
 ghost use Rattle.solver.specs.Statuses.{IsStatus, status_weight};
-ghost use Rattle.solver.specs.Turns.{IsTurn, IsTurnOf, GoesOn, turn_weight};
+ghost use Rattle.solver.specs.Turns.{IsTurnOfRows, IsTurnOfTree, GoesOn, turn_weight};
 
 use super::advance::advance;
 use super::answer::Answer;
@@ -37,7 +37,7 @@ pub struct Search {
     first: Place,
 }
 
-// Written out, so that a proof of what drops the value meets one call and no field.
+// By hand: docs/DECISIONS.md, "Drops are written by hand".
 impl Drop for Search {
     fn drop(self) {
         let Search {
@@ -52,7 +52,7 @@ impl Drop for Search {
 
 impl Model for Search {
     ghost use Rattle.solver.specs.Branches.{branches_of};
-    ghost use Rattle.solver.specs.Searched.{Searched, IsSearch};
+    ghost use Rattle.solver.specs.Searched.{Searched, HasCandidate};
 
     ghost Value = { Searched };
 
@@ -65,7 +65,7 @@ impl Model for Search {
       branches = branches_of s.tree s.branch;
     } };
 
-    ghost invariant = { λ s. IsSearch s.version s.tree s.branch s.first };
+    ghost invariant = { λ s. HasCandidate s.version s.tree s.branch s.first };
 }
 
 /// What a turn hands out.
@@ -85,7 +85,7 @@ fn settle(
     status: SearchStatus,
 ) -> Turn
     requires { IsStatus version tree branch status }
-    ensures turn { IsTurn version tree.nodes tree.rows result }
+    ensures turn { IsTurnOfRows version tree.nodes tree.rows result }
     ensures weight { turn_weight result ≡ status_weight tree branch status }
     ensures steps { GoesOn (λ old new. new ≡ old) branch.refutation result }
 {
@@ -135,7 +135,7 @@ fn start<L: Ledger>(
     steps: &mut Steps<L>,
 ) -> Result<Turn, Memory>
     requires { IsBlank tree branch }
-    ensures { IfOk result (IsTurn version tree.nodes tree.rows) }
+    ensures { IfOk result (IsTurnOfRows version tree.nodes tree.rows) }
 {
     let status = find_first(alloc, &tree, version, &mut branch, steps)?;
     Ok(settle(alloc, version, tree, branch, status))
@@ -154,7 +154,7 @@ impl Search {
         requires numbered { (t : Tree PlainNode) → tree.now ≡ rows_of t → numbering.now ≡ numbered t }
         requires folded { (t : Tree PlainNode) → tree.now ≡ rows_of t → IsFolded t }
         ensures { IfOk result (λ turn.
-            (t : Tree PlainNode) → tree.now ≡ rows_of t → IsTurnOf version numbering.now t turn) }
+            (t : Tree PlainNode) → tree.now ≡ rows_of t → IsTurnOfTree version numbering.now t turn) }
     {
         let search_tree = NumberedTree::new(alloc, tree, numbering)?;
         let branch = Branch::new(alloc, &search_tree)?;
@@ -165,7 +165,7 @@ impl Search {
     /// What is asserted on the first open branch. Takes no memory.
     pub fn graph(&self) -> &OrderGraph
         ensures graph { result.now ≡ self.now.graph }
-        ensures searching { IsSearching self.now }
+        ensures searching { HasUnmetBranch self.now }
     {
         &self.branch.graph
     }
@@ -173,7 +173,7 @@ impl Search {
     /// The steps so far. Takes no memory.
     pub fn refutation(&self) -> &Refutation
         ensures steps { result.now ≡ self.now.steps }
-        ensures searching { IsSearching self.now }
+        ensures searching { HasUnmetBranch self.now }
     {
         &self.branch.refutation
     }
@@ -181,7 +181,7 @@ impl Search {
     /// Splits one Or, and closes branches until one is open or none is left. Where memory is refused,
     /// nothing is left of the search.
     pub fn turn<L: Ledger>(self, steps: &mut Steps<L>) -> Result<Turn, Memory>
-        ensures turn { IfOk result (IsTurn self.version self.nodes self.rows) }
+        ensures turn { IfOk result (IsTurnOfRows self.version self.nodes self.rows) }
         ensures weight { IfOk result (λ turn. turn_weight turn < 1 + weight (spelled self.rows) self.branches) }
         ensures steps { IfOk result (GoesOn HasMore self.steps) }
     {

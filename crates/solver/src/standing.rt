@@ -22,8 +22,8 @@ const SETTLED: u8 = 32;
 /// That may have come about since it was asked.
 const SIDES_STALE: u8 = 64;
 
-/// What is known of a position as a choice that is to be made on the first open branch. It is a hint: what
-/// it proposes is tested before a split.
+/// The state of a position as a choice: whether it is a pending Or of the first open branch, whether it is true now,
+/// and which of its sides are closed at once. It is a hint, and tested before a split.
 ///
 /// It is the set of the properties above that hold, a bit each, since a search copies it all the time.
 #[derive(Clone, Copy)]

@@ -86,6 +86,7 @@ fn whole_truth(alloc: Global, rows: &[Row<u32>], graph: &OrderGraph) -> Result<b
     requires below { All (IsRowBelow graph.now.nodes) rows.now }
     ensures { IfOk result (λ truth. IsTrue truth ↔ IsMet graph.now.literals (spelled rows.now)) }
 {
+    // for the proof alone: there are fewer than 2^63 rows
     let _root = row_at(rows, 0);
     let flags = truths(alloc, rows, graph)?;
     Ok(flags[0])

@@ -3,31 +3,32 @@ use pc_common::Memory;
 use pc_ground::{Literal, Row, RowKind, Version};
 use std::alloc::Global;
 
-/// An outermost Or has at most so many rows where what its sides join is watched pair by pair.
+/// An outermost Or with at most so many rows is watched pair by pair of the nodes that its sides join.
 const SMALL: usize = 9;
 
-/// Something that what is known of an Or depends on: a node, or a pair of them, as a chain may join it.
+/// What the standing of an Or depends on: a node, or a pair of nodes that a chain may join.
 #[derive(Clone, Copy)]
 pub(crate) struct Watched {
-    /// The list that it is on, of one node, and the other node: the node itself where there is none.
+    /// The list that it is on, which is of one node, and the other node of the pair: the same node where there is no
+    /// pair.
     list: u32,
     pub(crate) other: u32,
-    /// Where it stands, and where the outermost Or does that this is within.
+    /// The position of its literal, and that of the outermost Or around it.
     pub(crate) position: usize,
     pub(crate) outer: usize,
 }
 
-/// What the Ors depend on, on five lists of each node: the pairs of literals that begin in it; the pairs that end in
-/// it; its own literals; the pairs that begin in it which a side joins by several literals; and the literals of sides whose
-/// pairs are not looked at one by one. Each list is in order of the other nodes, and of positions where they
-/// are one.
+/// What the Ors depend on, by node, as a solver's watch lists have literals. Each node has five lists: the pairs of
+/// edges and denied edges that begin in it; the pairs that end in it; the literals on the node itself; the pairs that
+/// begin in it and that a side joins by several literals; and the literals of sides that are not watched pair by pair.
+/// A list is sorted by the other nodes, and then by position.
 pub(crate) struct Watch {
     /// Where each list begins. After the last list there is one place more, where it ends.
     starts: Vec<usize>,
     items: Vec<Watched>,
 }
 
-// Written out, so that a proof of what drops the value meets one call and no field.
+// By hand: docs/DECISIONS.md, "Drops are written by hand".
 impl Drop for Watch {
     fn drop(self) {
         let Watch {
@@ -88,7 +89,7 @@ pub(crate) fn end_of_ors(rows: &[Row<u32>]) -> usize {
     end
 }
 
-/// What is to be watched, in order of positions.
+/// The lists in the making: what is to be watched, in order of positions.
 struct Watching {
     version: Version,
     pairs: JointPairs,
@@ -99,7 +100,7 @@ struct Watching {
     is_small: bool,
 }
 
-// Written out, so that a proof of what drops the value meets one call and no field.
+// By hand: docs/DECISIONS.md, "Drops are written by hand".
 impl Drop for Watching {
     fn drop(self) {
         let Watching {
@@ -138,7 +139,8 @@ impl Watching {
         Ok(())
     }
 
-    /// Where a literal may be asserted with others, it is so in version 2, and in version 1 where it is no side by itself.
+    /// Watches an edge or a denied edge: on the lists of its pair, and where others are asserted with it on those of
+    /// both nodes.
     fn put_pair(&mut self, a: u32, b: u32, position: usize) -> Result<(), Memory> {
         self.put(starts_of(a), b, position)?;
         self.put(ends_of(b), a, position)?;
@@ -279,8 +281,8 @@ impl Watch {
         watched.other < other || (watched.other == other && watched.position < position)
     }
 
-    /// The first place from `from` up to `end`, among those of one list, where this is not so. The steps that are
-    /// looked over double, and then halve (Bentley and Yao 1976).
+    /// The first place from `from` up to `end`, all of one list, where this is not so: by steps that double and then
+    /// halve (Bentley and Yao 1976).
     pub(crate) fn first_place(
         &self,
         from: usize,

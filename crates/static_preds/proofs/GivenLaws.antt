@@ -46,10 +46,8 @@ place_is slots args k slot i arg is =
     ∙ place_of_meaning (value_at (meanings slots) slot) ∙ is
 
 pub place_below : (n : ℕ) (values : List Argument) (k i : ℕ) → AreOpsBelow n values → place_in values k ≡ Some i → i < n
-place_below n [] k i h e = cc
 place_below n (op_at j ∷ values) zero i h e = let same : j ≡ i = cc in subst (λ (m : ℕ). m < n) same h.0
-place_below n (core_at j ∷ values) zero i h e = cc
-place_below n (plain_name name ∷ values) zero i h e = cc
 place_below n (op_at j ∷ values) (suc k) i h e = place_below n values k i h.1 e
 place_below n (core_at j ∷ values) (suc k) i h e = place_below n values k i h e
 place_below n (plain_name name ∷ values) (suc k) i h e = place_below n values k i h e
+place_below n values k i h e = cc

@@ -11,6 +11,7 @@ use Rattle.pc_syntax.specs.Truth.{an_op, a_core, range_of}
 use Rattle.pc_syntax.specs.Closed.{meaning_of}
 use Rattle.pc_syntax.specs.IsClosed.{with_sort}
 use Rattle.pc_syntax.specs.declared.bound.Bound.{Bound}
+use Rattle.pc_ground.proofs.TreeNodes.{cores_few}
 use Rattle.static_preds.specs.Values.{meanings, sort_bound, scope_of}
 use Rattle.static_preds.specs.Slots.{bound_at}
 use Rattle.static_preds.proofs.Walked.{drop_at}
@@ -52,10 +53,6 @@ pub meanings_inside : (slots inside : List Bound) (sort : Sort) (k : ℕ) (v : B
 meanings_inside slots inside sort k v bound value =
     rw (bound, map-append meaning_of slots (v ∷ [])) (ap (λ b. meanings slots ++ meaning_of b ∷ []) value)
 
-most : (os : List MicroOp) → ((k : ℕ) (o : MicroOp) → slice_get os k ≡ Some o → o.core < 64) → cores_of os ≤ 64
-most [] below = omega arith
-most (o ∷ os) below = omega (arith, below 0 o refl, most os (λ k p h. below (suc k) p h))
-
 -- no core of a case is above 63
 pub few_cores : (os : List MicroOp) → AreMicroOps os → cores_of os ≤ 64
-few_cores os kept = most os kept.cores
+few_cores os kept = cores_few os kept.cores

@@ -1,6 +1,7 @@
 -- The next member of a list that is walked, and what lists of atoms and arguments say of one member.
 use Rattle.std.proofs.Common.{◌≡◌, ℕ, zero, suc, ◌+◌, List, [], ◌∷◌, ◌++◌, Some, map, take, drop, slice_get, ap, ◌∙◌, subst, append_assoc, arith, add-one}
 use Rattle.std.proofs.lemmas.List.{map-append}
+use Rattle.pc_common.proofs.Places.{take-next}
 use Rattle.pc_syntax.specs.declared.term.Sort.{Sort}
 use Rattle.pc_syntax.specs.declared.closed_term.ClosedArg.{ClosedArg}
 use Rattle.pc_syntax.specs.declared.closed_term.ClosedNode.{ClosedNode}
@@ -15,11 +16,6 @@ drop-next (y ∷ xs) (suc k) x h = drop-next xs k x h
 -- the rest of a list begins with its next member
 pub drop_at : {A : Type 0} (xs : List A) (k j : ℕ) (x : A) → slice_get xs k ≡ Some x → k + 1 ≡ j → drop k xs ≡ x ∷ drop j xs
 drop_at xs k j x h e = let next : suc k ≡ j = omega arith in drop-next xs k x h ∙ ap (λ n. x ∷ drop n xs) next
-
-take-next : {A : Type 0} (xs : List A) (k : ℕ) (x : A) → slice_get xs k ≡ Some x → take (suc k) xs ≡ take k xs ++ x ∷ []
-take-next [] k x h = cc
-take-next (y ∷ xs) zero x h = cc
-take-next (y ∷ xs) (suc k) x h = ap (λ ys. y ∷ ys) (take-next xs k x h)
 
 -- one member more of the first ones
 pub map_take : {A B : Type 0} (f : A → B) (xs : List A) (k : ℕ) (x : A) → slice_get xs k ≡ Some x

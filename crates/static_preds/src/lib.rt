@@ -1,4 +1,7 @@
-//! What a closed formula asks of a test without a word about its order.
+//! What slots and arguments of a closed formula stand for, and whether a predicate holds of them. Both walks over
+//! closed formulas use it.
+//!
+//! Clause: `holds` returns what the table of predicates says (its clause).
 //!
 //! ```rust
 //! // the case's second micro-op is a read

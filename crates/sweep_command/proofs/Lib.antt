@@ -1,3 +1,4 @@
+pub mod RowAnswers
 pub mod PatternFiles
 pub mod SweepOutcomes
 pub mod Shown

@@ -19,7 +19,7 @@ use Rattle.pc_ground.proofs.UnfoldedTruth.{closed_ground_tree_true}
 use Rattle.pc_front.specs.declared.model_front.ModelFront.{ModelFront}
 use Rattle.pc_front.specs.ModelFront.{IsModelFrontOf}
 use Rattle.command_base.proofs.AskedAlike.{numbers_same}
-use Rattle.sweep.specs.Sweeps.{IsShown, IsAnswerTo}
+use Rattle.sweep_command.specs.Sweeps.{IsShown, IsAnswerTo}
 use Rattle.sweep_command.specs.SweepAnswers.{IsVerdictOn}
 
 among_in : (nodes : List Node) (a : Node) → is_among nodes a ≡ true → In a nodes

@@ -12,7 +12,7 @@ use Rattle.pc_front.proofs.PartsOf.{axioms_within}
 use Rattle.pattern_reader.specs.Rows.{Pattern, value_for, values_in_row, row_case}
 use Rattle.pattern_reader.specs.Answer.{PatternOf}
 use Rattle.pattern_reader.proofs.Filling.{filled_kept}
-use Rattle.sweep.specs.Sweeps.{AreAnswers}
+use Rattle.sweep_command.specs.Sweeps.{AreAnswers}
 use Rattle.command_base.specs.declared.ending.Ending.{Ending}
 use Rattle.command_base.specs.Inputs.{Inputs, Contents, Says}
 use Rattle.command_base.specs.Refusals.{refusal}
@@ -21,7 +21,7 @@ use Rattle.pattern_reader.proofs.Patterns.{one_pattern_of}
 use Rattle.command_base.specs.Endings.{ending_status, ending_text}
 use Rattle.command_base.specs.Outcomes.{IsInputsEnding}
 use Rattle.sweep_command.specs.Texts.{sweep_text}
-use Rattle.sweep_command.specs.Patterns.{ClosedCase, IsFirstFault, SaysPattern, SaysTask, HasTask}
+use Rattle.sweep_command.specs.Patterns.{ClosedCase, IsFirstSweepFault, SaysPattern, SaysTask, HasTask}
 use Rattle.sweep_command.specs.SweepAnswers.{IsSweep, AnswersSweep, refused_sweep, swept, IsSweepDue, IsSweepOutcome}
 use Rattle.sweep_command.specs.declared.inputs.Task.{Task}
 use Rattle.sweep_command.proofs.PatternFiles.{pattern_form}
@@ -37,7 +37,8 @@ row_kept bytes p row said =
     filled_kept (value_for p.opens (values_in_row p row)) p.case.ops own
 
 -- the answers are the verdicts on the model as written
-pub sweep_is : (mb tb : List ℕ) (task : Task) (say : SaysTask mb tb task) (answers : List Bool) → AreAnswers (plain_axioms task.model.axioms) task.pattern answers
+pub sweep_is : (mb tb : List ℕ) (task : Task) (say : SaysTask mb tb task) (answers : List Bool)
+    → AreAnswers (plain_axioms task.model.axioms) task.pattern answers
     → IsSweep say.m task.pattern (sweep_text task.pattern answers)
 sweep_is mb tb task say answers are = record {
   verdicts = answers;
@@ -56,7 +57,7 @@ done_no_fault e = cc
 
 module _ {F : Type 0} {view : F → FilesView} {old new : F} {i : Inputs} where
   -- the command ends at its two files
-  pub ending_outcome : (e : Ending) → IsInputsEnding view ClosedCase IsFirstFault i old new e
+  pub ending_outcome : (e : Ending) → IsInputsEnding view ClosedCase IsFirstSweepFault i old new e
       → IsSweepOutcome view i old new (ending_status e) (ending_text e)
   ending_outcome e d = record {
     keeps = d.keeps;

@@ -1,3 +1,4 @@
+pub mod Sweeps
 pub mod Patterns
 pub mod Texts
 pub mod SweepAnswers

@@ -1,19 +1,16 @@
 -- What a model's file and a pattern's say together, and their first fault.
-use Rattle.std.specs.Prelude.{◌≡◌, ℕ, List, Some, IsTrue}
+use Rattle.std.specs.Prelude.{◌≡◌, ℕ, List, IsTrue}
 use Rattle.pc_common.specs.Outside.{FilesView}
 use Rattle.pc_common.specs.Reads.{Reads}
 use Rattle.pc_common.specs.Case.{Case}
-use Rattle.pc_common.specs.declared.place.Place.{Place}
-use Rattle.pc_common.specs.declared.fault.FaultKind.{FaultKind}
 use Rattle.pc_common.specs.declared.fault.InputFault.{InputFault}
-use Rattle.pc_common.specs.declared.fault.Which.TheVariants.{Model}
 use Rattle.pc_syntax.specs.Written.{WrittenModel}
-use Rattle.litmus_reader.specs.declared.fault.CaseFault.{CaseFault}
-use Rattle.pc_front.specs.ModelFront.{IsModelFault, IsModelFrontOf}
-use Rattle.pc_front.specs.Front.{SaysModel, fault_at, case_fault_of}
+use Rattle.pc_front.specs.ModelFront.{IsModelFrontOf}
+use Rattle.pc_front.specs.Front.{SaysModel, case_fault_of}
 use Rattle.pattern_reader.specs.Rows.{Pattern}
 use Rattle.pattern_reader.specs.Answer.{PatternOf, IsPatternFault}
 use Rattle.command_base.specs.Inputs.{Inputs, Contents, IsRead, LacksInput}
+use Rattle.command_base.specs.SecondFiles.{IsToldFault, IsFaultOfTwo}
 use Rattle.sweep_command.specs.declared.inputs.Task.{Task}
 
 -- the bytes are a pattern of this case, with a 0 in each open read
@@ -21,11 +18,8 @@ abbrev pub ClosedCase : List ℕ → Case → Type 0
 ClosedCase bytes c = (p : Pattern) × PatternOf bytes p × (c ≡ p.case)
 
 -- the first fault of a model's bytes and a pattern's: the model's, and where it has none, the pattern's
-pub data IsFirstFault (model second : List ℕ) : InputFault → Type 0 where
-  in_model : {kind : FaultKind} {at : Place} → IsModelFault model kind at
-      → IsFirstFault model second (fault_at Model kind at)
-  in_pattern : {m : WrittenModel} {found : CaseFault} {fault : InputFault} → SaysModel model m
-      → IsPatternFault second found → case_fault_of found ≡ Some fault → IsFirstFault model second fault
+abbrev pub IsFirstSweepFault : List ℕ → List ℕ → InputFault → Type 0
+IsFirstSweepFault = IsFaultOfTwo (IsToldFault IsPatternFault case_fault_of)
 
 -- the model and the pattern that the two files say
 pub record SaysPattern (holds : Contents) (i : Inputs) (m : WrittenModel) (p : Pattern) : Type 0 where

@@ -8,11 +8,11 @@ use Rattle.pc_common.specs.declared.status.Status.TheVariants.{Done, Refused}
 use Rattle.pc_syntax.specs.Written.{WrittenModel}
 use Rattle.pc_syntax.specs.Observable.{Observable}
 use Rattle.pattern_reader.specs.Rows.{Pattern, rows_of, row_case}
-use Rattle.command_base.specs.Inputs.{Inputs, Contents, LacksInput, IsFirstFault as IsFirstFaultOf}
-use Rattle.command_base.specs.Refusals.{IsRefusal}
+use Rattle.command_base.specs.Inputs.{Inputs, Contents, LacksInput, IsFirstInputFault as IsFirstFaultOf}
+use Rattle.command_base.specs.Refusals.{IsInputRefusal}
 use Rattle.command_base.specs.Outcomes.{IsOutcome}
 use Rattle.sweep_command.specs.Texts.{sweep_text}
-use Rattle.sweep_command.specs.Patterns.{IsFirstFault, SaysPattern}
+use Rattle.sweep_command.specs.Patterns.{IsFirstSweepFault, SaysPattern}
 
 -- observable exactly where some choice of nodes with some strict order makes every axiom true of the case
 abbrev pub IsVerdictOn : WrittenModel → Case → Bool → Type 0
@@ -28,7 +28,7 @@ pub record IsSweep (m : WrittenModel) (p : Pattern) (text : List ℕ) : Type 0 w
 
 -- the refusal by the first fault, or the sweep of the pattern
 pub data AnswersSweep (holds : Contents) (i : Inputs) : Status → List ℕ → Type 0 where
-  refused_sweep : {status : Status} {text : List ℕ} → IsRefusal IsFirstFault holds i status text
+  refused_sweep : {status : Status} {text : List ℕ} → IsInputRefusal IsFirstSweepFault holds i status text
       → AnswersSweep holds i status text
   swept : {m : WrittenModel} {p : Pattern} {text : List ℕ} → SaysPattern holds i m p → IsSweep m p text
       → AnswersSweep holds i Done text
@@ -36,7 +36,7 @@ pub data AnswersSweep (holds : Contents) (i : Inputs) : Status → List ℕ → 
 -- done where the two files have no fault, and refused where they have one
 pub record IsSweepDue (holds : Contents) (i : Inputs) (status : Status) : Type 0 where
   pub found : (m : WrittenModel) (p : Pattern) → SaysPattern holds i m p → status ≡ Done
-  pub fault : (f : InputFault) → IsFirstFaultOf IsFirstFault holds i f → status ≡ Refused
+  pub fault : (f : InputFault) → IsFirstFaultOf IsFirstSweepFault holds i f → status ≡ Refused
 
 -- what `sweep` returns
 abbrev pub IsSweepOutcome : {F : Type 0} → (F → FilesView) → Inputs → F → F → Status → List ℕ → Type 0

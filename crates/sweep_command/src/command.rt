@@ -7,11 +7,11 @@ ghost use Rattle.sweep_command.specs.Texts.{swept_text};
 ghost use Rattle.sweep_command.specs.SweepAnswers.{IsSweepOutcome};
 
 use super::inputs::{Task, read_task};
+use super::sweeping::sweep;
 use command_base::{Ending, Inputs};
 use pattern_reader::Pattern;
 use pc_common::{Files, Memory};
 use std::alloc::Global;
-use sweep::sweep;
 
 /// A pattern, and for each row whether its outcome is observable.
 #[derive(Drop)]

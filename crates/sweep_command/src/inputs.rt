@@ -4,11 +4,11 @@ ghost use Rattle.command_base.specs.Inputs.{plain_inputs};
 ghost use Rattle.command_base.specs.SecondFiles.{IsFrontEnd};
 ghost use Rattle.command_base.specs.Endings.{IsBytesEnding};
 ghost use Rattle.command_base.specs.Outcomes.{IsInputsEnding};
-ghost use Rattle.sweep_command.specs.Patterns.{ClosedCase, IsFirstFault, SaysTask, HasTask};
+ghost use Rattle.sweep_command.specs.Patterns.{ClosedCase, IsFirstSweepFault, SaysTask, HasTask};
 
-use command_base::{Ending, Inputs, bytes_of, placed, unread};
+use command_base::{Ending, Inputs, bytes_of, placed, two_files};
 use pattern_reader::{Pattern, read_pattern};
-use pc_common::{Files, Which, read_all};
+use pc_common::Files;
 use pc_front::{FrontEnd, MAX_FILE, ModelFront, read_model};
 use std::alloc::Global;
 
@@ -24,7 +24,7 @@ fn make_task(alloc: Global, model: &[u8], second: &[u8]) -> Result<Task, FrontEn
     requires model_short { length model.now ≤ MAX_FILE }
     requires second_short { length second.now ≤ MAX_FILE }
     ensures ok { IfOk result (SaysTask model.now second.now) }
-    ensures err { IfErr result (IsFrontEnd ClosedCase IsFirstFault model.now second.now) }
+    ensures err { IfErr result (IsFrontEnd ClosedCase IsFirstSweepFault model.now second.now) }
 {
     let model = read_model(alloc, model)?;
     let pattern = read_pattern(alloc, second)?;
@@ -36,7 +36,7 @@ fn task_of(alloc: Global, model: &[u8], second: &[u8]) -> Result<Task, Ending>
     requires model_short { length model.now ≤ MAX_FILE }
     requires second_short { length second.now ≤ MAX_FILE }
     ensures { MatchResult result (SaysTask model.now second.now)
-        (IsBytesEnding ClosedCase IsFirstFault model.now second.now) }
+        (IsBytesEnding ClosedCase IsFirstSweepFault model.now second.now) }
 {
     match make_task(alloc, model, second) {
         Ok(task) => Ok(task),
@@ -56,15 +56,10 @@ pub(crate) fn read_task<F: Files>(
 ) -> Result<Task, Ending>
     ensures { MatchResult result
         (HasTask F.view (plain_inputs inputs.entry) files.old files.new)
-        (IsInputsEnding F.view ClosedCase IsFirstFault (plain_inputs inputs.entry) files.old files.new) }
+        (IsInputsEnding F.view ClosedCase IsFirstSweepFault (plain_inputs inputs.entry) files.old files.new) }
 {
-    let model = match read_all(alloc, files, inputs.model, MAX_FILE) {
-        Ok(bytes) => bytes,
-        Err(end) => return Err(unread(Which::Model, end)),
-    };
-    let second = match read_all(alloc, files, inputs.test, MAX_FILE) {
-        Ok(bytes) => bytes,
-        Err(end) => return Err(unread(Which::Test, end)),
-    };
-    task_of(alloc, &model, &second)
+    match two_files(alloc, inputs, files) {
+        Ok((model, second)) => task_of(alloc, &model, &second),
+        Err(ending) => Err(ending),
+    }
 }

@@ -1,9 +1,9 @@
 //! Many open reads: how many rows they have, and when these are too many.
-use command_line::run;
 use memory_runs::{calls, ends_over, files, words};
 use pc_common::{MemFiles, MemSink, Memory, Status};
 use std::alloc::Global;
 use std::test::Fail;
+use top_call::run;
 
 const ONE_WRITE: &str = "Microop 0 0 0 0 (Write (VA 0 0) (PA 0 0) (Data 1)).
 ";

@@ -9,9 +9,9 @@ use Rattle.pc_ground.specs.declared.literal.Literal.{Literal}
 use Rattle.pc_ground.specs.declared.literal.Literal.TheVariants.{Node as a_node, Edge as an_edge, NoNode as not_node, NoEdge as not_edge}
 use Rattle.pc_ground.specs.declared.node_key.NodeKey.{NodeKey}
 use Rattle.pc_ground.specs.declared.row.RowKind.{RowKind}
-use Rattle.pc_ground.specs.declared.row.RowKind.TheVariants.{True, False, Lit, And, Or}
+use Rattle.pc_ground.specs.declared.row.RowKind.TheVariants.{Lit, True, False, And, Or}
 use Rattle.pc_ground.specs.Keys.{key_node, literal_node, renamed_kind}
-use Rattle.pc_ground.specs.Tree.{Tree, always, never, leaf, both, either}
+use Rattle.pc_ground.specs.Tree.{Tree, leaf, either, always, never, both}
 use Rattle.pc_ground.specs.Literals.{IsPresent, as_node, as_start, as_end}
 use Rattle.pc_ground.specs.Refutes.{Signed, Branch, part_at, literal_of, literals_of}
 use Rattle.tree_check.specs.Facts.{PlainFact, at_position, edge, no_edge, no_node, present, facts_of_literal, facts_of_part, facts_at, facts_of_kind, facts_on, HasFacts, HasAdded}
@@ -42,7 +42,8 @@ place_at (Some (either a b)) p q (inl e) = cc
 place_at (Some (either a b)) p q (inr i) = absurd i
 
 -- what the literal of a position says is known of it
-literal_facts : (o : Option (Tree Node)) (q : Signed) (l : Literal Node) (k : PlainFact) → In l (literal_of o) → In k (facts_of_literal l) → In k (facts_of_part o q)
+literal_facts : (o : Option (Tree Node)) (q : Signed) (l : Literal Node) (k : PlainFact) → In l (literal_of o) → In k (facts_of_literal l)
+    → In k (facts_of_part o q)
 literal_facts None q l k i j = absurd i
 literal_facts (Some always) q l k i j = absurd i
 literal_facts (Some never) q l k i j = absurd i
@@ -52,7 +53,8 @@ literal_facts (Some (both a b)) q l k i j = absurd i
 literal_facts (Some (either a b)) q l k i j = absurd i
 
 -- and what else is known of it than that it is asserted, its literal says
-facts_literal : (o : Option (Tree Node)) (q : Signed) (k : PlainFact) → ((p : Signed) → at_position p ≡ k → ⊥) → In k (facts_of_part o q) → (l : Literal Node) × In l (literal_of o) × In k (facts_of_literal l)
+facts_literal : (o : Option (Tree Node)) (q : Signed) (k : PlainFact) → ((p : Signed) → at_position p ≡ k → ⊥) → In k (facts_of_part o q)
+    → (l : Literal Node) × In l (literal_of o) × In k (facts_of_literal l)
 facts_literal None q k none i = absurd i
 facts_literal (Some always) q k none (inl e) = absurd (none q e)
 facts_literal (Some always) q k none (inr i) = absurd i
@@ -77,7 +79,8 @@ place_from t ps p i =
     subst P (place_at (part_at t at.0) p at.0 at.2) at.1
 
 -- what a literal of the branch says is known
-facts_from : (t : Tree Node) (ps : Branch) (l : Literal Node) (k : PlainFact) → Contains (literals_of t ps) l → In k (facts_of_literal l) → Contains (facts_on t ps) k
+facts_from : (t : Tree Node) (ps : Branch) (l : Literal Node) (k : PlainFact) → Contains (literals_of t ps) l → In k (facts_of_literal l)
+    → Contains (facts_on t ps) k
 facts_from t ps l k has j =
     let at = from_flat (λ p. literal_of (part_at t p)) l ps (in_from_contains l (literals_of t ps) has) in
     contains_from_in k (facts_on t ps) (in_flat (facts_at t) at.0 k ps at.1 (literal_facts (part_at t at.0) at.0 l k at.2 j))
@@ -201,10 +204,12 @@ take_through (x ∷ xs) (y ∷ ys) (z ∷ zs) e f =
 
 -- nothing added
 pub added_none : (xs : List PlainFact) → HasAdded xs [] xs
-added_none xs = record { same_first = take-length xs; members = λ k. (λ h. inl h, λ either. elim either [ inl h ↦ h | inr h ↦ absurd (in_from_contains k [] h) ]) }
+added_none xs =
+    record { same_first = take-length xs; members = λ k. (λ h. inl h, λ either. elim either [ inl h ↦ h | inr h ↦ absurd (in_from_contains k [] h) ]) }
 
 -- one fact added
-pub added_one : (xs ys : List PlainFact) (x : PlainFact) → take (length xs) ys ≡ xs → ((k : PlainFact) → Contains ys k ↔ (Contains xs k ⊎ (k ≡ x))) → HasAdded xs (x ∷ []) ys
+pub added_one : (xs ys : List PlainFact) (x : PlainFact) → take (length xs) ys ≡ xs → ((k : PlainFact) → Contains ys k ↔ (Contains xs k ⊎ (k ≡ x)))
+    → HasAdded xs (x ∷ []) ys
 added_one xs ys x same_first h = record {
   same_first = same_first;
   members = λ k. (
@@ -240,14 +245,16 @@ facts_more : (t : Tree Node) (ps qs : Branch) (k : PlainFact) → Contains (fact
 facts_more t ps qs k = rw (flat_map-append (facts_at t) ps qs) (contains_either (facts_on t ps) (facts_on t qs) k)
 
 -- the facts of a branch with further positions
-pub has_more : (t : Tree Node) (facts new : List PlainFact) (ps qs : Branch) → HasFacts t facts ps → HasAdded facts (facts_on t qs) new → HasFacts t new (ps ++ qs)
+pub has_more : (t : Tree Node) (facts new : List PlainFact) (ps qs : Branch) → HasFacts t facts ps → HasAdded facts (facts_on t qs) new
+    → HasFacts t new (ps ++ qs)
 has_more t facts new ps qs has add = λ k. (
   λ h. (facts_more t ps qs k).1 (elim ((add.members k).0 h) [ inl i ↦ inl ((has k).0 i) | inr i ↦ inr i ]),
   λ h. (add.members k).1 (elim ((facts_more t ps qs k).0 h) [ inl i ↦ inl ((has k).1 i) | inr i ↦ inr i ]),
 )
 
 -- positions that are there already say nothing more
-pub has_again : (t : Tree Node) (facts : List PlainFact) (ps qs : Branch) → HasFacts t facts ps → ((q : Signed) → In q qs → In q ps) → HasFacts t facts (ps ++ qs)
+pub has_again : (t : Tree Node) (facts : List PlainFact) (ps qs : Branch) → HasFacts t facts ps → ((q : Signed) → In q qs → In q ps)
+    → HasFacts t facts (ps ++ qs)
 has_again t facts ps qs has there = λ k. (
   λ h. (facts_more t ps qs k).1 (inl ((has k).0 h)),
   λ h. (has k).1 (elim ((facts_more t ps qs k).0 h) [
@@ -261,10 +268,12 @@ pub facts_none : (t : Tree Node) → HasFacts t [] []
 facts_none t k = (λ h. h, λ h. h)
 
 -- what a row says, by its kind
-pub facts_of_lit : (p : Signed) (k : RowKind NodeKey) (l : Literal NodeKey) → k ≡ Lit l → facts_of_literal (literal_node l) ≡ facts_of_kind p (renamed_kind key_node k)
+pub facts_of_lit : (p : Signed) (k : RowKind NodeKey) (l : Literal NodeKey) → k ≡ Lit l
+    → facts_of_literal (literal_node l) ≡ facts_of_kind p (renamed_kind key_node k)
 facts_of_lit p k l e = ap (λ x. facts_of_kind p (renamed_kind key_node x)) (sym e)
 
-pub fact_of_position : (p : Signed) (k : RowKind NodeKey) → ((l : Literal NodeKey) → k ≡ Lit l → ⊥) → at_position p ∷ [] ≡ facts_of_kind p (renamed_kind key_node k)
+pub fact_of_position : (p : Signed) (k : RowKind NodeKey) → ((l : Literal NodeKey) → k ≡ Lit l → ⊥)
+    → at_position p ∷ [] ≡ facts_of_kind p (renamed_kind key_node k)
 fact_of_position p True none = refl
 fact_of_position p False none = refl
 fact_of_position p (Lit l) none = absurd (none l refl)

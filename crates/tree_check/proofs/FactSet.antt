@@ -4,24 +4,17 @@ use Rattle.std.specs.Prelude.{Contains, IsTrue, ◌↔◌, ◌==◌}
 use Rattle.std.proofs.Math.Bool.{beq}
 use Rattle.std.specs.List.{list_any}
 use Rattle.std.proofs.Math.Seq.{take-append_seam, take-length}
+use Rattle.std.proofs.lemmas.Bool.{and_from, or_left, or_right}
 use Rattle.indexmap.specs.IndexSet.{insert_key}
-use Rattle.pc_common.proofs.Elements.{In, in_from_contains, contains_from_in, in_front, in_back, in_either, and_first, and_second, true_or_false, or_first, or_later}
+use Rattle.pc_common.proofs.Elements.{In, in_from_contains, contains_from_in, in_front, in_back, in_either}
 use Rattle.pc_ground.specs.Keys.{key_node}
-use Rattle.pc_ground.specs.declared.node_key.NodeKey.{NodeKey}
-use Rattle.pc_ground.proofs.Bools.{or_either, and_both}
-use Rattle.pc_ground.proofs.Nodes.{key_eq, key_eq-same, same_node-true, same_node-self}
-use Rattle.pc_common.specs.World.{same_node}
+use Rattle.pc_ground.proofs.Nodes.{key_eq, same_keys, keys_same}
+use Rattle.pc_common.proofs.Bools.{true_or_false, and_first, and_second, or_either}
 use Rattle.pc_ground.specs.Refutes.{Signed, signed}
 use Rattle.tree_check.specs.Facts.{PlainFact, at_position, edge, no_edge, no_node, present, plain_fact}
 use Rattle.tree_check.specs.contracts.fact.FactPartialEq.TheImpl.{ghosts}
 use Rattle.tree_check.specs.declared.fact.Fact.{Fact}
 use Rattle.tree_check.specs.declared.fact.Fact.TheVariants.{At, Edge, NoEdge, NoNode, Present}
-
-same_keys : (a b : NodeKey) → key_eq a b ≡ true → key_node a ≡ key_node b
-same_keys a b e = same_node-true (key_node a) (key_node b) (sym (key_eq-same a b) ∙ e)
-
-keys_same : (a b : NodeKey) → key_node a ≡ key_node b → key_eq a b ≡ true
-keys_same a b e = key_eq-same a b ∙ ap (λ n. same_node (key_node a) n) (sym e) ∙ same_node-self (key_node a)
 
 same_flags : (m n : Bool) → beq m n ≡ true → m ≡ n
 same_flags true true e = refl
@@ -44,8 +37,10 @@ same_facts : (f g : Fact) → fact_eq f g ≡ true → plain_fact f ≡ plain_fa
 same_facts (At m a) (At n c) e =
     let flags = same_flags m n (and_first (beq m n) (a == c) e) in
     ap (λ x. at_position (signed x a)) flags ∙ ap (λ x. at_position (signed n x)) (eqb-true a c (and_second (beq m n) (a == c) e))
-same_facts (Edge a b) (Edge c d) e = (let l = same_keys a c (and_first (key_eq a c) (key_eq b d) e) in let r = same_keys b d (and_second (key_eq a c) (key_eq b d) e) in ap (λ x. edge x (key_node b)) l ∙ ap (edge (key_node c)) r)
-same_facts (NoEdge a b) (NoEdge c d) e = (let l = same_keys a c (and_first (key_eq a c) (key_eq b d) e) in let r = same_keys b d (and_second (key_eq a c) (key_eq b d) e) in ap (λ x. no_edge x (key_node b)) l ∙ ap (no_edge (key_node c)) r)
+same_facts (Edge a b) (Edge c d) e = (let l = same_keys a c (and_first (key_eq a c) (key_eq b d) e) in
+    let r = same_keys b d (and_second (key_eq a c) (key_eq b d) e) in ap (λ x. edge x (key_node b)) l ∙ ap (edge (key_node c)) r)
+same_facts (NoEdge a b) (NoEdge c d) e = (let l = same_keys a c (and_first (key_eq a c) (key_eq b d) e) in
+    let r = same_keys b d (and_second (key_eq a c) (key_eq b d) e) in ap (λ x. no_edge x (key_node b)) l ∙ ap (no_edge (key_node c)) r)
 same_facts (NoNode a) (NoNode c) e = ap no_node (same_keys a c e)
 same_facts (Present a) (Present c) e = ap present (same_keys a c e)
 same_facts (At m a) (Edge c d) e = cc
@@ -72,9 +67,11 @@ same_facts (Present a) (NoNode c) e = cc
 facts_same : (f g : Fact) → plain_fact f ≡ plain_fact g → fact_eq f g ≡ true
 facts_same (At m a) (At n c) e =
     let same : signed m a ≡ signed n c = cc in
-    and_both (beq m n) (a == c) (flags_same m n (ap (λ (x : Signed). x.negated) same)) (eq-eqb a c (ap (λ (x : Signed). x.position) same))
-facts_same (Edge a b) (Edge c d) e = (let l : key_node a ≡ key_node c = cc in let r : key_node b ≡ key_node d = cc in and_both (key_eq a c) (key_eq b d) (keys_same a c l) (keys_same b d r))
-facts_same (NoEdge a b) (NoEdge c d) e = (let l : key_node a ≡ key_node c = cc in let r : key_node b ≡ key_node d = cc in and_both (key_eq a c) (key_eq b d) (keys_same a c l) (keys_same b d r))
+    and_from (beq m n) (a == c) (flags_same m n (ap (λ (x : Signed). x.negated) same)) (eq-eqb a c (ap (λ (x : Signed). x.position) same))
+facts_same (Edge a b) (Edge c d) e = (let l : key_node a ≡ key_node c = cc in let r : key_node b ≡ key_node d = cc in
+    and_from (key_eq a c) (key_eq b d) (keys_same a c l) (keys_same b d r))
+facts_same (NoEdge a b) (NoEdge c d) e = (let l : key_node a ≡ key_node c = cc in let r : key_node b ≡ key_node d = cc in
+    and_from (key_eq a c) (key_eq b d) (keys_same a c l) (keys_same b d r))
 facts_same (NoNode a) (NoNode c) e = (let l : key_node a ≡ key_node c = cc in keys_same a c l)
 facts_same (Present a) (Present c) e = (let l : key_node a ≡ key_node c = cc in keys_same a c l)
 facts_same (At m a) (Edge c d) e = cc
@@ -104,8 +101,8 @@ found_in f (g ∷ gs) e = elim (or_either (fact_eq f g) (list_any (fact_eq f) gs
 
 in_found : (f : Fact) (fs : List Fact) → In (plain_fact f) (map plain_fact fs) → list_any (fact_eq f) fs ≡ true
 in_found f [] i = absurd i
-in_found f (g ∷ gs) (inl e) = or_first (fact_eq f g) (list_any (fact_eq f) gs) (facts_same f g (sym e))
-in_found f (g ∷ gs) (inr i) = or_later (fact_eq f g) (list_any (fact_eq f) gs) (in_found f gs i)
+in_found f (g ∷ gs) (inl e) = or_left (fact_eq f g) (list_any (fact_eq f) gs) (facts_same f g (sym e))
+in_found f (g ∷ gs) (inr i) = or_right (fact_eq f g) (list_any (fact_eq f) gs) (in_found f gs i)
 
 -- a look-up finds a fact where it is one of these
 pub found : (f : Fact) (fs : List Fact) → IsTrue (list_any (fact_eq f) fs) ↔ Contains (map plain_fact fs) (plain_fact f)
@@ -117,8 +114,10 @@ map_push [] f = refl
 map_push (g ∷ gs) f = ap (λ ks. plain_fact g ∷ ks) (map_push gs f)
 
 -- the facts once one is added
-pub added : (fs : List Fact) (f : Fact) (k : PlainFact) → Contains (map plain_fact (insert_key fact_eq fs f)) k ↔ (Contains (map plain_fact fs) k ⊎ (k ≡ plain_fact f))
-added fs f k = elim (true_or_false (list_any (fact_eq f) fs)) [ inl h ↦ rw h (here h) | inr h ↦ rw (h, map_push fs f) (behind (map plain_fact fs) (plain_fact f)) ]
+pub added : (fs : List Fact) (f : Fact) (k : PlainFact)
+    → Contains (map plain_fact (insert_key fact_eq fs f)) k ↔ (Contains (map plain_fact fs) k ⊎ (k ≡ plain_fact f))
+added fs f k =
+    elim (true_or_false (list_any (fact_eq f) fs)) [ inl h ↦ rw h (here h) | inr h ↦ rw (h, map_push fs f) (behind (map plain_fact fs) (plain_fact f)) ]
   where
     here : list_any (fact_eq f) fs ≡ true → Contains (map plain_fact fs) k ↔ (Contains (map plain_fact fs) k ⊎ (k ≡ plain_fact f))
     here h = (

@@ -1,10 +1,10 @@
 -- The children of an Or of the tree, or of its negation, by the rows.
-use Rattle.std.proofs.Common.{◌≡◌, ◌<◌, ℕ, ◌+◌, Bool, true, false, List, Some, length, refl, sym, ◌∙◌, ap, arith}
+use Rattle.std.proofs.Common.{◌≡◌, ◌<◌, ℕ, ◌+◌, Bool, true, List, Some, length, refl, sym, ◌∙◌, ap, arith, false}
 use Rattle.std.specs.Prelude.{slice_get, option_map}
 use Rattle.pc_common.specs.World.{Node}
 use Rattle.pc_ground.specs.declared.node_key.NodeKey.{NodeKey}
 use Rattle.pc_ground.specs.declared.row.RowKind.{RowKind}
-use Rattle.pc_ground.specs.declared.row.RowKind.TheVariants.{True, False, Lit, And, Or}
+use Rattle.pc_ground.specs.declared.row.RowKind.TheVariants.{False, Lit, Or, True, And}
 use Rattle.pc_ground.specs.declared.row.Row.{Row}
 use Rattle.pc_ground.specs.declared.literal.Literal.{Literal}
 use Rattle.pc_ground.specs.declared.literal.Literal.TheVariants.{Node as a_node, Edge, NoNode, NoEdge}
@@ -12,7 +12,7 @@ use Rattle.pc_ground.specs.Keys.{key_node, renamed, renamed_kind, row_node}
 use Rattle.pc_ground.specs.Tree.{Tree, always, never, leaf, both, either, contrary, turned, size_of}
 use Rattle.pc_ground.specs.Rows.{rows_of, root_kind, turned_kind, turned_row, turned_rows, IsFlat}
 use Rattle.pc_ground.specs.Refutes.{subtree_at}
-use Rattle.pc_ground.proofs.FlatRows.{root_of, subtree_row, subtree_size, length_rows, children_either, or_subtree, size_pos}
+use Rattle.pc_ground.proofs.FlatRows.{root_of, subtree_row, subtree_size, length_rows, children_either, or_subtree, size_pos, renamed_false}
 use Rattle.pc_ground.proofs.Turned.{size_turned, rows_turned, row_turned}
 use Rattle.pc_ground.proofs.StageWalks.{some_same}
 
@@ -27,13 +27,6 @@ or_from (Lit l) e = cc
 or_from And e = cc
 or_from Or e = refl
 
-false_from : (k : RowKind NodeKey) → renamed_kind key_node k ≡ False → k ≡ False
-false_from True e = cc
-false_from False e = refl
-false_from (Lit l) e = cc
-false_from And e = cc
-false_from Or e = cc
-
 row_kind : (t : Tree Node) (p : ℕ) (s : Tree Node) (r : Row NodeKey) → subtree_at t p ≡ Some s → slice_get (rows_of t) p ≡ Some (row_node r)
     → renamed_kind key_node r.kind ≡ root_kind s
 row_kind t p s r at here =
@@ -41,12 +34,13 @@ row_kind t p s r at here =
     ap (λ (x : Row Node). x.kind) same
 
 -- there is an Or at p
-pub is_or : (t : Tree Node) (p : ℕ) (a b : Tree Node) (r : Row NodeKey) → subtree_at t p ≡ Some (either a b) → slice_get (rows_of t) p ≡ Some (row_node r) → r.kind ≡ Or
+pub is_or : (t : Tree Node) (p : ℕ) (a b : Tree Node) (r : Row NodeKey) → subtree_at t p ≡ Some (either a b) → slice_get (rows_of t) p ≡ Some (row_node r)
+    → r.kind ≡ Or
 is_or t p a b r at here = or_from r.kind (row_kind t p (either a b) r at here)
 
 -- the tree is False where its first row is
 pub never_row : (t : Tree Node) (r : Row NodeKey) → slice_get (rows_of t) 0 ≡ Some (row_node r) → t ≡ never → r.kind ≡ False
-never_row t r here e = false_from r.kind (row_kind t 0 t r refl here ∙ ap root_kind e)
+never_row t r here e = renamed_false r.kind (row_kind t 0 t r refl here ∙ ap root_kind e)
 
 pub row_never : (t : Tree Node) (r : Row NodeKey) → slice_get (rows_of t) 0 ≡ Some (row_node r) → r.kind ≡ False → t ≡ never
 row_never t r here e = kind_never t (sym (row_kind t 0 t r refl here) ∙ ap (renamed_kind key_node) e)
@@ -66,7 +60,8 @@ pub record HasSides (t : Tree Node) (p : ℕ) (skip : ℕ) : Type 0 where
   pub skips : skip ≡ size_of left
   pub within : p + 1 + size_of left < size_of t
 
-pub has_sides : (t : Tree Node) (p : ℕ) (r q : Row NodeKey) → slice_get (rows_of t) p ≡ Some (row_node r) → r.kind ≡ Or → slice_get (rows_of t) (p + 1) ≡ Some (row_node q)
+pub has_sides : (t : Tree Node) (p : ℕ) (r q : Row NodeKey) → slice_get (rows_of t) p ≡ Some (row_node r) → r.kind ≡ Or
+    → slice_get (rows_of t) (p + 1) ≡ Some (row_node q)
     → HasSides t p q.skip
 has_sides t p r q here is there =
     let o = or_subtree t p (row_node r) here (ap (renamed_kind key_node) is) in

@@ -1,17 +1,17 @@
 -- The walk over a part, and the branch that has all that the part asserts.
-use Rattle.std.proofs.Common.{◌≡◌, ◌≤◌, ◌<◌, ℕ, ◌+◌, inl, inr, Bool, List, [], ◌∷◌, ◌++◌, Option, None, Some, length, take, map, refl, sym, ◌∙◌, ap, subst, arith, append_assoc}
+use Rattle.std.proofs.Common.{◌≡◌, ◌≤◌, ◌<◌, ℕ, ◌+◌, inl, inr, Bool, List, [], ◌∷◌, ◌++◌, Option, None, Some, length, take, refl, sym, ◌∙◌, ap, subst, arith, append_assoc, map}
 use Rattle.std.specs.Prelude.{Contains, slice_get, option_map}
-use Rattle.std.proofs.lemmas.List.{append-nil}
+use Rattle.std.proofs.lemmas.List.{append-nil, map-append}
 use Rattle.std.proofs.lemmas.Grind.{flat_map-append}
 use Rattle.pc_common.specs.World.{Node}
 use Rattle.pc_common.proofs.Elements.{In, in_from_contains, contains_from_in, in_front, in_back, in_either, in_map, from_map}
 use Rattle.pc_ground.specs.declared.node_key.NodeKey.{NodeKey}
 use Rattle.pc_ground.specs.declared.literal.Literal.{Literal}
 use Rattle.pc_ground.specs.declared.row.RowKind.{RowKind}
-use Rattle.pc_ground.specs.declared.row.RowKind.TheVariants.{True, False, Lit, And, Or}
+use Rattle.pc_ground.specs.declared.row.RowKind.TheVariants.{True, Lit, False, And, Or}
 use Rattle.pc_ground.specs.declared.row.Row.{Row}
 use Rattle.pc_ground.specs.Keys.{key_node, renamed_kind}
-use Rattle.pc_ground.specs.Tree.{Tree, always, never, leaf, both, either, turned, size_of}
+use Rattle.pc_ground.specs.Tree.{Tree, always, leaf, both, turned, size_of, never, either}
 use Rattle.pc_ground.specs.Rows.{rows_of, turned_row, turned_rows, IsFlat}
 use Rattle.pc_ground.specs.Walks.{stride, stride_of, Walk}
 use Rattle.pc_ground.specs.Refutes.{Signed, signed, all_signed, Branch, subtree_at, asserted}
@@ -96,10 +96,6 @@ facts_here t n rows p r flat here =
     ap (λ (x : Row Node). facts_of_kind (signed n p) x.kind) (sym sub.2) ∙ root_facts sub.0 (signed n p)
     ∙ ap (λ o. facts_of_part o (signed n p)) (sym sub.1)
 
-map_append : {X Y : Type 0} (f : X → Y) (xs ys : List X) → map f (xs ++ ys) ≡ map f xs ++ map f ys
-map_append f [] ys = refl
-map_append f (x ∷ xs) ys = ap (λ zs. f x ∷ zs) (map_append f xs ys)
-
 pub walked_step : (rows : List (Row Node)) (n : Bool) (root end at : ℕ) (old mid new : List PlainFact) (r : Row Node) → HasWalked rows n root end at old mid
     → at < end → slice_get (turned_rows n rows) at ≡ Some r → HasAdded mid (facts_of_kind (signed n at) r.kind) new
     → HasWalked rows n root end (at + stride r) old new
@@ -112,7 +108,7 @@ walked_step rows n root end at old mid new r w before here add =
     let one : Branch = signed n at ∷ [] in
     let both : facts_on w.tree done ++ facts_of_kind (signed n at) r.kind ≡ facts_on w.tree (all_signed n (w.done ++ at ∷ [])) =
     ap (λ ks. facts_on w.tree done ++ ks) (facts_here w.tree n rows at r w.flat here ∙ sym (append-nil (facts_at w.tree (signed n at))))
-    ∙ sym (flat_map-append (facts_at w.tree) done one) ∙ ap (facts_on w.tree) (sym (map_append (signed n) w.done (at ∷ []))) in record {
+    ∙ sym (flat_map-append (facts_at w.tree) done one) ∙ ap (facts_on w.tree) (sym (map-append (signed n) w.done (at ∷ []))) in record {
       tree = w.tree;
       flat = w.flat;
       side = w.side;
@@ -124,7 +120,8 @@ walked_step rows n root end at old mid new r w before here add =
       added = subst Q both (added_then w.added add);
     }
 
-pub walked_first : (rows : List (Row Node)) (n : Bool) (root end at : ℕ) (old new : List PlainFact) → HasWalked rows n root end at old new → take (length old) new ≡ old
+pub walked_first : (rows : List (Row Node)) (n : Bool) (root end at : ℕ) (old new : List PlainFact) → HasWalked rows n root end at old new
+    → take (length old) new ≡ old
 walked_first rows n root end at old new w = w.added.same_first
 
 pub walked_within : (rows : List (Row Node)) (n : Bool) (root end at : ℕ) (old new : List PlainFact) → HasWalked rows n root end at old new → at ≤ end
@@ -236,7 +233,8 @@ pub entered_all : (t : Tree Node) (facts new : List PlainFact) (ps : Branch) (n 
 entered_all t facts new ps n root add (has, whole) = (has_more t facts new ps (positions_at t n root) has add, whole_at t ps n root whole)
 
 -- a part of one literal
-pub entered_literal : (t : Tree Node) (n : Bool) (rows : List (Row Node)) (r : Row Node) (l : Literal Node) (facts new : List PlainFact) (ps : Branch) (root : ℕ)
+pub entered_literal : (t : Tree Node) (n : Bool) (rows : List (Row Node)) (r : Row Node) (l : Literal Node) (facts new : List PlainFact) (ps : Branch)
+    (root : ℕ)
     → rows ≡ rows_of t → slice_get (turned_rows n rows) root ≡ Some r → r.kind ≡ Lit l → HasAdded facts (facts_of_literal l) new → IsBranch t facts ps
     → IsBranch t new (ps ++ positions_at t n root)
 entered_literal t n rows r l facts new ps root flat here is add b =

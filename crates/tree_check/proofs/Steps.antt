@@ -62,7 +62,8 @@ later_more t facts new (l ∷ ls) (qs ∷ opens) first (one, rest) =
     )
 
 -- what the left side and the right side add
-part_positions : (t : Tree Node) (n : Bool) (root : ℕ) (s : Tree Node) → subtree_at (turned n t) root ≡ Some s → all_signed n (asserted s root) ≡ positions_at t n root
+part_positions : (t : Tree Node) (n : Bool) (root : ℕ) (s : Tree Node) → subtree_at (turned n t) root ≡ Some s
+    → all_signed n (asserted s root) ≡ positions_at t n root
 part_positions t n root s at = ap (λ o. positions_of o n root) (sym at)
 
 left_all : (t : Tree Node) (ps : Branch) (n : Bool) (p left : ℕ) (a : Tree Node) → left ≡ p + 1 → subtree_at (turned n t) (p + 1) ≡ Some a

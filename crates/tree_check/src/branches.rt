@@ -33,7 +33,7 @@ pub struct Branches<'a> {
     is_open: bool,
 }
 
-// Written out, so that a proof of what drops the value meets one call and no field.
+// By hand: docs/DECISIONS.md, "Drops are written by hand".
 impl Drop for Branches<'_> {
     fn drop(self) {
         let Branches {

@@ -14,7 +14,7 @@ pub(crate) struct Facts {
     set: IndexMap<Fact, ()>,
 }
 
-// Written out, so that a proof of what drops the value meets one call and no field.
+// By hand: docs/DECISIONS.md, "Drops are written by hand".
 impl Drop for Facts {
     fn drop(self) {
         let Facts { set: _ } = self;

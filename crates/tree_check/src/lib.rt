@@ -1,5 +1,8 @@
 //! A checker of refutations of a ground tree, step by step.
 //!
+//! Clause: a step of a refutation, of either version, is taken exactly where its condition holds (the clauses of
+//! `split` and `close`).
+//!
 //! ```rust
 //! use normal_form::normalise;
 //!

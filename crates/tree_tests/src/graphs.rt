@@ -2,10 +2,10 @@
 use super::fronts::front_of;
 use super::nodes::{OPS, STAGES};
 use super::trees::{show_edge, show_node};
+use formula_texts::put;
 use graph_text::{Graph, GraphFault, read_graph};
 use pc_common::Memory;
 use pc_ground::{Front, NodeText};
-use shown_texts::put;
 use std::alloc::Global;
 use std::test::Fail;
 

@@ -63,5 +63,8 @@ one_word c cs t inside changed =
 pub history : (cs : List Change) (t : List ℕ) → All (λ c. c.place < length t) cs → IsChanging cs t → IsHistory (past cs t ++ t ∷ [])
 history [] t inside h = tt
 history (c ∷ []) t inside h = (one_word c [] t (All-head (λ d. d.place < length t) c [] inside) h.0, tt)
-history (c ∷ d ∷ ds) t inside h =
-    (one_word c (d ∷ ds) t (All-head (λ e. e.place < length t) c (d ∷ ds) inside) h.0, history (d ∷ ds) t (All-tail (λ e. e.place < length t) c (d ∷ ds) inside) h.1)
+history (c ∷ d ∷ ds) t inside h = (
+  one_word c (d ∷ ds) t (All-head (λ e. e.place < length t) c (d ∷ ds) inside) h.0,
+  history (d ∷ ds) t
+      (All-tail (λ e. e.place < length t) c (d ∷ ds) inside) h.1,
+)

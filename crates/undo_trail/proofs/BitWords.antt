@@ -98,7 +98,8 @@ has_joined t u words dst src joined others q d dh =
     let k = word_below d words dh in
     elim (cases_order q dst) [
       | inl same ↦
-          rw (same, eq-eqb dst dst refl) (ap (λ x. bit_in x (d % 64)) (joined (d / 64) k) ∙ bit_in-or (get_or t (dst * words + d / 64) 0) (get_or t (src * words + d / 64) 0) (d % 64))
+          rw (same, eq-eqb dst dst refl) (ap (λ x. bit_in x (d % 64)) (joined (d / 64) k)
+          ∙ bit_in-or (get_or t (dst * words + d / 64) 0) (get_or t (src * words + d / 64) 0) (d % 64))
       | inr apart ↦
           let out : (q * words + d / 64 < dst * words) ⊎ (dst * words + words ≤ q * words + d / 64) = elim apart [
             | inl less ↦ inl (let f = row_before q dst words less in omega arith)

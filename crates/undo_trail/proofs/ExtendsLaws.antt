@@ -1,30 +1,7 @@
 -- Laws of tables that only gain tables.
-use Rattle.std.proofs.Common.{◌≡◌, ℕ, ◌+◌, ◌≤◌, [], length, take, get_or, refl, sym, ◌∙◌, ap, arith, subst, take-take}
-use Rattle.std.proofs.lemmas.List.{take_all, get_or-take, get_or_at, length_push}
-use Rattle.undo_trail.specs.BitTable.{BitTable, tables, IsSameTable, Extends}
-
-pub extends_same : (v : BitTable) (n : ℕ) → Extends v v n
-extends_same v n = record {
-  same_rows = refl;
-  same_words = refl;
-  same_tables = take_all (length v.past + 1) (tables v) (omega (arith, length_push v.past v.now));
-  at_least = omega arith;
-  at_most = omega arith;
-}
-
--- other room is no change
-pub extends_roomy : (v w : BitTable) (n : ℕ) → IsSameTable v w → Extends v w n
-extends_roomy v w n e =
-    let P : BitTable → Type 0 = λ u. Extends v u n in
-    let roomy : BitTable = record { rows = v.rows; words = v.words; past = v.past; now = v.now; room = w.room } in
-    let same : Extends v roomy n = record {
-      same_rows = refl;
-      same_words = refl;
-      same_tables = take_all (length v.past + 1) (tables v) (omega (arith, length_push v.past v.now));
-      at_least = omega arith;
-      at_most = omega arith;
-    } in
-    subst P (sym e) same
+use Rattle.std.proofs.Common.{◌≡◌, ℕ, ◌+◌, ◌≤◌, [], length, take, get_or, refl, sym, ◌∙◌, ap, arith, take-take}
+use Rattle.std.proofs.lemmas.List.{get_or-take, get_or_at}
+use Rattle.undo_trail.specs.BitTable.{BitTable, tables, Extends}
 
 pub extends_then : (a b c : BitTable) (m n : ℕ) → Extends a b m → Extends b c n → Extends a c (m + n)
 extends_then a b c m n e f = record {

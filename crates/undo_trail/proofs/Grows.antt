@@ -5,7 +5,7 @@ use Rattle.std.proofs.lemmas.List.Elements.{All-push, All-take}
 use Rattle.undo_trail.specs.declared.trail.Change.{Change}
 use Rattle.undo_trail.specs.BitTable.{IsBitTable}
 use Rattle.undo_trail.specs.Trail.{back, past, table_of, IsChanging, IsTrail, Grows}
-use Rattle.undo_trail.proofs.ExtendsLaws.{extends_roomy, extends_then}
+use Rattle.undo_trail.proofs.ExtendsLaws.{extends_then}
 use Rattle.undo_trail.proofs.Back.{back_push, past_push, changing_push, length-back, back_split, changing_split, history}
 
 -- the change of a word
@@ -40,13 +40,6 @@ grows_one cs t place word inside other =
         at_most = rw past_is (omega (arith, length_push (past cs t) t));
       };
     }
-
-pub grows_same : (cs : List Change) (t : List ℕ) (n : ℕ) → Grows cs t cs t n
-grows_same cs t n = record {
-  same_size = refl;
-  keeps = λ size k. k;
-  extends = λ rows words room left. extends_roomy (table_of rows words room cs t) (table_of rows words left cs t) n refl;
-}
 
 pub grows_then : (xs : List Change) (t : List ℕ) (ys : List Change) (u : List ℕ) (zs : List Change) (v : List ℕ) (m n : ℕ)
     → Grows xs t ys u m → Grows ys u zs v n → Grows xs t zs v (m + n)

@@ -1,10 +1,10 @@
 -- The words of a row that take those of another, one after another.
-use Rattle.std.proofs.Common.{◌≡◌, ◌≢◌, ℕ, ◌+◌, ◌<◌, ◌≤◌, ◌⊎◌, inl, inr, Bool, true, false, ◌||◌, List, length, get_or, set, bit_or, refl, sym, ◌∙◌, ap, arith, MatchBool}
+use Rattle.std.proofs.Common.{◌≡◌, ◌≢◌, ℕ, ◌+◌, ◌<◌, ◌≤◌, ◌⊎◌, inl, inr, Bool, true, false, ◌||◌, List, length, get_or, set, bit_or, sym, ◌∙◌, ap, arith, MatchBool}
 use Rattle.std.proofs.lemmas.Bool.{cases_eq, or_cases, or_parts, MatchBool-at_true, MatchBool-at_false}
 use Rattle.std.proofs.lemmas.List.{get_or-set_same, get_or-set_other, set-get_or}
 use Rattle.undo_trail.specs.declared.trail.Change.{Change}
 use Rattle.undo_trail.specs.Trail.{Grows}
-use Rattle.undo_trail.proofs.Grows.{grows_same, grows_then}
+use Rattle.undo_trail.proofs.Grows.{grows_then}
 
 -- the first k words were joined
 pub record HasJoinedWords (as0 : List Change) (t : List ℕ) (to from : ℕ) (cs : List Change) (u : List ℕ) (changed : Bool) (k : ℕ) : Type 0 where
@@ -17,15 +17,6 @@ pub record HasJoinedWords (as0 : List Change) (t : List ℕ) (to from : ℕ) (cs
 -- one of two that are not both new is the first
 was : (x y : Bool) → (y ≡ true → ⊥) → (x || y) ≡ true → x ≡ true
 was x y n e = elim (or_cases x y e) [ inl first ↦ first | inr second ↦ absurd (n second) ]
-
-pub joining_first : (cs : List Change) (t : List ℕ) (to from : ℕ) → HasJoinedWords cs t to from cs t false 0
-joining_first cs t to from = record {
-  joined = λ j h. absurd (omega arith);
-  others = λ p h. refl;
-  grows = grows_same cs t 0;
-  some = λ e. cc;
-  none = λ e. (refl, refl);
-}
 
 pub joining_more : (as0 : List Change) (t : List ℕ) (to from words : ℕ) (cs : List Change) (u : List ℕ) (changed : Bool) (k : ℕ)
     → (from ≡ to) ⊎ ((from + words ≤ to) ⊎ (to + words ≤ from)) → k < words → to + words ≤ length u
@@ -47,7 +38,8 @@ joining_more as0 t to from words cs u changed k apart low inside j ds v b is gro
       | inl same ↦ inr (omega arith)
       | inr sides ↦ elim sides [ inl before ↦ inl (omega arith) | inr after ↦ inr (omega arith) ]
     ]) in
-    let word_is : word ≡ bit_or (get_or t (to + k) 0) (get_or t (from + k) 0) = ap (λ x. bit_or x (get_or u (from + k) 0)) to_old ∙ ap (bit_or (get_or t (to + k) 0)) from_old in
+    let word_is : word ≡ bit_or (get_or t (to + k) 0) (get_or t (from + k) 0) = ap (λ x. bit_or x (get_or u (from + k) 0)) to_old
+    ∙ ap (bit_or (get_or t (to + k) 0)) from_old in
     record {
       joined = λ i h. elim (cases_eq i k) [
         | inl last ↦ ap (λ x. get_or v (to + x) 0) last ∙ here ∙ word_is ∙ ap (λ x. bit_or (get_or t (to + x) 0) (get_or t (from + x) 0)) (sym last)
@@ -66,9 +58,3 @@ joining_more as0 t to from words cs u changed k apart low inside j ds v b is gro
           let unchanged = told_false parts.1 in
           (unchanged.0 ∙ same.0, unchanged.1 ∙ same.1);
     }
-
--- all words are joined: whether one changed
-pub joining_told : (as0 : List Change) (t : List ℕ) (to from words : ℕ) (cs : List Change) (u : List ℕ) (changed : Bool)
-    → HasJoinedWords as0 t to from cs u changed words → MatchBool changed (u ≢ t) ((u ≡ t) × (cs ≡ as0))
-joining_told as0 t to from words cs u true j = let s = j.some refl in (λ e. s.2 (ap (λ x. get_or x (to + s.0) 0) e))
-joining_told as0 t to from words cs u false j = j.none refl

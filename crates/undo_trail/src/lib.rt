@@ -1,5 +1,7 @@
 //! A table of bits that can go back to what it was.
 //!
+//! Clause: a table of bits goes back to exactly what it was at a mark (`tables`).
+//!
 //! ```rust
 //! // `steps` counts in the caller's ledger
 //! let mut table = UndoTable::new(alloc, 2, 1)?;

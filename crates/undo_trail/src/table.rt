@@ -18,7 +18,7 @@ pub struct UndoTable {
     trail: Vec<Change>,
 }
 
-// Written out, so that a proof of what drops the value meets one call and no field.
+// By hand: docs/DECISIONS.md, "Drops are written by hand".
 impl Drop for UndoTable {
     fn drop(self) {
         let UndoTable {

@@ -5,7 +5,7 @@ use super::steps::Steps;
 use std::sync::ledger::Ledger;
 
 /// A word that was changed: its place in the table and what it held.
-#[derive(Clone, Copy, Debug)]
+#[derive(Clone, Copy)]
 pub struct Change {
     pub place: usize,
     pub old: u64,

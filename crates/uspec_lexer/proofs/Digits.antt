@@ -14,7 +14,8 @@ more_digits-le value (d ∷ ds) = omega (arith, more_digits-le (more value d) ds
 
 number_value-take-le : (digits : List ℕ) (i : ℕ) → number_value (take i digits) ≤ number_value digits
 number_value-take-le digits i =
-    let whole : fold more (number_value (take i digits)) (drop i digits) ≡ number_value digits = sym (fold-append more 0 (take i digits) (drop i digits)) ∙ ap number_value (take-append-drop i digits) in
+    let whole : fold more (number_value (take i digits)) (drop i digits) ≡ number_value digits =
+    sym (fold-append more 0 (take i digits) (drop i digits)) ∙ ap number_value (take-append-drop i digits) in
     omega (arith, whole, more_digits-le (number_value (take i digits)) (drop i digits))
 
 -- what stands before a digit and the digit make no more than the whole

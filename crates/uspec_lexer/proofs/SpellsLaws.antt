@@ -2,64 +2,80 @@
 use Rattle.std.proofs.Common.{◌≡◌, ℕ, ◌≤◌, List, [], ◌∷◌, ◌++◌, length, sym, ap, ◌∙◌, refl, subst, arith, append_assoc}
 use Rattle.std.proofs.lemmas.List.{append-nil}
 use Rattle.uspec_lexer.specs.Token.{Token}
+use Rattle.uspec_lexer.specs.Table.{Table}
 use Rattle.uspec_lexer.specs.Piece.{Form, IsPiece, NoPiece}
-use Rattle.uspec_lexer.specs.Spells.{Piece, Joined, tokens_of_piece, tokens_of, SpellsBetween, Spells, IsLexicalFault}
+use Rattle.uspec_lexer.specs.Spells.{Piece, Joined, tokens_of_piece, tokens_of, SpellsBetween, SpellsFrom, IsFaultFrom}
 use Rattle.uspec_lexer.proofs.Pieces.{piece-unique, piece-rises}
 
--- one more piece after the others
-pub joined-push : (bytes : List ℕ) (a b : ℕ) (ps : List Piece) (p : Piece) → Joined bytes a ps b → IsPiece bytes p.form b p.end → Joined bytes a (ps ++ p ∷ []) p.end
-joined-push bytes a b [] p e h = (subst (λ i. IsPiece bytes p.form i p.end) (sym e) h, refl)
-joined-push bytes a b (q ∷ qs) p j h = (j.0, joined-push bytes q.end b qs p j.1 h)
+module _ (t : Table) (bytes : List ℕ) where
+  -- one more piece after the others
+  pub joined-push : (a b : ℕ) (ps : List Piece) (p : Piece) → Joined t bytes a ps b → IsPiece t bytes p.form b p.end
+      → Joined t bytes a (ps ++ p ∷ []) p.end
+  joined-push a b [] p e h = (subst (λ i. IsPiece t bytes p.form i p.end) (sym e) h, refl)
+  joined-push a b (q ∷ qs) p j h = (j.0, joined-push q.end b qs p j.1 h)
 
-tokens_of-push : (bytes : List ℕ) (a b : ℕ) (ps : List Piece) (p : Piece) → Joined bytes a ps b → tokens_of bytes a (ps ++ p ∷ []) ≡ tokens_of bytes a ps ++ tokens_of_piece bytes p.form b p.end
-tokens_of-push bytes a b [] p e = append-nil (tokens_of_piece bytes p.form a p.end) ∙ ap (λ i. tokens_of_piece bytes p.form i p.end) e
-tokens_of-push bytes a b (q ∷ qs) p j = ap (λ ts. tokens_of_piece bytes q.form a q.end ++ ts) (tokens_of-push bytes q.end b qs p j.1) ∙ sym (append_assoc (tokens_of_piece bytes q.form a q.end) (tokens_of bytes q.end qs) (tokens_of_piece bytes p.form b p.end))
+  tokens_of-push : (a b : ℕ) (ps : List Piece) (p : Piece) → Joined t bytes a ps b
+      → tokens_of bytes a (ps ++ p ∷ []) ≡ tokens_of bytes a ps ++ tokens_of_piece bytes p.form b p.end
+  tokens_of-push a b [] p e =
+      append-nil (tokens_of_piece bytes p.form a p.end) ∙ ap (λ i. tokens_of_piece bytes p.form i p.end) e
+  tokens_of-push a b (q ∷ qs) p j =
+      let first : List Token = tokens_of_piece bytes q.form a q.end in
+      ap (λ ts. first ++ ts) (tokens_of-push q.end b qs p j.1)
+      ∙ sym (append_assoc first (tokens_of bytes q.end qs) (tokens_of_piece bytes p.form b p.end))
 
--- one more piece brings its token
-pub spells-push : (bytes : List ℕ) (a b c : ℕ) (form : Form) (ts : List Token) → SpellsBetween bytes a b ts → IsPiece bytes form b c → SpellsBetween bytes a c (ts ++ tokens_of_piece bytes form b c)
-spells-push bytes a b c form ts s h =
-    let p : Piece = record { form = form; end = c } in
-    record {
-      pieces = s.pieces ++ p ∷ [];
-      joined = joined-push bytes a b s.pieces p s.joined h;
-      tokens = ap (λ us. us ++ tokens_of_piece bytes form b c) s.tokens ∙ sym (tokens_of-push bytes a b s.pieces p s.joined);
-    }
+  -- one more piece brings its token
+  pub spells-push : (a b c : ℕ) (form : Form) (ts : List Token) → SpellsBetween t bytes a b ts → IsPiece t bytes form b c
+      → SpellsBetween t bytes a c (ts ++ tokens_of_piece bytes form b c)
+  spells-push a b c form ts s h =
+      let p : Piece = record { form = form; end = c } in
+      record {
+        pieces = s.pieces ++ p ∷ [];
+        joined = joined-push a b s.pieces p s.joined h;
+        tokens = ap (λ us. us ++ tokens_of_piece bytes form b c) s.tokens ∙ sym (tokens_of-push a b s.pieces p s.joined);
+      }
 
-joined-rises : (bytes : List ℕ) (a z : ℕ) (ps : List Piece) → Joined bytes a ps z → a ≤ z
-joined-rises bytes a z [] e = omega arith
-joined-rises bytes a z (p ∷ ps) j = omega (arith, piece-rises bytes p.form a p.end j.0, joined-rises bytes p.end z ps j.1)
+  joined-rises : (a z : ℕ) (ps : List Piece) → Joined t bytes a ps z → a ≤ z
+  joined-rises a z [] e = omega arith
+  joined-rises a z (p ∷ ps) j = omega (arith, piece-rises t bytes p.form a p.end j.0, joined-rises p.end z ps j.1)
 
--- between two places stands one list of pieces at most
-joined-unique : (bytes : List ℕ) (a z : ℕ) (ps qs : List Piece) → Joined bytes a ps z → Joined bytes a qs z → ps ≡ qs
-joined-unique bytes a z [] [] j k = refl
-joined-unique bytes a z [] (q ∷ qs) e k = absurd (omega (arith, e, piece-rises bytes q.form a q.end k.0, joined-rises bytes q.end z qs k.1))
-joined-unique bytes a z (p ∷ ps) [] j e = absurd (omega (arith, e, piece-rises bytes p.form a p.end j.0, joined-rises bytes p.end z ps j.1))
-joined-unique bytes a z (p ∷ ps) (q ∷ qs) j k =
-    let same = piece-unique bytes p.form q.form a p.end q.end j.0 k.0 in
-    let first : p ≡ q = λ i. record { form = same.0 i; end = same.1 i } in
-    let rest : ps ≡ qs = joined-unique bytes p.end z ps qs j.1 (subst (λ e. Joined bytes e qs z) (sym same.1) k.1) in
-    λ i. first i ∷ rest i
+  -- between two places stands one list of pieces at most
+  joined-unique : (a z : ℕ) (ps qs : List Piece) → Joined t bytes a ps z → Joined t bytes a qs z → ps ≡ qs
+  joined-unique a z [] [] j k = refl
+  joined-unique a z [] (q ∷ qs) e k =
+      absurd (omega (arith, e, piece-rises t bytes q.form a q.end k.0, joined-rises q.end z qs k.1))
+  joined-unique a z (p ∷ ps) [] j e =
+      absurd (omega (arith, e, piece-rises t bytes p.form a p.end j.0, joined-rises p.end z ps j.1))
+  joined-unique a z (p ∷ ps) (q ∷ qs) j k =
+      let same = piece-unique t bytes p.form q.form a p.end q.end j.0 k.0 in
+      let first : p ≡ q = λ i. record { form = same.0 i; end = same.1 i } in
+      let rest : ps ≡ qs = joined-unique p.end z ps qs j.1 (subst (λ e. Joined t bytes e qs z) (sym same.1) k.1) in
+      λ i. first i ∷ rest i
 
--- no pieces go past a place where none begins
-joined-stops : (bytes : List ℕ) (a k z : ℕ) (ps qs : List Piece) → Joined bytes a ps k → NoPiece bytes k → Joined bytes a qs z → z ≤ k
-joined-stops bytes a k z [] [] e none j = omega arith
-joined-stops bytes a k z [] (q ∷ qs) e none j = absurd (none q.form q.end (subst (λ i. IsPiece bytes q.form i q.end) e j.0))
-joined-stops bytes a k z (p ∷ ps) [] i none e = omega (arith, e, joined-rises bytes a k (p ∷ ps) i)
-joined-stops bytes a k z (p ∷ ps) (q ∷ qs) i none j =
-    let same = piece-unique bytes p.form q.form a p.end q.end i.0 j.0 in
-    joined-stops bytes p.end k z ps qs i.1 none (subst (λ e. Joined bytes e qs z) (sym same.1) j.1)
+  -- no pieces go past a place where none begins
+  joined-stops : (a k z : ℕ) (ps qs : List Piece) → Joined t bytes a ps k → NoPiece t bytes k → Joined t bytes a qs z → z ≤ k
+  joined-stops a k z [] [] e none j = omega arith
+  joined-stops a k z [] (q ∷ qs) e none j =
+      absurd (none q.form q.end (subst (λ i. IsPiece t bytes q.form i q.end) e j.0))
+  joined-stops a k z (p ∷ ps) [] i none e = omega (arith, e, joined-rises a k (p ∷ ps) i)
+  joined-stops a k z (p ∷ ps) (q ∷ qs) i none j =
+      let same = piece-unique t bytes p.form q.form a p.end q.end i.0 j.0 in
+      joined-stops p.end k z ps qs i.1 none (subst (λ e. Joined t bytes e qs z) (sym same.1) j.1)
 
--- a text spells one list of tokens at most
-pub spells-unique : {bytes : List ℕ} {ts us : List Token} → Spells bytes ts → Spells bytes us → ts ≡ us
-spells-unique {bytes} s t =
-    s.tokens ∙ ap (tokens_of bytes 0) (joined-unique bytes 0 (length bytes) s.pieces t.pieces s.joined t.joined) ∙ sym t.tokens
+module _ {t : Table} {bytes : List ℕ} {from : ℕ} where
+  -- a text spells one list of tokens at most
+  pub spells-unique : {ts us : List Token} → SpellsFrom t bytes from ts → SpellsFrom t bytes from us → ts ≡ us
+  spells-unique s u =
+      let pieces = joined-unique t bytes from (length bytes) s.pieces u.pieces s.joined u.joined in
+      s.tokens ∙ ap (tokens_of bytes from) pieces ∙ sym u.tokens
 
--- a text that spells tokens has no lexical fault
-pub spells-no_fault : {bytes : List ℕ} {ts : List Token} {k : ℕ} → Spells bytes ts → IsLexicalFault bytes k → ⊥
-spells-no_fault {bytes} {k = k} s f =
-    omega (arith, f.inside, joined-stops bytes 0 k (length bytes) f.pieces s.pieces f.joined f.none_begins s.joined)
+  -- a text that spells tokens has no lexical fault
+  pub spells-no_fault : {ts : List Token} {k : ℕ} → SpellsFrom t bytes from ts → IsFaultFrom t bytes from k → ⊥
+  spells-no_fault {k = k} s f =
+      omega (arith, f.inside, joined-stops t bytes from k (length bytes) f.pieces s.pieces f.joined f.none_begins s.joined)
 
--- a text has one lexical fault at most
-pub lexical_fault-unique : {bytes : List ℕ} {j k : ℕ} → IsLexicalFault bytes j → IsLexicalFault bytes k → j ≡ k
-lexical_fault-unique {bytes} {j} {k} f g =
-    omega (arith, joined-stops bytes 0 j k f.pieces g.pieces f.joined f.none_begins g.joined, joined-stops bytes 0 k j g.pieces f.pieces g.joined g.none_begins f.joined)
+  -- a text has one lexical fault at most
+  pub lexical_fault-unique : {j k : ℕ} → IsFaultFrom t bytes from j → IsFaultFrom t bytes from k → j ≡ k
+  lexical_fault-unique {j} {k} f g =
+      let below = joined-stops t bytes from j k f.pieces g.pieces f.joined f.none_begins g.joined in
+      let above = joined-stops t bytes from k j g.pieces f.pieces g.joined g.none_begins f.joined in
+      omega (arith, below, above)

@@ -1,9 +1,15 @@
 -- What a refusal means: want of memory is tied to nothing.
 use Rattle.std.specs.Prelude.{ℕ, List, ⊤}
-use Rattle.uspec_lexer.specs.Spells.{IsLexicalFault}
+use Rattle.uspec_lexer.specs.Table.{Table}
+use Rattle.uspec_lexer.specs.Models.{models}
+use Rattle.uspec_lexer.specs.Spells.{IsFaultFrom}
 use Rattle.uspec_lexer.specs.declared.fault.LexFault.{LexFault}
 use Rattle.uspec_lexer.specs.declared.fault.LexFault.TheVariants.{Lexical, Memory}
 
-abbrev pub IsRefusal : List ℕ → LexFault → Type 0
-IsRefusal bytes (Lexical place) = IsLexicalFault bytes place.offset
-IsRefusal bytes Memory = ⊤
+abbrev pub IsRefusalFrom : Table → List ℕ → ℕ → LexFault → Type 0
+IsRefusalFrom t bytes from (Lexical place) = IsFaultFrom t bytes from place.offset
+IsRefusalFrom t bytes from Memory = ⊤
+
+-- of a whole model or test
+abbrev pub IsLexicalRefusal : List ℕ → LexFault → Type 0
+IsLexicalRefusal bytes f = IsRefusalFrom models bytes 0 f

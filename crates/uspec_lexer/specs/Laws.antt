@@ -1,38 +1,41 @@
--- What holds of every text.
+-- What holds of every text, from any place in it.
 use Rattle.std.specs.Prelude.{◌≡◌, ◌⊎◌, ℕ, ◌+◌, ◌<◌, ◌≤◌, List, Some, length, slice_get, slice_range}
 use Rattle.uspec_lexer.specs.Token.{Token}
+use Rattle.uspec_lexer.specs.Table.{Table}
 use Rattle.uspec_lexer.specs.Piece.{token, IsPiece}
-use Rattle.uspec_lexer.specs.Spells.{Spells, IsLexicalFault}
+use Rattle.uspec_lexer.specs.Spells.{SpellsFrom, IsFaultFrom}
 
-abbrev pub HasTokensOrFault : List ℕ → Type 0
-HasTokensOrFault bytes = ((ts : List Token) × Spells bytes ts) ⊎ ((k : ℕ) × IsLexicalFault bytes k)
+abbrev pub HasTokensOrFault : Table → List ℕ → ℕ → Type 0
+HasTokensOrFault t bytes from =
+    from ≤ length bytes → ((ts : List Token) × SpellsFrom t bytes from ts) ⊎ ((k : ℕ) × IsFaultFrom t bytes from k)
 
-abbrev pub HasOneList : List ℕ → Type 0
-HasOneList bytes = (ts us : List Token) → Spells bytes ts → Spells bytes us → ts ≡ us
+abbrev pub HasOneList : Table → List ℕ → ℕ → Type 0
+HasOneList t bytes from = (ts us : List Token) → SpellsFrom t bytes from ts → SpellsFrom t bytes from us → ts ≡ us
 
-abbrev pub HasOneFault : List ℕ → Type 0
-HasOneFault bytes = (j k : ℕ) → IsLexicalFault bytes j → IsLexicalFault bytes k → j ≡ k
+abbrev pub HasOneFault : Table → List ℕ → ℕ → Type 0
+HasOneFault t bytes from = (j k : ℕ) → IsFaultFrom t bytes from j → IsFaultFrom t bytes from k → j ≡ k
 
 -- not both
-abbrev pub HasNoFaultBeside : List ℕ → Type 0
-HasNoFaultBeside bytes = (ts : List Token) (k : ℕ) → Spells bytes ts → IsLexicalFault bytes k → ⊥
+abbrev pub TokensExcludeFault : Table → List ℕ → ℕ → Type 0
+TokensExcludeFault t bytes from = (ts : List Token) (k : ℕ) → SpellsFrom t bytes from ts → IsFaultFrom t bytes from k → ⊥
 
 -- the token is a piece of the text, with the bytes of that piece
-pub record IsTokenOf (bytes : List ℕ) (t : Token) : Type 0 where
-  pub stands : IsPiece bytes (token t.kind) t.at (t.at + length t.piece)
-  pub is : t.piece ≡ slice_range bytes t.at (t.at + length t.piece)
+pub record IsTokenOf (t : Table) (bytes : List ℕ) (x : Token) : Type 0 where
+  pub stands : IsPiece t bytes (token x.kind) x.at (x.at + length x.piece)
+  pub is : x.piece ≡ slice_range bytes x.at (x.at + length x.piece)
 
 -- each token is a piece
-abbrev pub ArePieces : List ℕ → Type 0
-ArePieces bytes = (ts : List Token) (k : ℕ) (t : Token) → Spells bytes ts → slice_get ts k ≡ Some t → IsTokenOf bytes t
+abbrev pub ArePieces : Table → List ℕ → ℕ → Type 0
+ArePieces t bytes from =
+    (ts : List Token) (k : ℕ) (x : Token) → SpellsFrom t bytes from ts → slice_get ts k ≡ Some x → IsTokenOf t bytes x
 
 -- and begins where every earlier one has ended
-abbrev pub AreInOrder : List ℕ → Type 0
-AreInOrder bytes =
-    (ts : List Token) (j k : ℕ) (t u : Token) → Spells bytes ts → slice_get ts j ≡ Some t → slice_get ts k ≡ Some u
+abbrev pub AreInOrder : Table → List ℕ → ℕ → Type 0
+AreInOrder t bytes from =
+    (ts : List Token) (j k : ℕ) (x y : Token) → SpellsFrom t bytes from ts → slice_get ts j ≡ Some x → slice_get ts k ≡ Some y
     → j < k
-    → t.at + length t.piece ≤ u.at
+    → x.at + length x.piece ≤ y.at
 
 -- there are no more tokens than bytes
-abbrev pub AreFew : List ℕ → Type 0
-AreFew bytes = (ts : List Token) → Spells bytes ts → length ts ≤ length bytes
+abbrev pub AreFew : Table → List ℕ → ℕ → Type 0
+AreFew t bytes from = (ts : List Token) → SpellsFrom t bytes from ts → length ts ≤ length bytes

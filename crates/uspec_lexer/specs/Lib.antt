@@ -1,5 +1,7 @@
 pub mod Token
 pub mod Bytes
+pub mod Table
+pub mod Models
 pub mod Piece
 pub mod Spells
 pub mod Span

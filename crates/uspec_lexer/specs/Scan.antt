@@ -1,29 +1,32 @@
 -- What the scanner's answers mean.
-use Rattle.std.specs.Prelude.{ℕ, ◌-◌, List, [], ◌∷◌, Option, Some, None}
+use Rattle.std.specs.Prelude.{ℕ, ◌-◌, Bool, List, [], ◌∷◌, Option, Some, None}
+use Rattle.std.specs.Char.{is_ascii_digit}
+use Rattle.uspec_lexer.specs.Bytes.{is_text_byte, is_line_byte}
+use Rattle.uspec_lexer.specs.Table.{Table}
 use Rattle.uspec_lexer.specs.Piece.{Form as PlainForm, blank, comment, token, IsPiece, NoPiece}
-use Rattle.uspec_lexer.specs.Bytes.{IsNameByte, IsDigit, IsLineByte}
-use Rattle.uspec_lexer.specs.Span.{kind_of}
+use Rattle.uspec_lexer.specs.Span.{kind_of_token}
 use Rattle.uspec_lexer.specs.declared.class.Class.{Class}
-use Rattle.uspec_lexer.specs.declared.class.Class.TheVariants.{NameByte, Digit, LineByte}
+use Rattle.uspec_lexer.specs.declared.class.Class.TheVariants.{NameByte, Digit, TextByte, LineByte}
 use Rattle.uspec_lexer.specs.declared.scan.Form.{Form}
 use Rattle.uspec_lexer.specs.declared.scan.Form.TheVariants.{Blank, Comment, Token}
 use Rattle.uspec_lexer.specs.declared.scan.Piece.{Piece}
 use Rattle.uspec_lexer.specs.declared.list.Span.{Span}
 
-abbrev pub IsIn : Class → ℕ → Type 0
-IsIn NameByte c = IsNameByte c
-IsIn Digit c = IsDigit c
-IsIn LineByte c = IsLineByte c
+abbrev pub is_in : Table → Class → ℕ → Bool
+is_in t NameByte c = t.is_name_byte c
+is_in t Digit c = is_ascii_digit c
+is_in t TextByte c = is_text_byte c
+is_in t LineByte c = is_line_byte c
 
 abbrev pub plain_form : Form → PlainForm
 plain_form Blank = blank
 plain_form Comment = comment
-plain_form (Token kind) = token (kind_of kind)
+plain_form (Token kind) = token (kind_of_token kind)
 
 -- the piece that stands at a, or none where none does
-abbrev pub IsPieceAt : List ℕ → ℕ → Option Piece → Type 0
-IsPieceAt bytes a None = NoPiece bytes a
-IsPieceAt bytes a (Some p) = IsPiece bytes (plain_form p.form) a p.end
+abbrev pub IsPieceAt : Table → List ℕ → ℕ → Option Piece → Type 0
+IsPieceAt t bytes a None = NoPiece t bytes a
+IsPieceAt t bytes a (Some p) = IsPiece t bytes (plain_form p.form) a p.end
 
 -- the span that is kept of a piece from a to b: that of a token
 abbrev pub spans_of_form : Form → ℕ → ℕ → List Span

@@ -5,14 +5,14 @@ use Rattle.uspec_lexer.specs.declared.token.TokenKind.{TokenKind}
 use Rattle.uspec_lexer.specs.declared.token.TokenKind.TheVariants.{Name, Number, Text, Symbol}
 use Rattle.uspec_lexer.specs.declared.list.Span.{Span}
 
-abbrev pub kind_of : TokenKind → Kind
-kind_of Name = name
-kind_of (Number n) = number n
-kind_of Text = text
-kind_of Symbol = symbol
+abbrev pub kind_of_token : TokenKind → Kind
+kind_of_token Name = name
+kind_of_token (Number n) = number n
+kind_of_token Text = text
+kind_of_token Symbol = symbol
 
 abbrev pub token_at : List ℕ → Span → Token
-token_at bytes s = record { kind = kind_of s.kind; at = s.at; piece = slice_range bytes s.at (s.at + s.len) }
+token_at bytes s = record { kind = kind_of_token s.kind; at = s.at; piece = slice_range bytes s.at (s.at + s.len) }
 
 abbrev pub IsWithin : List ℕ → Span → Type 0
 IsWithin bytes s = s.at + s.len ≤ length bytes

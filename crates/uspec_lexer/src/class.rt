@@ -1,41 +1,42 @@
-ghost use Rattle.std.specs.Prelude.{◌≡◌, ◌<◌, ◌↔◌, IsTrue, length, slice_index};
-ghost use Rattle.std.specs.List.{list_all};
-ghost use Rattle.std.specs.Char.{is_ascii_alphabetic};
-ghost use Rattle.uspec_lexer.specs.Token.{name};
-ghost use Rattle.uspec_lexer.specs.Bytes.{IsBlank, IsLetter, IsTextByte, is_name_byte as name_byte_spec, is_name as name_spec};
-ghost use Rattle.uspec_lexer.specs.Piece.{IsRun, IsPiece, token};
-ghost use Rattle.uspec_lexer.specs.Scan.{IsIn};
+ghost use Rattle.std.specs.Prelude.{◌≡◌, ◌≤◌, length};
+ghost use Rattle.uspec_lexer.specs.Bytes.{is_blank as is_blank_spec, is_text_byte as is_text_byte_spec};
+ghost use Rattle.uspec_lexer.specs.Piece.{IsRun};
+ghost use Rattle.uspec_lexer.specs.Scan.{is_in};
 
-/// A class of bytes of which a piece may be a run.
+use super::grammar::LexicalGrammar;
+
+/// A class of bytes that go on with a piece.
 #[derive(Clone, Copy)]
 pub(crate) enum Class {
-    /// ASCII letters and digits, `_` and `'`.
+    /// As the lexical grammar says.
     NameByte,
     /// `0` to `9`.
     Digit,
+    /// What stands between a text's quotes.
+    TextByte,
     /// Any byte but LF.
     LineByte,
 }
 
 impl Class {
-    pub(crate) fn has(self, byte: u8) -> bool
-        ensures { IsTrue result ↔ IsIn self byte }
+    pub(crate) fn has<L: LexicalGrammar>(self, byte: u8) -> bool
+        ensures { result ≡ is_in L.table self byte }
     {
         match self {
-            Class::NameByte => is_name_byte(byte),
+            Class::NameByte => L::is_name_byte(byte),
             Class::Digit => byte.is_ascii_digit(),
+            Class::TextByte => is_text_byte(byte),
             Class::LineByte => byte != b'\n',
         }
     }
 
     /// Where the run of this class that begins at `from` ends.
-    pub(crate) fn run_end(self, bytes: &[u8], from: usize) -> usize
-        requires within { from < length bytes.now }
-        requires first { IsIn self (slice_index bytes.now from) }
-        ensures { IsRun (IsIn self) bytes.now from result }
+    pub(crate) fn run_end<L: LexicalGrammar>(self, bytes: &[u8], from: usize) -> usize
+        requires { from ≤ length bytes.now }
+        ensures { IsRun (is_in L.table self) bytes.now from result }
     {
-        let mut end = from + 1;
-        while end < bytes.len() && self.has(bytes[end]) {
+        let mut end = from;
+        while end < bytes.len() && self.has::<L>(bytes[end]) {
             end += 1;
         }
         end
@@ -43,47 +44,14 @@ impl Class {
 }
 
 pub(crate) fn is_blank(byte: u8) -> bool
-    ensures { IsTrue result ↔ IsBlank byte }
+    ensures { result ≡ is_blank_spec byte }
 {
-    matches!(byte, b' ' | b'\t' | b'\r' | b'\n')
-}
-
-pub(crate) fn is_letter(byte: u8) -> bool
-    ensures value { result ≡ is_ascii_alphabetic byte }
-    ensures letter { IsTrue result ↔ IsLetter byte }
-{
-    byte.is_ascii_alphabetic()
-}
-
-/// A letter, a digit, `_` or `'`.
-fn is_name_byte(byte: u8) -> bool
-    ensures { result ≡ name_byte_spec byte }
-{
-    is_letter(byte) || byte.is_ascii_digit() || byte == b'_' || byte == b'\''
-}
-
-fn are_name_bytes(bytes: &[u8]) -> bool
-    ensures { result ≡ list_all name_byte_spec bytes.now }
-{
-    bytes.iter().all(|byte| is_name_byte(*byte))
-}
-
-/// Whether the bytes are a name and nothing more: a letter, and then letters, digits, `_` and `'`.
-/// Takes no memory.
-#[tactic(auto, unfolding(crate::specs::Bytes::is_name))]
-pub fn is_name(bytes: &[u8]) -> bool
-    ensures value { result ≡ name_spec bytes.now }
-    ensures piece { IsTrue result ↔ IsPiece bytes.now (token name) 0 (length bytes.now) }
-{
-    match bytes {
-        [] => false,
-        [first, rest @ ..] => is_letter(*first) && are_name_bytes(rest),
-    }
+    byte == b' ' || byte == b'\t' || byte == b'\r' || byte == b'\n'
 }
 
 /// Whether `byte` may stand between a text's quotes.
-pub(crate) fn is_text_byte(byte: u8) -> bool
-    ensures { IsTrue result ↔ IsTextByte byte }
+fn is_text_byte(byte: u8) -> bool
+    ensures { result ≡ is_text_byte_spec byte }
 {
-    matches!(byte, 0x20..=0x7E) && byte != b'"'
+    b' ' <= byte && byte <= b'~' && byte != b'"'
 }

@@ -1,27 +1,43 @@
 ghost use Rattle.std.specs.Prelude.{◌≡◌, ◌^◌, ◌<◌, ◌≤◌, ◌++◌, length, IfOk, IfErr, OnOk};
-ghost use Rattle.uspec_lexer.specs.Spells.{Spells};
+ghost use Rattle.uspec_lexer.specs.Spells.{SpellsFrom, Spells};
 ghost use Rattle.uspec_lexer.specs.Scan.{spans_of_piece};
-ghost use Rattle.uspec_lexer.specs.Fault.{IsRefusal};
+ghost use Rattle.uspec_lexer.specs.Fault.{IsRefusalFrom, IsLexicalRefusal};
 
 use super::fault::LexFault;
+use super::grammar::LexicalGrammar;
 use super::list::{Span, Tokens};
+use super::models::Models;
 use super::scan::{Form, Piece, piece_at};
 use pc_common::{Memory, Place};
 use std::alloc::Global;
 
-/// The tokens of `bytes`, in the order in which they stand there.
+/// The tokens of a model or a test, in the order in which they stand in `bytes`.
 ///
 /// Blanks and comments are left out. `Lexical` is the first place where no piece begins or the piece
 /// that begins can't be completed. Takes time linear in the bytes, and memory for one span a token.
 pub fn tokens<'a>(alloc: Global, bytes: &'a [u8]) -> Result<Tokens<'a>, LexFault>
     requires { length bytes.now < 2 ^ 32 }
     ensures ok { IfOk result (λ ts. Spells bytes.now ts) }
-    ensures err { IfErr result (λ e. IsRefusal bytes.now e) }
+    ensures err { IfErr result (λ e. IsLexicalRefusal bytes.now e) }
+{
+    tokens_from::<Models>(alloc, bytes, 0)
+}
+
+/// [`tokens`] of any lexical grammar, from the place `from` on.
+pub fn tokens_from<'a, L: LexicalGrammar>(
+    alloc: Global,
+    bytes: &'a [u8],
+    from: usize,
+) -> Result<Tokens<'a>, LexFault>
+    requires few { length bytes.now < 2 ^ 32 }
+    requires within { from ≤ length bytes.now }
+    ensures ok { IfOk result (λ ts. SpellsFrom L.table bytes.now from ts) }
+    ensures err { IfErr result (λ e. IsRefusalFrom L.table bytes.now from e) }
 {
     let mut spans = Vec::new(alloc);
-    let mut at = 0;
+    let mut at = from;
     while at < bytes.len() {
-        let Some(piece) = piece_at(bytes, at) else {
+        let Some(piece) = piece_at::<L>(bytes, at) else {
             return Err(LexFault::Lexical(Place { offset: at as u32 }));
         };
         keep(&mut spans, at, piece)?;

@@ -23,7 +23,7 @@ pub struct Tokens<'a> {
     spans: Vec<Span>,
 }
 
-// Written out, so that a proof of what drops the value meets one call and no field.
+// By hand: docs/DECISIONS.md, "Drops are written by hand".
 impl Drop for Tokens<'_> {
     fn drop(self) {
         let Tokens { bytes: _, spans: _ } = self;

@@ -1,9 +1,11 @@
-ghost use Rattle.std.specs.Prelude.{◌≡◌, ℕ, ◌+◌, ◌<◌, ◌↔◌, IsTrue, length, slice_index, MatchOption, EachIndex};
-ghost use Rattle.uspec_lexer.specs.Bytes.{IsDigit, number_value};
-ghost use Rattle.uspec_lexer.specs.Piece.{IsText, OpensLine, OpensBlock, IsBlockComment, IsSymbol};
+ghost use Rattle.std.specs.Prelude.{◌≡◌, ℕ, ◌+◌, ◌<◌, length, slice_index, MatchOption};
+ghost use Rattle.uspec_lexer.specs.Bytes.{number_value};
+ghost use Rattle.uspec_lexer.specs.Piece.{opening_at as opening_spec, IsBlockComment};
 ghost use Rattle.uspec_lexer.specs.Scan.{IsPieceAt};
+ghost use Rattle.uspec_lexer.specs.declared.grammar.Opening.TheVariants.{Number, Text, BlockComment};
 
-use super::class::{Class, is_blank, is_letter, is_text_byte};
+use super::class::{Class, is_blank};
+use super::grammar::{LexicalGrammar, Opening};
 use super::token::TokenKind;
 
 /// What a piece of a text is.
@@ -30,33 +32,37 @@ impl Piece {
     }
 }
 
-/// The byte at `k`, or NUL after the end: no piece has a NUL where it is asked for.
-fn byte_or_nul(bytes: &[u8], k: usize) -> u8
+/// The byte at `k`, or NUL after the end.
+pub fn byte_or_nul(bytes: &[u8], k: usize) -> u8
     ensures { result ≡ slice_index bytes.now k }
 {
     bytes.get(k).copied().unwrap_or(0)
 }
 
-/// Whether `%` or `//` stands at `at`.
-fn opens_line(bytes: &[u8], at: usize) -> bool
+/// What the byte at `at` begins, with the one after it.
+#[tactic(auto, unfolding(crate::specs::Piece::opening_at))]
+fn opening_at<L: LexicalGrammar>(bytes: &[u8], at: usize) -> Opening
     requires { at < length bytes.now }
-    ensures { IsTrue result ↔ OpensLine bytes.now at }
+    ensures { result ≡ opening_spec L.table bytes.now at }
 {
-    bytes[at] == b'%' || (bytes[at] == b'/' && byte_or_nul(bytes, at + 1) == b'/')
-}
-
-/// Whether `(*` stands at `at`.
-fn opens_block(bytes: &[u8], at: usize) -> bool
-    requires { at < length bytes.now }
-    ensures { IsTrue result ↔ OpensBlock bytes.now at }
-{
-    bytes[at] == b'(' && byte_or_nul(bytes, at + 1) == b'*'
+    let first = bytes[at];
+    let second = byte_or_nul(bytes, at + 1);
+    if is_blank(first) {
+        Opening::Blank
+    } else if first.is_ascii_alphabetic() {
+        Opening::Name
+    } else if first.is_ascii_digit() {
+        Opening::Number
+    } else if first == b'(' && second == b'*' {
+        Opening::BlockComment
+    } else {
+        L::opening(first, second)
+    }
 }
 
 /// The value of decimal digits, or `None` past the greatest `u64`.
 #[tactic(auto, using(crate::proofs::Digits::digits_so_far))]
 fn value_of(digits: &[u8]) -> Option<u64>
-    requires { EachIndex digits.now (λ k. IsDigit (slice_index digits.now k)) }
     ensures { MatchOption result (18446744073709551615 < number_value digits.now)
         (λ value. value ≡ number_value digits.now) }
 {
@@ -64,34 +70,39 @@ fn value_of(digits: &[u8]) -> Option<u64>
     for digit in digits {
         value = value
             .checked_mul(10)?
-            .checked_add(u64::from(*digit - b'0'))?;
+            .checked_add(u64::from(digit.saturating_sub(b'0')))?;
     }
     Some(value)
 }
 
-/// The end of the text whose opening quote stands at `at`.
-fn text_end(bytes: &[u8], at: usize) -> Option<usize>
+/// The number that begins at `at`.
+fn number_at<L: LexicalGrammar>(bytes: &[u8], at: usize) -> Option<Piece>
     requires within { at < length bytes.now }
-    requires opens { slice_index bytes.now at ≡ 0x22 }
-    ensures { MatchOption result ((b : ℕ) → ¬ IsText bytes.now at b) (λ end. IsText bytes.now at end) }
+    requires opens { opening_spec L.table bytes.now at ≡ Number }
+    ensures { IsPieceAt L.table bytes.now at result }
 {
-    let mut end = at + 1;
-    while end < bytes.len() {
-        if bytes[end] == b'"' {
-            return Some(end + 1);
-        }
-        if !is_text_byte(bytes[end]) {
-            return None;
-        }
-        end += 1;
+    let end = Class::Digit.run_end::<L>(bytes, at + 1);
+    let value = value_of(&bytes[at..end])?;
+    Some(Piece::new(Form::Token(TokenKind::Number(value)), end))
+}
+
+/// The text whose opening quote stands at `at`.
+fn text_at<L: LexicalGrammar>(bytes: &[u8], at: usize) -> Option<Piece>
+    requires within { at < length bytes.now }
+    requires opens { opening_spec L.table bytes.now at ≡ Text }
+    ensures { IsPieceAt L.table bytes.now at result }
+{
+    let end = Class::TextByte.run_end::<L>(bytes, at + 1);
+    if end < bytes.len() && bytes[end] == b'"' {
+        Some(Piece::new(Form::Token(TokenKind::Text), end + 1))
+    } else {
+        None
     }
-    None
 }
 
 /// The end of the comment whose `(*` stands at `at`.
 fn block_comment_end(bytes: &[u8], at: usize) -> Option<usize>
-    requires within { at + 1 < length bytes.now }
-    requires opens { OpensBlock bytes.now at }
+    requires { at < length bytes.now }
     ensures { MatchOption result ((b : ℕ) → ¬ IsBlockComment bytes.now at b) (λ end. IsBlockComment bytes.now at end) }
 {
     let mut end = at + 2;
@@ -104,58 +115,38 @@ fn block_comment_end(bytes: &[u8], at: usize) -> Option<usize>
     None
 }
 
-/// The end of the symbol at `at`.
-fn symbol_end(bytes: &[u8], at: usize) -> Option<usize>
-    requires { at < length bytes.now }
-    ensures { MatchOption result ((b : ℕ) → ¬ IsSymbol bytes.now at b) (λ end. IsSymbol bytes.now at end) }
-{
-    match (bytes[at], byte_or_nul(bytes, at + 1)) {
-        (b'(', b'*') => None,
-        (b'(' | b')' | b'[' | b']' | b',' | b';' | b':' | b'.' | b'~', _) => Some(at + 1),
-        (b'/', b'\\') | (b'\\', b'/') | (b'=' | b'-', b'>') => Some(at + 2),
-        _ => None,
-    }
-}
-
-/// The piece that begins at `at` with a digit.
-fn number_at(bytes: &[u8], at: usize) -> Option<Piece>
+/// The comment whose `(*` stands at `at`.
+fn block_comment_at<L: LexicalGrammar>(bytes: &[u8], at: usize) -> Option<Piece>
     requires within { at < length bytes.now }
-    requires first { IsDigit (slice_index bytes.now at) }
-    ensures { IsPieceAt bytes.now at result }
+    requires opens { opening_spec L.table bytes.now at ≡ BlockComment }
+    ensures { IsPieceAt L.table bytes.now at result }
 {
-    let end = Class::Digit.run_end(bytes, at);
-    let value = value_of(&bytes[at..end])?;
-    Some(Piece::new(Form::Token(TokenKind::Number(value)), end))
+    let end = block_comment_end(bytes, at)?;
+    Some(Piece::new(Form::Comment, end))
 }
 
 /// The piece that begins at `at`: the longest one.
-pub(crate) fn piece_at(bytes: &[u8], at: usize) -> Option<Piece>
+pub(crate) fn piece_at<L: LexicalGrammar>(bytes: &[u8], at: usize) -> Option<Piece>
     requires { at < length bytes.now }
-    ensures { IsPieceAt bytes.now at result }
+    ensures { IsPieceAt L.table bytes.now at result }
 {
-    let first = bytes[at];
-    if is_blank(first) {
-        return Some(Piece::new(Form::Blank, at + 1));
+    match opening_at::<L>(bytes, at) {
+        Opening::Blank => Some(Piece::new(Form::Blank, at + 1)),
+        Opening::LineComment => {
+            let end = Class::LineByte.run_end::<L>(bytes, at + 1);
+            Some(Piece::new(Form::Comment, end))
+        }
+        Opening::BlockComment => block_comment_at::<L>(bytes, at),
+        Opening::Name => {
+            let end = Class::NameByte.run_end::<L>(bytes, at + 1);
+            Some(Piece::new(Form::Token(TokenKind::Name), end))
+        }
+        Opening::Number => number_at::<L>(bytes, at),
+        Opening::Text => text_at::<L>(bytes, at),
+        Opening::ShortSymbol => Some(Piece::new(Form::Token(TokenKind::Symbol), at + 1)),
+        Opening::LongSymbol if at + 1 < bytes.len() => {
+            Some(Piece::new(Form::Token(TokenKind::Symbol), at + 2))
+        }
+        Opening::LongSymbol | Opening::Nothing => None,
     }
-    if is_letter(first) {
-        let end = Class::NameByte.run_end(bytes, at);
-        return Some(Piece::new(Form::Token(TokenKind::Name), end));
-    }
-    if Class::Digit.has(first) {
-        return number_at(bytes, at);
-    }
-    if first == b'"' {
-        let end = text_end(bytes, at)?;
-        return Some(Piece::new(Form::Token(TokenKind::Text), end));
-    }
-    if opens_line(bytes, at) {
-        let end = Class::LineByte.run_end(bytes, at);
-        return Some(Piece::new(Form::Comment, end));
-    }
-    if opens_block(bytes, at) {
-        let end = block_comment_end(bytes, at)?;
-        return Some(Piece::new(Form::Comment, end));
-    }
-    let end = symbol_end(bytes, at)?;
-    Some(Piece::new(Form::Token(TokenKind::Symbol), end))
 }

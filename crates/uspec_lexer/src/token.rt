@@ -7,13 +7,13 @@ use pc_common::Place;
 /// What a token is.
 #[derive(Clone, Copy, Debug, PartialEq, Eq)]
 pub enum TokenKind {
-    /// A letter, then letters, digits, `_` and `'`.
+    /// A letter, and then what the lexical grammar has in a name.
     Name,
     /// Decimal digits, with their value.
     Number(u64),
-    /// A text in double quotes, quotes included.
+    /// A text in double quotes, quotes included. Not each lexical grammar has texts.
     Text,
-    /// One of `( ) [ ] , ; : . ~ /\ \/ => ->`.
+    /// One of the lexical grammar's symbols.
     Symbol,
 }
 

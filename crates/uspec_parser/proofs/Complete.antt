@@ -138,13 +138,17 @@ binding_of : (q : Quantifier) (xs rest : List Lexeme) (l : Operands) → Row xs 
     → Operand (placed (spelled_quantifier_word u) q.at ∷ plain (spelled_sort q.sort) ∷ quoted q.bound ∷ plain Comma ∷ xs)
     (quantified q.universal q.at q.sort q.bound.name (formula_of l)) rest
 binding_of q xs rest l body true e =
-    let same : quantified true q.at (sort_by (spelled_sort q.sort)) q.bound.name (formula_of l) ≡ quantified q.universal q.at q.sort q.bound.name (formula_of l) =
+    let same : quantified true q.at (sort_by (spelled_sort q.sort)) q.bound.name (formula_of l) ≡ quantified q.universal
+    q.at q.sort q.bound.name (formula_of l) =
     let s = sort_is q.sort in cc in
-    subst (λ (w : Written). Operand (placed Forall q.at ∷ plain (spelled_sort q.sort) ∷ quoted q.bound ∷ plain Comma ∷ xs) w rest) same (Operand.bound true refl body)
+    subst (λ (w : Written). Operand (placed Forall q.at ∷ plain (spelled_sort q.sort) ∷ quoted q.bound ∷ plain Comma ∷ xs) w rest)
+    same (Operand.bound true refl body)
 binding_of q xs rest l body false e =
-    let same : quantified false q.at (sort_by (spelled_sort q.sort)) q.bound.name (formula_of l) ≡ quantified q.universal q.at q.sort q.bound.name (formula_of l) =
+    let same : quantified false q.at (sort_by (spelled_sort q.sort)) q.bound.name (formula_of l) ≡ quantified q.universal
+    q.at q.sort q.bound.name (formula_of l) =
     let s = sort_is q.sort in cc in
-    subst (λ (w : Written). Operand (placed Exists q.at ∷ plain (spelled_sort q.sort) ∷ quoted q.bound ∷ plain Comma ∷ xs) w rest) same (Operand.bound false refl body)
+    subst (λ (w : Written). Operand (placed Exists q.at ∷ plain (spelled_sort q.sort) ∷ quoted q.bound ∷ plain Comma ∷ xs) w rest)
+    same (Operand.bound false refl body)
 
 mutual
   operand_of : (u : OperandText) (rest : List Lexeme) → EndsAtom rest → Operand (spelled_operand u ++ rest) (meant_operand u) rest
@@ -183,7 +187,8 @@ items_made (axiom_item at label f ∷ is) =
     let rest = plain Dot ∷ spelled_model is in
     let row = subst (λ (xs : List Lexeme). Row xs (meant_operands f) rest) (sym (append_assoc (spelled_formula f) (plain Dot ∷ []) (spelled_model is)))
     (row_of f rest (refl, refl)) in
-    Items.goes_on {ss = []} {others = stages_of is} {is = axiom_ at (formula_of (meant_operands f)) ∷ []} {more = items_of is} (Item.axiom_line refl row) (items_made is)
+    Items.goes_on {ss = []} {others = stages_of is} {is = axiom_ at (formula_of (meant_operands f)) ∷ []} {more = items_of is}
+    (Item.axiom_line refl row) (items_made is)
 items_made (macro name parameters f ∷ is) =
     let rest = plain Dot ∷ spelled_model is in
     let form = macro_form (map quoted parameters) (spelled_formula f) (spelled_model is) (plain Colon) (plain Dot) in

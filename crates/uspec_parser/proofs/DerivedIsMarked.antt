@@ -8,7 +8,7 @@ use Rattle.pc_syntax.specs.declared.term.Arg.TheVariants.{Word as word_arg, Numb
 use Rattle.pc_syntax.specs.declared.term.NodeTerm.{NodeTerm}
 use Rattle.ll_grammar.specs.Rules.{Derives}
 use Rattle.ll_grammar.specs.declared.grammar.Symbol.{Symbol}
-use Rattle.ll_grammar.specs.declared.grammar.Symbol.TheVariants.{Class, Part}
+use Rattle.ll_grammar.specs.declared.grammar.Symbol.TheVariants.{Terminal as a_terminal, Nonterminal as a_nonterminal}
 use Rattle.ll_grammar.proofs.DerivesLaws.{IsClosedUnder, meaning}
 use Rattle.uspec_parser.proofs.Payloads.{Payload, with_payload, HavePayloads, some_lexeme, payloads-somes, terminals-somes, EachWithPayload, Means, rule_of}
 use Rattle.uspec_parser.proofs.Payloads.EachWithPayload.{none, class, part}
@@ -18,7 +18,7 @@ use Rattle.uspec_parser.specs.declared.operands.Connective.TheVariants.{And as c
 use Rattle.uspec_parser.specs.Syntax.{spelled_arg, spelled_location, spelled_node, Label, named, other, spelled_label, Labels, unlabelled, labelled, coloured, spelled_labels, Edge as EdgeText, spelled_edge, empty, some, spelled_others, spelled_elements, Atom, one_edge, one_node, edge_list, node_list, expand, predicate, spelled_atom, spelled_sort, spelled_connective, Formula, last, last_wide, more, atom, bracketed, negated, binding, negated_wide, spelled_formula, Item, stage, axiom_item, macro, spelled_model}
 use Rattle.uspec_parser.specs.Levels.{is_deep, level_of, behind_and, behind_or, behind_implies}
 use Rattle.uspec_parser.specs.Marks.{shallow, open_at, level_behind, marks_formula, marks_outer, marks_model, IsMarkedFormula, IsMarkedModel}
-use Rattle.uspec_parser.specs.Phrases.{behind, may_end, deep, rules}
+use Rattle.uspec_parser.specs.Phrases.{production, is_nullable, deep, rules}
 use Rattle.uspec_parser.specs.declared.level.Level.{Level}
 use Rattle.uspec_parser.specs.declared.terminal.Terminal.{Terminal}
 use Rattle.uspec_parser.specs.declared.terminal.Terminal.TheVariants.{StageName, Axiom, DefineMacro, ExpandMacro, Forall, Exists, Microop, Core, OneEdge, EdgeList, OneNode, NodeList, Name, Number, Quoted, Text, Open, Close, OpenBracket, CloseBracket, Comma, Semicolon, Colon, Dot, Not, And, Or, Implies}
@@ -62,7 +62,7 @@ Texts MoreNodes xs marks = Flat (λ (o : List NodeTerm × Bool). spelled_others 
 Texts Edges xs marks = Flat (spelled_elements spelled_edge) xs marks
 Texts MoreEdges xs marks = Flat (λ (o : List EdgeText × Bool). spelled_others spelled_edge o.0 o.1) xs marks
 
-texts-end : (n : Phrase) → IsTrue (may_end n) → Texts n [] []
+texts-end : (n : Phrase) → IsTrue (is_nullable n) → Texts n [] []
 texts-end Items h = ([], refl, refl)
 texts-end Parameters h = ([], refl, refl)
 texts-end (More l) h = (None, refl, refl)
@@ -86,19 +86,21 @@ abbrev Keeps : Phrase → Terminal → List (Symbol Terminal Phrase) → Type 0
 Keeps n c body =
     (p : Payload c) (xs : List Lexeme) (marks : List Bool) → EachWithPayload Texts body xs marks → Texts n (with_payload c p ∷ xs) (deep n c ∷ marks)
 
-items_stage : Keeps Items StageName (Class Number ∷ Class Quoted ∷ Class Dot ∷ Part Items ∷ [])
+items_stage : Keeps Items StageName (a_terminal Number ∷ a_terminal Quoted ∷ a_terminal Dot ∷ a_nonterminal Items ∷ [])
 items_stage _ _ _ (class n (class w (class _ (part (is, e, f) none)))) =
     (stage (record { number = n.0; number_at = n.1; name = w }) ∷ is, simp (e, append-nil), simp (f, append-nil))
 
-items_axiom : Keeps Items Axiom (Part LabelPhrase ∷ Class Colon ∷ Part (Operand (level_of 0) 0) ∷ Class Dot ∷ Part Items ∷ [])
+items_axiom : Keeps Items Axiom
+    (a_nonterminal LabelPhrase ∷ a_terminal Colon ∷ a_nonterminal (Operand (level_of 0) 0) ∷ a_terminal Dot ∷ a_nonterminal Items ∷ [])
 items_axiom at _ _ (part (l, e, f) (class _ (part (b, g, h) (class _ (part (is, i, j) none))))) =
     (axiom_item at l b ∷ is, simp (e, g, i, append-nil, append_assoc), simp (f, h, j, append-nil, append_assoc))
 
-items_macro : Keeps Items DefineMacro (Class Quoted ∷ Part Parameters ∷ Class Colon ∷ Part (Operand (level_of 0) 0) ∷ Class Dot ∷ Part Items ∷ [])
+items_macro : Keeps Items DefineMacro
+    (a_terminal Quoted ∷ a_nonterminal Parameters ∷ a_terminal Colon ∷ a_nonterminal (Operand (level_of 0) 0) ∷ a_terminal Dot ∷ a_nonterminal Items ∷ [])
 items_macro _ _ _ (class w (part (ws, e, f) (class _ (part (b, g, h) (class _ (part (is, i, j) none)))))) =
     (macro w ws b ∷ is, simp (e, g, i, append-nil, append_assoc), simp (f, h, j, append-nil, append_assoc))
 
-parameters_more : Keeps Parameters Quoted (Part Parameters ∷ [])
+parameters_more : Keeps Parameters Quoted (a_nonterminal Parameters ∷ [])
 parameters_more w _ _ (part (ws, e, f) none) = (w ∷ ws, simp (e, append-nil), simp (f, append-nil))
 
 label_quoted : Keeps LabelPhrase Quoted []
@@ -123,42 +125,42 @@ unfolding with_tail
 tail_marks l n a None = sym (append-nil (shallow (spelled_atom a)))
 tail_marks l n a (Some t) = refl
 
-operand_one_edge : (l : Level) (n : ℕ) → Keeps (Operand l n) OneEdge (Part Edge ∷ Part (More l) ∷ [])
+operand_one_edge : (l : Level) (n : ℕ) → Keeps (Operand l n) OneEdge (a_nonterminal Edge ∷ a_nonterminal (More l) ∷ [])
 operand_one_edge l n _ _ _ (part (x, e, f) (part (t, g, h) none)) = (
   with_tail (one_edge x) t,
   simp (e, g, append-nil, tail_lexemes (one_edge x) t),
   simp (f, h, append-nil, tail_marks l n (one_edge x) t),
 )
 
-operand_edges : (l : Level) (n : ℕ) → Keeps (Operand l n) EdgeList (Class OpenBracket ∷ Part Edges ∷ Part (More l) ∷ [])
+operand_edges : (l : Level) (n : ℕ) → Keeps (Operand l n) EdgeList (a_terminal OpenBracket ∷ a_nonterminal Edges ∷ a_nonterminal (More l) ∷ [])
 operand_edges l n _ _ _ (class _ (part (x, e, f) (part (t, g, h) none))) = (
   with_tail (edge_list x) t,
   simp (e, g, append-nil, tail_lexemes (edge_list x) t),
   simp (f, h, append-nil, tail_marks l n (edge_list x) t),
 )
 
-operand_one_node : (l : Level) (n : ℕ) → Keeps (Operand l n) OneNode (Part Node ∷ Part (More l) ∷ [])
+operand_one_node : (l : Level) (n : ℕ) → Keeps (Operand l n) OneNode (a_nonterminal Node ∷ a_nonterminal (More l) ∷ [])
 operand_one_node l n _ _ _ (part (x, e, f) (part (t, g, h) none)) = (
   with_tail (one_node x) t,
   simp (e, g, append-nil, tail_lexemes (one_node x) t),
   simp (f, h, append-nil, tail_marks l n (one_node x) t),
 )
 
-operand_nodes : (l : Level) (n : ℕ) → Keeps (Operand l n) NodeList (Class OpenBracket ∷ Part Nodes ∷ Part (More l) ∷ [])
+operand_nodes : (l : Level) (n : ℕ) → Keeps (Operand l n) NodeList (a_terminal OpenBracket ∷ a_nonterminal Nodes ∷ a_nonterminal (More l) ∷ [])
 operand_nodes l n _ _ _ (class _ (part (x, e, f) (part (t, g, h) none))) = (
   with_tail (node_list x) t,
   simp (e, g, append-nil, tail_lexemes (node_list x) t),
   simp (f, h, append-nil, tail_marks l n (node_list x) t),
 )
 
-operand_expand : (l : Level) (n : ℕ) → Keeps (Operand l n) ExpandMacro (Class Name ∷ Part Arguments ∷ Part (More l) ∷ [])
+operand_expand : (l : Level) (n : ℕ) → Keeps (Operand l n) ExpandMacro (a_terminal Name ∷ a_nonterminal Arguments ∷ a_nonterminal (More l) ∷ [])
 operand_expand l n at _ _ (class w (part (x, e, f) (part (t, g, h) none))) = (
   with_tail (expand at w x) t,
   simp (e, g, append-nil, tail_lexemes (expand at w x) t),
   simp (f, h, append-nil, tail_marks l n (expand at w x) t),
 )
 
-operand_name : (l : Level) (n : ℕ) → Keeps (Operand l n) Name (Part Arguments ∷ Part (More l) ∷ [])
+operand_name : (l : Level) (n : ℕ) → Keeps (Operand l n) Name (a_nonterminal Arguments ∷ a_nonterminal (More l) ∷ [])
 operand_name l n w _ _ (part (x, e, f) (part (t, g, h) none)) = (
   with_tail (predicate w x) t,
   simp (e, g, append-nil, tail_lexemes (predicate w x) t),
@@ -166,19 +168,19 @@ operand_name l n w _ _ (part (x, e, f) (part (t, g, h) none)) = (
 )
 
 operand_open : (l : Level) (n : ℕ)
-    → Keeps (Operand l n) Open (Part (Operand (level_of (n + 1)) (n + 1)) ∷ Class Close ∷ Part (More l) ∷ [])
+    → Keeps (Operand l n) Open (a_nonterminal (Operand (level_of (n + 1)) (n + 1)) ∷ a_terminal Close ∷ a_nonterminal (More l) ∷ [])
 operand_open l n _ _ _ (part (b, e, f) (class _ (part (None, g, h) none))) =
     (last (bracketed b), simp (e, g, append-nil), simp (f, h, append-nil))
 operand_open l n _ _ _ (part (b, e, f) (class _ (part (Some t, g, h) none))) =
     (more (bracketed b) t.0 t.1, simp (e, g, append-nil, append_assoc), simp (f, h, append-nil, append_assoc))
 
-operand_not : (l : Level) (n : ℕ) → Keeps (Operand l n) Not (Part (Operand l (n + 1)) ∷ [])
+operand_not : (l : Level) (n : ℕ) → Keeps (Operand l n) Not (a_nonterminal (Operand l (n + 1)) ∷ [])
 operand_not l n _ _ _ (part (last u, e, f) none) = (last (negated u), simp (e, append-nil), simp (f, append-nil))
 operand_not l n _ _ _ (part (last_wide w, e, f) none) = (last_wide (negated_wide w), simp (e, append-nil), simp (f, append-nil))
 operand_not l n _ _ _ (part (more u op b, e, f) none) = (more (negated u) op b, simp (e, append-nil), simp (f, append-nil))
 
 operand_forall : (l : Level) (n : ℕ)
-    → Keeps (Operand l n) Forall (Part SortWord ∷ Class Quoted ∷ Class Comma ∷ Part (Operand (level_of (n + 1)) (n + 1)) ∷ [])
+    → Keeps (Operand l n) Forall (a_nonterminal SortWord ∷ a_terminal Quoted ∷ a_terminal Comma ∷ a_nonterminal (Operand (level_of (n + 1)) (n + 1)) ∷ [])
 operand_forall l n at _ _ (part (s, e, f) (class w (class _ (part (b, g, h) none)))) = (
   last_wide (binding (record { universal = true; at = at; sort = s; bound = w }) b),
   simp (e, g, append-nil),
@@ -186,26 +188,26 @@ operand_forall l n at _ _ (part (s, e, f) (class w (class _ (part (b, g, h) none
 )
 
 operand_exists : (l : Level) (n : ℕ)
-    → Keeps (Operand l n) Exists (Part SortWord ∷ Class Quoted ∷ Class Comma ∷ Part (Operand (level_of (n + 1)) (n + 1)) ∷ [])
+    → Keeps (Operand l n) Exists (a_nonterminal SortWord ∷ a_terminal Quoted ∷ a_terminal Comma ∷ a_nonterminal (Operand (level_of (n + 1)) (n + 1)) ∷ [])
 operand_exists l n at _ _ (part (s, e, f) (class w (class _ (part (b, g, h) none)))) = (
   last_wide (binding (record { universal = false; at = at; sort = s; bound = w }) b),
   simp (e, g, append-nil),
   simp (f, h, append-nil),
 )
 
-more_and : (l : Level) → Keeps (More l) And (Part (Operand (behind_and l) (l.at_and + 1)) ∷ [])
+more_and : (l : Level) → Keeps (More l) And (a_nonterminal (Operand (behind_and l) (l.at_and + 1)) ∷ [])
 more_and l _ _ _ (part (b, e, f) none) = (Some (conjoins, b), simp (e, append-nil), simp (f, append-nil))
 
-more_or : (l : Level) → Keeps (More l) Or (Part (Operand (behind_or l) (l.at_or + 1)) ∷ [])
+more_or : (l : Level) → Keeps (More l) Or (a_nonterminal (Operand (behind_or l) (l.at_or + 1)) ∷ [])
 more_or l _ _ _ (part (b, e, f) none) = (Some (disjoins, b), simp (e, append-nil), simp (f, append-nil))
 
-more_implies : (l : Level) → Keeps (More l) Implies (Part (Operand (behind_implies l) (l.at_implies + 1)) ∷ [])
+more_implies : (l : Level) → Keeps (More l) Implies (a_nonterminal (Operand (behind_implies l) (l.at_implies + 1)) ∷ [])
 more_implies l _ _ _ (part (b, e, f) none) = (Some (implies, b), simp (e, append-nil), simp (f, append-nil))
 
-arguments_name : Keeps Arguments Name (Part Arguments ∷ [])
+arguments_name : Keeps Arguments Name (a_nonterminal Arguments ∷ [])
 arguments_name w _ _ (part (xs, e, f) none) = (word_arg w ∷ xs, simp (e, append-nil), simp (f, append-nil))
 
-arguments_number : Keeps Arguments Number (Part Arguments ∷ [])
+arguments_number : Keeps Arguments Number (a_nonterminal Arguments ∷ [])
 arguments_number n _ _ (part (xs, e, f) none) = (number_arg n.0 n.1 ∷ xs, simp (e, append-nil), simp (f, append-nil))
 
 argument_name : Keeps Argument Name []
@@ -240,30 +242,30 @@ mark x = false
 abbrev node_at : Word → Option Arg × Word → NodeTerm
 node_at w l = record { op = w; core = l.0; stage = l.1 }
 
-node_open : Keeps Node Open (Class Name ∷ Class Comma ∷ Part Location ∷ Class Close ∷ [])
+node_open : Keeps Node Open (a_terminal Name ∷ a_terminal Comma ∷ a_nonterminal Location ∷ a_terminal Close ∷ [])
 node_open _ _ _ (class w (class _ (part (l, e, f) (class _ none)))) = (node_at w l, simp e, simp (f, map-append))
 
 location_name : Keeps Location Name []
 location_name w _ _ none = ((None, w), refl, refl)
 
-location_open : Keeps Location Open (Part Argument ∷ Class Comma ∷ Class Name ∷ Class Close ∷ [])
+location_open : Keeps Location Open (a_nonterminal Argument ∷ a_terminal Comma ∷ a_terminal Name ∷ a_terminal Close ∷ [])
 location_open _ _ _ (part (a, e, f) (class _ (class w (class _ none)))) = ((Some a, w), simp e, simp f)
 
 abbrev edge_between : NodeTerm → NodeTerm → Labels → EdgeText
 edge_between m n l = record { term = record { from = m; to = n }; labels = l }
 
-edge_open : Keeps Edge Open (Part Node ∷ Class Comma ∷ Part Node ∷ Part LabelsPhrase ∷ Class Close ∷ [])
+edge_open : Keeps Edge Open (a_nonterminal Node ∷ a_terminal Comma ∷ a_nonterminal Node ∷ a_nonterminal LabelsPhrase ∷ a_terminal Close ∷ [])
 edge_open _ _ _ (part (m, e, f) (class _ (part (n, g, h) (part (l, i, j) (class _ none))))) = (
   edge_between m n l,
   simp (e, g, i),
   simp (f, h, j) (sym (edge_alone mark (plain Open) (plain Comma) (plain Close) (spelled_node m) (spelled_node n) (spelled_labels l))),
 )
 
-labels_comma : Keeps LabelsPhrase Comma (Part LabelPhrase ∷ Part SecondLabel ∷ [])
+labels_comma : Keeps LabelsPhrase Comma (a_nonterminal LabelPhrase ∷ a_nonterminal SecondLabel ∷ [])
 labels_comma _ _ _ (part (l, e, f) (part (None, g, h) none)) = (labelled l, simp (e, g), simp (f, h))
 labels_comma _ _ _ (part (l, e, f) (part (Some c, g, h) none)) = (coloured l c, simp (e, g), simp (f, h))
 
-second_comma : Keeps SecondLabel Comma (Part LabelPhrase ∷ [])
+second_comma : Keeps SecondLabel Comma (a_nonterminal LabelPhrase ∷ [])
 second_comma _ _ _ (part (l, e, f) none) = (Some l, simp e, simp f)
 
 sort_microop : Keeps SortWord Microop []
@@ -275,7 +277,7 @@ sort_core _ _ _ none = (core, refl, refl)
 nodes_close : Keeps Nodes CloseBracket []
 nodes_close _ _ _ none = (empty, refl, refl)
 
-nodes_open : Keeps Nodes Open (Class Name ∷ Class Comma ∷ Part Location ∷ Class Close ∷ Part MoreNodes ∷ [])
+nodes_open : Keeps Nodes Open (a_terminal Name ∷ a_terminal Comma ∷ a_nonterminal Location ∷ a_terminal Close ∷ a_nonterminal MoreNodes ∷ [])
 nodes_open _ _ _ (class w (class _ (part (l, e, f) (class _ (part (o, g, h) none))))) =
     let others = spelled_others spelled_node o.0 o.1 in (
       some (node_at w l) o.0 o.1,
@@ -286,29 +288,31 @@ nodes_open _ _ _ (class w (class _ (part (l, e, f) (class _ (part (o, g, h) none
 more_nodes_close : Keeps MoreNodes CloseBracket []
 more_nodes_close _ _ _ none = (([], false), refl, refl)
 
-more_nodes_semicolon : Keeps MoreNodes Semicolon (Part Nodes ∷ [])
+more_nodes_semicolon : Keeps MoreNodes Semicolon (a_nonterminal Nodes ∷ [])
 more_nodes_semicolon _ _ _ (part (empty, e, f) none) = (([], true), simp e, simp f)
 more_nodes_semicolon _ _ _ (part (some x xs t, e, f) none) = ((x ∷ xs, t), simp (e, append-nil), simp (f, append-nil))
 
 edges_close : Keeps Edges CloseBracket []
 edges_close _ _ _ none = (empty, refl, refl)
 
-edges_open : Keeps Edges Open (Part Node ∷ Class Comma ∷ Part Node ∷ Part LabelsPhrase ∷ Class Close ∷ Part MoreEdges ∷ [])
+edges_open : Keeps Edges Open (a_nonterminal Node ∷ a_terminal Comma ∷ a_nonterminal Node ∷ a_nonterminal LabelsPhrase
+    ∷ a_terminal Close ∷ a_nonterminal MoreEdges ∷ [])
 edges_open _ _ _ (part (m, e, f) (class _ (part (n, g, h) (part (l, i, j) (class _ (part (o, k, p) none)))))) =
     let others = spelled_others spelled_edge o.0 o.1 in (
       some (edge_between m n l) o.0 o.1,
       simp (e, g, i, k, append-nil) (sym (edge_behind (plain Open) (plain Comma) (plain Close) (spelled_node m) (spelled_node n) (spelled_labels l) others)),
-      simp (f, h, j, p, append-nil) (sym (edge_lexemes mark (plain Open) (plain Comma) (plain Close) (spelled_node m) (spelled_node n) (spelled_labels l) others)),
+      simp (f, h, j, p, append-nil) (sym
+          (edge_lexemes mark (plain Open) (plain Comma) (plain Close) (spelled_node m) (spelled_node n) (spelled_labels l) others)),
     )
 
 more_edges_close : Keeps MoreEdges CloseBracket []
 more_edges_close _ _ _ none = (([], false), refl, refl)
 
-more_edges_semicolon : Keeps MoreEdges Semicolon (Part Edges ∷ [])
+more_edges_semicolon : Keeps MoreEdges Semicolon (a_nonterminal Edges ∷ [])
 more_edges_semicolon _ _ _ (part (empty, e, f) none) = (([], true), simp e, simp f)
 more_edges_semicolon _ _ _ (part (some x xs t, e, f) none) = ((x ∷ xs, t), simp (e, append-nil), simp (f, append-nil))
 
-rule : (n : Phrase) (c : Terminal) → MatchOption (behind n c) (Unit {0}) (λ body. Keeps n c body)
+rule : (n : Phrase) (c : Terminal) → MatchOption (production n c) (Unit {0}) (λ body. Keeps n c body)
 rule Items StageName = items_stage
 rule Items Axiom = items_axiom
 rule Items DefineMacro = items_macro
@@ -369,10 +373,10 @@ rule MoreEdges _ = tt
 closed_rules : IsClosedUnder rules (Means Texts)
 closed_rules = record {
   empty = λ n h. ended n h;
-  rule = λ n c. rule_of Texts n c (behind n c) (rule n c);
+  rule = λ n c. rule_of Texts n c (production n c) (rule n c);
 }
   where
-    ended : (n : Phrase) → IsTrue (may_end n) → Means Texts n [] []
+    ended : (n : Phrase) → IsTrue (is_nullable n) → Means Texts n [] []
     ended n h [] payloads e = texts-end n h
     ended n h (x ∷ xs) payloads e = absurd (cc)
 

@@ -8,7 +8,7 @@ use Rattle.pc_syntax.specs.declared.term.Arg.{Arg}
 use Rattle.pc_syntax.specs.declared.term.Arg.TheVariants.{Word as word_arg, Number as number_arg}
 use Rattle.pc_syntax.specs.declared.term.NodeTerm.{NodeTerm}
 use Rattle.ll_grammar.specs.Rules.{Derives}
-use Rattle.ll_grammar.specs.declared.grammar.Symbol.TheVariants.{Class, Part}
+use Rattle.ll_grammar.specs.declared.grammar.Symbol.TheVariants.{Terminal as a_terminal, Nonterminal as a_nonterminal}
 use Rattle.ll_grammar.proofs.DerivesLaws.{derives-begin, derives-end}
 use Rattle.ll_grammar.proofs.DerivesLaws.Each.{none, class, part}
 use Rattle.uspec_parser.specs.Terminals.{Lexeme, plain, name_, quoted, terminal}
@@ -54,34 +54,34 @@ read_argument (number_arg n at) = derives-begin Argument Number [] refl none ref
 read_arguments : (args : List Arg) → Read Arguments (map spelled_arg args)
 read_arguments [] = derives-end Arguments refl
 read_arguments (word_arg w ∷ args) =
-    derives-begin Arguments Name (Part Arguments ∷ []) refl (part (read_arguments args) none) (simp append-nil) (simp append-nil)
+    derives-begin Arguments Name (a_nonterminal Arguments ∷ []) refl (part (read_arguments args) none) (simp append-nil) (simp append-nil)
 read_arguments (number_arg n at ∷ args) =
-    derives-begin Arguments Number (Part Arguments ∷ []) refl (part (read_arguments args) none) (simp append-nil) (simp append-nil)
+    derives-begin Arguments Number (a_nonterminal Arguments ∷ []) refl (part (read_arguments args) none) (simp append-nil) (simp append-nil)
 
 read_parameters : (ws : List Word) → Read Parameters (map quoted ws)
 read_parameters [] = derives-end Parameters refl
 read_parameters (w ∷ ws) =
-    derives-begin Parameters Quoted (Part Parameters ∷ []) refl (part (read_parameters ws) none) (simp append-nil) (simp append-nil)
+    derives-begin Parameters Quoted (a_nonterminal Parameters ∷ []) refl (part (read_parameters ws) none) (simp append-nil) (simp append-nil)
 
 read_location : (c : Option Arg) (s : Word) → Read Location (spelled_location c s)
 read_location None s = derives-begin Location Name [] refl none refl refl
 read_location (Some a) s =
-    derives-begin Location Open (Part Argument ∷ Class Comma ∷ Class Name ∷ Class Close ∷ []) refl
+    derives-begin Location Open (a_nonterminal Argument ∷ a_terminal Comma ∷ a_terminal Name ∷ a_terminal Close ∷ []) refl
     (part (read_argument a) (class (class (class none)))) refl refl
 
 read_node : (n : NodeTerm) → Read Node (spelled_node n)
 read_node n =
-    derives-begin Node Open (Class Name ∷ Class Comma ∷ Part Location ∷ Class Close ∷ []) refl
+    derives-begin Node Open (a_terminal Name ∷ a_terminal Comma ∷ a_nonterminal Location ∷ a_terminal Close ∷ []) refl
     (class (class (part (read_location n.core n.stage) (class none)))) (simp map-append) (simp map-append)
 
 read_labels : (l : Labels) → Read LabelsPhrase (spelled_labels l)
 read_labels unlabelled = derives-end LabelsPhrase refl
 read_labels (labelled l) =
-    derives-begin LabelsPhrase Comma (Part LabelPhrase ∷ Part SecondLabel ∷ []) refl
+    derives-begin LabelsPhrase Comma (a_nonterminal LabelPhrase ∷ a_nonterminal SecondLabel ∷ []) refl
     (part (read_label l) (part (derives-end SecondLabel refl) none)) refl refl
 read_labels (coloured l c) =
-    derives-begin LabelsPhrase Comma (Part LabelPhrase ∷ Part SecondLabel ∷ []) refl
-    (part (read_label l) (part (derives-begin SecondLabel Comma (Part LabelPhrase ∷ []) refl (part (read_label c) none) refl refl) none))
+    derives-begin LabelsPhrase Comma (a_nonterminal LabelPhrase ∷ a_nonterminal SecondLabel ∷ []) refl
+    (part (read_label l) (part (derives-begin SecondLabel Comma (a_nonterminal LabelPhrase ∷ []) refl (part (read_label c) none) refl refl) none))
     refl refl
 
 read_edge : (e : EdgeText) → Read Edge (spelled_edge e)
@@ -89,7 +89,7 @@ read_edge e =
     let m = spelled_node e.term.from in
     let n = spelled_node e.term.to in
     let l = spelled_labels e.labels in
-    derives-begin Edge Open (Part Node ∷ Class Comma ∷ Part Node ∷ Part LabelsPhrase ∷ Class Close ∷ []) refl
+    derives-begin Edge Open (a_nonterminal Node ∷ a_terminal Comma ∷ a_nonterminal Node ∷ a_nonterminal LabelsPhrase ∷ a_terminal Close ∷ []) refl
     (part (read_node e.term.from) (class (part (read_node e.term.to) (part (read_labels e.labels) (class none)))))
     (edge_alone terminal (plain Open) (plain Comma) (plain Close) m n l) (edge_alone mark (plain Open) (plain Comma) (plain Close) m n l)
 
@@ -97,7 +97,7 @@ read_edge e =
 read_first_node : (n : NodeTerm) (xs : List Lexeme) → Read MoreNodes xs → Read Nodes (spelled_node n ++ xs)
 read_first_node n xs reads =
     let l = spelled_location n.core n.stage in
-    derives-begin Nodes Open (Class Name ∷ Class Comma ∷ Part Location ∷ Class Close ∷ Part MoreNodes ∷ []) refl
+    derives-begin Nodes Open (a_terminal Name ∷ a_terminal Comma ∷ a_nonterminal Location ∷ a_terminal Close ∷ a_nonterminal MoreNodes ∷ []) refl
     (class (class (part (read_location n.core n.stage) (class (part reads none)))))
     (simp append-nil (node_lexemes terminal (plain Open) (name_ n.op) (plain Comma) (plain Close) l xs))
     (simp append-nil (node_lexemes mark (plain Open) (name_ n.op) (plain Comma) (plain Close) l xs))
@@ -105,9 +105,9 @@ read_first_node n xs reads =
 read_more_nodes : (ns : List NodeTerm) (t : Bool) → Read MoreNodes (spelled_others spelled_node ns t)
 read_more_nodes [] false = derives-begin MoreNodes CloseBracket [] refl none refl refl
 read_more_nodes [] true =
-    derives-begin MoreNodes Semicolon (Part Nodes ∷ []) refl (part (derives-begin Nodes CloseBracket [] refl none refl refl) none) refl refl
+    derives-begin MoreNodes Semicolon (a_nonterminal Nodes ∷ []) refl (part (derives-begin Nodes CloseBracket [] refl none refl refl) none) refl refl
 read_more_nodes (n ∷ ns) t =
-    derives-begin MoreNodes Semicolon (Part Nodes ∷ []) refl
+    derives-begin MoreNodes Semicolon (a_nonterminal Nodes ∷ []) refl
     (part (read_first_node n (spelled_others spelled_node ns t) (read_more_nodes ns t)) none) (simp append-nil) (simp append-nil)
 
 read_nodes : (l : Listing NodeTerm) → Read Nodes (spelled_elements spelled_node l)
@@ -119,7 +119,8 @@ read_first_edge e xs reads =
     let m = spelled_node e.term.from in
     let n = spelled_node e.term.to in
     let l = spelled_labels e.labels in
-    derives-begin Edges Open (Part Node ∷ Class Comma ∷ Part Node ∷ Part LabelsPhrase ∷ Class Close ∷ Part MoreEdges ∷ []) refl
+    derives-begin Edges Open (a_nonterminal Node ∷ a_terminal Comma ∷ a_nonterminal Node ∷ a_nonterminal LabelsPhrase
+    ∷ a_terminal Close ∷ a_nonterminal MoreEdges ∷ []) refl
     (part (read_node e.term.from) (class (part (read_node e.term.to) (part (read_labels e.labels) (class (part reads none))))))
     (simp append-nil (edge_lexemes terminal (plain Open) (plain Comma) (plain Close) m n l xs))
     (simp append-nil (edge_lexemes mark (plain Open) (plain Comma) (plain Close) m n l xs))
@@ -127,9 +128,9 @@ read_first_edge e xs reads =
 read_more_edges : (es : List EdgeText) (t : Bool) → Read MoreEdges (spelled_others spelled_edge es t)
 read_more_edges [] false = derives-begin MoreEdges CloseBracket [] refl none refl refl
 read_more_edges [] true =
-    derives-begin MoreEdges Semicolon (Part Edges ∷ []) refl (part (derives-begin Edges CloseBracket [] refl none refl refl) none) refl refl
+    derives-begin MoreEdges Semicolon (a_nonterminal Edges ∷ []) refl (part (derives-begin Edges CloseBracket [] refl none refl refl) none) refl refl
 read_more_edges (e ∷ es) t =
-    derives-begin MoreEdges Semicolon (Part Edges ∷ []) refl
+    derives-begin MoreEdges Semicolon (a_nonterminal Edges ∷ []) refl
     (part (read_first_edge e (spelled_others spelled_edge es t) (read_more_edges es t)) none) (simp append-nil) (simp append-nil)
 
 read_edges : (l : Listing EdgeText) → Read Edges (spelled_elements spelled_edge l)
@@ -147,40 +148,45 @@ ReadMore l cs marks = Derives rules (More l) cs marks
 read_atom : (l : Level) (n : ℕ) (a : Atom) {cs : List Terminal} {marks : List Bool} → ReadMore l cs marks
     → Derives rules (Operand l n) (map terminal (spelled_atom a) ++ cs) (shallow (spelled_atom a) ++ marks)
 read_atom l n (one_edge e) reads =
-    derives-begin (Operand l n) OneEdge (Part Edge ∷ Part (More l) ∷ []) refl (part (read_edge e) (part reads none)) (simp append-nil) (simp append-nil)
+    derives-begin (Operand l n) OneEdge (a_nonterminal Edge ∷ a_nonterminal (More l) ∷ []) refl (part (read_edge e) (part reads none))
+    (simp append-nil) (simp append-nil)
 read_atom l n (one_node m) reads =
-    derives-begin (Operand l n) OneNode (Part Node ∷ Part (More l) ∷ []) refl (part (read_node m) (part reads none)) (simp append-nil) (simp append-nil)
+    derives-begin (Operand l n) OneNode (a_nonterminal Node ∷ a_nonterminal (More l) ∷ []) refl (part (read_node m) (part reads none))
+    (simp append-nil) (simp append-nil)
 read_atom l n (edge_list es) reads =
-    derives-begin (Operand l n) EdgeList (Class OpenBracket ∷ Part Edges ∷ Part (More l) ∷ []) refl
+    derives-begin (Operand l n) EdgeList (a_terminal OpenBracket ∷ a_nonterminal Edges ∷ a_nonterminal (More l) ∷ []) refl
     (class (part (read_edges es) (part reads none))) (simp append-nil) (simp append-nil)
 read_atom l n (node_list ns) reads =
-    derives-begin (Operand l n) NodeList (Class OpenBracket ∷ Part Nodes ∷ Part (More l) ∷ []) refl
+    derives-begin (Operand l n) NodeList (a_terminal OpenBracket ∷ a_nonterminal Nodes ∷ a_nonterminal (More l) ∷ []) refl
     (class (part (read_nodes ns) (part reads none))) (simp append-nil) (simp append-nil)
 read_atom l n (expand at name args) reads =
-    derives-begin (Operand l n) ExpandMacro (Class Name ∷ Part Arguments ∷ Part (More l) ∷ []) refl
+    derives-begin (Operand l n) ExpandMacro (a_terminal Name ∷ a_nonterminal Arguments ∷ a_nonterminal (More l) ∷ []) refl
     (class (part (read_arguments args) (part reads none))) (simp append-nil) (simp append-nil)
 read_atom l n (predicate name args) reads =
-    derives-begin (Operand l n) Name (Part Arguments ∷ Part (More l) ∷ []) refl
+    derives-begin (Operand l n) Name (a_nonterminal Arguments ∷ a_nonterminal (More l) ∷ []) refl
     (part (read_arguments args) (part reads none)) (simp append-nil) (simp append-nil)
 
 read_connective : (l : Level) (op : Connective) {cs : List Terminal} {marks : List Bool}
     → Derives rules (Operand (level_behind op l) (open_at op l + 1)) cs marks
     → ReadMore l (spelled_connective op ∷ cs) (is_deep (open_at op l) ∷ marks)
 read_connective l conjoins reads =
-    derives-begin (More l) And (Part (Operand (behind_and l) (l.at_and + 1)) ∷ []) refl (part reads none) (simp append-nil) (simp append-nil)
+    derives-begin (More l) And (a_nonterminal (Operand (behind_and l) (l.at_and + 1)) ∷ []) refl (part reads none) (simp append-nil) (simp append-nil)
 read_connective l disjoins reads =
-    derives-begin (More l) Or (Part (Operand (behind_or l) (l.at_or + 1)) ∷ []) refl (part reads none) (simp append-nil) (simp append-nil)
+    derives-begin (More l) Or (a_nonterminal (Operand (behind_or l) (l.at_or + 1)) ∷ []) refl (part reads none) (simp append-nil) (simp append-nil)
 read_connective l implies reads =
-    derives-begin (More l) Implies (Part (Operand (behind_implies l) (l.at_implies + 1)) ∷ []) refl (part reads none) (simp append-nil) (simp append-nil)
+    derives-begin (More l) Implies (a_nonterminal (Operand (behind_implies l) (l.at_implies + 1)) ∷ []) refl (part reads none)
+    (simp append-nil) (simp append-nil)
 
 read_binding : (l : Level) (n : ℕ) (u : Bool) (s : Sort) {cs : List Terminal} {marks : List Bool}
     → Derives rules (Operand (level_of (n + 1)) (n + 1)) cs marks
     → Derives rules (Operand l n) (spelled_quantifier_word u ∷ spelled_sort s ∷ Quoted ∷ Comma ∷ cs) (is_deep n ∷ false ∷ false ∷ false ∷ marks)
 read_binding l n true s reads =
-    derives-begin (Operand l n) Forall (Part SortWord ∷ Class Quoted ∷ Class Comma ∷ Part (Operand (level_of (n + 1)) (n + 1)) ∷ []) refl
+    derives-begin (Operand l n) Forall
+    (a_nonterminal SortWord ∷ a_terminal Quoted ∷ a_terminal Comma ∷ a_nonterminal (Operand (level_of (n + 1)) (n + 1)) ∷ []) refl
     (part (read_sort s) (class (class (part reads none)))) (simp append-nil) (simp append-nil)
 read_binding l n false s reads =
-    derives-begin (Operand l n) Exists (Part SortWord ∷ Class Quoted ∷ Class Comma ∷ Part (Operand (level_of (n + 1)) (n + 1)) ∷ []) refl
+    derives-begin (Operand l n) Exists
+    (a_nonterminal SortWord ∷ a_terminal Quoted ∷ a_terminal Comma ∷ a_nonterminal (Operand (level_of (n + 1)) (n + 1)) ∷ []) refl
     (part (read_sort s) (class (class (part reads none)))) (simp append-nil) (simp append-nil)
 
 -- at the end of a list nothing follows
@@ -202,30 +208,33 @@ mutual
       → Derives rules (Operand l n) (map terminal (spelled_operand u) ++ cs) (marks_operand n u ++ marks)
   read_operand l n (atom a) reads = read_atom l n a reads
   read_operand l n (bracketed f) reads =
-      derives-begin (Operand l n) Open (Part (Operand (level_of (n + 1)) (n + 1)) ∷ Class Close ∷ Part (More l) ∷ []) refl
+      derives-begin (Operand l n) Open (a_nonterminal (Operand (level_of (n + 1)) (n + 1)) ∷ a_terminal Close ∷ a_nonterminal (More l) ∷ []) refl
       (part (read_formula (level_of (n + 1)) (n + 1) f) (class (part reads none)))
       (simp (map-append, append_assoc, append-nil)) (simp (append_assoc, append-nil))
   read_operand l n (negated u) reads =
-      derives-begin (Operand l n) Not (Part (Operand l (n + 1)) ∷ []) refl (part (read_operand l (n + 1) u reads) none)
+      derives-begin (Operand l n) Not (a_nonterminal (Operand l (n + 1)) ∷ []) refl (part (read_operand l (n + 1) u reads) none)
       (simp append-nil) (simp append-nil)
 
   read_wide : (l : Level) (n : ℕ) (w : Wide) → Derives rules (Operand l n) (map terminal (spelled_wide w)) (marks_wide n w)
   read_wide l n (binding q f) = read_binding l n q.universal q.sort (read_formula (level_of (n + 1)) (n + 1) f)
   read_wide l n (negated_wide w) =
-      derives-begin (Operand l n) Not (Part (Operand l (n + 1)) ∷ []) refl (part (read_wide l (n + 1) w) none)
+      derives-begin (Operand l n) Not (a_nonterminal (Operand l (n + 1)) ∷ []) refl (part (read_wide l (n + 1) w) none)
       (simp append-nil) (simp append-nil)
 
 read_model : (is : List Item) → Derives rules Items (map terminal (spelled_model is)) (marks_model is)
 read_model [] = derives-end Items refl
 read_model (stage s ∷ is) =
-    derives-begin Items StageName (Class Number ∷ Class Quoted ∷ Class Dot ∷ Part Items ∷ []) refl
+    derives-begin Items StageName (a_terminal Number ∷ a_terminal Quoted ∷ a_terminal Dot ∷ a_nonterminal Items ∷ []) refl
     (class (class (class (part (read_model is) none)))) (simp append-nil) (simp append-nil)
 read_model (axiom_item at label f ∷ is) =
-    derives-begin Items Axiom (Part LabelPhrase ∷ Class Colon ∷ Part (Operand (level_of 0) 0) ∷ Class Dot ∷ Part Items ∷ []) refl
+    derives-begin Items Axiom (a_nonterminal LabelPhrase ∷ a_terminal Colon ∷ a_nonterminal (Operand (level_of 0) 0)
+    ∷ a_terminal Dot ∷ a_nonterminal Items ∷ []) refl
     (part (read_label label) (class (part (read_formula (level_of 0) 0 f) (class (part (read_model is) none)))))
     (simp (append-nil, append_assoc, map-append)) (simp (append-nil, append_assoc))
 read_model (macro name parameters f ∷ is) =
-    derives-begin Items DefineMacro (Class Quoted ∷ Part Parameters ∷ Class Colon ∷ Part (Operand (level_of 0) 0) ∷ Class Dot ∷ Part Items ∷ []) refl
+    derives-begin Items DefineMacro
+    (a_terminal Quoted ∷ a_nonterminal Parameters ∷ a_terminal Colon ∷ a_nonterminal (Operand (level_of 0) 0)
+    ∷ a_terminal Dot ∷ a_nonterminal Items ∷ []) refl
     (class (part (read_parameters parameters) (class (part (read_formula (level_of 0) 0 f) (class (part (read_model is) none))))))
     (simp (append-nil, append_assoc, map-append)) (simp (append-nil, append_assoc))
 

@@ -3,11 +3,11 @@ use Rattle.std.proofs.Common.{◌≡◌, ℕ, Bool, false, List, [], ◌∷◌, 
 use Rattle.pc_common.specs.declared.place.Place.{Place}
 use Rattle.pc_syntax.specs.declared.term.Word.{Word}
 use Rattle.ll_grammar.specs.declared.grammar.Symbol.{Symbol}
-use Rattle.ll_grammar.specs.declared.grammar.Symbol.TheVariants.{Class, Part}
+use Rattle.ll_grammar.specs.declared.grammar.Symbol.TheVariants.{Terminal as a_terminal, Nonterminal as a_nonterminal}
 use Rattle.ll_grammar.proofs.DerivesLaws.{Each}
 use Rattle.ll_grammar.proofs.DerivesLaws.Each.{none as e_none, class as e_class, part as e_part}
 use Rattle.uspec_lexer.specs.Token.{Token}
-use Rattle.uspec_parser.specs.Terminals.{Lexeme, plain, placed, name_, quoted, number_, terminal, lexeme_by, lexeme, terminal_of, content, place_of, value}
+use Rattle.uspec_parser.specs.Terminals.{Lexeme, plain, placed, name_, quoted, number_, terminal, lexeme_by, lexeme, terminal_of, content, start_of_token, value}
 use Rattle.uspec_parser.specs.Phrases.{deep}
 use Rattle.uspec_parser.specs.declared.terminal.Terminal.{Terminal}
 use Rattle.uspec_parser.specs.declared.terminal.Terminal.TheVariants.{Axiom, ExpandMacro, Forall, Exists, Name, Number, Quoted}
@@ -43,13 +43,13 @@ HavePayloads [] = Unit {0}
 HavePayloads (x ∷ xs) = HasPayload x × HavePayloads xs
 
 pub payload_lexeme : (t : Terminal) (token : Token) → HasPayload (lexeme_by t token)
-payload_lexeme Name token = (record { name = token.piece; at = place_of token }, refl)
-payload_lexeme Quoted token = (record { name = content token.piece; at = place_of token }, refl)
-payload_lexeme Number token = ((value token.kind, place_of token), refl)
-payload_lexeme Forall token = (place_of token, refl)
-payload_lexeme Exists token = (place_of token, refl)
-payload_lexeme ExpandMacro token = (place_of token, refl)
-payload_lexeme Axiom token = (place_of token, refl)
+payload_lexeme Name token = (record { name = token.piece; at = start_of_token token }, refl)
+payload_lexeme Quoted token = (record { name = content token.piece; at = start_of_token token }, refl)
+payload_lexeme Number token = ((value token.kind, start_of_token token), refl)
+payload_lexeme Forall token = (start_of_token token, refl)
+payload_lexeme Exists token = (start_of_token token, refl)
+payload_lexeme ExpandMacro token = (start_of_token token, refl)
+payload_lexeme Axiom token = (start_of_token token, refl)
 payload_lexeme _ token = (tt, refl)
 
 -- so do all lexemes of tokens
@@ -103,9 +103,9 @@ terminals-somes (t ∷ ts) = let head = terminal-some t in let rest = terminals-
 pub data EachWithPayload (M : Phrase → List Lexeme → List Bool → Type 0) : List (Symbol Terminal Phrase) → List Lexeme → List Bool → Type 0 where
   none : EachWithPayload M [] [] []
   class : {c : Terminal} {rest : List (Symbol Terminal Phrase)} {xs : List Lexeme} {marks : List Bool} (p : Payload c)
-      → EachWithPayload M rest xs marks → EachWithPayload M (Class c ∷ rest) (with_payload c p ∷ xs) (false ∷ marks)
+      → EachWithPayload M rest xs marks → EachWithPayload M (a_terminal c ∷ rest) (with_payload c p ∷ xs) (false ∷ marks)
   part : {n : Phrase} {rest : List (Symbol Terminal Phrase)} {xs ys : List Lexeme} {marks others : List Bool}
-      → M n xs marks → EachWithPayload M rest ys others → EachWithPayload M (Part n ∷ rest) (xs ++ ys) (marks ++ others)
+      → M n xs marks → EachWithPayload M rest ys others → EachWithPayload M (a_nonterminal n ∷ rest) (xs ++ ys) (marks ++ others)
 
 -- of terminals: whatever lexemes have beside them is a text
 abbrev pub Means : (Phrase → List Lexeme → List Bool → Type 0) → Phrase → List Terminal → List Bool → Type 0
@@ -151,11 +151,11 @@ each_with_payload M (e_class each) [] payloads e = absurd (cc)
 each_with_payload M (e_class {c = c} {rest = rest} {marks = marks} each) (x ∷ xs) payloads e =
     let head : terminal x ≡ c = cc in
     let others = each_with_payload M each xs payloads.1 (cc) in
-    subst (λ (d : Terminal). EachWithPayload M (Class d ∷ rest) (x ∷ xs) (false ∷ marks)) head
-    (subst (λ (y : Lexeme). EachWithPayload M (Class (terminal x) ∷ rest) (y ∷ xs) (false ∷ marks)) (sym payloads.0.1) (class payloads.0.0 others))
+    subst (λ (d : Terminal). EachWithPayload M (a_terminal d ∷ rest) (x ∷ xs) (false ∷ marks)) head
+    (subst (λ (y : Lexeme). EachWithPayload M (a_terminal (terminal x) ∷ rest) (y ∷ xs) (false ∷ marks)) (sym payloads.0.1) (class payloads.0.0 others))
 each_with_payload M (e_part {n = n} {rest = rest} {cs = cs} {ds = ds} {marks = marks} {others = others} m each) xs payloads e =
     let p = parted cs ds xs payloads e in
-    subst (λ (ys : List Lexeme). EachWithPayload M (Part n ∷ rest) ys (marks ++ others)) (sym p.all)
+    subst (λ (ys : List Lexeme). EachWithPayload M (a_nonterminal n ∷ rest) ys (marks ++ others)) (sym p.all)
     (part (m p.front p.front_payloads p.front_terminals) (each_with_payload M each p.back p.back_payloads p.back_terminals))
 
 -- a rule that spells a text of lexemes keeps what terminals mean

@@ -102,7 +102,14 @@ mutual
   operand_no_longer {xs} (Operand.negated e u) = omega (arith, operand_no_longer u, behind_no_longer xs)
   operand_no_longer {xs} (Operand.bracketed {rest = rest} e r) = omega (arith, row_no_longer r, behind_no_longer xs, behind_no_longer rest)
   operand_no_longer {xs} (Operand.bound universal e r) =
-      omega (arith, row_no_longer r, behind_no_longer xs, behind_no_longer (behind xs), behind_no_longer (behind (behind xs)), behind_no_longer (behind (behind (behind xs))))
+      omega (
+        arith,
+        row_no_longer r,
+        behind_no_longer xs,
+        behind_no_longer (behind xs),
+        behind_no_longer (behind (behind xs)),
+        behind_no_longer (behind (behind (behind xs))),
+      )
   operand_no_longer {xs} {rest} {w} (Operand.atom e a) = atom_no_longer (next xs) xs w rest a
 
   row_no_longer : {xs rest : List Lexeme} {l : Operands} → Row xs l rest → length rest ≤ length xs

@@ -152,7 +152,8 @@ grouped_now l h k = grouped_disjunction l h ∙ ap (or_now (group l).now) (nothi
 grouped_implies : (l r : Operands) → Lacks implies l → formula_of (beside l implies r) ≡ implies_ (formula_of l) (formula_of r)
 grouped_implies l r h = ap whole (group_implies l r h) ∙ ap (λ (w : Written). implies_ w (formula_of r)) (sym (grouped_disjunction l h))
 
-grouped_disjoins : (l r : Operands) → Lacks implies (beside l disjoins r) → Lacks disjoins l → formula_of (beside l disjoins r) ≡ or_ (formula_of l) (formula_of r)
+grouped_disjoins : (l r : Operands) → Lacks implies (beside l disjoins r) → Lacks disjoins l
+    → formula_of (beside l disjoins r) ≡ or_ (formula_of l) (formula_of r)
 grouped_disjoins l r h k =
     let first = lacks_first implies disjoins l r h in
     let second = lacks_second implies disjoins l r h in

@@ -15,7 +15,7 @@ use Rattle.uspec_parser.specs.Syntax.{Formula, spelled_formula, meant_operands, 
 use Rattle.uspec_parser.specs.Marks.{IsMarkedFormula, IsMarkedModel, marks_model, marks_outer}
 use Rattle.uspec_parser.specs.Levels.{level_of}
 use Rattle.uspec_parser.specs.Phrases.{rules}
-use Rattle.uspec_parser.specs.Answers.{terminals, refusal_of, IsRefusal}
+use Rattle.uspec_parser.specs.Answers.{terminals, refusal_of, IsParseRefusal}
 use Rattle.uspec_parser.specs.Descent.{Row, Items}
 use Rattle.uspec_parser.specs.declared.terminal.Terminal.{Terminal}
 use Rattle.uspec_parser.specs.declared.fault.ParseFault.{ParseFault}
@@ -55,14 +55,14 @@ one_formula ts w v (f, e, p) (g, q, r) =
 
 -- the answer as a refusal
 pub refused : (Marked : List Terminal → List Bool → Type 0) (cs : List Terminal) (fault : Fault) → IsAnswer Marked cs (Some fault)
-    → IsRefusal Marked cs (refusal_of fault)
+    → IsParseRefusal Marked cs (refusal_of fault)
 refused Marked cs (Syntax k) h = h
 refused Marked cs (Depth k) h = h
 
 pub refusal_is : (Marked : List Terminal → List Bool → Type 0) (cs ds : List Terminal) (found : Option Fault) (fault : Fault) (e : ParseFault)
-    → IsAnswer Marked cs found → cs ≡ ds → found ≡ Some fault → e ≡ refusal_of fault → IsRefusal Marked ds e
+    → IsAnswer Marked cs found → cs ≡ ds → found ≡ Some fault → e ≡ refusal_of fault → IsParseRefusal Marked ds e
 refusal_is Marked cs ds found fault e answer same is refusal =
-    subst (λ (r : ParseFault). IsRefusal Marked ds r) (sym refusal)
+    subst (λ (r : ParseFault). IsParseRefusal Marked ds r) (sym refusal)
     (refused Marked ds fault (subst (λ (f : Option Fault). IsAnswer Marked ds f) is (subst (λ (ts : List Terminal). IsAnswer Marked ts found) same answer)))
 
 pub accepted_is : (Marked : List Terminal → List Bool → Type 0) (cs ds : List Terminal) (found : Option Fault)

@@ -1,6 +1,6 @@
 -- What the answers of the two calls mean.
 use Rattle.std.specs.Prelude.{List, Bool, map, ⊤}
-use Rattle.ll_grammar.specs.FirstFault.{IsFirstFault}
+use Rattle.ll_grammar.specs.FirstFault.{IsFirstTokenFault}
 use Rattle.ll_grammar.specs.declared.fault.Fault.{Fault}
 use Rattle.ll_grammar.specs.declared.fault.Fault.TheVariants.{Syntax as syntax_fault, Depth as depth_fault}
 use Rattle.uspec_lexer.specs.Token.{Token}
@@ -13,10 +13,10 @@ abbrev pub terminals : List Token → List Terminal
 terminals tokens = map terminal_of tokens
 
 -- a fault of syntax or depth is the first fault of the tokens; want of memory is tied to nothing
-abbrev pub IsRefusal : (List Terminal → List Bool → Type 0) → List Terminal → ParseFault → Type 0
-IsRefusal Marked ts (Syntax k) = IsFirstFault Marked ts (syntax_fault k)
-IsRefusal Marked ts (Depth k) = IsFirstFault Marked ts (depth_fault k)
-IsRefusal Marked ts Memory = ⊤
+abbrev pub IsParseRefusal : (List Terminal → List Bool → Type 0) → List Terminal → ParseFault → Type 0
+IsParseRefusal Marked ts (Syntax k) = IsFirstTokenFault Marked ts (syntax_fault k)
+IsParseRefusal Marked ts (Depth k) = IsFirstTokenFault Marked ts (depth_fault k)
+IsParseRefusal Marked ts Memory = ⊤
 
 abbrev pub refusal_of : Fault → ParseFault
 refusal_of (syntax_fault k) = Syntax k

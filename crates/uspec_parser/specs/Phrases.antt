@@ -3,10 +3,10 @@ use Rattle.std.specs.Prelude.{◌≡◌, ℕ, ◌+◌, Bool, true, false, List, 
 use Rattle.ll_grammar.specs.Rules.{Rules}
 use Rattle.ll_grammar.specs.Steps.{IsStep}
 use Rattle.ll_grammar.specs.Predictable.{IsPredictable, HasTexts}
-use Rattle.ll_grammar.specs.Tables.{predictable_by, texts_by, is_predictable_part, is_ranked_part}
+use Rattle.ll_grammar.specs.LawsOfTables.{predictable_by, texts_by, is_predictable_part, is_ranked_part}
 use Rattle.ll_grammar.specs.declared.grammar.Symbol.{Symbol}
 use Rattle.ll_grammar.specs.declared.grammar.Step.{Step}
-use Rattle.ll_grammar.specs.declared.grammar.Symbol.TheVariants.{Class, Part}
+use Rattle.ll_grammar.specs.declared.grammar.Symbol.TheVariants.{Terminal as a_terminal, Nonterminal as a_nonterminal}
 use Rattle.uspec_parser.specs.declared.terminal.Terminal.{Terminal}
 use Rattle.uspec_parser.specs.declared.terminal.Terminal.TheVariants.{StageName, Axiom, DefineMacro, ExpandMacro, Forall, Exists, Microop, Core, OneEdge, EdgeList, OneNode, NodeList, Name, Number, Quoted, Text, Open, Close, OpenBracket, CloseBracket, Comma, Semicolon, Colon, Dot, Not, And, Or, Implies, Arrow}
 use Rattle.uspec_parser.specs.declared.phrase.Phrase.{Phrase}
@@ -15,59 +15,60 @@ use Rattle.uspec_parser.specs.Levels.{is_deep, level_of, behind_implies, behind_
 
 -- An `Operand` has the level of its list and how many openers are open at its next token: more than the level says
 -- where `~` stand before it. `More` is what follows an operand of the list.
-abbrev pub behind : Phrase → Terminal → Option (List (Symbol Terminal Phrase))
-behind Items StageName = Some (Class Number ∷ Class Quoted ∷ Class Dot ∷ Part Items ∷ [])
-behind Items Axiom = Some (Part Label ∷ Class Colon ∷ Part (Operand (level_of 0) 0) ∷ Class Dot ∷ Part Items ∷ [])
-behind Items DefineMacro =
-    Some (Class Quoted ∷ Part Parameters ∷ Class Colon ∷ Part (Operand (level_of 0) 0) ∷ Class Dot ∷ Part Items ∷ [])
-behind Parameters Quoted = Some (Part Parameters ∷ [])
-behind Label Quoted = Some []
-behind Label Text = Some []
-behind (Operand l n) OneEdge = Some (Part Edge ∷ Part (More l) ∷ [])
-behind (Operand l n) EdgeList = Some (Class OpenBracket ∷ Part Edges ∷ Part (More l) ∷ [])
-behind (Operand l n) OneNode = Some (Part Node ∷ Part (More l) ∷ [])
-behind (Operand l n) NodeList = Some (Class OpenBracket ∷ Part Nodes ∷ Part (More l) ∷ [])
-behind (Operand l n) ExpandMacro = Some (Class Name ∷ Part Arguments ∷ Part (More l) ∷ [])
-behind (Operand l n) Name = Some (Part Arguments ∷ Part (More l) ∷ [])
-behind (Operand l n) Open = Some (Part (Operand (level_of (n + 1)) (n + 1)) ∷ Class Close ∷ Part (More l) ∷ [])
-behind (Operand l n) Not = Some (Part (Operand l (n + 1)) ∷ [])
-behind (Operand l n) Forall =
-    Some (Part SortWord ∷ Class Quoted ∷ Class Comma ∷ Part (Operand (level_of (n + 1)) (n + 1)) ∷ [])
-behind (Operand l n) Exists =
-    Some (Part SortWord ∷ Class Quoted ∷ Class Comma ∷ Part (Operand (level_of (n + 1)) (n + 1)) ∷ [])
-behind (More l) And = Some (Part (Operand (behind_and l) (l.at_and + 1)) ∷ [])
-behind (More l) Or = Some (Part (Operand (behind_or l) (l.at_or + 1)) ∷ [])
-behind (More l) Implies = Some (Part (Operand (behind_implies l) (l.at_implies + 1)) ∷ [])
-behind Arguments Name = Some (Part Arguments ∷ [])
-behind Arguments Number = Some (Part Arguments ∷ [])
-behind Argument Name = Some []
-behind Argument Number = Some []
-behind Node Open = Some (Class Name ∷ Class Comma ∷ Part Location ∷ Class Close ∷ [])
-behind Location Name = Some []
-behind Location Open = Some (Part Argument ∷ Class Comma ∷ Class Name ∷ Class Close ∷ [])
-behind Edge Open = Some (Part Node ∷ Class Comma ∷ Part Node ∷ Part Labels ∷ Class Close ∷ [])
-behind Labels Comma = Some (Part Label ∷ Part SecondLabel ∷ [])
-behind SecondLabel Comma = Some (Part Label ∷ [])
-behind SortWord Microop = Some []
-behind SortWord Core = Some []
-behind Nodes CloseBracket = Some []
-behind Nodes Open = Some (Class Name ∷ Class Comma ∷ Part Location ∷ Class Close ∷ Part MoreNodes ∷ [])
-behind MoreNodes CloseBracket = Some []
-behind MoreNodes Semicolon = Some (Part Nodes ∷ [])
-behind Edges CloseBracket = Some []
-behind Edges Open = Some (Part Node ∷ Class Comma ∷ Part Node ∷ Part Labels ∷ Class Close ∷ Part MoreEdges ∷ [])
-behind MoreEdges CloseBracket = Some []
-behind MoreEdges Semicolon = Some (Part Edges ∷ [])
-behind _ _ = None
+abbrev pub production : Phrase → Terminal → Option (List (Symbol Terminal Phrase))
+production Items StageName = Some (a_terminal Number ∷ a_terminal Quoted ∷ a_terminal Dot ∷ a_nonterminal Items ∷ [])
+production Items Axiom = Some (a_nonterminal Label ∷ a_terminal Colon ∷ a_nonterminal (Operand (level_of 0) 0) ∷ a_terminal Dot ∷ a_nonterminal Items ∷ [])
+production Items DefineMacro =
+    Some (a_terminal Quoted ∷ a_nonterminal Parameters ∷ a_terminal Colon ∷ a_nonterminal (Operand (level_of 0) 0) ∷ a_terminal Dot ∷ a_nonterminal Items ∷ [])
+production Parameters Quoted = Some (a_nonterminal Parameters ∷ [])
+production Label Quoted = Some []
+production Label Text = Some []
+production (Operand l n) OneEdge = Some (a_nonterminal Edge ∷ a_nonterminal (More l) ∷ [])
+production (Operand l n) EdgeList = Some (a_terminal OpenBracket ∷ a_nonterminal Edges ∷ a_nonterminal (More l) ∷ [])
+production (Operand l n) OneNode = Some (a_nonterminal Node ∷ a_nonterminal (More l) ∷ [])
+production (Operand l n) NodeList = Some (a_terminal OpenBracket ∷ a_nonterminal Nodes ∷ a_nonterminal (More l) ∷ [])
+production (Operand l n) ExpandMacro = Some (a_terminal Name ∷ a_nonterminal Arguments ∷ a_nonterminal (More l) ∷ [])
+production (Operand l n) Name = Some (a_nonterminal Arguments ∷ a_nonterminal (More l) ∷ [])
+production (Operand l n) Open = Some (a_nonterminal (Operand (level_of (n + 1)) (n + 1)) ∷ a_terminal Close ∷ a_nonterminal (More l) ∷ [])
+production (Operand l n) Not = Some (a_nonterminal (Operand l (n + 1)) ∷ [])
+production (Operand l n) Forall =
+    Some (a_nonterminal SortWord ∷ a_terminal Quoted ∷ a_terminal Comma ∷ a_nonterminal (Operand (level_of (n + 1)) (n + 1)) ∷ [])
+production (Operand l n) Exists =
+    Some (a_nonterminal SortWord ∷ a_terminal Quoted ∷ a_terminal Comma ∷ a_nonterminal (Operand (level_of (n + 1)) (n + 1)) ∷ [])
+production (More l) And = Some (a_nonterminal (Operand (behind_and l) (l.at_and + 1)) ∷ [])
+production (More l) Or = Some (a_nonterminal (Operand (behind_or l) (l.at_or + 1)) ∷ [])
+production (More l) Implies = Some (a_nonterminal (Operand (behind_implies l) (l.at_implies + 1)) ∷ [])
+production Arguments Name = Some (a_nonterminal Arguments ∷ [])
+production Arguments Number = Some (a_nonterminal Arguments ∷ [])
+production Argument Name = Some []
+production Argument Number = Some []
+production Node Open = Some (a_terminal Name ∷ a_terminal Comma ∷ a_nonterminal Location ∷ a_terminal Close ∷ [])
+production Location Name = Some []
+production Location Open = Some (a_nonterminal Argument ∷ a_terminal Comma ∷ a_terminal Name ∷ a_terminal Close ∷ [])
+production Edge Open = Some (a_nonterminal Node ∷ a_terminal Comma ∷ a_nonterminal Node ∷ a_nonterminal Labels ∷ a_terminal Close ∷ [])
+production Labels Comma = Some (a_nonterminal Label ∷ a_nonterminal SecondLabel ∷ [])
+production SecondLabel Comma = Some (a_nonterminal Label ∷ [])
+production SortWord Microop = Some []
+production SortWord Core = Some []
+production Nodes CloseBracket = Some []
+production Nodes Open = Some (a_terminal Name ∷ a_terminal Comma ∷ a_nonterminal Location ∷ a_terminal Close ∷ a_nonterminal MoreNodes ∷ [])
+production MoreNodes CloseBracket = Some []
+production MoreNodes Semicolon = Some (a_nonterminal Nodes ∷ [])
+production Edges CloseBracket = Some []
+production Edges Open = Some (a_nonterminal Node ∷ a_terminal Comma ∷ a_nonterminal Node ∷ a_nonterminal Labels
+    ∷ a_terminal Close ∷ a_nonterminal MoreEdges ∷ [])
+production MoreEdges CloseBracket = Some []
+production MoreEdges Semicolon = Some (a_nonterminal Edges ∷ [])
+production _ _ = None
 
-abbrev pub may_end : Phrase → Bool
-may_end Items = true
-may_end Parameters = true
-may_end (More l) = true
-may_end Arguments = true
-may_end Labels = true
-may_end SecondLabel = true
-may_end _ = false
+abbrev pub is_nullable : Phrase → Bool
+is_nullable Items = true
+is_nullable Parameters = true
+is_nullable (More l) = true
+is_nullable Arguments = true
+is_nullable Labels = true
+is_nullable SecondLabel = true
+is_nullable _ = false
 
 abbrev pub deep : Phrase → Terminal → Bool
 deep (Operand l n) Open = is_deep n
@@ -81,10 +82,10 @@ deep _ _ = false
 
 -- what the phrase makes of the stack at a token of this class
 abbrev pub IsPush : Phrase → Terminal → List (Symbol Terminal Phrase) → List (Symbol Terminal Phrase) → Step → Type 0
-IsPush n c old new step = IsStep (behind n c) (deep n c) old step new
+IsPush n c old new step = IsStep (production n c) (deep n c) old step new
 
 abbrev pub rules : Rules Terminal Phrase
-rules = record { behind = behind; may_end = may_end; deep = deep }
+rules = record { production = production; is_nullable = is_nullable; deep = deep }
 
 -- what may come next after a phrase; of one that is never without tokens it is not asked
 abbrev pub follow : Phrase → Terminal → Bool

@@ -87,8 +87,8 @@ terminal (name_ w) = Name
 terminal (quoted w) = Quoted
 terminal (number_ n at) = Number
 
-abbrev pub place_of : Token → Place
-place_of t = record { offset = t.at }
+abbrev pub start_of_token : Token → Place
+start_of_token t = record { offset = t.at }
 
 abbrev pub value : Kind → ℕ
 value (number n) = n
@@ -96,13 +96,13 @@ value _ = 0
 
 -- the lexeme of a token that is this terminal
 abbrev pub lexeme_by : Terminal → Token → Lexeme
-lexeme_by Name t = name_ (record { name = t.piece; at = place_of t })
-lexeme_by Quoted t = quoted (record { name = content t.piece; at = place_of t })
-lexeme_by Number t = number_ (value t.kind) (place_of t)
-lexeme_by Forall t = placed Forall (place_of t)
-lexeme_by Exists t = placed Exists (place_of t)
-lexeme_by ExpandMacro t = placed ExpandMacro (place_of t)
-lexeme_by Axiom t = placed Axiom (place_of t)
+lexeme_by Name t = name_ (record { name = t.piece; at = start_of_token t })
+lexeme_by Quoted t = quoted (record { name = content t.piece; at = start_of_token t })
+lexeme_by Number t = number_ (value t.kind) (start_of_token t)
+lexeme_by Forall t = placed Forall (start_of_token t)
+lexeme_by Exists t = placed Exists (start_of_token t)
+lexeme_by ExpandMacro t = placed ExpandMacro (start_of_token t)
+lexeme_by Axiom t = placed Axiom (start_of_token t)
 lexeme_by other t = plain other
 
 abbrev pub lexeme : Token → Lexeme

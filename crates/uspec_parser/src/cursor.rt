@@ -1,6 +1,6 @@
 ghost use Rattle.std.specs.Prelude.{◌≡◌, ℕ, ◌<◌, ◌≤◌, ◌^◌, IsTrue, List, [], ◌∷◌, drop, length, map, MatchOption, IfOk, OnOk, Some};
 ghost use Rattle.uspec_lexer.specs.Token.{number};
-ghost use Rattle.uspec_lexer.specs.Span.{kind_of};
+ghost use Rattle.uspec_lexer.specs.Span.{kind_of_token};
 ghost use Rattle.uspec_lexer.specs.View.{plain as plain_token};
 ghost use Rattle.uspec_parser.specs.Terminals.{Lexeme, lexeme, terminal_of as terminal_spec, value as value_spec, is_placed};
 ghost use Rattle.uspec_parser.specs.Descent.{next, behind, word as word_spec, place as place_spec, number as number_spec, number_place};
@@ -130,8 +130,8 @@ fn copied(alloc: Global, bytes: &[u8], at: Place) -> Result<Word, Memory>
 
 /// The value of a number.
 fn value(kind: TokenKind) -> u64
-    requires { (n : ℕ) × (kind_of kind ≡ number n) }
-    ensures { result ≡ value_spec (kind_of kind) }
+    requires { (n : ℕ) × (kind_of_token kind ≡ number n) }
+    ensures { result ≡ value_spec (kind_of_token kind) }
 {
     match kind {
         TokenKind::Number(value) => value,

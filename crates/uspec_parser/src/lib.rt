@@ -1,6 +1,8 @@
 //! Tokens to the written model: [`parse_model`] reads a model file, [`parse_formula`] one formula. Both give
 //! the tree that the tokens derive, or the first fault of the tokens, a [`ParseFault`].
 //!
+//! Clause: `parse_model` returns the tree that tokens derive, or their first fault (`tree`, `fault`).
+//!
 //! ```text
 //! model  = item*
 //! item   = StageName NUMBER NTEXT "."

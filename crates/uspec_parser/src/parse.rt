@@ -1,9 +1,9 @@
 ghost use Rattle.std.specs.Prelude.{◌≡◌, IfOk, IfErr};
-ghost use Rattle.ll_grammar.specs.FirstFault.{IsAnswer, IsAccepted, IsFirstFault};
+ghost use Rattle.ll_grammar.specs.FirstFault.{IsAnswer, IsAccepted, IsFirstTokenFault};
 ghost use Rattle.pc_syntax.specs.Written.{written, written_model};
 ghost use Rattle.uspec_parser.specs.Marks.{IsMarkedFormula, IsMarkedModel};
 ghost use Rattle.uspec_parser.specs.Syntax.{DerivesFormula, DerivesModel};
-ghost use Rattle.uspec_parser.specs.Answers.{terminals, refusal_of, IsRefusal};
+ghost use Rattle.uspec_parser.specs.Answers.{terminals, refusal_of, IsParseRefusal};
 
 use super::cursor::Cursor;
 use super::fault::ParseFault;
@@ -44,7 +44,7 @@ fn refusal(fault: Fault) -> ParseFault
 pub fn parse_formula(alloc: Global, tokens: &Tokens<'_>) -> Result<Formula, ParseFault>
     ensures tree { IfOk result (λ f. DerivesFormula tokens.now (written f)) }
     ensures accepted { IfOk result (λ f. IsAccepted IsMarkedFormula (terminals tokens.now)) }
-    ensures fault { IfErr result (λ e. IsRefusal IsMarkedFormula (terminals tokens.now) e) }
+    ensures fault { IfErr result (λ e. IsParseRefusal IsMarkedFormula (terminals tokens.now) e) }
 {
     let terminals = tokens.terminals(alloc)?;
     if let Some(fault) = formula_fault(alloc, &terminals)? {
@@ -61,7 +61,7 @@ pub fn parse_formula(alloc: Global, tokens: &Tokens<'_>) -> Result<Formula, Pars
 pub fn parse_model(alloc: Global, tokens: &Tokens<'_>) -> Result<ModelFile, ParseFault>
     ensures tree { IfOk result (λ m. DerivesModel tokens.now (written_model m)) }
     ensures accepted { IfOk result (λ m. IsAccepted IsMarkedModel (terminals tokens.now)) }
-    ensures fault { IfErr result (λ e. IsRefusal IsMarkedModel (terminals tokens.now) e) }
+    ensures fault { IfErr result (λ e. IsParseRefusal IsMarkedModel (terminals tokens.now) e) }
 {
     let terminals = tokens.terminals(alloc)?;
     if let Some(fault) = model_fault(alloc, &terminals)? {

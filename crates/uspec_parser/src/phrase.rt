@@ -49,7 +49,7 @@ impl Grammar<Terminal> for Phrase {
 
     ghost has_texts = { texts_spec };
 
-    fn may_end(self) -> bool {
+    fn is_nullable(self) -> bool {
         matches!(
             self,
             Items | Parameters | More(_) | Arguments | Labels | SecondLabel

@@ -8,7 +8,7 @@ use uspec_lexer::{FromToken, Token, TokenKind, is_name};
 
 /// The classes of a model's tokens: the terminals of its grammar. Words that are alike to the grammar
 /// and to the tree are one class.
-#[derive(Clone, Copy, Debug, PartialEq, Eq)]
+#[derive(Clone, Copy, PartialEq, Eq)]
 pub(crate) enum Terminal {
     StageName,
     Axiom,

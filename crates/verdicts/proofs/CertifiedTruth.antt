@@ -6,8 +6,7 @@ use Rattle.pc_common.specs.declared.status.Status.TheVariants.{Observable as is_
 use Rattle.pc_common.specs.Lines.{Line, unobservable, lines_text}
 use Rattle.pc_syntax.specs.Written.{WrittenModel}
 use Rattle.pc_ground.specs.declared.version.Version.{Version}
-use Rattle.cert_check.specs.Certificates.{IsTreeCertificate}
-use Rattle.cert_check.specs.Verified.{IsCertificateText}
+use Rattle.cert_check.specs.Certificates.{IsTreeCertificate, IsCertificateText}
 use Rattle.command_base.specs.Questions.{names_by, question_by}
 use Rattle.solver.specs.declared.answer.Answer.{Answer as Found}
 use Rattle.solver.specs.declared.answer.Answer.TheVariants.{Observable as a_graph, Unobservable as a_refutation}
@@ -24,12 +23,14 @@ pub refutation_text : {version : Version} (m : WrittenModel) (c : Case) {text : 
     → IsTreeCertificate (question_by m c) version lines → IsCertificateText (question_by m c) unobservable text
 refutation_text {version} m c {lines = lines} is tree = record { lines = lines; text_is = is; certificate = (version, tree) }
 
-pub certified_true : {version : Version} {m : WrittenModel} {c : Case} {status : Status} {text : List ℕ} → IsCertified version m c status text → IsTrueStatus m c status
+pub certified_true : {version : Version} {m : WrittenModel} {c : Case} {status : Status} {text : List ℕ}
+    → IsCertified version m c status text → IsTrueStatus m c status
 certified_true {m = m} {c = c} {text = text} (seen graph) = (λ e. graph_observable m c text graph, λ e. absurd (one_verdict e))
 certified_true {m = m} {c = c} {text = text} (unseen lines is tree) =
     (λ e. absurd (one_verdict (sym e)), λ e. tree_unobservable m c text (refutation_text m c is tree))
 
-pub certified_due : {version : Version} {m : WrittenModel} {c : Case} {status : Status} {text : List ℕ} → IsCertified version m c status text → IsDueStatus m c status
+pub certified_due : {version : Version} {m : WrittenModel} {c : Case} {status : Status} {text : List ℕ}
+    → IsCertified version m c status text → IsDueStatus m c status
 certified_due {m = m} {c = c} {text = text} (seen graph) = (λ o. refl, λ none. absurd (none (graph_observable m c text graph)))
 certified_due {m = m} {c = c} {text = text} (unseen lines is tree) =
     (λ o. absurd (tree_unobservable m c text (refutation_text m c is tree) o), λ none. refl)

@@ -35,16 +35,6 @@ placed [] k d h = absurd (omega arith)
 placed (x ∷ xs) zero d h = inl refl
 placed (x ∷ xs) (suc k) d h = inr (placed xs k d (omega arith))
 
--- a front's numbering is of its tree, in which a constant is the whole tree
-pub front_numbered : (front : Front) (t : Tree Node) → front.tree ≡ rows_of t → front.numbering ≡ numbered t
-front_numbered front t is =
-    front.counted ∙ ap numbered (rows_injective (closed_ground_tree front.case (plain_axioms front.axioms)) t (sym front.grounded ∙ is))
-
-pub front_folded : (front : Front) (t : Tree Node) → front.tree ≡ rows_of t → IsFolded t
-front_folded front t is =
-    subst IsFolded (rows_injective (closed_ground_tree front.case (plain_axioms front.axioms)) t (sym front.grounded ∙ is))
-    (normal_folded (axioms_unfolded front.case (plain_axioms front.axioms)))
-
 -- what holds of the images holds of the list
 all_images : {X Y : Type 0} (P : Y → Type 0) (f : X → Y) (xs : List X) → ((y : Y) → Contains (map f xs) y → P y) → All (λ x. P (f x)) xs
 all_images P f xs each k d inside = each (f (get_or xs k d)) (contains_from_in _ (map f xs) (in_map f (get_or xs k d) xs (placed xs k d inside)))

@@ -2,3 +2,4 @@ pub mod Fronts
 pub mod VerdictTexts
 pub mod CertifiedTruth
 pub mod FrontVerdicts
+pub mod StepCounts

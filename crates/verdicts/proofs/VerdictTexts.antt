@@ -85,7 +85,8 @@ verdict_certified m c v kept is = go v.found is.found
         })
     go (a_refutation r) refuted =
         let names = names_of v.front in
-        let head = λ (z : List ℕ). (verdict_words unobservable ++ codes "\n") ++ ((second_text unobservable v.front.case.expectation ++ codes "\n") ++ (z ++ codes "end\n")) in
+        let head = λ (z : List ℕ). (verdict_words unobservable ++ codes "\n")
+        ++ ((second_text unobservable v.front.case.expectation ++ codes "\n") ++ (z ++ codes "end\n")) in
         unseen (certificate_lines (question_by m c) unobservable (tree_lines v.version r))
         (ap head (tree_text v.version names r) ∙ moved_text m c v.front is.front_of unobservable (tree_lines v.version r))
         (record { steps = r; lines_are = refl; refutes = refuted.0 })

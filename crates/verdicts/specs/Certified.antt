@@ -6,8 +6,7 @@ use Rattle.pc_common.specs.declared.status.Status.{Status}
 use Rattle.pc_common.specs.declared.status.Status.TheVariants.{Observable, Unobservable}
 use Rattle.pc_syntax.specs.Written.{WrittenModel}
 use Rattle.pc_ground.specs.declared.version.Version.{Version}
-use Rattle.cert_check.specs.Certificates.{IsTreeCertificate}
-use Rattle.cert_check.specs.Verified.{IsCertificateText}
+use Rattle.cert_check.specs.Certificates.{IsTreeCertificate, IsCertificateText}
 use Rattle.command_base.specs.Questions.{names_by, question_by}
 
 -- a graph with Observable, a refutation of this version with Unobservable

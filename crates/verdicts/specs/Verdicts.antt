@@ -23,9 +23,9 @@ pub record IsVerdict (m : WrittenModel) (c : Case) (v : Verdict) : Type 0 where
   pub front_of : IsFrontOf m c v.front
   pub found : IsAnswer v.version v.front.numbering (ground_tree m c) v.found
 
-abbrev pub kind_of : Found → Kind
-kind_of (a_graph g) = observable
-kind_of (a_refutation r) = unobservable
+abbrev pub kind_of_found : Found → Kind
+kind_of_found (a_graph g) = observable
+kind_of_found (a_refutation r) = unobservable
 
 abbrev pub status_of : Found → Status
 status_of (a_graph g) = Observable
@@ -48,6 +48,6 @@ body_text version names (a_refutation r) = version_text version ++ flat_map (ste
 
 abbrev pub verdict_text : Verdict → List ℕ
 verdict_text v =
-    let kind = kind_of v.found in
+    let kind = kind_of_found v.found in
     (verdict_words kind ++ codes "\n") ++ ((second_text kind v.front.case.expectation ++ codes "\n")
     ++ (body_text v.version (names_of v.front) v.found ++ codes "end\n"))

@@ -1,5 +1,8 @@
 //! What the search finds of a front, with the text of its certificate.
 //!
+//! Clause: `verdict_on` returns a graph or a refutation of the version asked for, of the front given (`verdict`,
+//! `version`, `front`).
+//!
 //! ```rust
 //! // the one axiom is `exists microop "i", True`, the test has no micro-op, and `sink` is empty
 //! let verdict = verdict_on(alloc, front, Version::One)?;
@@ -8,14 +11,16 @@
 //! assert!(rt; sink.taken() == b"unobservable\ntest unstated\nfalse\nend\n".as_slice());
 //! ```
 //!
-//! `verdict_on` searches a front: a graph that shows the outcome, or a refutation of the ground tree. `short_verdict_on`
-//! leaves out of a refutation the splits that it does not need. `write_verdict` writes the certificate of that, and
-//! `verdict_status` is the status that goes with it. `check` returns a short verdict as its answer, and `gen` counts the
-//! steps of the search itself.
+//! `verdict_on` searches a front: a graph that shows the outcome, or a refutation of the ground tree.
+//! `short_verdict_on` leaves out of a refutation the splits that it does not need. `write_verdict` writes the
+//! certificate of that, and `verdict_status` is the status that goes with it. `check` returns a short verdict as its
+//! answer. `count_found` counts the splits and the leaves of what was found, which `gen` reports of the search itself.
 #![tactic(auto)]
 
+mod counting;
 mod report;
 mod verdict;
 
+pub use counting::{Counts, count_found};
 pub use report::write_verdict;
 pub use verdict::{Verdict, short_verdict_on, verdict_kind, verdict_on, verdict_status};

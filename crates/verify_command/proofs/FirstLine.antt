@@ -13,7 +13,7 @@ use Rattle.pc_ground.specs.Stages.{plain_stage, plain_axioms}
 use Rattle.pc_syntax.specs.Closed.{closed_satisfies}
 use Rattle.pc_syntax.specs.declared.closed.Closed.{Closed}
 use Rattle.cert_check.specs.Certificates.{Question}
-use Rattle.cert_check.specs.GraphLaws.{SaysUnobservable}
+use Rattle.cert_check.specs.GraphBegins.{SaysUnobservable}
 use Rattle.cert_check.specs.Questions.{question_of, question_of_parts}
 use Rattle.verify_command.specs.Reading.{IsEnough}
 
@@ -23,7 +23,8 @@ none_says first left (inl long) none says =
     none (
       drop 13 first,
       sym (take-append-drop 13 first)
-          ∙ ap (λ (xs : List ℕ). xs ++ drop 13 first) (sym (take-append-le 13 first left long) ∙ ap (take 13) says.1 ∙ take-append_seam (codes "unobservable\n") says.0),
+          ∙ ap (λ (xs : List ℕ). xs ++ drop 13 first) (sym (take-append-le 13 first left long) ∙ ap (take 13) says.1
+          ∙ take-append_seam (codes "unobservable\n") says.0),
     )
 none_says first left (inr gone) none says =
     none (says.0, sym (append-nil first) ∙ ap (λ (xs : List ℕ). first ++ xs) (sym gone) ∙ says.1)

@@ -1,14 +1,11 @@
 -- A text is one thing to a model and a case, and what it is says whether the outcome is observable.
 use Rattle.std.proofs.Common.{◌≡◌, ◌⊎◌, inl, inr, ℕ, ◌≤◌, ◌<◌, ◌+◌, List, [], ◌++◌, length, refl, sym, ◌∙◌, ap, subst, arith, length-append}
-use Rattle.std.proofs.lemmas.Bool.{cases_order}
-use Rattle.std.proofs.lemmas.List.{append-nil}
 use Rattle.pc_common.specs.Case.{Case}
 use Rattle.pc_common.specs.declared.status.Status.TheVariants.{Observable as is_observable, Unobservable as is_unobservable, CertRefused as is_cert_refused}
 use Rattle.pc_common.specs.Lines.{observable, unobservable}
 use Rattle.pc_syntax.specs.Written.{WrittenModel}
 use Rattle.cert_check.specs.Certificates.{Question}
 use Rattle.pc_common.specs.declared.limits.TheConstants.{MAX_CERTIFICATE}
-use Rattle.line_judge.specs.Texts.{IsRefusedAt}
 use Rattle.cert_check.specs.RawLines.{RawBegins, RawWhole}
 use Rattle.cert_check.specs.Verified.{Verified, seen, unseen, too_long, refused}
 use Rattle.cert_check.specs.declared.checked.Checked.{Checked}
@@ -18,15 +15,10 @@ use Rattle.command_base.specs.CheckedTexts.{checked_status}
 use Rattle.command_base.specs.Feeding.{TookFirst}
 use Rattle.command_base.specs.VerdictStatus.{IsTrueStatus}
 use Rattle.command_base.proofs.CertificateTruth.{graph_observable, tree_unobservable}
+use Rattle.verify_command.proofs.FirstBytes.{refused_seen, refused_unseen, one_line, both_lengths, file_is}
 
 one_verdict : is_observable ≡ is_unobservable → ⊥
 one_verdict e = cc
-
-refused_seen : is_cert_refused ≡ is_observable → ⊥
-refused_seen e = cc
-
-refused_unseen : is_cert_refused ≡ is_unobservable → ⊥
-refused_unseen e = cc
 
 pub verified_true : (m : WrittenModel) (c : Case) (text : List ℕ) (found : Checked) → Verified (question_by m c) text found
     → IsTrueStatus m c (checked_status found)
@@ -34,18 +26,6 @@ verified_true m c text found (seen short graph) = (λ e. graph_observable m c te
 verified_true m c text found (unseen short tree) = (λ e. absurd (one_verdict (sym e)), λ e. tree_unobservable m c text tree)
 verified_true m c text found (too_long long) = (λ e. absurd (refused_seen e), λ e. absurd (refused_unseen e))
 verified_true m c text found (refused n short none is) = (λ e. absurd (refused_seen e), λ e. absurd (refused_unseen e))
-
--- a text is refused at one line
-one_line : (q : Question) (text : List ℕ) (n k : ℕ) → IsRefusedAt (RawBegins q) (RawWhole q) text n → IsRefusedAt (RawBegins q) (RawWhole q) text k → n ≡ k
-one_line q text n k x y = go (cases_order n k)
-  where
-    go : (n ≡ k) ⊎ ((n < k) ⊎ (k < n)) → n ≡ k
-    go (inl same) = same
-    go (inr (inl less)) = absurd (x.here (y.before n less))
-    go (inr (inr more)) = absurd (y.here (x.before k more))
-
-both_lengths : (text : List ℕ) → length text ≤ MAX_CERTIFICATE → MAX_CERTIFICATE < length text → ⊥
-both_lengths text short long = omega (arith, short, long)
 
 -- a text is one thing
 pub one_found : (m : WrittenModel) (c : Case) (text : List ℕ) (a b : Checked) → Verified (question_by m c) text a → Verified (question_by m c) text b → a ≡ b
@@ -64,30 +44,22 @@ one_found m c text a b (too_long long) (refused n short none y) = absurd (both_l
 one_found m c text a b (refused n short none x) (seen short2 y) = absurd (none observable y)
 one_found m c text a b (refused n short none x) (unseen short2 y) = absurd (none unobservable y)
 one_found m c text a b (refused n short none x) (too_long long) = absurd (both_lengths text short long)
-one_found m c text a b (refused n short none x) (refused k short2 other y) = ap Refused (one_line (question_by m c) text n k x y)
+one_found m c text a b (refused n short none x) (refused k short2 other y) =
+    ap Refused (one_line (RawBegins (question_by m c)) (RawWhole (question_by m c)) text n k x y)
 
 -- what the first bytes past the limit are, all of the file is
-pub verified_past : (q : Question) (text rest : List ℕ) (found : Checked) → MAX_CERTIFICATE < length text → Verified q text found → Verified q (text ++ rest) found
+pub verified_past : (q : Question) (text rest : List ℕ) (found : Checked) → MAX_CERTIFICATE < length text → Verified q text found
+    → Verified q (text ++ rest) found
 verified_past q text rest found long (seen short x) = absurd (both_lengths text short long)
 verified_past q text rest found long (unseen short x) = absurd (both_lengths text short long)
 verified_past q text rest found long (refused n short none x) = absurd (both_lengths text short long)
 verified_past q text rest found long (too_long long2) = too_long (let a = length-append text rest in omega (arith, a, long))
 
 -- a checker of a question that took nothing before, and then a file: what it finds of first bytes, the file is
-pub file_verified : {C : Type 0} (is_fed : C → Question → List ℕ → Type 0) {old new : C} {q : Question} {file after : List ℕ} (found : Checked) → is_fed old q []
+pub file_verified : {C : Type 0} (is_fed : C → Question → List ℕ → Type 0) {old new : C} {q : Question} {file after : List ℕ} (found : Checked)
+    → is_fed old q []
     → TookFirst is_fed old new (MAX_CERTIFICATE + 1) file after
     → ((text rest : List ℕ) → file ≡ text ++ rest → is_fed new q text → Verified q text found) → Verified q file found
-file_verified is_fed {q = q} {file = file} {after = after} found fed first finish = go first.enough
-  where
-    bytes : List ℕ
-    bytes = first.bytes
-
-    here : Verified q bytes found
-    here = finish bytes after first.are_first (first.took q [] fed)
-
-    P : List ℕ → Type 0
-    P t = Verified q t found
-
-    go : (after ≡ []) ⊎ (length bytes ≡ MAX_CERTIFICATE + 1) → Verified q file found
-    go (inl none) = subst P (sym (first.are_first ∙ ap (λ (xs : List ℕ). bytes ++ xs) none ∙ append-nil bytes)) here
-    go (inr long) = subst P (sym first.are_first) (verified_past q bytes after found (omega (arith, long)) here)
+file_verified is_fed {q = q} {file = file} {after = after} found fed first finish =
+    let here = finish first.bytes after first.are_first (first.took q [] fed) in
+    file_is (λ t. Verified q t found) first.bytes first.are_first first.enough here (λ long. verified_past q first.bytes after found long here)

@@ -46,7 +46,8 @@ module _ {F : Type 0} {view : F → FilesView} {old mid new : F}
       → (IsTrue (view mid).modelled → (bytes : List ℕ) × ((view mid).holds certificate ≡ Some bytes) × Verified (question_of front) bytes found)
       → IsThirdOutcome view case_of first_fault i certificate (IsJudged (view old).holds certificate) old new (checked_status found) (checked_text found)
   found_outcome found is =
-      third_found failing_modelled certificate (IsJudged (view old).holds certificate) f keeps (checked_status found) (checked_text found) (no_usage found) (no_read_fault found)
+      third_found failing_modelled certificate (IsJudged (view old).holds certificate) f keeps (checked_status found)
+      (checked_text found) (no_usage found) (no_read_fault found)
       (λ t. let third = is t in (
         third.0,
         third.1,

@@ -1,2 +1,4 @@
 pub mod Reading
 pub mod VerifyAnswers
+pub mod LiftedTexts
+pub mod LiftedAnswers

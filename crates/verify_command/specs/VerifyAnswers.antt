@@ -9,7 +9,7 @@ use Rattle.cert_check.specs.Certificates.{Question}
 use Rattle.cert_check.specs.Verified.{Verified}
 use Rattle.command_base.specs.Inputs.{Inputs, Contents}
 use Rattle.command_base.specs.Questions.{question_by}
-use Rattle.command_base.specs.Outcomes.{AnswersFiles, IsDueOfFiles}
+use Rattle.command_base.specs.FileAnswers.{AnswersFiles, IsDueOfFiles}
 use Rattle.command_base.specs.CheckedTexts.{checked_status, checked_text}
 
 -- what the third file is to the model and the case

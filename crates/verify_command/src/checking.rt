@@ -1,9 +1,10 @@
-ghost use Rattle.std.specs.Prelude.{◌≡◌, ◌≢◌, ◌≤◌, ◌+◌, ◌++◌, ◌↔◌, ℕ, List, Err, None, Some, true, length, IsTrue, IfOk};
+ghost use Rattle.std.specs.Prelude.{◌≡◌, ◌≢◌, ◌≤◌, ◌+◌, ◌++◌, ◌↔◌, ℕ, List, Err, None, Some};
+ghost use Rattle.std.specs.Prelude.{true, length, IsTrue, IfOk};
 ghost use Rattle.pc_common.specs.Faults.{Rose};
 ghost use Rattle.pc_common.specs.Reads.{Reads};
 ghost use Rattle.pc_common.specs.declared.limits.TheConstants.{MAX_CERTIFICATE};
 ghost use Rattle.cert_check.specs.Questions.{question_of, question_of_parts};
-ghost use Rattle.cert_check.specs.GraphLaws.{SaysUnobservable};
+ghost use Rattle.cert_check.specs.GraphBegins.{SaysUnobservable};
 ghost use Rattle.cert_check.specs.Verified.{Verified};
 ghost use Rattle.verify_command.specs.Reading.{IsEnough};
 ghost use Rattle.command_base.specs.declared.feed_end.FeedEnd.TheVariants.{ReadFault as a_read_fault};
@@ -11,7 +12,7 @@ ghost use Rattle.command_base.specs.declared.feed_end.FeedEnd.TheVariants.{ReadF
 use super::reading::{feed_file, first_bytes};
 use cert_check::{Checked, Checker, GraphChecker};
 use command_base::FeedEnd;
-use front_parts::front_of;
+use front_maker::front_of;
 use pc_common::Files;
 use pc_ground::{Front, Parts};
 use std::alloc::Global;

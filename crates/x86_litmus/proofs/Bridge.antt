@@ -5,15 +5,15 @@ use Rattle.std.proofs.lemmas.List.{append-nil, map-append}
 use Rattle.ll_grammar.specs.Rules.{Derives}
 use Rattle.ll_grammar.specs.Texts.{IsText}
 use Rattle.ll_grammar.specs.declared.grammar.Symbol.{Symbol}
-use Rattle.ll_grammar.specs.declared.grammar.Symbol.TheVariants.{Class, Part}
+use Rattle.ll_grammar.specs.declared.grammar.Symbol.TheVariants.{Terminal as a_terminal, Nonterminal as a_nonterminal}
 use Rattle.ll_grammar.proofs.DerivesLaws.{Each, meaning, derives-begin, derives-end}
 use Rattle.ll_grammar.proofs.DerivesLaws.Each.{none, class, part}
-use Rattle.x86_tokens.specs.Token.{Token, Kind}
+use Rattle.uspec_lexer.specs.Token.{Token, Kind}
 use Rattle.x86_litmus.specs.Listing.{Named, Location, bare, bracketed, Stated, Block, no_values, values, Action, fence, store, load, Cell, empty, instruction, Row, Equation, of_register, of_location, Condition, Listing}
 use Rattle.x86_litmus.specs.Expected.{Expected, a_name, a_word, a_number, number_at, a_symbol, symbol_at, Is, Spell}
 use Rattle.x86_litmus.specs.Syntax.{word_at, spelled_location, spelled_stated, spelled_values, spelled_block, spelled_columns, spelled_action, spelled_cell, spelled_cells, spelled_row, spelled_equation, spelled_equations, spelled_conjunction, spelled_asked, spelled_denial, spelled_rows, spelled_listing, IsListing}
 use Rattle.x86_litmus.specs.Terminals.{spelling, word_terminal, symbol_terminal, kind_terminal, terminal_of, is_name}
-use Rattle.x86_litmus.specs.Phrases.{number_and, bracketed_and, register_and, behind, may_end, deep, rules}
+use Rattle.x86_litmus.specs.Phrases.{number_and, bracketed_and, register_and, production, is_nullable, deep, rules}
 use Rattle.x86_litmus.specs.declared.terminal.Terminal.{Terminal}
 use Rattle.x86_litmus.specs.declared.terminal.Terminal.TheVariants.{Mov, Mfence, Exists, Name, Number, OpenBrace, CloseBrace, Semicolon, Bar, OpenBracket, CloseBracket, Comma, Dollar, Colon, Equals, Open, Close, Tilde, And, Other}
 use Rattle.x86_litmus.specs.declared.phrase.Phrase.{Phrase}
@@ -46,7 +46,7 @@ Spelled AnyName ts = (n : Named) × Spell (a_name n ∷ []) ts
 abbrev Means : Phrase → List Terminal → List Bool → Type 0
 Means n cs marks = (ts : List Token) → map terminal_of ts ≡ cs → Spelled n ts
 
-means-end : (n : Phrase) → IsTrue (may_end n) → Means n [] []
+means-end : (n : Phrase) → IsTrue (is_nullable n) → Means n [] []
 means-end MoreEquations h [] e = ([], tt)
 means-end MoreEquations h (t ∷ ts) e = absurd (cc)
 means-end ListingPart h ts e = absurd (cc)
@@ -109,9 +109,9 @@ bracketed_of : (xs : List Terminal) → ((us : List Token) → map terminal_of u
     → (n : Named) × (v : ℕ) × (rest : List Token) × (map terminal_of rest ≡ cs)
     × ((es : List Expected) → Spell es rest → Spell (a_name n ∷ a_symbol (codes "]") ∷ a_symbol (codes "=") ∷ a_number v ∷ es) ts)
 bracketed_of xs any ts cs e =
-    let (us, vs, same, here, behind) = map-part terminal_of ts xs (CloseBracket ∷ Equals ∷ Number ∷ cs) e in
+    let (us, vs, same, here, production) = map-part terminal_of ts xs (CloseBracket ∷ Equals ∷ Number ∷ cs) e in
     let (n, s) = any us here in
-    let (z, zs, at, is_z, left) = map-head terminal_of vs CloseBracket (Equals ∷ Number ∷ cs) behind in
+    let (z, zs, at, is_z, left) = map-head terminal_of vs CloseBracket (Equals ∷ Number ∷ cs) production in
     let (v, rest, more, spells) = number_of zs cs left in
     let closes : Is (a_symbol (codes "]")) z = is_symbol z CloseBracket refl (λ h. cc) is_z in (
       n,
@@ -130,9 +130,9 @@ register_of : (xs : List Terminal) → ((us : List Token) → map terminal_of us
     → (n : Named) × (v : ℕ) × (rest : List Token) × (map terminal_of rest ≡ cs)
     × ((es : List Expected) → Spell es rest → Spell (a_symbol (codes ":") ∷ a_name n ∷ a_symbol (codes "=") ∷ a_number v ∷ es) ts)
 register_of xs any (c ∷ ts) cs e =
-    let (us, vs, same, here, behind) = map-part terminal_of ts xs (Equals ∷ Number ∷ cs) cc in
+    let (us, vs, same, here, production) = map-part terminal_of ts xs (Equals ∷ Number ∷ cs) cc in
     let (n, s) = any us here in
-    let (v, rest, more, spells) = number_of vs cs behind in
+    let (v, rest, more, spells) = number_of vs cs production in
     let colon : Is (a_symbol (codes ":")) c = is_symbol c Colon refl (λ h. cc) cc in (
       n,
       v,
@@ -170,7 +170,7 @@ values_end _ _ none (t ∷ []) e = ([], false, (is_symbol t CloseBrace refl (λ 
 values_end _ _ none (t ∷ u ∷ ts) e = absurd (cc)
 values_end _ _ none [] e = absurd (cc)
 
-values_more : IsRule MoreValues Semicolon (Part Values ∷ [])
+values_more : IsRule MoreValues Semicolon (a_nonterminal Values ∷ [])
 values_more _ _ (part {cs = cs} inside none) (t ∷ ts) e =
     let semicolon : Is (a_symbol (codes ";")) t = is_symbol t Semicolon refl (λ h. cc) cc in
     by semicolon (inside ts (behind_first t ts Semicolon cs e))
@@ -181,13 +181,13 @@ values_more _ _ (part {cs = cs} inside none) (t ∷ ts) e =
 values_more _ _ (part inside none) [] e = absurd (cc)
 
 -- the head
-columns_named : (c : Terminal) → is_name c ≡ true → IsRule Columns c (Part MoreColumns ∷ [])
+columns_named : (c : Terminal) → is_name c ≡ true → IsRule Columns c (a_nonterminal MoreColumns ∷ [])
 columns_named c h _ _ (part {cs = cs} more none) (n ∷ ts) e =
     let (ns, s) = more ts (behind_first n ts c cs e) in
     (named_of n, ns, (is_named n c h cc, s))
 columns_named c h _ _ (part more none) [] e = absurd (cc)
 
-columns_more : IsRule MoreColumns Bar (Part Columns ∷ [])
+columns_more : IsRule MoreColumns Bar (a_nonterminal Columns ∷ [])
 columns_more _ _ (part {cs = cs} more none) (t ∷ ts) e =
     let (n, ns, s) = more ts (behind_first t ts Bar cs e) in
     (n ∷ ns, (is_symbol t Bar refl (λ h. cc) cc, s))
@@ -199,11 +199,11 @@ columns_end _ _ none (t ∷ u ∷ ts) e = absurd (cc)
 columns_end _ _ none [] e = absurd (cc)
 
 -- after MOV
-store_move : IsRule Move OpenBracket (Part AnyName ∷ Class CloseBracket ∷ Class Comma ∷ Class Dollar ∷ Class Number ∷ [])
+store_move : IsRule Move OpenBracket (a_nonterminal AnyName ∷ a_terminal CloseBracket ∷ a_terminal Comma ∷ a_terminal Dollar ∷ a_terminal Number ∷ [])
 store_move _ _ (part {cs = xs} any (class (class (class (class none))))) (o ∷ ts) e =
-    let (us, vs, same, here, behind) = map-part terminal_of ts xs (CloseBracket ∷ Comma ∷ Dollar ∷ Number ∷ []) cc in
+    let (us, vs, same, here, production) = map-part terminal_of ts xs (CloseBracket ∷ Comma ∷ Dollar ∷ Number ∷ []) cc in
     let (n, s) = any us here in
-    by n (is_symbol o OpenBracket refl (λ h. cc) cc) us vs (sym same) s behind
+    by n (is_symbol o OpenBracket refl (λ h. cc) cc) us vs (sym same) s production
   where
     by : (n : Named) → Is (a_symbol (codes "[")) o → (us vs : List Token) → us ++ vs ≡ ts → Spell (a_name n ∷ []) us
         → map terminal_of vs ≡ CloseBracket ∷ Comma ∷ Dollar ∷ Number ∷ [] → Spelled Move (o ∷ ts)
@@ -219,11 +219,11 @@ store_move _ _ (part {cs = xs} any (class (class (class (class none))))) (o ∷ 
     by n opens us vs same s f = absurd (cc)
 store_move _ _ (part any (class (class (class (class none))))) [] e = absurd (cc)
 
-load_move : (c : Terminal) → is_name c ≡ true → IsRule Move c (Class Comma ∷ Class OpenBracket ∷ Part AnyName ∷ Class CloseBracket ∷ [])
+load_move : (c : Terminal) → is_name c ≡ true → IsRule Move c (a_terminal Comma ∷ a_terminal OpenBracket ∷ a_nonterminal AnyName ∷ a_terminal CloseBracket ∷ [])
 load_move c h _ _ (class (class (part {cs = xs} any (class none)))) (r ∷ k ∷ o ∷ ts) e =
-    let (us, vs, same, here, behind) = map-part terminal_of ts xs (CloseBracket ∷ []) cc in
+    let (us, vs, same, here, production) = map-part terminal_of ts xs (CloseBracket ∷ []) cc in
     let (n, s) = any us here in
-    by n (is_named r c h cc) (is_symbol k Comma refl (λ h. cc) cc) (is_symbol o OpenBracket refl (λ h. cc) cc) us vs (sym same) s behind
+    by n (is_named r c h cc) (is_symbol k Comma refl (λ h. cc) cc) (is_symbol o OpenBracket refl (λ h. cc) cc) us vs (sym same) s production
   where
     by : (n : Named) → Is (a_name (named_of r)) r → Is (a_symbol (codes ",")) k → Is (a_symbol (codes "[")) o → (us vs : List Token)
         → us ++ vs ≡ ts → Spell (a_name n ∷ []) us → map terminal_of vs ≡ CloseBracket ∷ [] → Spelled Move (r ∷ k ∷ o ∷ ts)
@@ -237,11 +237,11 @@ load_move c h _ _ (class (class (part {cs = xs} any (class none)))) (r ∷ k ∷
 load_move c h _ _ (class (class (part any (class none)))) ts e = absurd (cc)
 
 -- a cell, and what stands after it
-cells_move : IsRule Cells Mov (Part Move ∷ Part MoreCells ∷ [])
+cells_move : IsRule Cells Mov (a_nonterminal Move ∷ a_nonterminal MoreCells ∷ [])
 cells_move _ _ (part {cs = xs} move (part {cs = cs} more none)) (m ∷ ts) e =
-    let (us, vs, same, here, behind) = map-part terminal_of ts xs (cs ++ []) cc in
+    let (us, vs, same, here, production) = map-part terminal_of ts xs (cs ++ []) cc in
     let (a, spells) = move us here in
-    let (cells, end, rs, c, s) = more vs (behind ∙ append-nil cs) in
+    let (cells, end, rs, c, s) = more vs (production ∙ append-nil cs) in
     let moves : Is (word_at (codes "MOV") m.at) m = is_word_at m Mov refl (λ h. cc) cc in
     let front : List Expected = spelled_action m.at a in
     let all : m ∷ (us ++ vs) ≡ m ∷ ts = ap (λ (xs : List Token). m ∷ xs) (sym same) in (
@@ -254,31 +254,31 @@ cells_move _ _ (part {cs = xs} move (part {cs = cs} more none)) (m ∷ ts) e =
     )
 cells_move _ _ (part move (part more none)) [] e = absurd (cc)
 
-cells_fence : IsRule Cells Mfence (Part MoreCells ∷ [])
+cells_fence : IsRule Cells Mfence (a_nonterminal MoreCells ∷ [])
 cells_fence _ _ (part {cs = cs} more none) (m ∷ ts) e =
     let (cells, end, rs, c, s) = more ts (behind_first m ts Mfence cs e) in
     (record { first = instruction m.at fence; others = cells; end = end }, rs, c, (is_word_at m Mfence refl (λ h. cc) cc, s))
 cells_fence _ _ (part more none) [] e = absurd (cc)
 
-cells_bar : IsRule Cells Bar (Part Cells ∷ [])
+cells_bar : IsRule Cells Bar (a_nonterminal Cells ∷ [])
 cells_bar _ _ (part {cs = cs} more none) (t ∷ ts) e =
     let (r, rs, c, s) = more ts (behind_first t ts Bar cs e) in
     (record { first = empty; others = r.first ∷ r.others; end = r.end }, rs, c, (is_symbol t Bar refl (λ h. cc) cc, s))
 cells_bar _ _ (part more none) [] e = absurd (cc)
 
-cells_end : IsRule Cells Semicolon (Part Rows ∷ [])
+cells_end : IsRule Cells Semicolon (a_nonterminal Rows ∷ [])
 cells_end _ _ (part {cs = cs} more none) (t ∷ ts) e =
     let (rs, c, s) = more ts (behind_first t ts Semicolon cs e) in
     (record { first = empty; others = []; end = t.at }, rs, c, (is_symbol_at t Semicolon refl (λ h. cc) cc, s))
 cells_end _ _ (part more none) [] e = absurd (cc)
 
-more_bar : IsRule MoreCells Bar (Part Cells ∷ [])
+more_bar : IsRule MoreCells Bar (a_nonterminal Cells ∷ [])
 more_bar _ _ (part {cs = cs} more none) (t ∷ ts) e =
     let (r, rs, c, s) = more ts (behind_first t ts Bar cs e) in
     (r.first ∷ r.others, r.end, rs, c, (is_symbol t Bar refl (λ h. cc) cc, s))
 more_bar _ _ (part more none) [] e = absurd (cc)
 
-more_end : IsRule MoreCells Semicolon (Part Rows ∷ [])
+more_end : IsRule MoreCells Semicolon (a_nonterminal Rows ∷ [])
 more_end _ _ (part {cs = cs} more none) (t ∷ ts) e =
     let (rs, c, s) = more ts (behind_first t ts Semicolon cs e) in
     ([], t.at, rs, c, (is_symbol_at t Semicolon refl (λ h. cc) cc, s))
@@ -288,7 +288,7 @@ more_end _ _ (part more none) [] e = absurd (cc)
 row_of : (body : List (Symbol Terminal Phrase)) (c : Terminal) → IsRule Cells c body → IsRule Rows c body
 row_of body k cells cs marks each ts e = let (r, rs, c, s) = cells cs marks each ts e in (r ∷ rs, c, s)
 
-denied_condition : IsRule Rows Tilde (Class Exists ∷ Part Asked ∷ [])
+denied_condition : IsRule Rows Tilde (a_terminal Exists ∷ a_nonterminal Asked ∷ [])
 denied_condition _ _ (class (part {cs = cs} asked none)) (t ∷ x ∷ ts) e =
     let (b, q, qs, s) = asked ts (let rest : map terminal_of ts ≡ cs ++ [] = cc in rest ∙ append-nil cs) in
     let tilde : Is (a_symbol (codes "~")) t = is_symbol t Tilde refl (λ h. cc) cc in
@@ -297,7 +297,7 @@ denied_condition _ _ (class (part {cs = cs} asked none)) (t ∷ x ∷ ts) e =
 denied_condition _ _ (class (part asked none)) (t ∷ []) e = absurd (cc)
 denied_condition _ _ (class (part asked none)) [] e = absurd (cc)
 
-plain_condition : IsRule Rows Exists (Part Asked ∷ [])
+plain_condition : IsRule Rows Exists (a_nonterminal Asked ∷ [])
 plain_condition _ _ (part {cs = cs} asked none) (x ∷ ts) e =
     let (b, q, qs, s) = asked ts (behind_first x ts Exists cs e) in
     ([], record { denied = false; in_brackets = b; first = q; others = qs }, (is_word x Exists refl (λ h. cc) cc, s))
@@ -332,11 +332,11 @@ equation_named c h _ _ (class (class (part more none))) [] e = absurd (cc)
 asked_of : (body : List (Symbol Terminal Phrase)) (c : Terminal) → IsRule Equations c body → IsRule Asked c body
 asked_of body k equations cs marks each ts e = let (q, qs, s) = equations cs marks each ts e in (false, q, qs, s)
 
-asked_brackets : IsRule Asked Open (Part Equations ∷ Class Close ∷ [])
+asked_brackets : IsRule Asked Open (a_nonterminal Equations ∷ a_terminal Close ∷ [])
 asked_brackets _ _ (part {cs = xs} equations (class none)) (o ∷ ts) e =
-    let (us, vs, same, here, behind) = map-part terminal_of ts xs (Close ∷ []) cc in
+    let (us, vs, same, here, production) = map-part terminal_of ts xs (Close ∷ []) cc in
     let (q, qs, s) = equations us here in
-    by q qs (is_symbol o Open refl (λ h. cc) cc) us vs (sym same) s behind
+    by q qs (is_symbol o Open refl (λ h. cc) cc) us vs (sym same) s production
   where
     by : (q : Equation) (qs : List Equation) → Is (a_symbol (codes "(")) o → (us vs : List Token) → us ++ vs ≡ ts
         → Spell (spelled_conjunction q qs) us → map terminal_of vs ≡ Close ∷ [] → Spelled Asked (o ∷ ts)
@@ -354,7 +354,7 @@ asked_brackets _ _ (part {cs = xs} equations (class none)) (o ∷ ts) e =
     by q qs opens us vs same s f = absurd (cc)
 asked_brackets _ _ (part equations (class none)) [] e = absurd (cc)
 
-equations_more : IsRule MoreEquations And (Part Equations ∷ [])
+equations_more : IsRule MoreEquations And (a_nonterminal Equations ∷ [])
 equations_more _ _ (part {cs = cs} more none) (t ∷ ts) e =
     let (q, qs, s) = more ts (behind_first t ts And cs e) in
     (q ∷ qs, (is_symbol t And refl (λ h. cc) cc, s))
@@ -365,10 +365,10 @@ any_name c h _ _ none (t ∷ []) e = (named_of t, (is_named t c h cc, tt))
 any_name c h _ _ none (t ∷ u ∷ ts) e = absurd (cc)
 any_name c h _ _ none [] e = absurd (cc)
 
-listing_rule : IsRule ListingPart OpenBrace (Part Values ∷ Part Columns ∷ Part Rows ∷ [])
+listing_rule : IsRule ListingPart OpenBrace (a_nonterminal Values ∷ a_nonterminal Columns ∷ a_nonterminal Rows ∷ [])
 listing_rule _ _ (part {cs = xs} {ds = ys} block (part {cs = zs} {ds = ws} columns (part {cs = cs} rows none))) (o ∷ ts) e =
-    let (us, vs, same, here, behind) = map-part terminal_of ts xs (zs ++ (cs ++ [])) cc in
-    let (vs1, vs2, same1, here1, behind1) = map-part terminal_of vs zs (cs ++ []) behind in
+    let (us, vs, same, here, production) = map-part terminal_of ts xs (zs ++ (cs ++ [])) cc in
+    let (vs1, vs2, same1, here1, behind1) = map-part terminal_of vs zs (cs ++ []) production in
     let (b, s) = block us here in
     let (n, ns, s1) = columns vs1 here1 in
     let (rs, c, s2) = rows vs2 (behind1 ∙ append-nil cs) in
@@ -385,7 +385,7 @@ listing_rule _ _ (part {cs = xs} {ds = ys} block (part {cs = zs} {ds = ws} colum
     )
 listing_rule _ _ (part block (part columns (part rows none))) [] e = absurd (cc)
 
-rule : (n : Phrase) (c : Terminal) → MatchOption (behind n c) (Unit {0})
+rule : (n : Phrase) (c : Terminal) → MatchOption (production n c) (Unit {0})
     (λ body. (cs : List Terminal) (marks : List Bool) → Each Means body cs marks → Means n (c ∷ cs) (rules.deep n c ∷ marks))
 rule ListingPart OpenBrace = listing_rule
 rule ListingPart _ = tt
@@ -487,17 +487,17 @@ terminals-of_tokens (e ∷ es) (t ∷ ts) s =
 abbrev Reads : Phrase → List Terminal → Type 0
 Reads n cs = IsText (Derives rules n) cs
 
-begin : (n : Phrase) (c : Terminal) (body : List (Symbol Terminal Phrase)) → behind n c ≡ Some body
+begin : (n : Phrase) (c : Terminal) (body : List (Symbol Terminal Phrase)) → production n c ≡ Some body
     → {cs : List Terminal} {marks : List Bool} → Each (Derives rules) body cs marks → (ds : List Terminal) → ds ≡ c ∷ cs → Reads n ds
 begin n c body e {marks = marks} each ds same = (deep n c ∷ marks, derives-begin n c body e each same refl)
 
 -- a token, and after it one part
-lead : (n : Phrase) (c : Terminal) (m : Phrase) → behind n c ≡ Some (Part m ∷ []) → (cs : List Terminal) → Reads m cs → Reads n (c ∷ cs)
+lead : (n : Phrase) (c : Terminal) (m : Phrase) → production n c ≡ Some (a_nonterminal m ∷ []) → (cs : List Terminal) → Reads m cs → Reads n (c ∷ cs)
 lead n c m e cs (_, d) =
-    begin n c (Part m ∷ []) e (part d none) (c ∷ cs) (ap (λ (ds : List Terminal). c ∷ ds) (sym (append-nil cs)))
+    begin n c (a_nonterminal m ∷ []) e (part d none) (c ∷ cs) (ap (λ (ds : List Terminal). c ∷ ds) (sym (append-nil cs)))
 
 abbrev TakesNames : Phrase → List (Symbol Terminal Phrase) → Type 0
-TakesNames n body = (c : Terminal) → is_name c ≡ true → behind n c ≡ Some body
+TakesNames n body = (c : Terminal) → is_name c ≡ true → production n c ≡ Some body
 
 values_names : TakesNames Values (number_and MoreValues)
 values_names Mov h = refl
@@ -506,14 +506,14 @@ values_names Exists h = refl
 values_names Name h = refl
 values_names c h = absurd (cc)
 
-columns_names : TakesNames Columns (Part MoreColumns ∷ [])
+columns_names : TakesNames Columns (a_nonterminal MoreColumns ∷ [])
 columns_names Mov h = refl
 columns_names Mfence h = refl
 columns_names Exists h = refl
 columns_names Name h = refl
 columns_names c h = absurd (cc)
 
-move_names : TakesNames Move (Class Comma ∷ Class OpenBracket ∷ Part AnyName ∷ Class CloseBracket ∷ [])
+move_names : TakesNames Move (a_terminal Comma ∷ a_terminal OpenBracket ∷ a_nonterminal AnyName ∷ a_terminal CloseBracket ∷ [])
 move_names Mov h = refl
 move_names Mfence h = refl
 move_names Exists h = refl
@@ -545,7 +545,7 @@ read_any : (w : List ℕ) → Reads AnyName (word_terminal w ∷ [])
 read_any w = begin AnyName (word_terminal w) [] (any_names (word_terminal w) (word_is_name w)) none (word_terminal w ∷ []) refl
 
 -- loc "=" NUMBER, and what stands after it
-read_stated : (n m : Phrase) → behind n OpenBracket ≡ Some (bracketed_and m) → TakesNames n (number_and m) → (s : Stated)
+read_stated : (n m : Phrase) → production n OpenBracket ≡ Some (bracketed_and m) → TakesNames n (number_and m) → (s : Stated)
     → (es : List Expected) → Reads m (map terminal es) → Reads n (map terminal (spelled_stated s ++ es))
 unfolding symbol_terminal
 read_stated n m bracket names s es (_, q) = by s.location
@@ -586,26 +586,28 @@ read_columns (n ∷ ns) =
 read_store : (location : Named) → Reads Move (OpenBracket ∷ word_terminal location.word ∷ CloseBracket ∷ Comma ∷ Dollar ∷ Number ∷ [])
 read_store location =
     let (_, a) = read_any location.word in
-    begin Move OpenBracket (Part AnyName ∷ Class CloseBracket ∷ Class Comma ∷ Class Dollar ∷ Class Number ∷ []) refl
+    begin Move OpenBracket (a_nonterminal AnyName ∷ a_terminal CloseBracket ∷ a_terminal Comma ∷ a_terminal Dollar ∷ a_terminal Number ∷ []) refl
     (part a (class (class (class (class none)))))
     (OpenBracket ∷ word_terminal location.word ∷ CloseBracket ∷ Comma ∷ Dollar ∷ Number ∷ []) refl
 
 read_load : (register location : Named) → Reads Move (word_terminal register.word ∷ Comma ∷ OpenBracket ∷ word_terminal location.word ∷ CloseBracket ∷ [])
 read_load register location =
     let (_, a) = read_any location.word in
-    begin Move (word_terminal register.word) (Class Comma ∷ Class OpenBracket ∷ Part AnyName ∷ Class CloseBracket ∷ [])
+    begin Move (word_terminal register.word) (a_terminal Comma ∷ a_terminal OpenBracket ∷ a_nonterminal AnyName ∷ a_terminal CloseBracket ∷ [])
     (move_names (word_terminal register.word) (word_is_name register.word)) (class (class (part a (class none))))
     (word_terminal register.word ∷ Comma ∷ OpenBracket ∷ word_terminal location.word ∷ CloseBracket ∷ []) refl
 
 -- MOV, what it moves, and what stands after it
-read_move : (n : Phrase) → behind n Mov ≡ Some (Part Move ∷ Part MoreCells ∷ []) → (cs ds : List Terminal) → Reads Move cs → Reads MoreCells ds
+read_move : (n : Phrase) → production n Mov ≡ Some (a_nonterminal Move ∷ a_nonterminal MoreCells ∷ []) → (cs ds : List Terminal)
+    → Reads Move cs → Reads MoreCells ds
     → Reads n (Mov ∷ (cs ++ ds))
 read_move n moves cs ds (_, a) (_, q) =
-    begin n Mov (Part Move ∷ Part MoreCells ∷ []) moves (part a (part q none)) (Mov ∷ (cs ++ ds))
+    begin n Mov (a_nonterminal Move ∷ a_nonterminal MoreCells ∷ []) moves (part a (part q none)) (Mov ∷ (cs ++ ds))
     (ap (λ (es : List Terminal). Mov ∷ (cs ++ es)) (sym (append-nil ds)))
 
 -- a cell and what stands after it, where that is read after an instruction and where the cell is empty
-read_cell : (n : Phrase) → behind n Mov ≡ Some (Part Move ∷ Part MoreCells ∷ []) → behind n Mfence ≡ Some (Part MoreCells ∷ [])
+read_cell : (n : Phrase) → production n Mov ≡ Some (a_nonterminal Move ∷ a_nonterminal MoreCells ∷ [])
+    → production n Mfence ≡ Some (a_nonterminal MoreCells ∷ [])
     → (c : Cell) (es : List Expected) → Reads MoreCells (map terminal es) → Reads n (map terminal es)
     → Reads n (map terminal (spelled_cell c ++ es))
 unfolding word_terminal symbol_terminal
@@ -617,7 +619,8 @@ read_cell n moves fences (instruction at (load register location)) es more plain
     read_move n moves (word_terminal register.word ∷ Comma ∷ OpenBracket ∷ word_terminal location.word ∷ CloseBracket ∷ []) (map terminal es)
     (read_load register location) more
 
-read_cells : (n : Phrase) → behind n Bar ≡ Some (Part Cells ∷ []) → behind n Semicolon ≡ Some (Part Rows ∷ []) → (cs : List Cell) (end : ℕ)
+read_cells : (n : Phrase) → production n Bar ≡ Some (a_nonterminal Cells ∷ []) → production n Semicolon ≡ Some (a_nonterminal Rows ∷ [])
+    → (cs : List Cell) (end : ℕ)
     → (es : List Expected) → Reads Rows (map terminal es) → Reads n (map terminal (spelled_cells cs end ++ es))
 unfolding symbol_terminal
 read_cells n bar ends [] end es q = lead n Semicolon Rows ends (map terminal es) q
@@ -633,7 +636,7 @@ read_row r es q =
     (read_cells MoreCells refl refl r.others r.end es q) (read_cells Rows refl refl r.others r.end es q))
 
 -- an equation, and what stands after it
-read_equation : (n : Phrase) → behind n Number ≡ Some (register_and MoreEquations) → behind n OpenBracket ≡ Some (bracketed_and MoreEquations)
+read_equation : (n : Phrase) → production n Number ≡ Some (register_and MoreEquations) → production n OpenBracket ≡ Some (bracketed_and MoreEquations)
     → TakesNames n (number_and MoreEquations) → (e : Equation) (es : List Expected) → Reads MoreEquations (map terminal es)
     → Reads n (map terminal (spelled_equation e ++ es))
 unfolding symbol_terminal
@@ -656,7 +659,7 @@ unfolding symbol_terminal
 read_asked false e es = read_equation Asked refl refl asked_names e (spelled_equations es) (read_equations es)
 read_asked true e es =
     let (_, q) = read_equation Equations refl refl equations_names e (spelled_equations es) (read_equations es) in
-    begin Asked Open (Part Equations ∷ Class Close ∷ []) refl (part q (class none))
+    begin Asked Open (a_nonterminal Equations ∷ a_terminal Close ∷ []) refl (part q (class none))
     (map terminal (spelled_asked true e es))
     (ap (λ (cs : List Terminal). Open ∷ cs) (map-append terminal (spelled_conjunction e es) (a_symbol (codes ")") ∷ [])))
 
@@ -666,7 +669,7 @@ unfolding word_terminal symbol_terminal
 read_condition false b e es = lead Rows Exists Asked refl (map terminal (spelled_asked b e es)) (read_asked b e es)
 read_condition true b e es =
     let (_, q) = read_asked b e es in
-    begin Rows Tilde (Class Exists ∷ Part Asked ∷ []) refl (class (part q none)) (Tilde ∷ Exists ∷ map terminal (spelled_asked b e es))
+    begin Rows Tilde (a_terminal Exists ∷ a_nonterminal Asked ∷ []) refl (class (part q none)) (Tilde ∷ Exists ∷ map terminal (spelled_asked b e es))
     (ap (λ (cs : List Terminal). Tilde ∷ Exists ∷ cs) (sym (append-nil (map terminal (spelled_asked b e es)))))
 
 read_rows : (rs : List Row) (c : Condition) → Reads Rows (map terminal (spelled_rows rs c))
@@ -679,7 +682,7 @@ read_listing l =
     let (_, b) = read_block l.block in
     let (_, h) = read_columns_of l.first_column (spelled_columns l.columns) (read_columns l.columns) in
     let (_, q) = read_rows l.rows l.condition in
-    begin ListingPart OpenBrace (Part Values ∷ Part Columns ∷ Part Rows ∷ []) refl (part b (part h (part q none)))
+    begin ListingPart OpenBrace (a_nonterminal Values ∷ a_nonterminal Columns ∷ a_nonterminal Rows ∷ []) refl (part b (part h (part q none)))
     (map terminal (spelled_listing l)) (ap (λ (cs : List Terminal). OpenBrace ∷ cs) (simp (map-append, append-nil)))
 
 -- the terminals of a listing are read

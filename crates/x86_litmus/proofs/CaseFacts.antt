@@ -11,7 +11,7 @@ use Rattle.pc_case.specs.MicroOps.{AreMicroOps}
 use Rattle.pc_case.specs.Stated.{IsStatedOnce}
 use Rattle.x86_litmus.specs.Listing.{Action, fence, store, load}
 use Rattle.x86_litmus.specs.Said.{Instruction, Asked, Said}
-use Rattle.x86_litmus.specs.Cases.{seen, seen_value, seen_in, seen_by, locations, number_of, test_order, address_of, kind_of, touched, op_of, numbered, stated, case_of}
+use Rattle.x86_litmus.specs.Cases.{seen, seen_value, seen_in, seen_by, locations, number_of, test_order, address_of, kind_of_action, touched, op_of, numbered, stated, case_of}
 use Rattle.x86_litmus.specs.Sound.{IsOnce, IsSound}
 use Rattle.x86_litmus.proofs.Bytes.{same_is, same_self}
 
@@ -102,7 +102,7 @@ numbered_length : (words : List (List ℕ)) (asked : List Asked) (g : ℕ) (is :
 numbered_length words asked g [] = refl
 numbered_length words asked g (i ∷ is) = ap suc (numbered_length words asked (g + 1) is)
 
-fence_touches : (words : List (List ℕ)) (asked : List Asked) (t : ℕ) (a : Action) → (kind_of a ≡ a_fence) ↔ IsNone (touched words asked t a)
+fence_touches : (words : List (List ℕ)) (asked : List Asked) (t : ℕ) (a : Action) → (kind_of_action a ≡ a_fence) ↔ IsNone (touched words asked t a)
 fence_touches words asked t fence = (λ e. refl, λ h. refl)
 fence_touches words asked t (store location value) = (λ e. absurd (cc), λ h. absurd (cc))
 fence_touches words asked t (load register location) = (λ e. absurd (cc), λ h. absurd (cc))

@@ -16,3 +16,4 @@ mod Loops
 mod Walks
 pub mod Outcomes
 mod LexFaults
+pub mod HeaderLines

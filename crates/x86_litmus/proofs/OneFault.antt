@@ -4,10 +4,10 @@ use Rattle.pc_common.specs.declared.place.Place.{Place}
 use Rattle.pc_common.specs.declared.fault.FaultKind.{FaultKind}
 use Rattle.ll_grammar.specs.FirstFault.{IsFaultAt}
 use Rattle.ll_grammar.proofs.Faults.{viable-take}
-use Rattle.x86_tokens.specs.Token.{Token, token_place}
-use Rattle.x86_tokens.specs.Spells.{IsLexicalFault}
-use Rattle.x86_tokens.specs.Header.{fault}
-use Rattle.x86_tokens.proofs.SpellsLaws.{spells-no_fault, lexical_fault-unique}
+use Rattle.uspec_lexer.specs.Token.{Token, token_place}
+use Rattle.x86_litmus.specs.Tokens.{IsLexicalFault}
+use Rattle.x86_litmus.specs.Header.{fault}
+use Rattle.uspec_lexer.proofs.SpellsLaws.{spells-no_fault, lexical_fault-unique}
 use Rattle.x86_litmus.specs.Syntax.{IsListing}
 use Rattle.x86_litmus.specs.Faults.{Found, faulty, found}
 use Rattle.x86_litmus.specs.Answer.{IsTokenFault, IsX86Fault}

@@ -3,10 +3,10 @@ use Rattle.std.proofs.Common.{◌≡◌, ◌≢◌, ℕ, ◌+◌, ◌≤◌, inl
 use Rattle.std.proofs.lemmas.List.{take-append-drop}
 use Rattle.pc_common.specs.Case.{Case}
 use Rattle.ll_grammar.specs.FirstFault.{IsFaultAt}
-use Rattle.x86_tokens.specs.Token.{Token}
-use Rattle.x86_tokens.specs.Spells.{Spells, IsLexicalFault}
-use Rattle.x86_tokens.specs.Header.{body, fault, header_of}
-use Rattle.x86_tokens.proofs.SpellsLaws.{spells-unique, spells-no_fault}
+use Rattle.uspec_lexer.specs.Token.{Token}
+use Rattle.x86_litmus.specs.Tokens.{Spells, IsLexicalFault}
+use Rattle.x86_litmus.specs.Header.{body, fault, header_of}
+use Rattle.uspec_lexer.proofs.SpellsLaws.{spells-unique, spells-no_fault}
 use Rattle.x86_litmus.specs.Syntax.{IsListingOf, IsListing}
 use Rattle.x86_litmus.specs.Faults.{Outcome, faulty, says, found, outcome_of}
 use Rattle.x86_litmus.specs.Cases.{case_of}
@@ -31,7 +31,8 @@ one_list {bytes} {ts} {us} s t =
 pub one_outcome : {bytes : List ℕ} {x y : Outcome} → ComesTo bytes x → ComesTo bytes y → x ≡ y
 one_outcome s t =
     sym s.comes
-    ∙ ap outcome_of (sym (read_listing s.listing s.tokens s.is_listing) ∙ ap items_in (one_list s.spelled t.spelled) ∙ read_listing t.listing t.tokens t.is_listing)
+    ∙ ap outcome_of (sym (read_listing s.listing s.tokens s.is_listing) ∙ ap items_in (one_list s.spelled t.spelled)
+    ∙ read_listing t.listing t.tokens t.is_listing)
     ∙ t.comes
 
 pub one_case : (bytes : List ℕ) (c d : Case) → CaseOf bytes c → CaseOf bytes d → c ≡ d

@@ -3,7 +3,7 @@ use Rattle.std.proofs.Common.{◌≡◌, ℕ, List, Option, Some, None, sym, ap,
 use Rattle.pc_common.specs.Case.{Case}
 use Rattle.pc_common.specs.declared.place.Place.{Place}
 use Rattle.pc_common.specs.declared.fault.FaultKind.{FaultKind}
-use Rattle.x86_tokens.specs.Token.{Token}
+use Rattle.uspec_lexer.specs.Token.{Token}
 use Rattle.x86_litmus.specs.Syntax.{IsListing}
 use Rattle.x86_litmus.specs.Said.{Said}
 use Rattle.x86_litmus.specs.Faults.{Found, found, open_fault, says, unless, outcome_of}

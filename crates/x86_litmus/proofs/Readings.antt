@@ -1,7 +1,7 @@
 -- What is read of a listing's tokens is what its parts say.
 use Rattle.std.proofs.Common.{◌≡◌, ℕ, ◌+◌, Bool, true, false, List, [], ◌∷◌, ◌++◌, map, codes, refl, sym, ap, subst, ◌∙◌, append_assoc}
 use Rattle.std.proofs.lemmas.List.{append-nil}
-use Rattle.x86_tokens.specs.Token.{Token, Kind}
+use Rattle.uspec_lexer.specs.Token.{Token, Kind}
 use Rattle.x86_litmus.specs.Listing.{Named, Location, bare, bracketed, Stated, Block, no_values, values, fence, store, load, Cell, empty, instruction, Row, Equation, of_register, of_location, Condition, Listing}
 use Rattle.x86_litmus.specs.Expected.{Expected, a_name, a_word, a_number, number_at, a_symbol, symbol_at, Spell}
 use Rattle.x86_litmus.specs.Syntax.{spelled_location, spelled_stated, spelled_values, spelled_block, spelled_columns, spelled_cell, spelled_cells, spelled_row, spelled_equation, spelled_equations, spelled_conjunction, spelled_asked, spelled_denial, spelled_rows, IsListingOf}
@@ -203,7 +203,8 @@ read_cells k [] end es ts h =
     let a = takes_symbol_at (row k) (codes ";") end es ts h in record { rest = a.rest; spell = a.spell; reads = a.reads }
 read_cells k (c ∷ cs) end es ts h =
     let b = takes_symbol (row k) (codes "|") ((spelled_cell c ++ spelled_cells cs end) ++ es) ts h in
-    let a = read_cell (k + 1) c (spelled_cells cs end ++ es) b.rest (subst_spell _ _ b.rest (append_assoc (spelled_cell c) (spelled_cells cs end) es) b.spell) in
+    let a = read_cell (k + 1) c (spelled_cells cs end ++ es) b.rest
+    (subst_spell _ _ b.rest (append_assoc (spelled_cell c) (spelled_cells cs end) es) b.spell) in
     let d = read_cells (k + 1) cs end es a.rest a.spell in
     record {
       rest = d.rest;
@@ -242,7 +243,8 @@ read_equations : (qs : List Equation) (es : List Expected) (ts : List Token) →
 read_equations [] es ts h = record { rest = ts; spell = h; reads = refl }
 read_equations (q ∷ qs) es ts h =
     let a = takes_symbol asking (codes "/\\") ((spelled_equation q ++ spelled_equations qs) ++ es) ts h in
-    let b = read_equation q (spelled_equations qs ++ es) a.rest (subst_spell _ _ a.rest (append_assoc (spelled_equation q) (spelled_equations qs) es) a.spell) in
+    let b = read_equation q (spelled_equations qs ++ es) a.rest
+    (subst_spell _ _ a.rest (append_assoc (spelled_equation q) (spelled_equations qs) es) a.spell) in
     let c = read_equations qs es b.rest b.spell in
     record { rest = c.rest; spell = c.spell; reads = a.reads ∙ b.reads ∙ ap (λ (is : List Item). item_of_equation q ∷ is) c.reads }
 

@@ -95,7 +95,11 @@ sound_add s (column n) e h = record {
 }
 sound_add s (instructed thread at action) e h = record {
   columns = h.columns;
-  few = omega (arith, instruction_few s.instructions thread at action e, length-append s.instructions (record { thread = thread; at = at; action = action } ∷ []));
+  few = omega (
+    arith,
+    instruction_few s.instructions thread at action e,
+    length-append s.instructions (record { thread = thread; at = at; action = action } ∷ []),
+  );
   initial_once = h.initial_once;
   final_once = h.final_once;
 }

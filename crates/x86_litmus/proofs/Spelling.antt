@@ -1,6 +1,6 @@
 -- Tokens that spell what is expected.
 use Rattle.std.proofs.Common.{◌≡◌, ℕ, zero, suc, List, [], ◌∷◌, ◌++◌, Some, map, length, slice_get, refl, ap, subst, ◌∙◌}
-use Rattle.x86_tokens.specs.Token.{Token}
+use Rattle.uspec_lexer.specs.Token.{Token}
 use Rattle.x86_litmus.specs.Expected.{Expected, Is, Spell}
 
 -- one row of tokens after another

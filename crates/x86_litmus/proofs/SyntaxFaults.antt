@@ -3,11 +3,11 @@ use Rattle.std.proofs.Common.{◌≡◌, ℕ, ◌+◌, List, [], ◌∷◌, ◌+
 use Rattle.std.proofs.lemmas.List.{map-append, take-map, length-map}
 use Rattle.ll_grammar.specs.Rules.{Derives}
 use Rattle.ll_grammar.specs.Texts.{IsText, IsViable}
-use Rattle.ll_grammar.specs.FirstFault.{IsFaultAt, IsAnswer, IsSyntaxAnswer as IsAnswerOf}
+use Rattle.ll_grammar.specs.FirstFault.{IsFaultAt, IsAnswer}
 use Rattle.ll_grammar.specs.declared.fault.Fault.{Fault}
 use Rattle.ll_grammar.specs.declared.fault.Fault.TheVariants.{Syntax, Depth}
-use Rattle.ll_grammar.proofs.Shallow.{syntax-along}
-use Rattle.x86_tokens.specs.Token.{Token, name, number, symbol}
+use Rattle.ll_grammar.proofs.Shallow.{syntax-along, IsSyntaxAnswer as IsAnswerOf}
+use Rattle.uspec_lexer.specs.Token.{Token, name, number, symbol}
 use Rattle.x86_litmus.specs.Syntax.{IsListing}
 use Rattle.x86_litmus.specs.Answers.{IsSyntaxAnswer, place_in}
 use Rattle.x86_litmus.specs.Terminals.{spelling, terminal_of, word_terminal, symbol_terminal}

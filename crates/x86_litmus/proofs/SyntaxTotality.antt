@@ -2,7 +2,7 @@
 use Rattle.std.proofs.Common.{ℕ, ◌⊎◌, inl, inr, List, Option, Some, None, map}
 use Rattle.ll_grammar.specs.FirstFault.{IsFaultAt}
 use Rattle.ll_grammar.proofs.Existence.{decided_by, some_answer}
-use Rattle.x86_tokens.specs.Token.{Token}
+use Rattle.uspec_lexer.specs.Token.{Token}
 use Rattle.x86_litmus.specs.Syntax.{IsListing}
 use Rattle.x86_litmus.specs.Answers.{IsSyntaxAnswer, place_in}
 use Rattle.x86_litmus.specs.Terminals.{terminal_of}

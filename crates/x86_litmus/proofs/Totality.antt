@@ -2,9 +2,10 @@
 use Rattle.std.proofs.Common.{◌≡◌, ◌≢◌, ℕ, ◌+◌, ◌≤◌, Bool, true, false, ◌⊎◌, ⊎_elim, inl, inr, List, [], ◌∷◌, length, if◌then◌else◌, refl, arith}
 use Rattle.std.specs.List.{onto_first}
 use Rattle.pc_common.specs.Case.{Case}
-use Rattle.x86_tokens.specs.Token.{Token, token_place}
-use Rattle.x86_tokens.specs.Header.{Header, body, fault, is_line_end, lines, indent, opens_body, has_no_meaning, is_title, header_behind, header_of_lines, header_of}
-use Rattle.x86_tokens.proofs.Totality.{spells-or_fault}
+use Rattle.uspec_lexer.specs.Token.{Token, token_place}
+use Rattle.x86_litmus.specs.Header.{Header, body, fault, is_line_end, lines, indent, opens_body, has_no_meaning, is_title, header_behind, header_of_lines, header_of}
+use Rattle.x86_litmus.specs.Tokens.{listings}
+use Rattle.uspec_lexer.proofs.Totality.{some_answer}
 use Rattle.x86_litmus.specs.Listing.{Listing}
 use Rattle.x86_litmus.specs.Syntax.{IsListingOf}
 use Rattle.x86_litmus.specs.Items.{items_of}
@@ -86,7 +87,7 @@ body_settled bytes from header =
     ⊎_elim
     (λ (ts, spelled). tokens_settled bytes ts (record { from = from; header = header; spelled = spelled }))
     (λ (k, found_at). inr (Lexical (record { offset = k }), (λ e. cc), (from, header, found_at)))
-    (spells-or_fault bytes from (body_within bytes from header))
+    (some_answer listings bytes from (body_within bytes from header))
 
 pub case_or_fault : (bytes : List ℕ) → ((c : Case) × CaseOf bytes c) ⊎ ((f : X86Fault) × (f ≢ Memory) × IsX86Fault bytes f)
 case_or_fault bytes = by (header_of bytes) refl

@@ -3,14 +3,14 @@ use Rattle.std.proofs.Common.{◌≡◌, ℕ, ◌+◌, ◌<◌, ◌≤◌, Bool,
 use Rattle.std.proofs.lemmas.List.{drop_more}
 use Rattle.std.proofs.lemmas.Option.{get_or_from_slice_get}
 use Rattle.pc_common.specs.Names.{same_name}
-use Rattle.x86_tokens.specs.Token.{Token, Kind, name, number, symbol}
+use Rattle.uspec_lexer.specs.Token.{Token, Kind, name, number, text, symbol}
 use Rattle.x86_litmus.specs.Listing.{Named, fence}
 use Rattle.x86_litmus.specs.Items.{Item, instructed, row_ended, denied}
 use Rattle.x86_litmus.specs.Said.{Said, add}
 use Rattle.x86_litmus.specs.Spots.{Spot, block, valued, head, row, moving, storing, stored, loading, asking, thread, register, behind, goes, tells, after_word, after_name, after_number, after_row_symbol, after_symbol, after_kind, after, with_item, items_from, column_of}
 use Rattle.x86_litmus.specs.Faults.{Found, found, fault_of, faulty, unless, judged, outcome_of}
 use Rattle.x86_litmus.specs.Reading.{items_in, IsFaultIn}
-use Rattle.x86_litmus.specs.Takes.{IsRefusal}
+use Rattle.x86_litmus.specs.Takes.{IsListingRefusal}
 use Rattle.x86_litmus.specs.declared.fault.X86Fault.{X86Fault}
 use Rattle.x86_litmus.specs.declared.fault.X86Fault.TheVariants.{Lexical, Syntax, Content, Memory}
 use Rattle.x86_litmus.proofs.Loops.{no_more}
@@ -119,6 +119,7 @@ column_symbol (behind m) w at = omega arith
 column_kind : (s : Spot) (k : Kind) (piece : List ℕ) (at : ℕ) → column_of (after_kind s k piece at).next ≤ column_of s + 1
 column_kind s name piece at = column_name s (record { word = piece; at = at })
 column_kind s (number v) piece at = column_number s v at
+column_kind s text piece at = omega arith
 column_kind s symbol piece at = column_symbol s piece at
 
 pub column_after : (s : Spot) (t : Token) (next : Spot) (k : ℕ) → next ≡ (after s t).next → column_of s ≤ k → column_of next ≤ k + 1
@@ -127,7 +128,7 @@ column_after s t next k e low = omega (arith, ap column_of e, column_kind s t.ki
 -- why the code takes no item more is the fault of what the tokens say
 pub refused_in : (s : Spot) (said : Said) (ts : List Token) (k : ℕ) (t : Token) → slice_get ts k ≡ Some t → k < length ts → (i : Item)
     → Some i ≡ (after s t).item → outcome_of (items_in ts) ≡ judged said (items_from s (drop k ts)) → (fault : X86Fault)
-    → IsRefusal (fault_of said i) fault → IsFaultIn ts fault
+    → IsListingRefusal (fault_of said i) fault → IsFaultIn ts fault
 refused_in s said ts k t at lt i is reads (Content kind place) here =
     reads ∙ step_fault s said ts k t at lt (after s t).next refl i (found kind place.offset) is here
 refused_in s said ts k t at lt i is reads Memory here = tt

@@ -4,8 +4,8 @@ use Rattle.std.specs.List.{list_all}
 use Rattle.std.specs.Str.{bytes_eq}
 use Rattle.std.proofs.lemmas.Bool.{eqb-true}
 use Rattle.std.proofs.lemmas.Slice.Eq.{bytes_eq-Decides}
-use Rattle.x86_tokens.specs.Token.{Kind, name, number, symbol}
-use Rattle.x86_litmus.specs.Terminals.{spelling, words, symbols, find_terminal, word_terminal, symbol_terminal, kind_terminal, is_name}
+use Rattle.uspec_lexer.specs.Token.{Kind, name, number, text, symbol}
+use Rattle.x86_litmus.specs.Terminals.{spelling, word_terminals, symbols, find_terminal, word_terminal, symbol_terminal, kind_terminal, is_name}
 use Rattle.x86_litmus.specs.declared.terminal.Terminal.{Terminal}
 use Rattle.x86_litmus.specs.declared.terminal.Terminal.TheVariants.{Mov, Mfence, Exists, Name, Number, OpenBrace, CloseBrace, Semicolon, Bar, OpenBracket, CloseBracket, Comma, Dollar, Colon, Equals, Open, Close, Tilde, And, Other}
 
@@ -18,7 +18,7 @@ sort_of Name = 0
 sort_of Number = 1
 sort_of _ = 3
 
-word_terminal-find : (w : List ℕ) → word_terminal w ≡ find_terminal w Name words
+word_terminal-find : (w : List ℕ) → word_terminal w ≡ find_terminal w Name word_terminals
 unfolding word_terminal
 word_terminal-find w = refl
 
@@ -51,7 +51,7 @@ sorted s w rest (c ∷ cs) e all =
     by here later false = later
 
 word_sort : (w : List ℕ) → sort_of (word_terminal w) ≡ 0
-word_sort w = ap sort_of (word_terminal-find w) ∙ sorted 0 w Name words refl refl
+word_sort w = ap sort_of (word_terminal-find w) ∙ sorted 0 w Name word_terminals refl refl
 
 symbol_sort : (w : List ℕ) → sort_of (symbol_terminal w) ≡ 3
 symbol_sort w = ap sort_of (symbol_terminal-find w) ∙ sorted 3 w Other symbols refl refl
@@ -60,19 +60,22 @@ symbol_sort w = ap sort_of (symbol_terminal-find w) ∙ sorted 3 w Other symbols
 pub name-of_kind : (k : Kind) (piece : List ℕ) (c : Terminal) → sort_of c ≡ 0 → kind_terminal k piece ≡ c → k ≡ name
 name-of_kind name piece c s e = refl
 name-of_kind (number n) piece c s e = absurd (let h = ap sort_of e in omega arith)
+name-of_kind text piece c s e = absurd (let h = ap sort_of e in omega arith)
 name-of_kind symbol piece c s e = absurd (let h = ap sort_of e in omega (arith, symbol_sort piece))
 
 pub number-of_kind : (k : Kind) (piece : List ℕ) → kind_terminal k piece ≡ Number → (n : ℕ) × (k ≡ number n)
 number-of_kind name piece e = absurd (let h = ap sort_of e in omega (arith, word_sort piece))
 number-of_kind (number n) piece e = (n, refl)
+number-of_kind text piece e = absurd (let h = ap sort_of e in omega arith)
 number-of_kind symbol piece e = absurd (let h = ap sort_of e in omega (arith, symbol_sort piece))
 
 -- a word of the grammar
 pub word-of_kind : (k : Kind) (piece : List ℕ) (c : Terminal) → sort_of c ≡ 0 → (c ≡ Name → ⊥) → kind_terminal k piece ≡ c
     → (k ≡ name) × (piece ≡ spelling c)
 word-of_kind name piece c s own e =
-    (refl, elim (found piece Name words c (sym (word_terminal-find piece) ∙ e)) [ inl h ↦ absurd (own h) | inr h ↦ h ])
+    (refl, elim (found piece Name word_terminals c (sym (word_terminal-find piece) ∙ e)) [ inl h ↦ absurd (own h) | inr h ↦ h ])
 word-of_kind (number n) piece c s own e = absurd (let h = ap sort_of e in omega arith)
+word-of_kind text piece c s own e = absurd (let h = ap sort_of e in omega arith)
 word-of_kind symbol piece c s own e = absurd (let h = ap sort_of e in omega (arith, symbol_sort piece))
 
 -- a symbol of the grammar
@@ -80,6 +83,7 @@ pub symbol-of_kind : (k : Kind) (piece : List ℕ) (c : Terminal) → sort_of c 
     → (k ≡ symbol) × (piece ≡ spelling c)
 symbol-of_kind name piece c s own e = absurd (let h = ap sort_of e in omega (arith, word_sort piece))
 symbol-of_kind (number n) piece c s own e = absurd (let h = ap sort_of e in omega arith)
+symbol-of_kind text piece c s own e = absurd (own (sym e))
 symbol-of_kind symbol piece c s own e =
     (refl, elim (found piece Other symbols c (sym (symbol_terminal-find piece) ∙ e)) [ inl h ↦ absurd (own h) | inr h ↦ h ])
 

@@ -4,9 +4,9 @@ use Rattle.std.specs.Prelude.{◌≡◌, ℕ, ⊤, ◌⊎◌, List}
 use Rattle.ll_grammar.specs.FirstFault.{IsFaultAt}
 use Rattle.pc_common.specs.Case.{Case}
 use Rattle.pc_common.specs.declared.place.Place.{Place}
-use Rattle.x86_tokens.specs.Token.{Token, token_place}
-use Rattle.x86_tokens.specs.Spells.{Spells, IsLexicalFault}
-use Rattle.x86_tokens.specs.Header.{header_of, body, fault}
+use Rattle.uspec_lexer.specs.Token.{Token, token_place}
+use Rattle.x86_litmus.specs.Tokens.{Spells, IsLexicalFault}
+use Rattle.x86_litmus.specs.Header.{header_of, body, fault}
 use Rattle.x86_litmus.specs.Listing.{Listing}
 use Rattle.x86_litmus.specs.Syntax.{IsListingOf, IsListing}
 use Rattle.x86_litmus.specs.Items.{items_of}

@@ -3,7 +3,7 @@ use Rattle.std.specs.Prelude.{ℕ, List, Option, Some, None}
 use Rattle.ll_grammar.specs.FirstFault.{IsFaultAt}
 use Rattle.ll_grammar.specs.declared.fault.Fault.{Fault}
 use Rattle.ll_grammar.specs.declared.fault.Fault.TheVariants.{Syntax, Depth}
-use Rattle.x86_tokens.specs.Token.{Token}
+use Rattle.uspec_lexer.specs.Token.{Token}
 use Rattle.x86_litmus.specs.Syntax.{IsListing}
 
 -- a listing, or the place among the tokens of its syntax fault

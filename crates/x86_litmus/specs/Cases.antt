@@ -49,10 +49,10 @@ abbrev pub types_of : Action → List (List ℕ)
 types_of fence = codes "MFENCE" ∷ []
 types_of _ = []
 
-abbrev pub kind_of : Action → Kind
-kind_of fence = a_fence
-kind_of (store location value) = write
-kind_of (load register location) = read
+abbrev pub kind_of_action : Action → Kind
+kind_of_action fence = a_fence
+kind_of_action (store location value) = write
+kind_of_action (load register location) = read
 
 -- a store has its number, a load the one that the condition gives its register
 abbrev pub touched : List (List ℕ) → List Asked → ℕ → Action → Option Touch
@@ -69,7 +69,7 @@ op_of words asked g i = record {
   core = i.thread;
   thread = i.thread;
   types = types_of i.action;
-  kind = kind_of i.action;
+  kind = kind_of_action i.action;
   touch = touched words asked i.thread i.action;
 }
 

@@ -1,6 +1,6 @@
 -- What a production has at the place of one token, and the tokens that spell a production.
 use Rattle.std.specs.Prelude.{◌≡◌, ℕ, ⊤, List, [], ◌∷◌}
-use Rattle.x86_tokens.specs.Token.{Token, name, number, symbol}
+use Rattle.uspec_lexer.specs.Token.{Token, name, number, symbol}
 use Rattle.x86_litmus.specs.Listing.{Named}
 
 pub data Expected : Type 0 where

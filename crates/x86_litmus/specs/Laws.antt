@@ -19,5 +19,5 @@ abbrev pub HasOneFault : List ℕ → Type 0
 HasOneFault bytes = (e f : X86Fault) → IsFault bytes e → IsFault bytes f → e ≡ f
 
 -- not both
-abbrev pub HasNoFaultBeside : List ℕ → Type 0
-HasNoFaultBeside bytes = (c : Case) (f : X86Fault) → CaseOf bytes c → IsFault bytes f → ⊥
+abbrev pub ListingExcludesFault : List ℕ → Type 0
+ListingExcludesFault bytes = (c : Case) (f : X86Fault) → CaseOf bytes c → IsFault bytes f → ⊥

@@ -1,3 +1,6 @@
+pub mod Header
+pub mod Lines
+pub mod Tokens
 pub mod Listing
 pub mod Expected
 pub mod Syntax

@@ -3,10 +3,10 @@ use Rattle.std.specs.Prelude.{◌≡◌, ℕ, Bool, true, false, List, [], ◌�
 use Rattle.ll_grammar.specs.Rules.{Rules}
 use Rattle.ll_grammar.specs.Steps.{IsStep}
 use Rattle.ll_grammar.specs.Predictable.{IsPredictable, HasTexts}
-use Rattle.ll_grammar.specs.Tables.{predictable_by, texts_by, is_predictable_part, is_ranked_part}
+use Rattle.ll_grammar.specs.LawsOfTables.{predictable_by, texts_by, is_predictable_part, is_ranked_part}
 use Rattle.ll_grammar.specs.declared.grammar.Symbol.{Symbol}
 use Rattle.ll_grammar.specs.declared.grammar.Step.{Step}
-use Rattle.ll_grammar.specs.declared.grammar.Symbol.TheVariants.{Class, Part}
+use Rattle.ll_grammar.specs.declared.grammar.Symbol.TheVariants.{Terminal as a_terminal, Nonterminal as a_nonterminal}
 use Rattle.x86_litmus.specs.Terminals.{is_name}
 use Rattle.x86_litmus.specs.declared.terminal.Terminal.{Terminal}
 use Rattle.x86_litmus.specs.declared.terminal.Terminal.TheVariants.{Mov, Mfence, Exists, Name, Number, OpenBrace, CloseBrace, Semicolon, Bar, OpenBracket, CloseBracket, Comma, Dollar, Colon, Equals, Open, Close, Tilde, And, Other}
@@ -15,55 +15,55 @@ use Rattle.x86_litmus.specs.declared.phrase.Phrase.TheVariants.{Listing, Values,
 
 -- "=" NUMBER, and what stands after it
 abbrev pub number_and : Phrase → List (Symbol Terminal Phrase)
-number_and n = Class Equals ∷ Class Number ∷ Part n ∷ []
+number_and n = a_terminal Equals ∷ a_terminal Number ∷ a_nonterminal n ∷ []
 
 -- a location after its bracket, "=" NUMBER, and what stands after it
 abbrev pub bracketed_and : Phrase → List (Symbol Terminal Phrase)
-bracketed_and n = Part AnyName ∷ Class CloseBracket ∷ number_and n
+bracketed_and n = a_nonterminal AnyName ∷ a_terminal CloseBracket ∷ number_and n
 
 -- a register after its thread, "=" NUMBER, and what stands after it
 abbrev pub register_and : Phrase → List (Symbol Terminal Phrase)
-register_and n = Class Colon ∷ Part AnyName ∷ number_and n
+register_and n = a_terminal Colon ∷ a_nonterminal AnyName ∷ number_and n
 
-abbrev pub behind : Phrase → Terminal → Option (List (Symbol Terminal Phrase))
-behind Listing OpenBrace = Some (Part Values ∷ Part Columns ∷ Part Rows ∷ [])
-behind Values CloseBrace = Some []
-behind Values OpenBracket = Some (bracketed_and MoreValues)
-behind Values c = if is_name c then Some (number_and MoreValues) else None
-behind MoreValues CloseBrace = Some []
-behind MoreValues Semicolon = Some (Part Values ∷ [])
-behind Columns c = if is_name c then Some (Part MoreColumns ∷ []) else None
-behind MoreColumns Bar = Some (Part Columns ∷ [])
-behind MoreColumns Semicolon = Some []
-behind Rows Tilde = Some (Class Exists ∷ Part Asked ∷ [])
-behind Rows Exists = Some (Part Asked ∷ [])
-behind Rows Mov = Some (Part Move ∷ Part MoreCells ∷ [])
-behind Rows Mfence = Some (Part MoreCells ∷ [])
-behind Rows Bar = Some (Part Cells ∷ [])
-behind Rows Semicolon = Some (Part Rows ∷ [])
-behind Cells Mov = Some (Part Move ∷ Part MoreCells ∷ [])
-behind Cells Mfence = Some (Part MoreCells ∷ [])
-behind Cells Bar = Some (Part Cells ∷ [])
-behind Cells Semicolon = Some (Part Rows ∷ [])
-behind MoreCells Bar = Some (Part Cells ∷ [])
-behind MoreCells Semicolon = Some (Part Rows ∷ [])
-behind Move OpenBracket = Some (Part AnyName ∷ Class CloseBracket ∷ Class Comma ∷ Class Dollar ∷ Class Number ∷ [])
-behind Move c =
-    if is_name c then Some (Class Comma ∷ Class OpenBracket ∷ Part AnyName ∷ Class CloseBracket ∷ []) else None
-behind Asked Open = Some (Part Equations ∷ Class Close ∷ [])
-behind Asked Number = Some (register_and MoreEquations)
-behind Asked OpenBracket = Some (bracketed_and MoreEquations)
-behind Asked c = if is_name c then Some (number_and MoreEquations) else None
-behind Equations Number = Some (register_and MoreEquations)
-behind Equations OpenBracket = Some (bracketed_and MoreEquations)
-behind Equations c = if is_name c then Some (number_and MoreEquations) else None
-behind MoreEquations And = Some (Part Equations ∷ [])
-behind AnyName c = if is_name c then Some [] else None
-behind _ _ = None
+abbrev pub production : Phrase → Terminal → Option (List (Symbol Terminal Phrase))
+production Listing OpenBrace = Some (a_nonterminal Values ∷ a_nonterminal Columns ∷ a_nonterminal Rows ∷ [])
+production Values CloseBrace = Some []
+production Values OpenBracket = Some (bracketed_and MoreValues)
+production Values c = if is_name c then Some (number_and MoreValues) else None
+production MoreValues CloseBrace = Some []
+production MoreValues Semicolon = Some (a_nonterminal Values ∷ [])
+production Columns c = if is_name c then Some (a_nonterminal MoreColumns ∷ []) else None
+production MoreColumns Bar = Some (a_nonterminal Columns ∷ [])
+production MoreColumns Semicolon = Some []
+production Rows Tilde = Some (a_terminal Exists ∷ a_nonterminal Asked ∷ [])
+production Rows Exists = Some (a_nonterminal Asked ∷ [])
+production Rows Mov = Some (a_nonterminal Move ∷ a_nonterminal MoreCells ∷ [])
+production Rows Mfence = Some (a_nonterminal MoreCells ∷ [])
+production Rows Bar = Some (a_nonterminal Cells ∷ [])
+production Rows Semicolon = Some (a_nonterminal Rows ∷ [])
+production Cells Mov = Some (a_nonterminal Move ∷ a_nonterminal MoreCells ∷ [])
+production Cells Mfence = Some (a_nonterminal MoreCells ∷ [])
+production Cells Bar = Some (a_nonterminal Cells ∷ [])
+production Cells Semicolon = Some (a_nonterminal Rows ∷ [])
+production MoreCells Bar = Some (a_nonterminal Cells ∷ [])
+production MoreCells Semicolon = Some (a_nonterminal Rows ∷ [])
+production Move OpenBracket = Some (a_nonterminal AnyName ∷ a_terminal CloseBracket ∷ a_terminal Comma ∷ a_terminal Dollar ∷ a_terminal Number ∷ [])
+production Move c =
+    if is_name c then Some (a_terminal Comma ∷ a_terminal OpenBracket ∷ a_nonterminal AnyName ∷ a_terminal CloseBracket ∷ []) else None
+production Asked Open = Some (a_nonterminal Equations ∷ a_terminal Close ∷ [])
+production Asked Number = Some (register_and MoreEquations)
+production Asked OpenBracket = Some (bracketed_and MoreEquations)
+production Asked c = if is_name c then Some (number_and MoreEquations) else None
+production Equations Number = Some (register_and MoreEquations)
+production Equations OpenBracket = Some (bracketed_and MoreEquations)
+production Equations c = if is_name c then Some (number_and MoreEquations) else None
+production MoreEquations And = Some (a_nonterminal Equations ∷ [])
+production AnyName c = if is_name c then Some [] else None
+production _ _ = None
 
-abbrev pub may_end : Phrase → Bool
-may_end MoreEquations = true
-may_end _ = false
+abbrev pub is_nullable : Phrase → Bool
+is_nullable MoreEquations = true
+is_nullable _ = false
 
 -- nothing nests, so no token stands too deep
 abbrev pub deep : Phrase → Terminal → Bool
@@ -71,10 +71,10 @@ deep n c = false
 
 -- what the phrase makes of the stack at a token of this class
 abbrev pub IsPush : Phrase → Terminal → List (Symbol Terminal Phrase) → List (Symbol Terminal Phrase) → Step → Type 0
-IsPush n c old new step = IsStep (behind n c) (deep n c) old step new
+IsPush n c old new step = IsStep (production n c) (deep n c) old step new
 
 abbrev pub rules : Rules Terminal Phrase
-rules = record { behind = behind; may_end = may_end; deep = deep }
+rules = record { production = production; is_nullable = is_nullable; deep = deep }
 
 -- which terminals may come next after a phrase
 abbrev pub follow : Phrase → Terminal → Bool

@@ -18,8 +18,8 @@ use Rattle.x86_litmus.specs.declared.said.Said.{Said}
 use Rattle.x86_litmus.specs.declared.content_fault.ContentFault.{ContentFault}
 use Rattle.x86_litmus.specs.declared.fault.X86Fault.{X86Fault}
 use Rattle.x86_litmus.specs.declared.fault.X86Fault.TheVariants.{Lexical, Memory}
-use Rattle.x86_tokens.specs.declared.fault.LexFault.{LexFault}
-use Rattle.x86_tokens.specs.declared.fault.LexFault.TheVariants.{Lexical as lexical, Memory as lex_memory}
+use Rattle.uspec_lexer.specs.declared.fault.LexFault.{LexFault}
+use Rattle.uspec_lexer.specs.declared.fault.LexFault.TheVariants.{Lexical as lexical, Memory as lex_memory}
 
 abbrev pub plain_named : Named → PlainNamed
 plain_named n = record { word = n.word.now; at = n.at.offset }

@@ -1,7 +1,7 @@
 -- What the reader finds in the tokens of a listing.
 use Rattle.std.specs.Prelude.{◌≡◌, ⊤, List, []}
 use Rattle.pc_common.specs.Case.{Case}
-use Rattle.x86_tokens.specs.Token.{Token}
+use Rattle.uspec_lexer.specs.Token.{Token}
 use Rattle.x86_litmus.specs.Listing.{Listing}
 use Rattle.x86_litmus.specs.Syntax.{IsListingOf}
 use Rattle.x86_litmus.specs.Items.{Item, items_of}

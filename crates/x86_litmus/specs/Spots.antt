@@ -2,7 +2,7 @@
 -- others what it says has no meaning.
 use Rattle.std.specs.Prelude.{ℕ, ◌+◌, List, [], ◌∷◌, Option, Some, None, codes, if◌then◌else◌}
 use Rattle.pc_common.specs.Names.{same_name}
-use Rattle.x86_tokens.specs.Token.{Token, Kind, name, number, symbol}
+use Rattle.uspec_lexer.specs.Token.{Token, Kind, name, number, text, symbol}
 use Rattle.x86_litmus.specs.Listing.{Named, fence, store, load}
 use Rattle.x86_litmus.specs.Items.{Item, initial, column, instructed, row_ended, denied, register_is, final}
 
@@ -86,6 +86,7 @@ after_symbol s piece at = goes s
 abbrev pub after_kind : Spot → Kind → List ℕ → ℕ → Step
 after_kind s name piece at = after_name s (record { word = piece; at = at })
 after_kind s (number v) piece at = after_number s v at
+after_kind s text piece at = goes s
 after_kind s symbol piece at = after_symbol s piece at
 
 abbrev pub after : Spot → Token → Step

@@ -2,7 +2,7 @@
 -- first to the last. Its words are names by their spelling, and none is reserved: a cell that begins with MOV or MFENCE
 -- is an instruction, and what stands after the rows begins with exists or ~.
 use Rattle.std.specs.Prelude.{ℕ, Bool, true, false, List, [], ◌∷◌, ◌++◌, codes}
-use Rattle.x86_tokens.specs.Token.{Token}
+use Rattle.uspec_lexer.specs.Token.{Token}
 use Rattle.x86_litmus.specs.Expected.{Expected, a_name, a_word, a_number, number_at, a_symbol, symbol_at, Spell}
 use Rattle.x86_litmus.specs.Listing.{Named, Location, bare, bracketed, Stated, Block, no_values, values, Action, fence, store, load, Cell, empty, instruction, Row, Equation, of_register, of_location, Condition, Listing}
 

@@ -1,7 +1,7 @@
 -- The terminals of a listing's grammar.
 use Rattle.std.specs.Prelude.{ℕ, Bool, true, false, List, [], ◌∷◌, codes, if◌then◌else◌}
 use Rattle.std.specs.Str.{bytes_eq}
-use Rattle.x86_tokens.specs.Token.{Token, Kind, name, number, symbol}
+use Rattle.uspec_lexer.specs.Token.{Token, Kind, name, number, text, symbol}
 use Rattle.x86_litmus.specs.declared.terminal.Terminal.{Terminal}
 use Rattle.x86_litmus.specs.declared.terminal.Terminal.TheVariants.{Mov, Mfence, Exists, Name, Number, OpenBrace, CloseBrace, Semicolon, Bar, OpenBracket, CloseBracket, Comma, Dollar, Colon, Equals, Open, Close, Tilde, And, Other}
 
@@ -26,8 +26,8 @@ spelling Tilde = codes "~"
 spelling And = codes "/\\"
 spelling _ = []
 
-abbrev pub words : List Terminal
-words = Mov ∷ Mfence ∷ Exists ∷ []
+abbrev pub word_terminals : List Terminal
+word_terminals = Mov ∷ Mfence ∷ Exists ∷ []
 
 abbrev pub symbols : List Terminal
 symbols =
@@ -40,7 +40,7 @@ find_terminal w other [] = other
 find_terminal w other (c ∷ cs) = if bytes_eq w (spelling c) then c else find_terminal w other cs
 
 unfoldable pub word_terminal : List ℕ → Terminal
-word_terminal w = find_terminal w Name words
+word_terminal w = find_terminal w Name word_terminals
 
 unfoldable pub symbol_terminal : List ℕ → Terminal
 symbol_terminal w = find_terminal w Other symbols
@@ -48,6 +48,7 @@ symbol_terminal w = find_terminal w Other symbols
 abbrev pub kind_terminal : Kind → List ℕ → Terminal
 kind_terminal name piece = word_terminal piece
 kind_terminal (number n) piece = Number
+kind_terminal text piece = Other
 kind_terminal symbol piece = symbol_terminal piece
 
 abbrev pub terminal_of : Token → Terminal

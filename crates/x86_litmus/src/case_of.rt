@@ -1,8 +1,8 @@
 ghost use Rattle.std.specs.Prelude.{◌≡◌, ◌≤◌, ◌++◌, ◌==◌, List, Some, map, filter, IfOk, OnOk};
 ghost use Rattle.pc_common.specs.declared.limits.TheConstants.{MAX_CORE};
-ghost use Rattle.pc_case.specs.Plain.{micro_op, kind_of as kind_of_access, touch_of as touch_of_memop, stated_value, expectation};
+ghost use Rattle.pc_case.specs.Plain.{micro_op, kind_of_access, touch_of as touch_of_memop, stated_value, expectation};
 ghost use Rattle.x86_litmus.specs.Said.{Instruction as PlainInstruction};
-ghost use Rattle.x86_litmus.specs.Cases.{touch_of, kind_of, touched, op_of as op_of_spec, asked_value as asked_value_spec, test_order, numbered, stated, expectation_of, case_of as case_of_spec, types_of};
+ghost use Rattle.x86_litmus.specs.Cases.{touch_of, kind_of_action, touched, op_of as op_of_spec, asked_value as asked_value_spec, test_order, numbered, stated, expectation_of, case_of as case_of_spec, types_of};
 ghost use Rattle.x86_litmus.specs.Sound.{IsSound};
 ghost use Rattle.x86_litmus.specs.Plain.{plain_action, plain_instruction, plain_asked, plain_said};
 
@@ -62,7 +62,7 @@ fn access_of(
     thread: u64,
     action: Action<'_>,
 ) -> (Access, Option<Memop>)
-    ensures kind { kind_of_access result.0 ≡ kind_of (plain_action action.entry) }
+    ensures kind { kind_of_access result.0 ≡ kind_of_action (plain_action action.entry) }
     ensures touch { touch_of_memop result.1 ≡ touched locations.now (map plain_asked asked.now) thread
         (plain_action action.entry) }
 {

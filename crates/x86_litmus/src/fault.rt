@@ -3,12 +3,13 @@ ghost use Rattle.x86_litmus.specs.declared.fault.X86Fault.TheVariants.{Lexical a
 ghost use Rattle.x86_litmus.specs.Plain.{fault_from};
 
 use pc_common::{FaultKind, Memory, Place};
+use std::fmt;
 use thiserror::Error;
-use x86_tokens::LexFault;
+use uspec_lexer::LexFault;
 
 /// Why a listing says no case: its first fault. A fault of the header comes before the lexical ones, these
 /// before those of syntax, and these before those of content, which are in the order of the text.
-#[derive(Clone, Copy, Debug, PartialEq, Eq, Error)]
+#[derive(Clone, Copy, Error)]
 pub enum X86Fault {
     /// No token, blank or comment begins here, or the one that begins can't be completed.
     #[error("no token, blank or comment at byte {}", .0.offset)]
@@ -22,6 +23,13 @@ pub enum X86Fault {
     /// Memory was refused.
     #[error("out of memory")]
     Memory,
+}
+
+// By hand, since a derived one is proved variant by variant, and `Error` alone asks for one.
+impl fmt::Debug for X86Fault {
+    fn fmt<W: fmt::Write>(&self, f: &mut fmt::Formatter<W>) -> fmt::Result {
+        fmt::Display::fmt(self, f)
+    }
 }
 
 impl From<Memory> for X86Fault {

@@ -1,5 +1,5 @@
 // Laws of the definitions in specs/. Each function does nothing: its contract is the law.
-ghost use Rattle.x86_litmus.specs.Laws.{HasCaseOrFault, HasOneCase, HasOneFault, HasNoFaultBeside};
+ghost use Rattle.x86_litmus.specs.Laws.{HasCaseOrFault, HasOneCase, HasOneFault, ListingExcludesFault};
 
 /// Bytes say a case or have a first fault.
 pub fn case_or_fault(bytes: &[u8])
@@ -18,5 +18,5 @@ pub fn one_fault(bytes: &[u8])
 
 /// Bytes that say a case have no fault.
 pub fn no_fault(bytes: &[u8])
-    ensures { HasNoFaultBeside bytes.now }
+    ensures { ListingExcludesFault bytes.now }
 {}

@@ -15,7 +15,7 @@ pub(crate) struct Locations<'a> {
     words: IndexSet<&'a [u8]>,
 }
 
-// Written out, so that a proof of what drops the value meets one call and no field.
+// By hand: docs/DECISIONS.md, "Drops are written by hand".
 impl Drop for Locations<'_> {
     fn drop(self) {
         let Locations { words: _ } = self;

@@ -55,7 +55,7 @@ impl Grammar<Terminal> for Phrase {
 
     ghost has_texts = { rules_texts };
 
-    fn may_end(self) -> bool {
+    fn is_nullable(self) -> bool {
         matches!(self, MoreEquations)
     }
 

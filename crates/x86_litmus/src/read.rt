@@ -8,13 +8,15 @@ ghost use Rattle.x86_litmus.specs.Reading.{IsReadTo, IsFaultIn, CaseIn, IsListin
 use super::case_of::case_of;
 use super::fault::X86Fault;
 use super::faults::open_fault;
+use super::header::body_of;
+use super::listings::Listings;
 use super::said::Said;
 use super::spot::Spot;
 use super::syntax::syntax_fault;
 use pc_case::Case;
 use pc_common::Place;
 use std::alloc::Global;
-use x86_tokens::{Tokens, body_of, tokens};
+use uspec_lexer::{Tokens, tokens_from};
 
 /// The case that a listing says.
 ///
@@ -30,7 +32,7 @@ pub fn read_x86(alloc: Global, bytes: &[u8]) -> Result<Case, X86Fault>
         Ok(from) => from,
         Err(place) => return Err(X86Fault::Syntax(place)),
     };
-    let tokens = tokens(alloc, bytes, from)?;
+    let tokens = tokens_from::<Listings>(alloc, bytes, from)?;
     case_of_tokens(alloc, bytes, &tokens)
 }
 

@@ -2,7 +2,7 @@ ghost use Rattle.std.specs.Prelude.{◌≡◌, None, Some, map, IfOk, IfErr, OnO
 ghost use Rattle.x86_litmus.specs.Said.{nothing, add};
 ghost use Rattle.x86_litmus.specs.Faults.{fault_of};
 ghost use Rattle.x86_litmus.specs.Plain.{plain_item, plain_said, plain_fault};
-ghost use Rattle.x86_litmus.specs.Takes.{IsRefusal};
+ghost use Rattle.x86_litmus.specs.Takes.{IsListingRefusal};
 
 use super::content_fault::ContentFault;
 use super::fault::X86Fault;
@@ -31,7 +31,7 @@ pub(crate) struct Said<'a> {
     pub(crate) is_denied: bool,
 }
 
-// Written out, so that a proof of what drops the value meets one call and no field.
+// By hand: docs/DECISIONS.md, "Drops are written by hand".
 impl Drop for Said<'_> {
     fn drop(self) {
         let Said {
@@ -102,7 +102,7 @@ impl<'a> Said<'a> {
     pub(crate) fn add(&mut self, item: Item<'a>) -> Result<(), X86Fault>
         ensures ok { OnOk result ((fault_of (plain_said self.old) (plain_item item.entry) ≡ None)
             × (plain_said self.new ≡ add (plain_said self.old) (plain_item item.entry))) }
-        ensures err { IfErr result (IsRefusal (fault_of (plain_said self.old) (plain_item item.entry))) }
+        ensures err { IfErr result (IsListingRefusal (fault_of (plain_said self.old) (plain_item item.entry))) }
     {
         if let Some(fault) = self.fault(item) {
             return Err(X86Fault::Content(fault.kind, fault.place));

@@ -2,14 +2,14 @@
 // text.
 ghost use Rattle.std.specs.Prelude.{◌≡◌, ◌<◌, ◌^◌, Some};
 ghost use Rattle.pc_common.specs.Names.{same_name};
-ghost use Rattle.x86_tokens.specs.View.{plain};
+ghost use Rattle.uspec_lexer.specs.View.{plain};
 ghost use Rattle.x86_litmus.specs.Spots.{after, after_name, after_word, after_number, after_symbol, after_row_symbol, column_of};
 ghost use Rattle.x86_litmus.specs.Plain.{plain_named, plain_spot};
 ghost use Rattle.x86_litmus.specs.Steps.{IsStep};
 
 use super::item::{Action, Instruction, Item, Named, ThreadNumber};
 use pc_common::Place;
-use x86_tokens::{Token, TokenKind};
+use uspec_lexer::{Token, TokenKind};
 
 /// Where a reader of a listing's tokens stands.
 #[derive(Clone, Copy)]
@@ -157,6 +157,7 @@ impl<'a> Spot<'a> {
                 at,
             }),
             TokenKind::Number(value) => self.after_number(value, at),
+            TokenKind::Text => (self, None),
             TokenKind::Symbol => self.after_symbol(token.piece, at),
         }
     }

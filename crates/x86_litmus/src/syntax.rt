@@ -5,7 +5,7 @@ use super::phrase::Phrase;
 use ll_grammar::{Fault, first_fault};
 use pc_common::Memory;
 use std::alloc::Global;
-use x86_tokens::Tokens;
+use uspec_lexer::Tokens;
 
 /// The place among the tokens where no listing goes on, or `None` for a listing. The end counts as one more
 /// token.

@@ -3,7 +3,7 @@ ghost use Rattle.std.specs.Str.{bytes_eq};
 ghost use Rattle.x86_litmus.specs.Terminals.{terminal_of as terminal_spec, word_terminal as word_spec, symbol_terminal as symbol_spec};
 
 use ll_grammar::TokenClass;
-use x86_tokens::{FromToken, Token, TokenKind};
+use uspec_lexer::{FromToken, Token, TokenKind};
 
 /// The classes of a listing's tokens: the terminals of its grammar.
 #[derive(Clone, Copy, PartialEq, Eq)]
@@ -28,7 +28,7 @@ pub(crate) enum Terminal {
     Close,
     Tilde,
     And,
-    /// No symbol of a listing.
+    /// No word, number or symbol of a listing.
     Other,
 }
 
@@ -45,6 +45,7 @@ impl FromToken for Terminal {
         match token.kind {
             TokenKind::Name => word_terminal(token.piece),
             TokenKind::Number(_) => Terminal::Number,
+            TokenKind::Text => Terminal::Other,
             TokenKind::Symbol => symbol_terminal(token.piece),
         }
     }

@@ -11,7 +11,7 @@ pub(crate) struct Values<'a> {
     by_name: IndexMap<&'a [u8], u64>,
 }
 
-// Written out, so that a proof of what drops the value meets one call and no field.
+// By hand: docs/DECISIONS.md, "Drops are written by hand".
 impl Drop for Values<'_> {
     fn drop(self) {
         let Values { by_name: _ } = self;

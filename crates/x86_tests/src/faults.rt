@@ -1,5 +1,6 @@
 //! Listings that are refused, by the reader: the first fault of each, with its place.
 use example_texts::LISTED_WITH_AN_OPEN_LOAD;
+use formula_texts::told;
 use pc_common::{FaultKind, Memory, Place, Value, line_col};
 use std::alloc::Global;
 use std::test::Fail;
@@ -9,7 +10,7 @@ use x86_litmus::{X86Fault, read_x86};
 type LineColumn = (u32, u32);
 
 /// What is wrong, and where; None where memory was refused.
-fn told(fault: X86Fault) -> Option<(FaultKind, Place)> {
+fn placed(fault: X86Fault) -> Option<(FaultKind, Place)> {
     match fault {
         X86Fault::Lexical(place) => Some((FaultKind::Lexical, place)),
         X86Fault::Syntax(place) => Some((FaultKind::Syntax, place)),
@@ -36,8 +37,8 @@ fn is_at(text: &[u8], place: Place, at: LineColumn) -> bool {
 fn is_refused(alloc: Global, listing: &str, kind: FaultKind, at: LineColumn) -> bool {
     let text = listing.as_bytes();
     match first_fault(alloc, text) {
-        Some(fault) => match told(fault) {
-            Some((found, place)) => found == kind && is_at(text, place, at),
+        Some(fault) => match placed(fault) {
+            Some((found, place)) => told(found) == told(kind) && is_at(text, place, at),
             None => false,
         },
         None => false,

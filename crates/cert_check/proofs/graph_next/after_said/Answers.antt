@@ -1,14 +1,12 @@
-use Rattle.std.proofs.Common.{◌≡◌, true, false, Bool, sym, ◌∙◌, ap, subst}
+use Rattle.std.proofs.Common.{◌≡◌, true, false, sym, ◌∙◌, ap, subst}
 use Rattle.pc_common.specs.Lines.{second_text, observable}
+use Rattle.pc_common.proofs.Bools.{clash}
 use Rattle.graph_text.specs.OpenGraphs.{PlainGraph}
 use Rattle.cert_check.specs.Questions.{question_of_parts}
 use Rattle.cert_check.specs.Stages.{GoesOn}
 use Rattle.cert_check.specs.declared.stage.Stage.TheVariants.{Graph}
 use Rattle.cert_check.proofs.Advances.{said_stuck, graph_begins}
 use Rattle.cert_check.proofs.graph_next.after_said.Goals as goal
-
-clash : {b : Bool} → b ≡ true → b ≡ false → ⊥
-clash t f = (let e : true ≡ false = sym t ∙ f in cc)
 
 pub returns-then-not-is_second : goal.returns-then-not-is_second
 returns-then-not-is_second c = λ lines are other.
@@ -19,5 +17,6 @@ pub returns : goal.returns
 returns c = λ lines are.
     let q = question_of_parts c.args.parts.now in
     let P : PlainGraph → Type 0 = λ g. GoesOn q lines c.args.line.now (Graph g) in
-    let text : c.args.line.now ≡ second_text observable q.expectation = c.is_second.ensures.0 c.if-not-is_second.false ∙ ap (second_text observable) c.expect.ensures in
+    let text : c.args.line.now ≡ second_text observable q.expectation = c.is_second.ensures.0 c.if-not-is_second.false
+    ∙ ap (second_text observable) c.expect.ensures in
     subst P (sym c.new.ensures) (graph_begins q lines c.args.line.now are text)

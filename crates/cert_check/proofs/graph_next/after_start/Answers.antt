@@ -1,11 +1,9 @@
-use Rattle.std.proofs.Common.{◌≡◌, true, false, Bool, sym, ◌∙◌}
+use Rattle.std.proofs.Common.{true, false}
+use Rattle.pc_common.proofs.Bools.{clash}
 use Rattle.cert_check.specs.declared.header.Verdict.TheVariants.{Observable}
 use Rattle.cert_check.proofs.Advances.{start_goes}
 use Rattle.cert_check.proofs.GraphJudged.{first_stuck}
 use Rattle.cert_check.proofs.graph_next.after_start.Goals as goal
-
-clash : {b : Bool} → b ≡ true → b ≡ false → ⊥
-clash t f = (let e : true ≡ false = sym t ∙ f in cc)
 
 pub returns-then-not-is_observable : goal.returns-then-not-is_observable
 returns-then-not-is_observable c = λ q lines none other.

@@ -18,11 +18,10 @@ behind text a rest b (Some x) is e = is ∙ ap (λ (t : List ℕ). a ++ t) e ∙
 
 pub returns : goal.returns
 returns c =
-    let text = c.args.text.now in
-    let rest = c.in_ok-rest.rest.now in
-    let first = c.verdict_line.result.now in
+    let text = c.args.text.now in let rest = c.in_ok-rest.rest.now in let first = c.verdict_line.result.now in
     let second = c.second_line.result.now in
     let whole = behind text first rest second c.strip_prefix-2.result
     (strip_prefix_is Decides-eqb text first (Some c.in_ok-rest.rest) c.in_ok-rest.ensures.cases)
     (strip_prefix_is Decides-eqb rest second c.strip_prefix-2.result c.strip_prefix-2.ensures.cases) in
-    subst (λ a. IsBehind text c.strip_prefix-2.result a (second_text unobservable (expectation c.args.expect) ++ codes "\n")) c.verdict_line.ensures (subst (λ b. IsBehind text c.strip_prefix-2.result first b) c.second_line.ensures whole)
+    subst (λ a. IsBehind text c.strip_prefix-2.result a (second_text unobservable (expectation c.args.expect) ++ codes "\n")) c.verdict_line.ensures
+    (subst (λ b. IsBehind text c.strip_prefix-2.result first b) c.second_line.ensures whole)

@@ -13,4 +13,5 @@ returns-then-not-is_closed c = λ q lines so_far.
 
 pub returns : goal.returns
 returns c = λ q lines so_far.
-    tree_ended q c.args.tree.now lines (codes "end") so_far refl ((c.is_closed.ensures so_far.version q.tree so_far.opens so_far.stands).0 c.if-not-is_closed.false)
+    tree_ended q c.args.tree.now lines (codes "end") so_far refl
+    ((c.is_closed.ensures so_far.version q.tree so_far.opens so_far.stands).0 c.if-not-is_closed.false)

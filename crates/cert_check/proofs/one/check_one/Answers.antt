@@ -1,11 +1,9 @@
-use Rattle.std.proofs.Common.{◌≡◌, true, false, Bool, sym, ◌∙◌}
+use Rattle.std.proofs.Common.{true, false}
+use Rattle.pc_common.proofs.Bools.{clash}
 use Rattle.cert_check.specs.Questions.{question_of}
 use Rattle.cert_check.specs.declared.one.One.TheVariants.{Graph, Tree, Refused}
 use Rattle.cert_check.proofs.OneTexts.{one_two, one_seen, tree_steps, one_unseen, one_at, only_one}
 use Rattle.cert_check.proofs.one.check_one.Goals as goal
-
-clash : {b : Bool} → b ≡ true → b ≡ false → ⊥
-clash t f = (let e : true ≡ false = sym t ∙ f in cc)
 
 pub returns-then-refuses_two-clause-is : goal.returns-then-refuses_two-clause-is
 returns-then-refuses_two-clause-is c =
@@ -39,8 +37,7 @@ returns-in_ok-read_steps-in-Unobservable-clause-is c =
 
 pub returns-in_ok-read_steps-in-Unobservable-clause-only : goal.returns-in_ok-read_steps-in-Unobservable-clause-only
 returns-in_ok-read_steps-in-Unobservable-clause-only c =
-    let q = question_of c.args.front.now in
-    let read = c.in_ok-read_steps-in-Unobservable.field-0 in
+    let q = question_of c.args.front.now in let read = c.in_ok-read_steps-in-Unobservable.field-0 in
     only_one q c.args.bytes.now (Tree read)
     (one_unseen q c.args.bytes.now read (λ short two. clash (c.refuses_two.ensures.1 (short, two)) c.if-refuses_two.false)
     (rw c.in-Unobservable.is at c.in_ok-check_text.ensures.verified) c.in_ok-read_steps-in-Unobservable.ensures)

@@ -1,18 +1,15 @@
-use Rattle.std.proofs.Common.{◌≡◌, ◌++◌, true, false, List, ℕ, length, drop, sym, ◌∙◌, ap}
+use Rattle.std.proofs.Common.{◌≡◌, ◌++◌, List, ℕ, length, drop, sym, ◌∙◌, ap}
 use Rattle.std.specs.Prelude.{codes}
 use Rattle.std.proofs.lemmas.List.{append_cancel_left}
 use Rattle.std.proofs.lemmas.Slice.Eq.{starts_is}
 use Rattle.std.proofs.lemmas.Bool.Decides.{Decides-eqb}
+use Rattle.std.proofs.lemmas.Bool.{false≢true}
 use Rattle.cert_check.specs.StepTexts.{header_text}
 use Rattle.cert_check.proofs.one.says_two.Goals as goal
 
-no : false ≡ true → ⊥
-no e = cc
-
 pub returns-in-Some : goal.returns-in-Some
 returns-in-Some c =
-    let header = header_text c.args.front.now.case.expectation in
-    let body = c.in-Some.body.now in
+    let header = header_text c.args.front.now.case.expectation in let body = c.in-Some.body.now in
     let s = starts_is Decides-eqb body (codes "version 2\n") c.starts_with.result c.starts_with.ensures.value in
     let is : c.args.bytes.now ≡ header ++ body = rw c.expect.ensures at c.in-Some.ensures in (
       λ yes. (drop (length (codes "version 2\n")) body, is ∙ ap (λ (t : List ℕ). header ++ t) (s.0 yes)),
@@ -20,4 +17,4 @@ returns-in-Some c =
     )
 
 pub returns-in-None : goal.returns-in-None
-returns-in-None c = (λ e. absurd (no e), λ two. absurd ((rw c.expect.ensures at c.in-None.ensures) (codes "version 2\n" ++ two.0) two.1))
+returns-in-None c = (λ e. absurd (false≢true e), λ two. absurd ((rw c.expect.ensures at c.in-None.ensures) (codes "version 2\n" ++ two.0) two.1))

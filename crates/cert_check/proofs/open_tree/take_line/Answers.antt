@@ -20,6 +20,8 @@ returns-in-Ok c =
     IfOk-weaker c.take_step.result
     (λ good. (s : Step Node) → c.in-Ok.head ≡ head_of s → map key_node c.as_slice.result.now ≡ nodes_of s
     → (v : Version) (t : Tree Node) (opens : List Branch) → Stands c.args.branches.now v t opens → HasStepped v t s opens c.take_step.new.branches good)
-    (λ good. (v : Version) (t : Tree Node) (opens : List Branch) → Stands c.args.branches.now v t opens → StepsOn c.args.names.now v t opens c.args.line.now c.take_step.new.branches good)
-    (λ good h v t opens stands. line_steps c.args.names.now v t opens c.args.line.now s read.1 only c.take_step.new.branches good (h s read.2 (c.as_slice.ensures ∙ read.3) v t opens stands))
+    (λ good. (v : Version) (t : Tree Node) (opens : List Branch) → Stands c.args.branches.now v t opens
+    → StepsOn c.args.names.now v t opens c.args.line.now c.take_step.new.branches good)
+    (λ good h v t opens stands. line_steps c.args.names.now v t opens c.args.line.now s read.1 only c.take_step.new.branches
+    good (h s read.2 (c.as_slice.ensures ∙ read.3) v t opens stands))
     c.take_step.ensures

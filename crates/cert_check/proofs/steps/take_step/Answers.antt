@@ -1,9 +1,7 @@
-use Rattle.std.proofs.Common.{◌≡◌, true, false, Bool, refl, sym, ◌∙◌}
+use Rattle.std.proofs.Common.{true, false, refl}
+use Rattle.pc_common.proofs.Bools.{clash}
 use Rattle.cert_check.proofs.StepReads.{never_one_line, last_ahead, is_open, is_step, has_read}
 use Rattle.cert_check.proofs.steps.take_step.Goals as goal
-
-clash : {b : Bool} → b ≡ true → b ≡ false → ⊥
-clash t f = (let e : true ≡ false = sym t ∙ f in cc)
 
 pub returns-in_default-clause-read : goal.returns-in_default-clause-read
 returns-in_default-clause-read c = λ t more ahead. absurd (never_one_line ahead c.in_default.ensures)

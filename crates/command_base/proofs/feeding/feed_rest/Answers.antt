@@ -23,12 +23,15 @@ loop-left-preserved g c = record {
   same_failing = search rules;
   count = (let a = c.read.ensures.count in let b = c.loop-left.invariant.count in omega arith);
   most = (let a = c.loop-left.invariant.most in omega arith);
-  took = λ told. took_read g.C.TextCheck.is_fed (c.loop-left.invariant.took told) c.in_ok-n.n c.read.new.buf (drop c.min-most.result c.loop-left.buf) (c.in_ok-n.ensures.bytes (rw c.loop-left.invariant.same_modelled told)) (search rules) (search rules) c.in_ok-checker.ensures.took;
+  took = λ told. took_read g.C.TextCheck.is_fed (c.loop-left.invariant.took told) c.in_ok-n.n c.read.new.buf
+      (drop c.min-most.result c.loop-left.buf) (c.in_ok-n.ensures.bytes (rw c.loop-left.invariant.same_modelled told))
+      (search rules) (search rules) c.in_ok-checker.ensures.took;
 }
 
 pub returns-then-n-eq0-clause-took : goal.returns-then-n-eq0-clause-took
 returns-then-n-eq0-clause-took g c = λ told. took_all g.C.TextCheck.is_fed (c.loop-left.invariant.took told) (take c.in_ok-n.n c.read.new.buf)
-    (c.in_ok-n.ensures.bytes (rw c.loop-left.invariant.same_modelled told)) (c.in_ok-n.ensures.end (rw c.loop-left.invariant.same_modelled told) (search rules) (search rules))
+    (c.in_ok-n.ensures.bytes (rw c.loop-left.invariant.same_modelled told))
+    (c.in_ok-n.ensures.end (rw c.loop-left.invariant.same_modelled told) (search rules) (search rules))
 
 pub returns-clause-took : goal.returns-clause-took
 returns-clause-took g c = λ told. took_most g.C.TextCheck.is_fed (c.loop-left.invariant.took told) (search rules)

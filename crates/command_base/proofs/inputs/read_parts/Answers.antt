@@ -1,7 +1,7 @@
 use Rattle.std.proofs.lemmas.Result.{MatchResult-weaker}
 use Rattle.command_base.specs.Fronts.{front_of_parts}
 use Rattle.command_base.specs.Inputs.{plain_inputs}
-use Rattle.command_base.proofs.InputsRead.{front_read, bytes_end}
+use Rattle.command_base.proofs.InputsRead.{front_read, bytes_end, ended_unread}
 use Rattle.command_base.proofs.inputs.read_parts.Goals as goal
 
 pub returns-in-Ok : goal.returns-in-Ok
@@ -11,3 +11,6 @@ returns-in-Ok g c =
     MatchResult-weaker c.parts_of.result (rw (c.deref.ensures.value, c.deref-in-Ok.ensures.value) at c.parts_of.ensures)
     (λ p. front_read failing_modelled both.keeps (plain_inputs c.args.inputs) c.in-Ok.model.items c.in-Ok.second.items both.read (front_of_parts p))
     (bytes_end failing_modelled both.keeps (plain_inputs c.args.inputs) c.in-Ok.model.items c.in-Ok.second.items both.read)
+
+pub returns-in-Err : goal.returns-in-Err
+returns-in-Err g c = ended_unread c.in-Err.ending c.in-Err.ensures

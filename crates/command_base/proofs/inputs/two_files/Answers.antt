@@ -11,7 +11,8 @@ model_test e = cc
 pub returns-in-Err : goal.returns-in-Err
 returns-in-Err g c =
     let first = c.in-Err.ensures in
-    unread_ends (g.met.F.Files.failing_modelled c.args.files.now) first.keeps (plain_inputs c.args.inputs) Model tt c.in-Err.end c.unread.result c.unread.ensures
+    unread_ends (g.met.F.Files.failing_modelled c.args.files.now) first.keeps (plain_inputs c.args.inputs) Model tt
+    c.in-Err.end c.unread.result c.unread.ensures
     (λ e. first.cause (ap (λ x. Err x) e))
     (λ calm e. inl ((first.sure calm).0 (ap (λ x. Err x) e)))
     (λ told e. large_of ((g.F.Files.view c.args.files.now).holds) c.args.inputs.model.now (first.too_large (ap (λ x. Err x) e) told))

@@ -16,4 +16,5 @@ has_room f xs k d before line within is room =
 
 pub extend-requires : goal.extend-requires
 extend-requires c =
-    has_room (λ p. p.now) c.args.pieces.now c.loop-piece.piece-index _ c.args.line.now.items c.loop-piece.line.items c.loop-piece-test.true c.loop-piece.invariant c.requires
+    has_room (λ p. p.now) c.args.pieces.now c.loop-piece.piece-index _ c.args.line.now.items c.loop-piece.line.items
+    c.loop-piece-test.true c.loop-piece.invariant c.requires

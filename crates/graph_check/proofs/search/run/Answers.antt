@@ -11,8 +11,7 @@ step-requires c =
 
 pub loop-visit-smaller : goal.loop-visit-smaller
 loop-visit-smaller c =
-    let p = progress c.loop-visit.search in
-    let v = c.args.adjacency.now in
+    let p = progress c.loop-visit.search in let v = c.args.adjacency.now in
     let P : List Visit → Type 0 = λ path. steps_left v (progress c.step.new.search) < steps_left v (record { marks = p.marks; path = path; order = p.order }) in
     subst P (sym c.in-Some.ensures.items) (c.in_ok-step.ensures.less c.if-not-branch.false)
 

@@ -12,8 +12,8 @@ use Rattle.static_preds.proofs.SlotsBelow.{slots_below}
 use Rattle.static_preds.specs.Slots.{bound_at}
 use Rattle.grounder.specs.Members.{whole_of}
 use Rattle.static_preds.specs.Values.{meanings}
-use Rattle.grounder.specs.GroundingOf.{grounding_of, grounding_at}
-use Rattle.grounder.proofs.WithMembers.{simplified-all}
+use Rattle.grounder.specs.GroundingOf.{grounding_of}
+use Rattle.grounder.proofs.WithMembers.{grounding_at, simplified-all}
 use Rattle.static_preds.proofs.SlotLaws.{slot_more}
 use Rattle.static_preds.proofs.Ranges.{next_value, scope_inside}
 use Rattle.grounder.proofs.formula.+walk.Goals as goal
@@ -32,8 +32,7 @@ ground_formula-holds-requires-clause-below t c = slots_below (length c.args.case
 
 pub ground_range-ground_formula-requires : goal.ground_range-ground_formula-requires
 ground_range-ground_formula-requires t c =
-    let slots = c.args.env.now.items in
-    let inside = c.bind_next.new.inside.items in
+    let slots = c.args.env.now.items in let inside = c.bind_next.new.inside.items in
     let value = c.value_in_range.ensures in
     let in_range = c.range_len-k-end.ensures.values c.loop-k.k c.loop-k-test.true in (
       omega (arith, c.decreases),
@@ -55,8 +54,7 @@ ground_range-loop-k-init t c =
 
 pub ground_range-returns-then-branch : goal.ground_range-returns-then-branch
 ground_range-returns-then-branch t c =
-    let p = plain_closed c.args.body.now in
-    let slots = c.args.env.now.items in
+    let p = plain_closed c.args.body.now in let slots = c.args.env.now.items in
     let within : c.loop-k.k < length (range_of c.args.case.now c.args.sort) = omega (arith, c.range_len-k-end.ensures.count, c.loop-k-test.true) in
     let rest = map (grounding_at c.args.case.now slots p) (drop (c.loop-k.k + 1) (range_of c.args.case.now c.args.sort)) in
     let next =
@@ -68,8 +66,7 @@ ground_range-returns-then-branch t c =
 
 pub ground_range-loop-k-preserved : goal.ground_range-loop-k-preserved
 ground_range-loop-k-preserved t c =
-    let p = plain_closed c.args.body.now in
-    let slots = c.args.env.now.items in
+    let p = plain_closed c.args.body.now in let slots = c.args.env.now.items in
     let within : c.loop-k.k < length (range_of c.args.case.now c.args.sort) = omega (arith, c.range_len-k-end.ensures.count, c.loop-k-test.true) in
     let rest = map (grounding_at c.args.case.now slots p) (drop (c.loop-k.k + 1) (range_of c.args.case.now c.args.sort)) in
     let next =

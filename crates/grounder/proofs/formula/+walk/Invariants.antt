@@ -6,7 +6,8 @@ use Rattle.pc_syntax.specs.Truth.{range_of}
 use Rattle.pc_syntax.specs.Closed.{plain_closed}
 use Rattle.pc_ground.specs.PlainGround.{plain_ground}
 use Rattle.grounder.specs.Members.{whole_of}
-use Rattle.grounder.specs.GroundingOf.{grounding_at, grounding_over}
+use Rattle.grounder.specs.GroundingOf.{grounding_over}
+use Rattle.grounder.proofs.WithMembers.{grounding_at}
 use Rattle.grounder.proofs.formula.+walk.Given as goal
 
 abbrev pub decreases-ground_formula : goal.decreases-ground_formula

@@ -1,13 +1,13 @@
-use Rattle.std.proofs.Common.{◌≡◌, map, arith, ◌∙◌}
+use Rattle.std.proofs.Common.{◌≡◌, map, arith, ◌∙◌, ap}
 use Rattle.std.proofs.lemmas.Grind.{common_steps}
 use Rattle.std.proofs.lemmas.Result.{IfOk-weaker}
 use Rattle.pc_syntax.specs.Closed.{plain_closed}
 use Rattle.pc_ground.specs.PlainGround.{ground_false, plain_ground, simplified, normal}
 use Rattle.pc_ground.specs.GroundTree.{axioms_unfolded, closed_ground_tree}
+use Rattle.pc_ground.proofs.NormalForms.{normal_simplified}
 use Rattle.grounder.specs.declared.operator.Operator.TheVariants.{And}
 use Rattle.grounder.specs.Members.{whole_of}
 use Rattle.grounder.proofs.WithMembers.{axioms_folded}
-use Rattle.grounder.proofs.Normal.{normal_of_simplified}
 use Rattle.grounder.proofs.grounding.ground.Goals as goal
 
 pub loop-axiom-init : goal.loop-axiom-init
@@ -16,8 +16,9 @@ loop-axiom-init c = rw c.new-kept.ensures.items (axioms_folded c.args.case.now c
 pub returns-then-branch-clause-tree : goal.returns-then-branch-clause-tree
 returns-then-branch-clause-tree c =
     let p = axioms_unfolded c.args.case.now (map (λ a. plain_closed a.body) c.args.axioms.now) in
-    let e : ground_false ≡ simplified p = grind (arith, common_steps, c.loop-axiom.invariant, c.in_ok-keep.ensures, c.in_ok-member.ensures, c.axiom-item.is, c.if-branch.true) in
-    normal_of_simplified ground_false p e
+    let e : ground_false ≡ simplified p = grind
+    (arith, common_steps, c.loop-axiom.invariant, c.in_ok-keep.ensures, c.in_ok-member.ensures, c.axiom-item.is, c.if-branch.true) in
+    ap normal e ∙ normal_simplified p
 
 pub returns-clause-tree : goal.returns-clause-tree
 returns-clause-tree c =
@@ -26,4 +27,4 @@ returns-clause-tree c =
     let kept = map plain_ground c.loop-axiom.kept.items in
     let all : whole_of And kept ≡ simplified p = grind (arith, common_steps, c.loop-axiom.invariant) in
     IfOk-weaker c.join_all.result (λ g. plain_ground g ≡ whole_of And kept) (λ g. normal (plain_ground g) ≡ closed_ground_tree c.args.case.now axioms)
-    (λ g e. normal_of_simplified (plain_ground g) p (e ∙ all)) c.join_all.ensures
+    (λ g e. ap normal (e ∙ all) ∙ normal_simplified p) c.join_all.ensures

@@ -28,7 +28,8 @@ put_lines-requires c =
     let f = c.args.front.now in
     let steps = c.in_ok-steps.steps in
     let L : List Closed → Type 0 = λ as_. IsLiftedRefutation f.case (plain_axioms as_) steps in
-    values_fit f.case steps (root (plain_axioms f.axioms) ∷ []) [] c.show_ops.ensures c.show_steps.ensures.cores (subst L c.as_slice.ensures.value c.in_ok-steps.ensures)
+    values_fit f.case steps (root (plain_axioms f.axioms) ∷ []) [] c.show_ops.ensures c.show_steps.ensures.cores
+    (subst L c.as_slice.ensures.value c.in_ok-steps.ensures)
 
 pub returns : goal.returns
 returns c =
@@ -37,6 +38,7 @@ returns c =
     let L : List Closed → Type 0 = λ as_. IsLiftedRefutation f.case (plain_axioms as_) steps in
     let head = codes "unobservable\n" ++ ((second_text unobservable f.case.expectation ++ codes "\n") ++ codes "lifted\n") in
     let lines = flat_map (line_text f.case.ops) steps in
-    whole_text (asked f.case f.axioms) steps c.put.new.text.items (subst L c.as_slice.ensures.value c.in_ok-steps.ensures) c.show_ops.ensures c.show_steps.ensures.numbers c.show_steps.ensures.cores
+    whole_text (asked f.case f.axioms) steps c.put.new.text.items (subst L c.as_slice.ensures.value c.in_ok-steps.ensures)
+    c.show_ops.ensures c.show_steps.ensures.numbers c.show_steps.ensures.cores
     (c.in_ok-put.ensures ∙ ap (λ (t : List ℕ). t ++ codes "end\n")
     (c.in_ok-put_lines.ensures ∙ ap (λ (t : List ℕ). t ++ lines) (c.in_ok-put_header.ensures ∙ ap (λ (t : List ℕ). t ++ head) c.new-text.ensures.items)))

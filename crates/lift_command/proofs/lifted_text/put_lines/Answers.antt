@@ -13,5 +13,6 @@ put_line-requires c = all_at (HasValue c.args.case.now.ops) c.args.steps.now c.l
 
 pub loop-k-preserved : goal.loop-k-preserved
 loop-k-preserved c =
-    lines_next c.args.case.now.ops c.args.steps.now c.loop-k.k (plain_line c.line.result.now) c.args.text.now.items c.loop-k.text.items c.put_line.new.text.items c.line.ensures
+    lines_next c.args.case.now.ops c.args.steps.now c.loop-k.k (plain_line c.line.result.now) c.args.text.now.items
+    c.loop-k.text.items c.put_line.new.text.items c.line.ensures
     c.loop-k.invariant c.in_ok-put_line.ensures

@@ -11,6 +11,7 @@ loop-k-preserved c =
     let steps = c.args.steps.now in
     let s = plain_line c.line.result.now in
     record {
-      numbers = all_next (λ (t : LiftedStep). All IsSmall (numbers_of t)) steps c.loop-k.k s c.line.ensures c.loop-k.invariant.numbers c.show_line.ensures.numbers;
+      numbers = all_next (λ (t : LiftedStep). All IsSmall (numbers_of t)) steps c.loop-k.k s c.line.ensures
+          c.loop-k.invariant.numbers c.show_line.ensures.numbers;
       cores = all_next HasSmallCore steps c.loop-k.k s c.line.ensures c.loop-k.invariant.cores c.show_line.ensures.core;
     }

@@ -6,5 +6,6 @@ use Rattle.lift_command.proofs.lines.put_one.Goals as goal
 
 pub returns : goal.returns
 returns c =
-    put_then c.put_number.result c.args.text.now.items c.put.new.text.items c.put_number.new.text.items c.args.keyword.now (codes " " ++ decimal c.args.number) c.in_ok-put.ensures
+    put_then c.put_number.result c.args.text.now.items c.put.new.text.items c.put_number.new.text.items c.args.keyword.now
+    (codes " " ++ decimal c.args.number) c.in_ok-put.ensures
     c.put_number.ensures

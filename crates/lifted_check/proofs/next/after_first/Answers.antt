@@ -1,12 +1,10 @@
-use Rattle.std.proofs.Common.{ap, sym, ◌≡◌, true, false, ◌∙◌, Bool, List, ℕ, ◌∷◌, [], ◌++◌}
+use Rattle.std.proofs.Common.{ap, sym, true, false, ◌∙◌, List, ℕ, ◌∷◌, [], ◌++◌}
 use Rattle.std.specs.Prelude.{codes}
 use Rattle.pc_common.specs.Case.{Case}
 use Rattle.pc_common.specs.Lines.{unobservable, second_text}
+use Rattle.pc_common.proofs.Bools.{clash}
 use Rattle.lifted_check.proofs.Texts.{first_next}
 use Rattle.lifted_check.proofs.next.after_first.Goals as goal
-
-clash : {b : Bool} → b ≡ true → b ≡ false → ⊥
-clash t f = (let e : true ≡ false = sym t ∙ f in cc)
 
 pub returns-then-is_second : goal.returns-then-is_second
 returns-then-is_second c = λ q lines same st.

@@ -1,11 +1,9 @@
-use Rattle.std.proofs.Common.{ap, sym, ◌≡◌, true, false, ◌∙◌, Bool, List, ℕ, ◌∷◌, [], ◌++◌}
+use Rattle.std.proofs.Common.{ap, sym, true, false, ◌∙◌, List, ℕ, ◌∷◌, [], ◌++◌}
 use Rattle.std.specs.Prelude.{codes}
+use Rattle.pc_common.proofs.Bools.{clash}
 use Rattle.lifted_check.specs.LiftedTexts.{asked, second_line}
 use Rattle.lifted_check.proofs.Texts.{second_next}
 use Rattle.lifted_check.proofs.next.after_second.Goals as goal
-
-clash : {b : Bool} → b ≡ true → b ≡ false → ⊥
-clash t f = (let e : true ≡ false = sym t ∙ f in cc)
 
 pub returns-then-not-is_third : goal.returns-then-not-is_third
 returns-then-not-is_third c = λ lines st begins.

@@ -1,9 +1,7 @@
-use Rattle.std.proofs.Common.{ap, sym, ◌≡◌, true, false, ◌∙◌, Bool, List, ℕ, ◌∷◌, [], ◌++◌}
+use Rattle.std.proofs.Common.{ap, true, false, ◌∙◌, List, ℕ, ◌∷◌, [], ◌++◌}
+use Rattle.pc_common.proofs.Bools.{clash}
 use Rattle.lifted_check.proofs.Texts.{start_next}
 use Rattle.lifted_check.proofs.next.after_start.Goals as goal
-
-clash : {b : Bool} → b ≡ true → b ≡ false → ⊥
-clash t f = (let e : true ≡ false = sym t ∙ f in cc)
 
 pub returns-then-is_first : goal.returns-then-is_first
 returns-then-is_first c = λ q lines st.

@@ -1,9 +1,7 @@
-use Rattle.std.proofs.Common.{sym, ◌≡◌, true, false, ◌∙◌, Bool}
+use Rattle.std.proofs.Common.{true, false}
+use Rattle.pc_common.proofs.Bools.{clash}
 use Rattle.lifted_check.proofs.Texts.{steps_ended, end_stuck}
 use Rattle.lifted_check.proofs.next.end_steps.Goals as goal
-
-clash : {b : Bool} → b ≡ true → b ≡ false → ⊥
-clash t f = (let e : true ≡ false = sym t ∙ f in cc)
 
 pub returns-then-is_closed : goal.returns-then-is_closed
 returns-then-is_closed c = λ q lines kept so_far. steps_ended q c.args.branches.now lines so_far (c.is_closed.ensures.0 c.if-is_closed.true)

@@ -1,9 +1,9 @@
 use Rattle.std.proofs.Common.{◌≡◌, ℕ, List, ◌∷◌}
 use Rattle.std.proofs.lemmas.Result.{IfOk-weaker}
+use Rattle.pc_ground.specs.Words.{words}
 use Rattle.lifted_facts.specs.declared.way.Way.TheVariants.{Inst as InstWay}
 use Rattle.lifted_facts.specs.Lifted.{derive, HasAdvanced}
 use Rattle.lifted_facts.specs.Opens.{opens_at}
-use Rattle.lifted_check.specs.Words.{words}
 use Rattle.lifted_check.specs.StepLines.{keyword_text}
 use Rattle.lifted_check.specs.Stages.{IsCase, HasSteppedOn}
 use Rattle.lifted_check.specs.declared.keyword.Keyword.TheVariants.{Inst as InstWord}
@@ -12,10 +12,7 @@ use Rattle.lifted_check.proofs.next.take_instance.Goals as goal
 
 pub returns-in-Some-clause-stepped : goal.returns-in-Some-clause-stepped
 returns-in-Some-clause-stepped c =
-    let d = c.args.case.now in
-    let old = c.args.branches.now in
-    let new = c.take.new.self in
-    let k = c.in-Some.number in
+    let d = c.args.case.now in let old = c.args.branches.now in let new = c.take.new.self in let k = c.in-Some.number in
     let v = c.in-Some.value in
     IfOk-weaker c.take.result
     (λ good. HasAdvanced old.case.now (derive (InstWay v) k) (opens_at old) (opens_at new) good)

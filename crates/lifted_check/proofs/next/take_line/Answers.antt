@@ -1,7 +1,7 @@
 use Rattle.std.proofs.Common.{◌≡◌, ℕ, List, ◌∷◌}
 use Rattle.std.proofs.lemmas.Result.{IfOk-weaker}
+use Rattle.pc_ground.specs.Words.{words}
 use Rattle.lifted_facts.specs.Opens.{opens_at}
-use Rattle.lifted_check.specs.Words.{words}
 use Rattle.lifted_check.specs.StepLines.{keyword_text}
 use Rattle.lifted_check.specs.Stages.{IsCase, HasSteppedOn}
 use Rattle.lifted_check.specs.declared.keyword.Keyword.TheVariants.{Inst as InstWord}
@@ -9,9 +9,7 @@ use Rattle.lifted_check.proofs.next.take_line.Goals as goal
 
 pub returns-in-Inst-clause-stepped : goal.returns-in-Inst-clause-stepped
 returns-in-Inst-clause-stepped c =
-    let d = c.args.case.now in
-    let old = c.args.branches.now in
-    let new = c.take_instance.new.branches in
+    let d = c.args.case.now in let old = c.args.branches.now in let new = c.take_instance.new.branches in
     IfOk-weaker c.take_instance.result
     (λ good. (line : List ℕ) → IsCase d → old.case.now ≡ d → words line ≡ keyword_text InstWord ∷ words c.in-Some.rest.now
     → HasSteppedOn d line (opens_at old) (opens_at new) good)

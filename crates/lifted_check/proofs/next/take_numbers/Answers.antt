@@ -1,9 +1,9 @@
 use Rattle.std.proofs.Common.{◌≡◌, ℕ, List, ◌∷◌, Some, None, sym, subst}
 use Rattle.std.proofs.lemmas.Result.{IfOk-weaker}
+use Rattle.pc_ground.specs.Words.{words}
 use Rattle.lifted_facts.specs.Lifted.{HasAdvanced}
 use Rattle.lifted_facts.specs.Steps.{plain_step}
 use Rattle.lifted_facts.specs.Opens.{opens_at}
-use Rattle.lifted_check.specs.Words.{words}
 use Rattle.lifted_check.specs.StepLines.{keyword_text}
 use Rattle.lifted_check.specs.Decoding.{decoded}
 use Rattle.lifted_check.specs.Stages.{IsCase, HasSteppedOn}
@@ -19,11 +19,9 @@ returns-then-not-branch-clause-stepped c = λ line kept e.
 
 pub returns-in-Some-clause-stepped : goal.returns-in-Some-clause-stepped
 returns-in-Some-clause-stepped c =
-    let old = c.args.branches.now in
-    let new = c.take.new.self in
+    let old = c.args.branches.now in let new = c.take.new.self in
     let d = old.case.now in
-    let k = c.args.keyword in
-    let s = plain_step c.in-Some.step in
+    let k = c.args.keyword in let s = plain_step c.in-Some.step in
     let read = rw c.if-not-branch.false at c.in_ok-read_numbers.ensures in
     let D : List ℕ → Type 0 = λ ns. Some s ≡ decoded k ns in
     let is = subst D c.deref.ensures.value c.in-Some.ensures in
@@ -37,8 +35,7 @@ returns-in-Some-clause-stepped c =
 
 pub returns-in-None-clause-stepped : goal.returns-in-None-clause-stepped
 returns-in-None-clause-stepped c = λ line kept e.
-    let old = c.args.branches.now in
-    let k = c.args.keyword in
+    let old = c.args.branches.now in let k = c.args.keyword in
     let read = rw c.if-not-branch.false at c.in_ok-read_numbers.ensures in
     let D : List ℕ → Type 0 = λ ns. None ≡ decoded k ns in
     let none = subst D c.deref.ensures.value c.in-None.ensures in

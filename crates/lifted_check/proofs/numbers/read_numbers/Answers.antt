@@ -1,5 +1,5 @@
 use Rattle.std.proofs.Common.{ℕ, List, subst}
-use Rattle.lifted_check.specs.Words.{words}
+use Rattle.pc_ground.specs.Words.{words}
 use Rattle.lifted_check.proofs.NumberRow.{ReadSoFar, row_stop}
 use Rattle.lifted_check.proofs.numbers.read_numbers.Goals as goal
 

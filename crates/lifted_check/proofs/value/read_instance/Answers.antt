@@ -19,7 +19,6 @@ returns-in_err-value_of c =
 
 pub returns : goal.returns
 returns c =
-    let cut = c.in_ok-number in
-    let is = c.in_ok-value_of.ensures in
+    let cut = c.in_ok-number in let is = c.in_ok-value_of.ensures in
     an_instance c.args.case.now.ops c.args.text.now cut.number.now cut.rest.now cut.ensures.cut
     c.in_ok-decimal_value.field-0 c.in_ok-value_of.field-0 c.in_ok-decimal_value.ensures is.0 is.1

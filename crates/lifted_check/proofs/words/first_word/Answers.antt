@@ -1,4 +1,5 @@
-use Rattle.lifted_check.proofs.SpacedWords.{words_last, words_cut}
+use Rattle.pc_ground.proofs.Cuts.{words_last}
+use Rattle.lifted_check.proofs.SpacedWords.{words_cut}
 use Rattle.lifted_check.proofs.words.first_word.Goals as goal
 
 pub returns-in-Some-clause-words : goal.returns-in-Some-clause-words

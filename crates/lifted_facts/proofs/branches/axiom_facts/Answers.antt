@@ -13,8 +13,7 @@ use Rattle.lifted_facts.proofs.branches.axiom_facts.Goals as goal
 
 pub loop-axiom-preserved : goal.loop-axiom-preserved
 loop-axiom-preserved c =
-    let facts = c.loop-axiom.facts.items in
-    let a = c.axiom-item.result in
+    let facts = c.loop-axiom.facts.items in let a = c.axiom-item.result in
     let at = slice_get_read c.args.axioms.now _ c.loop-axiom.axiom-index a (search rules) c.loop-axiom-test.true c.axiom-item.is in
     let is : plain_fact c.said_of.result ≡ said true (plain_closed a.body) [] 0 =
     c.said_of.ensures.is ∙ ap (λ (bs : List Bound). said true (plain_closed a.body) (meanings bs) 0) c.new-env.ensures in

@@ -6,5 +6,6 @@ use Rattle.lifted_facts.proofs.inside.value_at.Goals as goal
 
 pub returns-clause-value : goal.returns-clause-value
 returns-clause-value c =
-    let within : c.args.place < length (range_of c.args.case.now c.args.sort) = omega (arith, c.range_len.ensures.count, c.from.ensures, c.if-place-from.false) in
+    let within : c.args.place < length (range_of c.args.case.now c.args.sort) =
+    omega (arith, c.range_len.ensures.count, c.from.ensures, c.if-place-from.false) in
     ap (λ b. Some (meaning_of b)) c.value_in_range.ensures ∙ sym (value c.args.case.now c.args.sort c.args.place within)

@@ -6,4 +6,5 @@ pub node_key-requires-clause-fits : goal.node_key-requires-clause-fits
 node_key-requires-clause-fits c = (edge_fits (scope_of c.args.said.now.env.items) c.args.edges.now _ c.get-edge.result.now c.get-edge.ensures c.requires.fit).0
 
 pub node_key-requires-2-clause-fits : goal.node_key-requires-2-clause-fits
-node_key-requires-2-clause-fits c = (edge_fits (scope_of c.args.said.now.env.items) c.args.edges.now _ c.get-edge.result.now c.get-edge.ensures c.requires.fit).1
+node_key-requires-2-clause-fits c =
+    (edge_fits (scope_of c.args.said.now.env.items) c.args.edges.now _ c.get-edge.result.now c.get-edge.ensures c.requires.fit).1

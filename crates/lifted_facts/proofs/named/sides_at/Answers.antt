@@ -8,7 +8,8 @@ sides-requires c = c.in-Some.ensures.proper c.args.case.now c.requires
 
 pub returns-in-Some-clause-is : goal.returns-in-Some-clause-is
 returns-in-Some-clause-is c =
-    sides_named c.args.case.now (map plain_fact c.args.facts.now) c.args.number (plain_fact c.in-Some.fact.now) c.sides.result c.in-Some.ensures.is c.sides.ensures.is
+    sides_named c.args.case.now (map plain_fact c.args.facts.now) c.args.number (plain_fact c.in-Some.fact.now) c.sides.result
+    c.in-Some.ensures.is c.sides.ensures.is
 
 pub returns-in-None-clause-is : goal.returns-in-None-clause-is
 returns-in-None-clause-is c = λ g h s. no_fact (map plain_fact c.args.facts.now) c.args.number c.in-None.ensures.is s.0 s.1

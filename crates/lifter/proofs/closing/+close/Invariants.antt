@@ -1,6 +1,6 @@
 -- Each part and each side has a lower rank.
 use Rattle.lifted_facts.specs.PlainFacts.{plain_fact}
-use Rattle.lifter.specs.Ranks.{rank}
+use Rattle.lifter.proofs.Ranks.{rank}
 use Rattle.lifter.proofs.closing.+close.Given as goal
 
 abbrev pub decreases-close : goal.decreases-close

@@ -8,7 +8,8 @@ use Rattle.lifter.proofs.fact_kind.false_part.Goals as goal
 pub loop-k-preserved : goal.loop-k-preserved
 loop-k-preserved c =
     let case = c.args.case.now in
-    false_later (fact_tree case) (parts case (plain_fact c.args.fact.now)) c.loop-k.k (plain_fact c.part_at-named.result.1) c.part_at-named.ensures.member c.loop-k.invariant
+    false_later (fact_tree case) (parts case (plain_fact c.args.fact.now)) c.loop-k.k (plain_fact c.part_at-named.result.1)
+    c.part_at-named.ensures.member c.loop-k.invariant
     (λ e. c.in_default.not-False (c.kind_of_fact.ensures ∙ e))
 
 pub unreachable-requires : goal.unreachable-requires

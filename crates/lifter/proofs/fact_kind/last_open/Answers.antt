@@ -25,7 +25,8 @@ loop-k-preserved c =
     let step : at + 1 ≡ count - c.loop-k.k = omega (arith, c.loop-k-test.true) in
     let here : at ≡ count - (c.loop-k.k + 1) = omega (arith, c.loop-k-test.true) in
     rw (sym here)
-    (true_part (fact_tree case) ps at (count - c.loop-k.k) (plain_fact c.part_at-named.result.1) c.part_at-named.ensures.member step c.loop-k.invariant c.requires.kind
+    (true_part (fact_tree case) ps at (count - c.loop-k.k) (plain_fact c.part_at-named.result.1) c.part_at-named.ensures.member
+    step c.loop-k.invariant c.requires.kind
     (λ e. c.in_default.not-Open (c.kind_of_fact.ensures ∙ e)))
 
 pub returns-in-Open : goal.returns-in-Open
@@ -35,7 +36,8 @@ returns-in-Open c =
     let count = c.part_count-count.result in
     let at = count - 1 - c.loop-k.k in
     let step : at + 1 ≡ count - c.loop-k.k = omega (arith, c.loop-k-test.true) in
-    let found = last_found (fact_tree case) ps at (count - c.loop-k.k) (plain_fact c.part_at-named.result.1) c.part_at-named.ensures.member step c.loop-k.invariant c.requires.kind
+    let found = last_found (fact_tree case) ps at (count - c.loop-k.k) (plain_fact c.part_at-named.result.1)
+    c.part_at-named.ensures.member step c.loop-k.invariant c.requires.kind
     (sym c.kind_of_fact.ensures ∙ c.in-Open.is) in
     record { within = slice_get_within ps at (plain_fact c.part_at-named.result.1) c.part_at-named.ensures.member; rest = found.0; up_to = found.1 }
 

@@ -21,19 +21,20 @@ close_axiom-requires-clause-kind c =
 pub unfold_axioms-requires-clause-kind : goal.unfold_axioms-requires-clause-kind
 unfold_axioms-requires-clause-kind c =
     axioms_open c.args.case.now (plain_axioms c.args.axioms.now)
-    (tree_open c.args.case.now (plain_axioms c.args.axioms.now) c.args.tree.now c.row.result c.args.refutation.now c.requires.tree c.row.ensures.row c.in_default.not-False c.requires.refuted)
+    (tree_open c.args.case.now (plain_axioms c.args.axioms.now) c.args.tree.now c.row.result c.args.refutation.now c.requires.tree c.row.ensures.row
+    c.in_default.not-False c.requires.refuted)
 
 pub unfold_axioms-requires-clause-stands : goal.unfold_axioms-requires-clause-stands
 unfold_axioms-requires-clause-stands c =
-    stands_whole (closed_ground_tree c.args.case.now (plain_axioms c.args.axioms.now)) _ c.args.tree.now c.requires.tree (root_tree c.args.case.now (plain_axioms c.args.axioms.now))
+    stands_whole (closed_ground_tree c.args.case.now (plain_axioms c.args.axioms.now)) _ c.args.tree.now c.requires.tree
+    (root_tree c.args.case.now (plain_axioms c.args.axioms.now))
 
 pub follow-requires : goal.follow-requires
 follow-requires c =
-    let case = c.args.case.now in
-    let axioms = plain_axioms c.args.axioms.now in
-    let s = c.args.state.now in
+    let case = c.args.case.now in let axioms = plain_axioms c.args.axioms.now in let s = c.args.state.now in
     let unfolded = c.in_ok-unfold_axioms-in_default.ensures in
-    let open_tree = tree_open case axioms c.args.tree.now c.row.result c.args.refutation.now c.requires.tree c.row.ensures.row c.in_default.not-False c.requires.refuted in
+    let open_tree = tree_open case axioms c.args.tree.now c.row.result c.args.refutation.now c.requires.tree c.row.ensures.row c.in_default.not-False
+    c.requires.refuted in
     record {
       kept = unfolded.moves.kept c.requires.kept;
       ahead = (
@@ -51,10 +52,9 @@ returns-in-False c =
 
 pub returns-in_ok-unfold_axioms-in_default : goal.returns-in_ok-unfold_axioms-in_default
 returns-in_ok-unfold_axioms-in_default c =
-    let case = c.args.case.now in
-    let axioms = plain_axioms c.args.axioms.now in
-    let s = c.args.state.now in
-    let unfolded = c.in_ok-unfold_axioms-in_default.ensures in
-    let open_tree = tree_open case axioms c.args.tree.now c.row.result c.args.refutation.now c.requires.tree c.row.ensures.row c.in_default.not-False c.requires.refuted in
-    on_ok_weaker c.follow.result (λ h. h (root axioms ∷ []) (begun case c.args.tree.now axioms c.args.refutation.now s c.unfold_axioms.new.state c.requires.tree c.requires.refuted open_tree
-    c.requires.facts c.requires.none.0 c.requires.none.1 c.requires.none.2 unfolded)) c.follow.ensures
+    let case = c.args.case.now in let axioms = plain_axioms c.args.axioms.now in let s = c.args.state.now in
+    let open_tree = tree_open case axioms c.args.tree.now c.row.result c.args.refutation.now c.requires.tree c.row.ensures.row c.in_default.not-False
+    c.requires.refuted in
+    on_ok_weaker c.follow.result (λ h. h (root axioms ∷ [])
+    (begun case c.args.tree.now axioms c.args.refutation.now s c.unfold_axioms.new.state c.requires.tree c.requires.refuted open_tree
+    c.requires.facts c.requires.none.0 c.requires.none.1 c.requires.none.2 c.in_ok-unfold_axioms-in_default.ensures)) c.follow.ensures

@@ -20,33 +20,38 @@ unreachable-requires c = c.in_default.ensures c.requires.known.0 c.requires.know
 
 pub index-requires : goal.index-requires
 index-requires c =
-    let within = or_within c.args.case.now c.args.tree.now c.requires.good.0 c.args.state.now c.args.position c.in-Some.number c.requires.good.1 c.in-Some.ensures in
+    let within = or_within c.args.case.now c.args.tree.now c.requires.good.0 c.args.state.now c.args.position c.in-Some.number c.requires.good.1
+    c.in-Some.ensures in
     omega (arith, within, c.args.state.now.facts.ok.0)
 
 pub sides-requires : goal.sides-requires
 sides-requires c =
     let s = c.args.state.now in
     let within = or_within c.args.case.now c.args.tree.now c.requires.good.0 s c.args.position c.in-Some.number c.requires.good.1 c.in-Some.ensures in
-    proper_read c.args.case.now s.facts.items c.in-Some.number c.index.result.now c.requires.kept.proper within (get_or_read c.args.state.now.facts.items c.in-Some.number c.index.result.now (or_within c.args.case.now c.args.tree.now c.requires.good.0 c.args.state.now c.args.position c.in-Some.number c.requires.good.1 c.in-Some.ensures) c.index.ensures c.index.result.now)
+    proper_read c.args.case.now s.facts.items c.in-Some.number c.index.result.now c.requires.kept.proper within
+    (get_or_read c.args.state.now.facts.items c.in-Some.number c.index.result.now
+    (or_within c.args.case.now c.args.tree.now c.requires.good.0 c.args.state.now c.args.position c.in-Some.number c.requires.good.1
+    c.in-Some.ensures) c.index.ensures c.index.result.now)
 
 -- the fact has sides
 pub unreachable-requires-in_default-sides : goal.unreachable-requires-in_default-sides
 unreachable-requires-in_default-sides c =
     let x = c.index.result.now in
-    let o = or_fact c.args.case.now c.args.tree.now c.requires.good.0 c.args.state.now c.args.position c.in-Some.number c.requires.good.1 c.in-Some.ensures x (get_or_read c.args.state.now.facts.items c.in-Some.number c.index.result.now (or_within c.args.case.now c.args.tree.now c.requires.good.0 c.args.state.now c.args.position c.in-Some.number c.requires.good.1 c.in-Some.ensures) c.index.ensures c.index.result.now) in
+    let o = or_fact c.args.case.now c.args.tree.now c.requires.good.0 c.args.state.now c.args.position c.in-Some.number c.requires.good.1 c.in-Some.ensures
+    x (get_or_read c.args.state.now.facts.items c.in-Some.number c.index.result.now
+    (or_within c.args.case.now c.args.tree.now c.requires.good.0 c.args.state.now c.args.position c.in-Some.number c.requires.good.1
+    c.in-Some.ensures) c.index.ensures c.index.result.now) in
     no_sides (sides c.args.case.now (plain_fact x)) o.1.first o.1.second o.1.are (sym c.in_default-sides.ensures.is)
 
 pub right_of-right-requires : goal.right_of-right-requires
 right_of-right-requires c =
-    let case = c.args.case.now in
-    let rows = c.args.tree.now in
-    let s = c.args.state.now in
-    let at = c.args.position in
-    let number = c.in-Some.number in
-    let x = c.index.result.now in
-    let g = plain_fact c.in-Some-sides.first in
+    let case = c.args.case.now in let rows = c.args.tree.now in let s = c.args.state.now in let at = c.args.position in
+    let number = c.in-Some.number in let x = c.index.result.now in let g = plain_fact c.in-Some-sides.first in
     let h = plain_fact c.in-Some-sides.second in
-    let o = or_fact case rows c.requires.good.0 s at number c.requires.good.1 c.in-Some.ensures x (get_or_read c.args.state.now.facts.items c.in-Some.number c.index.result.now (or_within c.args.case.now c.args.tree.now c.requires.good.0 c.args.state.now c.args.position c.in-Some.number c.requires.good.1 c.in-Some.ensures) c.index.ensures c.index.result.now) in
+    let o = or_fact case rows c.requires.good.0 s at number c.requires.good.1 c.in-Some.ensures x
+    (get_or_read c.args.state.now.facts.items c.in-Some.number c.index.result.now
+    (or_within c.args.case.now c.args.tree.now c.requires.good.0 c.args.state.now c.args.position c.in-Some.number c.requires.good.1
+    c.in-Some.ensures) c.index.ensures c.index.result.now) in
     let are = sym c.in-Some-sides.ensures.is in
     let two = or_sides case rows (plain_fact x) g h at o.1 are in
     let below = parts_either rows at (fact_tree case g) (fact_tree case h) two.2 in
@@ -54,81 +59,85 @@ right_of-right-requires c =
 
 pub unfold-requires : goal.unfold-requires
 unfold-requires c =
-    let case = c.args.case.now in
-    let rows = c.args.tree.now in
-    let s = c.args.state.now in
-    let at = c.args.position in
-    let number = c.in-Some.number in
-    let x = c.index.result.now in
-    let g = plain_fact c.in-Some-sides.first in
+    let case = c.args.case.now in let rows = c.args.tree.now in let s = c.args.state.now in let at = c.args.position in
+    let number = c.in-Some.number in let x = c.index.result.now in let g = plain_fact c.in-Some-sides.first in
     let h = plain_fact c.in-Some-sides.second in
-    let o = or_fact case rows c.requires.good.0 s at number c.requires.good.1 c.in-Some.ensures x (get_or_read c.args.state.now.facts.items c.in-Some.number c.index.result.now (or_within c.args.case.now c.args.tree.now c.requires.good.0 c.args.state.now c.args.position c.in-Some.number c.requires.good.1 c.in-Some.ensures) c.index.ensures c.index.result.now) in
+    let o = or_fact case rows c.requires.good.0 s at number c.requires.good.1 c.in-Some.ensures x
+    (get_or_read c.args.state.now.facts.items c.in-Some.number c.index.result.now
+    (or_within c.args.case.now c.args.tree.now c.requires.good.0 c.args.state.now c.args.position c.in-Some.number c.requires.good.1
+    c.in-Some.ensures) c.index.ensures c.index.result.now) in
     let are = sym c.in-Some-sides.ensures.is in
     let two = or_sides case rows (plain_fact x) g h at o.1 are in
     let below = parts_either rows at (fact_tree case g) (fact_tree case h) two.2 in
     let mid : State = record { facts = c.push-3.new.self; known = s.known; later = c.push-2.new.self; steps = c.push.new.self } in
     let count : c.len-count.result ≡ length s.facts.items = omega (arith, c.len-count.ensures) in
     let l : Later = record { count = c.len-count.result; known = c.len-known.result; fact = c.in-Some-sides.second; task = Side c.right_of-right.result } in
-    let put = put_off case rows s mid number c.len-count.result c.copy_fact.result g l (c.copy_fact.ensures.proper case c.in-Some-sides.ensures.proper.0) c.copy_fact.ensures.is
-    (plain_fact x, o.0, are) count refl c.len-known.ensures c.in-Some-sides.ensures.proper.1 tt c.in_ok-push-3.ensures.items refl c.in_ok-push-2.ensures.items c.in_ok-push.ensures in
+    let put = put_off case rows s mid number c.len-count.result c.copy_fact.result g l (c.copy_fact.ensures.proper case c.in-Some-sides.ensures.proper.0)
+    c.copy_fact.ensures.is
+    (plain_fact x, o.0, are) count refl c.len-known.ensures c.in-Some-sides.ensures.proper.1 tt c.in_ok-push-3.ensures.items refl
+    c.in_ok-push-2.ensures.items c.in_ok-push.ensures in
     let B : Branch → Type 0 = λ b. HasFact b c.len-count.result g in
-    record { proper = c.in-Some-sides.ensures.proper.0; has = subst B (sym put.1) (last_fact (branch_of s) g c.len-count.result (sym put.0)); kind = two.0; stands = below.0 }
+    record {
+      proper = c.in-Some-sides.ensures.proper.0;
+      has = subst B (sym put.1) (last_fact (branch_of s) g c.len-count.result (sym put.0));
+      kind = two.0;
+      stands = below.0;
+    }
 
 pub returns-clause-kept : goal.returns-clause-kept
 returns-clause-kept c =
-    let case = c.args.case.now in
-    let rows = c.args.tree.now in
-    let s = c.args.state.now in
-    let at = c.args.position in
-    let number = c.in-Some.number in
-    let x = c.index.result.now in
-    let g = plain_fact c.in-Some-sides.first in
+    let case = c.args.case.now in let rows = c.args.tree.now in let s = c.args.state.now in let at = c.args.position in
+    let number = c.in-Some.number in let x = c.index.result.now in let g = plain_fact c.in-Some-sides.first in
     let h = plain_fact c.in-Some-sides.second in
-    let o = or_fact case rows c.requires.good.0 s at number c.requires.good.1 c.in-Some.ensures x (get_or_read c.args.state.now.facts.items c.in-Some.number c.index.result.now (or_within c.args.case.now c.args.tree.now c.requires.good.0 c.args.state.now c.args.position c.in-Some.number c.requires.good.1 c.in-Some.ensures) c.index.ensures c.index.result.now) in
+    let o = or_fact case rows c.requires.good.0 s at number c.requires.good.1 c.in-Some.ensures x
+    (get_or_read c.args.state.now.facts.items c.in-Some.number c.index.result.now
+    (or_within c.args.case.now c.args.tree.now c.requires.good.0 c.args.state.now c.args.position c.in-Some.number c.requires.good.1
+    c.in-Some.ensures) c.index.ensures c.index.result.now) in
     let are = sym c.in-Some-sides.ensures.is in
     let two = or_sides case rows (plain_fact x) g h at o.1 are in
     let below = parts_either rows at (fact_tree case g) (fact_tree case h) two.2 in
     let mid : State = record { facts = c.push-3.new.self; known = s.known; later = c.push-2.new.self; steps = c.push.new.self } in
     let count : c.len-count.result ≡ length s.facts.items = omega (arith, c.len-count.ensures) in
     let l : Later = record { count = c.len-count.result; known = c.len-known.result; fact = c.in-Some-sides.second; task = Side c.right_of-right.result } in
-    let put = put_off case rows s mid number c.len-count.result c.copy_fact.result g l (c.copy_fact.ensures.proper case c.in-Some-sides.ensures.proper.0) c.copy_fact.ensures.is
-    (plain_fact x, o.0, are) count refl c.len-known.ensures c.in-Some-sides.ensures.proper.1 tt c.in_ok-push-3.ensures.items refl c.in_ok-push-2.ensures.items c.in_ok-push.ensures in
+    let put = put_off case rows s mid number c.len-count.result c.copy_fact.result g l (c.copy_fact.ensures.proper case c.in-Some-sides.ensures.proper.0)
+    c.copy_fact.ensures.is
+    (plain_fact x, o.0, are) count refl c.len-known.ensures c.in-Some-sides.ensures.proper.1 tt c.in_ok-push-3.ensures.items refl
+    c.in_ok-push-2.ensures.items c.in_ok-push.ensures in
     on_ok_weaker c.unfold.result (λ u. u.moves.kept (put.2 c.requires.kept)) c.unfold.ensures
 
 pub returns-clause-split : goal.returns-clause-split
 returns-clause-split c =
-    let case = c.args.case.now in
-    let rows = c.args.tree.now in
-    let s = c.args.state.now in
-    let at = c.args.position in
-    let number = c.in-Some.number in
-    let x = c.index.result.now in
-    let g = plain_fact c.in-Some-sides.first in
+    let case = c.args.case.now in let rows = c.args.tree.now in let s = c.args.state.now in let at = c.args.position in
+    let number = c.in-Some.number in let x = c.index.result.now in let g = plain_fact c.in-Some-sides.first in
     let h = plain_fact c.in-Some-sides.second in
-    let o = or_fact case rows c.requires.good.0 s at number c.requires.good.1 c.in-Some.ensures x (get_or_read c.args.state.now.facts.items c.in-Some.number c.index.result.now (or_within c.args.case.now c.args.tree.now c.requires.good.0 c.args.state.now c.args.position c.in-Some.number c.requires.good.1 c.in-Some.ensures) c.index.ensures c.index.result.now) in
+    let o = or_fact case rows c.requires.good.0 s at number c.requires.good.1 c.in-Some.ensures x
+    (get_or_read c.args.state.now.facts.items c.in-Some.number c.index.result.now
+    (or_within c.args.case.now c.args.tree.now c.requires.good.0 c.args.state.now c.args.position c.in-Some.number c.requires.good.1
+    c.in-Some.ensures) c.index.ensures c.index.result.now) in
     let are = sym c.in-Some-sides.ensures.is in
     let two = or_sides case rows (plain_fact x) g h at o.1 are in
     let below = parts_either rows at (fact_tree case g) (fact_tree case h) two.2 in
     let mid : State = record { facts = c.push-3.new.self; known = s.known; later = c.push-2.new.self; steps = c.push.new.self } in
     let count : c.len-count.result ≡ length s.facts.items = omega (arith, c.len-count.ensures) in
     let l : Later = record { count = c.len-count.result; known = c.len-known.result; fact = c.in-Some-sides.second; task = Side c.right_of-right.result } in
-    let put = put_off case rows s mid number c.len-count.result c.copy_fact.result g l (c.copy_fact.ensures.proper case c.in-Some-sides.ensures.proper.0) c.copy_fact.ensures.is
-    (plain_fact x, o.0, are) count refl c.len-known.ensures c.in-Some-sides.ensures.proper.1 tt c.in_ok-push-3.ensures.items refl c.in_ok-push-2.ensures.items c.in_ok-push.ensures in
+    let put = put_off case rows s mid number c.len-count.result c.copy_fact.result g l (c.copy_fact.ensures.proper case c.in-Some-sides.ensures.proper.0)
+    c.copy_fact.ensures.is
+    (plain_fact x, o.0, are) count refl c.len-known.ensures c.in-Some-sides.ensures.proper.1 tt c.in_ok-push-3.ensures.items refl
+    c.in_ok-push-2.ensures.items c.in_ok-push.ensures in
     on_ok_weaker c.unfold.result
-    (λ u. split_on case rows s mid c.unfold.new.state g h l at c.right_of-right.result two.1 two.2 refl refl (c.right_of-right.ensures (fact_tree case g) below.0) c.len-known.ensures refl put.4 put.3 u)
+    (λ u. split_on case rows s mid c.unfold.new.state g h l at c.right_of-right.result two.1 two.2 refl refl
+    (c.right_of-right.ensures (fact_tree case g) below.0) c.len-known.ensures refl put.4 put.3 u)
     c.unfold.ensures
 
 pub overflow_add-position : goal.overflow_add-position
 overflow_add-position c =
-    let case = c.args.case.now in
-    let rows = c.args.tree.now in
-    let s = c.args.state.now in
-    let at = c.args.position in
-    let number = c.in-Some.number in
-    let x = c.index.result.now in
-    let g = plain_fact c.in-Some-sides.first in
+    let case = c.args.case.now in let rows = c.args.tree.now in let s = c.args.state.now in let at = c.args.position in
+    let number = c.in-Some.number in let x = c.index.result.now in let g = plain_fact c.in-Some-sides.first in
     let h = plain_fact c.in-Some-sides.second in
-    let o = or_fact case rows c.requires.good.0 s at number c.requires.good.1 c.in-Some.ensures x (get_or_read c.args.state.now.facts.items c.in-Some.number c.index.result.now (or_within c.args.case.now c.args.tree.now c.requires.good.0 c.args.state.now c.args.position c.in-Some.number c.requires.good.1 c.in-Some.ensures) c.index.ensures c.index.result.now) in
+    let o = or_fact case rows c.requires.good.0 s at number c.requires.good.1 c.in-Some.ensures x
+    (get_or_read c.args.state.now.facts.items c.in-Some.number c.index.result.now
+    (or_within c.args.case.now c.args.tree.now c.requires.good.0 c.args.state.now c.args.position c.in-Some.number c.requires.good.1
+    c.in-Some.ensures) c.index.ensures c.index.result.now) in
     let are = sym c.in-Some-sides.ensures.is in
     let two = or_sides case rows (plain_fact x) g h at o.1 are in
     let below = parts_either rows at (fact_tree case g) (fact_tree case h) two.2 in

@@ -21,11 +21,10 @@ number_of-denial-requires c =
 
 pub returns : goal.returns
 returns c =
-    let s = c.args.state.now in
-    let nodes = c.args.nodes.now in
-    let ns = c.in_ok-numbers-in-len2-up.numbers in
+    let s = c.args.state.now in let nodes = c.args.nodes.now in let ns = c.in_ok-numbers-in-len2-up.numbers in
     let denial = c.number_of-denial.result in
     let new : State = record { facts = s.facts; known = s.known; later = s.later; steps = c.push.new.self } in
     added_leaf c.push.result s new (path ns.0 ns.1 denial) refl refl refl c.push.ensures
-    (λ case rows known. path_closes case rows (branch_of s) s.known known (key_node c.from-item.result) (map key_node (take (length nodes - 1 - 1) (drop 1 nodes))) (key_node c.to-item.result) ns.0 ns.1 denial
+    (λ case rows known. path_closes case rows (branch_of s) s.known known (key_node c.from-item.result)
+    (map key_node (take (length nodes - 1 - 1) (drop 1 nodes))) (key_node c.to-item.result) ns.0 ns.1 denial
     c.in_ok-numbers-in-len2-up.ensures c.number_of-denial.ensures)

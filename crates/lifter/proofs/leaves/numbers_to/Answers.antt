@@ -15,15 +15,18 @@ returns-in-empty c =
 pub number_of-first-requires : goal.number_of-first-requires
 number_of-first-requires c =
     let via = c.args.via.now in
-    (first_edge c.args.known.now c.args.from c.args.to via (take (length via - 1) (drop 1 via)) c.next-item.result (first_rest via c.next-item.result c.in-len1-up.len_at_least c.next-item.is) c.requires).0
+    (first_edge c.args.known.now c.args.from c.args.to via (take (length via - 1) (drop 1 via)) c.next-item.result
+    (first_rest via c.next-item.result c.in-len1-up.len_at_least c.next-item.is) c.requires).0
 
 pub numbers_along-requires : goal.numbers_along-requires
 numbers_along-requires c =
     let via = c.args.via.now in
-    (first_edge c.args.known.now c.args.from c.args.to via (take (length via - 1) (drop 1 via)) c.next-item.result (first_rest via c.next-item.result c.in-len1-up.len_at_least c.next-item.is) c.requires).1
+    (first_edge c.args.known.now c.args.from c.args.to via (take (length via - 1) (drop 1 via)) c.next-item.result
+    (first_rest via c.next-item.result c.in-len1-up.len_at_least c.next-item.is) c.requires).1
 
 pub returns-in_ok-more-in-len1-up : goal.returns-in_ok-more-in-len1-up
 returns-in_ok-more-in-len1-up c =
     let via = c.args.via.now in
-    first_number c.args.known.now c.args.from c.args.to via (take (length via - 1) (drop 1 via)) c.next-item.result (first_rest via c.next-item.result c.in-len1-up.len_at_least c.next-item.is)
+    first_number c.args.known.now c.args.from c.args.to via (take (length via - 1) (drop 1 via)) c.next-item.result
+    (first_rest via c.next-item.result c.in-len1-up.len_at_least c.next-item.is)
     c.number_of-first.result c.in_ok-more-in-len1-up.more c.number_of-first.ensures c.in_ok-more-in-len1-up.ensures

@@ -10,8 +10,7 @@ use Rattle.lifter.proofs.roots.axiom_facts.Goals as goal
 
 pub loop-axiom-preserved : goal.loop-axiom-preserved
 loop-axiom-preserved c =
-    let facts = c.loop-axiom.facts.items in
-    let a = c.axiom-item.result in
+    let facts = c.loop-axiom.facts.items in let a = c.axiom-item.result in
     let at = slice_get_read c.args.axioms.now _ c.loop-axiom.axiom-index a (search rules) c.loop-axiom-test.true c.axiom-item.is in
     record {
       are = ap (map plain_fact) c.in_ok-push.ensures.items ∙ map-append plain_fact facts (c.axiom_fact.result ∷ [])

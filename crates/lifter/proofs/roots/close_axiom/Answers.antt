@@ -7,8 +7,8 @@ use Rattle.lifter.proofs.roots.close_axiom.Goals as goal
 
 pub returns : goal.returns
 returns c =
-    let s = c.args.state.now in
     let axioms = root (plain_axioms c.args.axioms.now) in
-    let many = mapped_length s.facts.items in
+    let many = mapped_length c.args.state.now.facts.items in
     let same = ap length c.requires.facts in
-    on_ok_weaker c.close.result (λ h start opens run. h start axioms opens (omega (arith, many, same, c.len-count.ensures)) c.false_axiom-found.ensures.is run) c.close.ensures
+    on_ok_weaker c.close.result (λ h start opens run. h start axioms opens (omega (arith, many, same, c.len-count.ensures)) c.false_axiom-found.ensures.is
+    run) c.close.ensures

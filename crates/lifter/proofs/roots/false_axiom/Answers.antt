@@ -10,7 +10,8 @@ pub returns-in-False : goal.returns-in-False
 returns-in-False c =
     let axioms = c.args.axioms.now in
     record {
-      is = axiom_said axioms c.loop-k.k c.index-axioms-k.result (plain_fact c.axiom_fact-fact.result) c.loop-k-test.true c.index-axioms-k.is c.axiom_fact-fact.ensures.is;
+      is = axiom_said axioms c.loop-k.k c.index-axioms-k.result (plain_fact c.axiom_fact-fact.result) c.loop-k-test.true
+          c.index-axioms-k.is c.axiom_fact-fact.ensures.is;
       kind = sym c.kind_of_fact.ensures ∙ c.in-False.is;
       proper = c.axiom_fact-fact.ensures.proper c.args.case.now;
     }
@@ -19,7 +20,8 @@ pub loop-k-preserved : goal.loop-k-preserved
 loop-k-preserved c =
     let axioms = c.args.axioms.now in
     false_later (fact_tree c.args.case.now) (root (plain_axioms axioms)) c.loop-k.k (plain_fact c.axiom_fact-fact.result)
-    (axiom_said axioms c.loop-k.k c.index-axioms-k.result (plain_fact c.axiom_fact-fact.result) c.loop-k-test.true c.index-axioms-k.is c.axiom_fact-fact.ensures.is)
+    (axiom_said axioms c.loop-k.k c.index-axioms-k.result (plain_fact c.axiom_fact-fact.result) c.loop-k-test.true
+    c.index-axioms-k.is c.axiom_fact-fact.ensures.is)
     c.loop-k.invariant (λ e. c.in_default.not-False (c.kind_of_fact.ensures ∙ e))
 
 pub unreachable-requires : goal.unreachable-requires

@@ -1,7 +1,7 @@
 -- The axioms before the next one are unfolded.
 use Rattle.pc_ground.specs.Stages.{plain_axioms}
 use Rattle.lifted_facts.specs.PlainFacts.{root}
-use Rattle.lifter.specs.Unfoldings.{IsTakenTo}
+use Rattle.lifter.proofs.TakenParts.{IsTakenTo}
 use Rattle.lifter.proofs.roots.unfold_axioms.Given as goal
 
 abbrev pub invariant-loop-k : goal.invariant-loop-k

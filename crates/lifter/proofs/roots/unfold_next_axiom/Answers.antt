@@ -11,8 +11,11 @@ right_of-right-requires c =
     let case = c.args.case.now in
     let fs = root (plain_axioms c.args.axioms.now) in
     let f = plain_fact c.axiom_fact-fact.result in
-    let there = axiom_said c.args.axioms.now c.args.k c.index-axioms-k.result f c.requires.within c.index-axioms-k.is c.axiom_fact-fact.ensures.is in
-    (fact_tree case f, (stands_here case c.args.tree.now fs c.args.k c.args.at f there (sym c.kind_of_fact.ensures ∙ c.in-Open.is) c.requires.rest c.requires.stands).0)
+    let there = axiom_said c.args.axioms.now c.args.k c.index-axioms-k.result f c.requires.within c.index-axioms-k.is c.axiom_fact-fact.ensures.is in (
+      fact_tree case f,
+      (stands_here case c.args.tree.now fs c.args.k c.args.at f there (sym c.kind_of_fact.ensures ∙ c.in-Open.is)
+          c.requires.rest c.requires.stands).0,
+    )
 
 pub unfold-requires : goal.unfold-requires
 unfold-requires c =
@@ -37,7 +40,8 @@ returns-in_ok-unfold-in-Open c =
     let there = axiom_said c.args.axioms.now c.args.k c.index-axioms-k.result f c.requires.within c.index-axioms-k.is c.axiom_fact-fact.ensures.is in
     let part = (stands_here case c.args.tree.now fs c.args.k c.args.at f there kind c.requires.rest c.requires.stands).0 in
     let h = c.in_ok-unfold-in-Open.ensures in
-    taken_open case c.args.tree.now fs c.args.k c.args.at c.right_of-right.result f c.args.state.now c.unfold.new.state there kind c.requires.rest c.requires.stands
+    taken_open case c.args.tree.now fs c.args.k c.args.at c.right_of-right.result f c.args.state.now c.unfold.new.state
+    there kind c.requires.rest c.requires.stands
     (c.right_of-right.ensures (fact_tree case f) part) h.moves h.told
 
 pub returns-in_default : goal.returns-in_default
@@ -58,5 +62,6 @@ overflow_add-at c =
     let fs = root (plain_axioms c.args.axioms.now) in
     let f = plain_fact c.axiom_fact-fact.result in
     let there = axiom_said c.args.axioms.now c.args.k c.index-axioms-k.result f c.requires.within c.index-axioms-k.is c.axiom_fact-fact.ensures.is in
-    let part = (stands_here case c.args.tree.now fs c.args.k c.args.at f there (sym c.kind_of_fact.ensures ∙ c.in-Open.is) c.requires.rest c.requires.stands).0 in
+    let part = (stands_here case c.args.tree.now fs c.args.k c.args.at f there (sym c.kind_of_fact.ensures ∙ c.in-Open.is)
+    c.requires.rest c.requires.stands).0 in
     omega (arith, c.right_of-right.ensures (fact_tree case f) part)

@@ -1,10 +1,15 @@
-use Rattle.std.proofs.Common.{rules}
-use Rattle.pc_front.proofs.PartsOf.{axioms_within, are_stages, parts_are}
-use Rattle.listing_form.proofs.Ends.{model_end, fault_end}
+use Rattle.std.proofs.Common.{refl}
+use Rattle.std.proofs.lemmas.Result.{err_from_is_err_and}
+use Rattle.x86_litmus.proofs.CaseOps.{case_ops}
+use Rattle.pc_front.proofs.PartsOf.{axioms_within, are_stages, parts_are, front_is}
+use Rattle.command_base.specs.Fronts.{front_of_parts}
+use Rattle.listing_form.proofs.ListingForm.{model_end, fault_end}
 use Rattle.listing_form.proofs.two_files.read_parts.Goals as goal
 
 pub returns-in_err-model-clause-err : goal.returns-in_err-model-clause-err
-returns-in_err-model-clause-err c = search (rules, model_end)
+returns-in_err-model-clause-err c =
+    let end = err_from_is_err_and c.from_residual.result c.from_residual.ensures.1 in
+    rw (end.1, end.2) (model_end c.args.model_bytes.now c.args.bytes.now c.in_err-model.field-0.0 c.in_err-model.ensures.err)
 
 pub returns-in-Err-clause-err : goal.returns-in-Err-clause-err
 returns-in-Err-clause-err c =
@@ -23,10 +28,13 @@ parts_of-requires-clause-within c =
 pub returns-in-Ok-clause-ok : goal.returns-in-Ok-clause-ok
 returns-in-Ok-clause-ok c =
     let ok = c.in_ok-model.ensures.ok in
-    let is = c.parts_of.ensures in record {
+    let is = c.parts_of.ensures in
+    let parts = c.parts_of.result in record {
       m = ok.0;
       c = c.in-Ok.case;
       says_model = record { model = ok.1; no_fault = ok.2.no_fault };
-      says_listing = c.in-Ok.ensures.ok;
-      parts_of = parts_are ok.0 c.in-Ok.case c.in_ok-model.model c.parts_of.result ok.2 is.0 is.1 is.2;
+      says_case = c.in-Ok.ensures.ok;
+      front_of =
+          front_is ok.0 c.in-Ok.case parts (front_of_parts parts) (parts_are ok.0 c.in-Ok.case c.in_ok-model.model parts ok.2 is.0 is.1 is.2) refl refl refl;
+      kept = case_ops c.args.bytes.now c.in-Ok.case c.in-Ok.ensures.ok;
     }

@@ -36,7 +36,8 @@ returns-in-Some-clause-err c = record {
 }
 
 pub returns-clause-ok : goal.returns-clause-ok
-returns-clause-ok c = if_ok c.lists_of_test.result (λ (l : CaseLists). case_of c.args.bytes.now c.args.tokens.now c.requires.spelled (case_by l)) c.lists_of_test.ensures.ok
+returns-clause-ok c = if_ok c.lists_of_test.result (λ (l : CaseLists). case_of c.args.bytes.now c.args.tokens.now c.requires.spelled (case_by l))
+    c.lists_of_test.ensures.ok
 
 pub returns-clause-err : goal.returns-clause-err
 returns-clause-err c = if_err c.lists_of_test.result (refusal_of c.args.bytes.now c.args.tokens.now c.requires.spelled) c.lists_of_test.ensures.err

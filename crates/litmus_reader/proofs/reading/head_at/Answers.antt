@@ -22,7 +22,8 @@ numeral_at-requires-4 c = let (h, b) = c.requires.begins in (h.n, stands (spelle
 
 pub returns : goal.returns
 returns c = λ h b.
-    let at = place-stands c.get.result.at h.at (plain c.get.result) c.get.ensures refl (stands-first (word_at (codes "Microop") h.at) (number_at h.g ∷ number_at h.core ∷ number_at h.thread ∷ a_number h.n ∷ []) b) in
+    let at = place-stands c.get.result.at h.at (plain c.get.result) c.get.ensures refl
+    (stands-first (word_at (codes "Microop") h.at) (number_at h.g ∷ number_at h.core ∷ number_at h.thread ∷ a_number h.n ∷ []) b) in
     let g = c.numeral_at.ensures.numeral h.g (stands (spelled_head h) b 1 (number_at h.g) refl) in
     let core = c.numeral_at-2.ensures.numeral h.core (stands (spelled_head h) b 2 (number_at h.core) refl) in
     let thread = c.numeral_at-3.ensures.numeral h.thread (stands (spelled_head h) b 3 (number_at h.thread) refl) in

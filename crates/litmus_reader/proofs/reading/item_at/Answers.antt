@@ -50,12 +50,16 @@ returns c = λ i b.
       | in-Microop+in_ok-microop-in-Microop w ↦ joined c.args.k i c.match-from_token.result _ w.result-is
           (microop-is i b (sym word ∙ w.in-Microop.is) w.in_ok-microop-in-Microop.microop w.in_ok-microop-in-Microop.next w.in_ok-microop-in-Microop.ensures)
       | in-Relationship+in_ok-relationship_at-in-Relationship w ↦ joined c.args.k i c.match-from_token.result _ w.result-is
-          (relationship-is i b (sym word ∙ w.in-Relationship.is) w.in_ok-relationship_at-in-Relationship.field-0 w.in_ok-relationship_at-in-Relationship.ensures)
+          (relationship-is i b (sym word ∙ w.in-Relationship.is) w.in_ok-relationship_at-in-Relationship.field-0
+          w.in_ok-relationship_at-in-Relationship.ensures)
       | in-Init w ↦ joined c.args.k i c.match-from_token.result _ w.result-is
-          (initial-is i b (sym word ∙ w.in-Init.is) t at c.get-word.result.at refl w.value_line_at-next.result.0 w.value_line_at-next.result.1 w.value_line_at-next.ensures)
+          (initial-is i b (sym word ∙ w.in-Init.is) t at c.get-word.result.at refl w.value_line_at-next.result.0
+          w.value_line_at-next.result.1 w.value_line_at-next.ensures)
       | in-Final w ↦ joined c.args.k i c.match-from_token.result _ w.result-is
           (final-is i b (sym word ∙ w.in-Final.is) t at c.get-word.result.at refl w.value_line_at-next-in-Final.result.0 w.value_line_at-next-in-Final.result.1
           w.value_line_at-next-in-Final.ensures)
-      | in-Permitted w ↦ joined c.args.k i c.match-from_token.result _ w.result-is (permitted-is i b (sym word ∙ w.in-Permitted.is) t at c.get-word.result.at refl)
-      | in-Forbidden w ↦ joined c.args.k i c.match-from_token.result _ w.result-is (forbidden-is i b (sym word ∙ w.in-Forbidden.is) t at c.get-word.result.at refl)
+      | in-Permitted w ↦ joined c.args.k i c.match-from_token.result _ w.result-is
+          (permitted-is i b (sym word ∙ w.in-Permitted.is) t at c.get-word.result.at refl)
+      | in-Forbidden w ↦ joined c.args.k i c.match-from_token.result _ w.result-is
+          (forbidden-is i b (sym word ∙ w.in-Forbidden.is) t at c.get-word.result.at refl)
     ]

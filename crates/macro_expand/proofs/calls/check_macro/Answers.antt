@@ -19,8 +19,7 @@ returns-in-Some c =
 pub returns-in_err-check_parameters : goal.returns-in_err-check_parameters
 returns-in_err-check_parameters c =
     let ms = before (plain_macros c.args.macros.now) c.args.earlier in
-    let parameters = c.args.parameters.now in
-    let body = written c.args.body.now in
+    let parameters = c.args.parameters.now in let body = written c.args.body.now in
     let answer = c.in_err-check_parameters.field-0.0 in
     let new = named_newly ms c.args.name.now (ap (callee_of ms) (sym c.as_slice.ensures.value) ∙ c.in_default.ensures) in
     let here : IsFault (parameters_fault [] parameters) answer =
@@ -34,8 +33,7 @@ returns-in_err-check_parameters c =
 pub returns : goal.returns
 returns c =
     let ms = before (plain_macros c.args.macros.now) c.args.earlier in
-    let parameters = c.args.parameters.now in
-    let body = written c.args.body.now in
+    let parameters = c.args.parameters.now in let body = written c.args.body.now in
     let new = named_newly ms c.args.name.now (ap (callee_of ms) (sym c.as_slice.ensures.value) ∙ c.in_default.ensures) in
     let fine : parameters_fault [] parameters ≡ None =
     subst (λ ws. parameters_fault [] ws ≡ None) c.as_slice-2.ensures.value c.in_ok-check_parameters.ensures in

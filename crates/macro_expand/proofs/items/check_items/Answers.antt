@@ -10,9 +10,7 @@ use Rattle.macro_expand.proofs.items.check_items.Goals as goal
 
 pub returns-in_err-earlier-clause-judged : goal.returns-in_err-earlier-clause-judged
 returns-in_err-earlier-clause-judged c =
-    let items = c.args.items.now in
-    let i = c.loop-item.item-index in
-    let x = c.item-item.result in
+    let items = c.args.items.now in let i = c.loop-item.item-index in let x = c.item-item.result in
     let answer = c.in_err-earlier.field-0.0 in
     let all = macros_of_items items in
     let here : IsFault (item_fault (first_of_names all) c.loop-item.earlier (written_item x)) answer =
@@ -26,8 +24,7 @@ returns-in_err-earlier-clause-judged c =
 
 pub loop-item-preserved : goal.loop-item-preserved
 loop-item-preserved c =
-    let items = c.args.items.now in
-    let x = c.item-item.result in
+    let items = c.args.items.now in let x = c.item-item.result in
     let fine : item_fault (first_of_names (macros_of_items items)) c.loop-item.earlier (written_item x) ≡ None =
     subst (λ ms. item_fault ms c.loop-item.earlier (written_item x) ≡ None) c.requires.macros c.in_ok-earlier.ensures.judged in
     walked_on items c.loop-item.item-index c.loop-item.earlier x (omega arith) c.item-item.is c.loop-item.invariant c.in_ok-earlier.earlier fine

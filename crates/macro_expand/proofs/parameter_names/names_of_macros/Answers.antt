@@ -9,9 +9,7 @@ pub loop-number-preserved : goal.loop-number-preserved
 loop-number-preserved c =
     let macros = c.args.macros.now in
     let ms = plain_macros macros in
-    let k = c.loop-number.number in
-    let m = macro_at c.get.result in
-    let named = parameter_names m in
+    let k = c.loop-number.number in let m = macro_at c.get.result in
     let here = slice_get-map macro_at macros k ∙ ap (option_map macro_at) c.get.ensures in
     let within = slice_get_within ms k m here in
     c.in_ok-push.ensures.items

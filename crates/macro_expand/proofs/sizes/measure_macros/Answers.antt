@@ -11,8 +11,7 @@ pub loop-number-preserved : goal.loop-number-preserved
 loop-number-preserved c =
     let macros = c.args.macros.now in
     let ms = plain_macros macros in
-    let measures = c.loop-number.measures.items in
-    let x = c.measure-measured.result in
+    let measures = c.loop-number.measures.items in let x = c.measure-measured.result in
     let here =
     ap (λ k. slice_get ms k) c.loop-number.invariant.1
     ∙ slice_get-map macro_at macros c.loop-number.number ∙ ap (option_map macro_at) c.get.ensures in

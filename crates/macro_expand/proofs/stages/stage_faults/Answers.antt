@@ -22,8 +22,7 @@ first_is_not (Some x) b h = cc
 
 pub returns-then-is_some : goal.returns-then-is_some
 returns-then-is_some c =
-    let stages = c.as_slice-stages.result.now in
-    let k = c.loop-k.k in
+    let stages = c.as_slice-stages.result.now in let k = c.loop-k.k in
     let here = stage_fault (take k stages) c.index-stages-k.result in
     let rest = stages_fault (take (k + 1) stages) (drop (k + 1) stages) in
     let whole : c.fault_after-fault.result ≡ stages_fault [] stages =
@@ -34,8 +33,7 @@ returns-then-is_some c =
 
 pub loop-k-preserved : goal.loop-k-preserved
 loop-k-preserved c =
-    let stages = c.as_slice-stages.result.now in
-    let k = c.loop-k.k in
+    let stages = c.as_slice-stages.result.now in let k = c.loop-k.k in
     c.loop-k.invariant
     ∙ one_more stages k c.index-stages-k.result (omega arith) c.index-stages-k.is
     ∙ first_is_not (stage_fault (take k stages) c.index-stages-k.result) (stages_fault (take (k + 1) stages) (drop (k + 1) stages))

@@ -9,10 +9,8 @@ expand_axioms-requires c =
 
 pub returns-clause-ok : goal.returns-clause-ok
 returns-clause-ok c =
-    let model = c.args.model.now in
-    let items = c.as_slice-items.result.now in
-    let value = c.as_slice-items.ensures.value in
-    let table = c.args.macros.now in
+    let model = c.args.model.now in let items = c.as_slice-items.result.now in
+    let value = c.as_slice-items.ensures.value in let table = c.args.macros.now in
     let all = c.in_ok-check_items.ensures.all in
     let judged = c.in_ok-check_items.ensures.judged in (
       (no_macro_fault model items value table all judged, sym (same_size_fault model items value table all judged) ∙ c.in_ok-check_sizes.ensures),

@@ -29,12 +29,14 @@ behind_none t none new part e h = subst (λ (rows : List (Row NodeKey)). IsWritt
 pub new-requires : goal.new-requires
 new-requires c =
     let tree = normal (plain_ground c.args.ground.now) in
-    let written = behind_none tree c.new-rows.result.items (map row_node c.write.new.rows.items) c.in_ok-part.part c.new-rows.ensures.items c.in_ok-part.ensures in
+    let written = behind_none tree c.new-rows.result.items (map row_node c.write.new.rows.items) c.in_ok-part.part
+    c.new-rows.ensures.items c.in_ok-part.ensures in
     (tree, turned tree c.from_vec.result c.close.new.rows.items (c.from_vec.ensures ∙ c.reverse.ensures.items) (c.in_ok-close.ensures tree written))
 
 pub returns : goal.returns
 returns c =
     let tree = normal (plain_ground c.args.ground.now) in
-    let written = behind_none tree c.new-rows.result.items (map row_node c.write.new.rows.items) c.in_ok-part.part c.new-rows.ensures.items c.in_ok-part.ensures in
+    let written = behind_none tree c.new-rows.result.items (map row_node c.write.new.rows.items) c.in_ok-part.part
+    c.new-rows.ensures.items c.in_ok-part.ensures in
     c.new.ensures
     ∙ turned tree c.from_vec.result c.close.new.rows.items (c.from_vec.ensures ∙ c.reverse.ensures.items) (c.in_ok-close.ensures tree written)

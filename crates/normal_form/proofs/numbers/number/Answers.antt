@@ -10,7 +10,8 @@ use Rattle.normal_form.proofs.numbers.number.Goals as goal
 
 pub loop-k-preserved : goal.loop-k-preserved
 loop-k-preserved c =
-    see_more c.loop-k.numbering c.see_row.new.numbering c.args.tree.now c.loop-k.k (row_node c.row.result) (omega arith) c.row.ensures.row c.in_ok-see_row.ensures
+    see_more c.loop-k.numbering c.see_row.new.numbering c.args.tree.now c.loop-k.k (row_node c.row.result) (omega arith)
+    c.row.ensures.row c.in_ok-see_row.ensures
     ∙ c.loop-k.invariant
 
 pub returns : goal.returns

@@ -24,7 +24,14 @@ kind_node Or = refl
 skip_is : (len start : ℕ) (first old : List (Row Node)) (a b : Tree Node) → Rows ≡ part_of a → Rows ≡ part_of b → length first ≡ start
     → old ≡ first ++ backward b ++ backward a → len ≡ length old → len - start + 1 ≡ 1 + (size_of a + size_of b)
 skip_is len start first old a b e f from written is =
-    omega (arith, ap length written, length-append (first ++ backward b) (backward a), length-append first (backward b), length-backward a e, length-backward b f)
+    omega (
+      arith,
+      ap length written,
+      length-append (first ++ backward b) (backward a),
+      length-append first (backward b),
+      length-backward a e,
+      length-backward b f,
+    )
 
 pub returns-in_ok-push-in-Rows-Rows : goal.returns-in_ok-push-in-Rows-Rows
 returns-in_ok-push-in-Rows-Rows c = λ first a b start right written.

@@ -5,8 +5,7 @@ use Rattle.order_graph.proofs.chain.edge_lists.Goals as goal
 
 pub loop-literal-preserved : goal.loop-literal-preserved
 loop-literal-preserved c =
-    let ls = c.args.literals.now in
-    let k = c.loop-literal.literal-index in
+    let ls = c.args.literals.now in let k = c.loop-literal.literal-index in
     let new : List ℕ = c.put_on_list.new.heads in
     let size : length new ≡ c.loop-literal.heads.len = c.put_on_list.auto.heads ∙ c.deref_mut.ensures.len in
     let listed = rw c.deref_mut.ensures.value at c.in_ok-put_on_list.ensures in

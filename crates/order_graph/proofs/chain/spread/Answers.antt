@@ -8,11 +8,8 @@ use Rattle.order_graph.proofs.chain.spread.Goals as goal
 
 pub returns-clause-near : goal.returns-clause-near
 returns-clause-near c =
-    let ls = c.args.literals.now in
-    let target = c.args.target in
-    let n = length c.args.levels.now in
-    let levels = c.loop-done.levels in
-    let nexts = c.loop-done.nexts in
+    let ls = c.args.literals.now in let target = c.args.target in let n = length c.args.levels.now in
+    let levels = c.loop-done.levels in let nexts = c.loop-done.nexts in
     let queue : List ℕ = c.loop-done.queue.items in
     let s = c.loop-done.invariant in
     let home = s.home in

@@ -5,13 +5,10 @@ use Rattle.order_graph.proofs.chain.visit.Goals as goal
 
 pub loop-at-preserved : goal.loop-at-preserved
 loop-at-preserved c =
-    let ls = c.args.literals.now in
-    let links = c.args.links.now in
-    let nodes = length c.args.levels.now in
+    let ls = c.args.literals.now in let links = c.args.links.now in let nodes = length c.args.levels.now in
     let l = c.loop-at in
     let i = l.at - 1 in
-    let positive = c.loop-at-test.true in
-    let at_in = l.invariant.at_in in
+    let positive = c.loop-at-test.true in let at_in = l.invariant.at_in in
     let same : l.at ≡ i + 1 = omega arith in
     let P : ℕ → Type 0 = λ at. IsVisiting ls links c.args.target nodes c.args.done c.args.node at l.levels l.nexts l.queue.items in
     visiting_more ls links c.args.target nodes c.args.done c.args.node i l.levels l.nexts l.queue.items c.follow.new.levels c.follow.new.nexts
@@ -20,5 +17,6 @@ loop-at-preserved c =
 
 pub returns : goal.returns
 returns c =
-    visiting_done c.args.literals.now c.args.links.now c.args.target (length c.args.levels.now) c.args.done c.args.node c.loop-at.at c.loop-at.levels c.loop-at.nexts
+    visiting_done c.args.literals.now c.args.links.now c.args.target (length c.args.levels.now) c.args.done c.args.node c.loop-at.at c.loop-at.levels
+    c.loop-at.nexts
     c.loop-at.queue.items c.loop-at.invariant (let end = c.loop-at-test.false in omega arith)

@@ -8,8 +8,7 @@ use Rattle.order_graph.proofs.clashes.clash_of.Goals as goal
 
 pub returns-in-Node : goal.returns-in-Node
 returns-in-Node c =
-    let ls = c.args.literals.now in
-    let a = c.in-Node.a in
+    let ls = c.args.literals.now in let a = c.in-Node.a in
     let a_in = rw c.in-Node.is at c.requires.below in
     rw c.in-Node.is
     (absence_told (Contains ls (NoNode a)) (IsConsistent (more ls (Node a))) c.is_missing.result (more ls (Node a)) a c.absence.result c.absence.ensures
@@ -17,9 +16,9 @@ returns-in-Node c =
 
 pub returns-in-NoNode : goal.returns-in-NoNode
 returns-in-NoNode c =
-    let ls = c.args.literals.now in
-    let a = c.in-NoNode.a in
+    let ls = c.args.literals.now in let a = c.in-NoNode.a in
     let a_in = rw c.in-NoNode.is at c.requires.below in
     rw c.in-NoNode.is
-    (absence_told (IsPresent ls a) (IsConsistent (more ls (NoNode a))) c.is_present.result (more ls (NoNode a)) a c.absence-in-NoNode.result c.absence-in-NoNode.ensures
+    (absence_told (IsPresent ls a) (IsConsistent (more ls (NoNode a))) c.is_present.result (more ls (NoNode a)) a c.absence-in-NoNode.result
+    c.absence-in-NoNode.ensures
     (rw c.is_present.ensures (no_node_told c.args.nodes c.args.table.now ls a c.requires.represents a_in)) (no_node_clash ls a))

@@ -14,37 +14,27 @@ same_row v w is_sink e = ap (λ (n : ℕ). if is_sink then 1 else n + 1) e
 
 pub join_row-requires-clause-room : goal.join_row-requires-clause-room
 join_row-requires-clause-room g c =
-    let v = c.args.table.now in
-    let w = c.loop-x.table in
-    let k = c.loop-x.x in
+    let v = c.args.table.now in let w = c.loop-x.table in let k = c.loop-x.x in
     let closing = c.loop-x.invariant.closing in
     let each = row_words v c.args.is_sink in
     let (rows, wide, few) = c.requires.sized in
-    let below = c.loop-x-test.true in
-    let a_in = c.requires.a_in in
-    let b_in = c.requires.b_in in
+    let below = c.loop-x-test.true in let a_in = c.requires.a_in in let b_in = c.requires.b_in in
     let same = same_row v w c.args.is_sink closing.extends.same_words in
     let next = words_joined v w c.args.a c.args.b each k closing (omega arith) (omega arith) (omega arith) (sym c.gains.ensures ∙ c.if-gains.true) in
     let rise = words_rise v c.args.a c.args.b each (k + 1) (c.args.nodes - (k + 1)) in
     let all : (k + 1) + (c.args.nodes - (k + 1)) ≡ c.args.nodes = omega arith in
     let whole = ap (words_gained v c.args.a c.args.b each) all in
-    let before = c.loop-x.invariant.room in
-    let room = c.requires.room in
+    let before = c.loop-x.invariant.room in let room = c.requires.room in
     omega arith
 
 pub loop-x-preserved : goal.loop-x-preserved
 loop-x-preserved g c =
-    let v = c.args.table.now in
-    let w = c.loop-x.table in
-    let k = c.loop-x.x in
+    let v = c.args.table.now in let w = c.loop-x.table in let k = c.loop-x.x in
     let closing = c.loop-x.invariant.closing in
     let each = row_words v c.args.is_sink in
     let (rows, wide, few) = c.requires.sized in
-    let below = c.loop-x-test.true in
-    let a_in = c.requires.a_in in
-    let b_in = c.requires.b_in in
-    let before = c.loop-x.invariant.room in
-    let taken = c.loop-x.invariant.cost in
+    let below = c.loop-x-test.true in let a_in = c.requires.a_in in let b_in = c.requires.b_in in
+    let before = c.loop-x.invariant.room in let taken = c.loop-x.invariant.cost in
     let same = same_row v w c.args.is_sink closing.extends.same_words in
     elim c.if-gains.branch [
       | then-gains j ↦
@@ -53,7 +43,8 @@ loop-x-preserved g c =
           let low = low_words v c.args.is_sink in
           record {
             closing = rw j.table-is
-                (closing_joined c.args.nodes v w j.join_row.new.table c.args.a c.args.b k (row_words w c.args.is_sink) closing c.requires.sized below a_in b_in c.requires.takes
+                (closing_joined c.args.nodes v w j.join_row.new.table c.args.a c.args.b k (row_words w c.args.is_sink) closing c.requires.sized below a_in
+                b_in c.requires.takes
                 gain j.join_row.ensures.joined (omega arith) j.join_row.ensures.trail);
             room = (let left = j.join_row.ensures.room in let table = ap (λ (u : BitTable). u.room) j.table-is in omega arith);
             cost = (let steps = j.steps-is ∙ j.tick.ensures in omega arith);

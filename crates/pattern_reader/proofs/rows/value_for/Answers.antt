@@ -6,7 +6,8 @@ use Rattle.pattern_reader.proofs.rows.value_for.Goals as goal
 
 pub returns-in-Some : goal.returns-in-Some
 returns-in-Some c =
-    found_at c.args.reads.now c.args.row c.loop-k.k c.args.place (plain_value c.in-Some.value) (sym c.value_if.ensures ∙ ap (option_map plain_value) c.in-Some.is)
+    found_at c.args.reads.now c.args.row c.loop-k.k c.args.place (plain_value c.in-Some.value)
+    (sym c.value_if.ensures ∙ ap (option_map plain_value) c.in-Some.is)
     c.loop-k.invariant
 
 pub loop-k-preserved : goal.loop-k-preserved

@@ -10,7 +10,6 @@ returns-in_ok-add-in-Some c = λ k i j.
 
 pub returns-in_ok-insert-in-None : goal.returns-in_ok-insert-in-None
 returns-in_ok-insert-in-None c = λ k i j.
-    let set = c.add-in-None.new.self in
-    kind_first c.args.table.now c.insert.new.self c.args.ends c.args.kind.now k i j set (sym c.in-None.ensures.value)
+    kind_first c.args.table.now c.insert.new.self c.args.ends c.args.kind.now k i j c.add-in-None.new.self (sym c.in-None.ensures.value)
     (rw (sym c.get_mut.follows.holds-at-none) c.in_ok-insert-in-None.ensures.updates)
     (c.in_ok-add-in-None.ensures k ∙ ap (λ b. b || same_name c.args.kind.now k) (c.new-kinds.ensures k))

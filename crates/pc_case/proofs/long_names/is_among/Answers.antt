@@ -5,5 +5,4 @@ use Rattle.pc_case.proofs.long_names.is_among.Goals as goal
 
 pub returns-in_default : goal.returns-in_default
 returns-in_default c =
-    let name = c.args.name.now in
-    c.contains_key.ensures ∙ is_some-lookup (λ known. same_name name known.items) c.args.known.now.entries
+    c.contains_key.ensures ∙ is_some-lookup (λ known. same_name c.args.name.now known.items) c.args.known.now.entries

@@ -7,8 +7,7 @@ use Rattle.pc_common.proofs.line_column.tail_len.Goals.{then-loop-start-test+els
 
 pub returns-clause-value : goal.returns-clause-value
 returns-clause-value c =
-    let start = c.loop-start.start in
-    let before = c.args.before.now in
+    let start = c.loop-start.start in let before = c.args.before.now in
     let stop : 0 < start → not (get_or before (start - 1) 0 == 10) ≡ false = λ above.
     elim c.loop-start-test.branch [
       | then-loop-start-test+else-before-start-ne10 w ↦ grind (arith, common_steps)

@@ -21,7 +21,8 @@ returns-in_err-axioms-clause-err c =
     let fault = name_fault_of c.in_err-axioms.field-0.0 in
     rw (end.1, end.2) (
       fault,
-      names_first m c.requires expanded.0.0 expanded.0.1 c.in_ok-expanded.expanded.items expanded.1 fault (rw c.deref.ensures.value at c.in_err-axioms.ensures.err),
+      names_first m c.requires expanded.0.0 expanded.0.1 c.in_ok-expanded.expanded.items expanded.1 fault
+          (rw c.deref.ensures.value at c.in_err-axioms.ensures.err),
       refl,
     )
 

@@ -6,7 +6,8 @@ pub returns-then-eq : goal.returns-then-eq
 returns-then-eq c = (
   c.loop-k.k,
   stage_at c.args.stages.now c.loop-k.k c.get-stage.result.now c.get-stage.ensures
-      ∙ ap (λ name. Some (c.get-stage.result.now.number, name)) (sym c.as_slice.ensures.value ∙ same_bytes c.as_slice.result.now c.args.name.now (sym c.if-eq.ensures)),
+      ∙ ap (λ name. Some (c.get-stage.result.now.number, name))
+      (sym c.as_slice.ensures.value ∙ same_bytes c.as_slice.result.now c.args.name.now (sym c.if-eq.ensures)),
 )
 
 pub loop-k-preserved : goal.loop-k-preserved

@@ -1,6 +1,6 @@
 use Rattle.std.proofs.Common.{[], ◌∷◌, sym, ◌∙◌, ap, List, ℕ, subst}
 use Rattle.std.specs.Option.{option_map_or}
-use Rattle.refutation.specs.Words.{words}
+use Rattle.pc_ground.specs.Words.{words}
 use Rattle.refutation.specs.StepWords.{ReadsWords}
 use Rattle.refutation.proofs.StepWalk.{room_behind}
 use Rattle.refutation.proofs.reading.read_words.Goals as goal

@@ -5,9 +5,10 @@ use Rattle.pc_common.specs.Lines.{node_text}
 use Rattle.pc_common.specs.World.{Node}
 use Rattle.pc_common.proofs.Rooms.{puts_text}
 use Rattle.pc_common.proofs.RoomPieces.{puts_next, puts_failed}
+use Rattle.pc_common.proofs.Places.{at_map, all_at}
 use Rattle.pc_ground.specs.Keys.{key_node}
 use Rattle.pc_ground.specs.NodeForm.{IsNodeIn}
-use Rattle.refutation.proofs.Items.{all_at, at_map, one_text}
+use Rattle.refutation.proofs.Items.{one_text}
 use Rattle.refutation.proofs.writing.put_nodes.Goals as goal
 
 pub put_node-requires : goal.put_node-requires

@@ -4,7 +4,7 @@ use Rattle.pc_syntax.specs.IsClosed.{IsClosed}
 use Rattle.pc_syntax.specs.Closed.{plain_closed}
 use Rattle.pc_syntax.proofs.ClosingShape.{closed_axiom_closed}
 use Rattle.scope_check.proofs.ClosingOf.{closing_stages}
-use Rattle.scope_check.proofs.FiledFaults.{query_closing}
+use Rattle.scope_check.proofs.FiledFaults.{query_closing, query_answer}
 use Rattle.scope_check.proofs.query.close_asked.Goals as goal
 
 -- the closed formula keeps that it is closed
@@ -27,3 +27,7 @@ returns-in-Ok-clause-stages c =
     let w = written c.args.formula.now in
     let made = c.in-Ok.ensures.ok in
     closing_stages stages [] w (plain_closed c.in-Ok.body) (query_closing stages [] w (plain_closed c.in-Ok.body) made)
+
+pub returns-in-Err-clause-err : goal.returns-in-Err-clause-err
+returns-in-Err-clause-err c =
+    query_answer c.args.stages.now [] (written c.args.formula.now) c.in-Err.field-0.file c.in-Err.field-0.fault c.in-Err.ensures.err

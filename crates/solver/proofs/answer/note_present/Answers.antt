@@ -1,7 +1,7 @@
 use Rattle.std.proofs.Common.{inl, inr, map, ap, ◌∙◌, refl, [], ◌∷◌, ◌++◌}
 use Rattle.std.proofs.lemmas.List.{map_push}
+use Rattle.pc_common.proofs.Bools.{not_both}
 use Rattle.pc_ground.specs.Keys.{key_node}
-use Rattle.pc_ground.proofs.Bools.{not_both}
 use Rattle.solver.proofs.answer.note_present.Goals as goal
 
 pub returns-in_ok-push : goal.returns-in_ok-push

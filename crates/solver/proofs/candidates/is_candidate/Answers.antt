@@ -11,7 +11,8 @@ child_flags-left-requires-clause-inner c =
 pub returns-in-Or : goal.returns-in-Or
 returns-in-Or c = λ ps told flags.
     let at = turned_at c.args.negated c.args.rows.now c.args.p c.row_at.result c.turned.result c.row_at.ensures.row c.turned.ensures in
-    or_chosen c.args.rows.now c.args.negated c.args.p c.turned.result ps c.args.truths.now c.args.on.now _ _ c.truth_under-holds.result c.child_flags-left.result c.requires.tree c.requires.inside
+    or_chosen c.args.rows.now c.args.negated c.args.p c.turned.result ps c.args.truths.now c.args.on.now _
+    _ c.truth_under-holds.result c.child_flags-left.result c.requires.tree c.requires.inside
     at c.in-Or.is refl refl c.truth_under-holds.ensures c.child_flags-left.ensures told flags
 
 pub returns-in_default : goal.returns-in_default

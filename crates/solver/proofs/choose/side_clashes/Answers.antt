@@ -12,4 +12,5 @@ part_clashes-requires-clause-root g c =
     omega (arith, inside, length_spelled c.args.tree.now.rows c.rows.ensures.numbered.tree, ap length c.rows.ensures.rows)
 
 pub part_clashes-requires-2-clause-root : goal.part_clashes-requires-2-clause-root
-part_clashes-requires-2-clause-root g c = omega (arith, c.requires.side.0, length_spelled c.args.tree.now.rows c.rows-2.ensures.numbered.tree, ap length c.rows-2.ensures.rows)
+part_clashes-requires-2-clause-root g c =
+    omega (arith, c.requires.side.0, length_spelled c.args.tree.now.rows c.rows-2.ensures.numbered.tree, ap length c.rows-2.ensures.rows)

@@ -9,13 +9,13 @@ use Rattle.solver.specs.Renamed.{node_at, renamed_leaf}
 use Rattle.solver.specs.Spelled.{spelled}
 use Rattle.solver.specs.Places.{side_positions, IsSideIn}
 use Rattle.solver.specs.Leaves.{clash_step}
-use Rattle.solver.specs.Opens.{positions, opens, IsState, HasAsserted}
+use Rattle.solver.specs.Opens.{positions, opens, KeepsState, state_of, HasAsserted}
 use Rattle.solver.specs.Branches.{branches_with}
 use Rattle.solver.specs.Weights.{weight}
 use Rattle.solver.specs.declared.side.Side.{Side}
 use Rattle.solver.specs.declared.later.Later.{Later}
 use Rattle.solver.proofs.ClashLeaf.{clash_leaf, clash_closes}
-use Rattle.solver.proofs.IsState.{closed_kept, closed_all, entered_kept}
+use Rattle.solver.proofs.KeepsState.{closed_kept, closed_all, entered_kept}
 use Rattle.solver.proofs.HasDescended.{clash_in, one_open, longer_push, lighter_closed, next_inside}
 use Rattle.solver.proofs.descend.descend.Goals as goal
 
@@ -26,7 +26,8 @@ close-requires-clause-below g c =
     let E : Option Clash → Type 0 = HasAsserted t (side_positions t c.loop-branch.side) here c.enter_next.new.branch.graph c.enter_next.new.branch.asserted in
     let clash = subst E c.in-Some.is c.in_ok-clash.ensures.entered in
     let numbered = c.len-positions.ensures.numbered in
-    clash_in (length c.args.tree.now.nodes) c.args.tree.now.rows (positions here ++ side_positions t c.loop-branch.side) c.in-Some.clash numbered.tree numbered.below clash
+    clash_in (length c.args.tree.now.nodes) c.args.tree.now.rows (positions here ++ side_positions t c.loop-branch.side)
+    c.in-Some.clash numbered.tree numbered.below clash
 
 pub close-requires-clause-leaf : goal.close-requires-clause-leaf
 close-requires-clause-leaf g c =
@@ -53,7 +54,8 @@ returns-in_default-go_back-clause-descended g c =
     let clash = subst E c.in-Some.is c.in_ok-clash.ensures.entered in
     let rest = c.enter_next.ensures.rest in
     let back = c.in_default-go_back.ensures in
-    closed_all c.args.version nodes t b.graph here b.later.items b.refutation c.go_back.new.branch.refutation (renamed_leaf (node_at nodes) (leaf_of c.in-Some.clash)) (side_positions t c.loop-branch.side)
+    closed_all c.args.version nodes t b.graph here b.later.items b.refutation c.go_back.new.branch.refutation
+    (renamed_leaf (node_at nodes) (leaf_of c.in-Some.clash)) (side_positions t c.loop-branch.side)
     c.loop-branch.invariant.state (clash_closes nodes t (positions here ++ side_positions t c.loop-branch.side) c.in-Some.clash clash)
     (back.1 ∙ c.in_ok-close.ensures ∙ ap (λ ss. ss ++ clash_step nodes c.in-Some.clash ∷ []) rest.steps) (sym rest.later ∙ back.0)
 
@@ -83,7 +85,8 @@ loop-branch-preserved g c =
     resumed.cut resumed.positions in
     let lighter = lighter_closed t _ _ (positions here ++ more) _ gone.1 c.loop-branch.invariant.lighter in
     let S : Side → Type 0 = λ side. IsSideIn t side in
-    let K : Side → Type 0 = λ side. IsState c.args.version nodes t back.graph back.asserted back.later.items back.refutation (side_positions t side) in
+    let K : Side → Type 0 = λ side. KeepsState c.args.version (state_of nodes t back.graph back.asserted back.later.items back.refutation)
+    (side_positions t side) in
     let most = weight t (branches_with c.args.tree.now c.args.branch.now (side_positions t c.args.side)) in
     let W : Side → Type 0 = λ side. weight t (branches_with c.args.tree.now back (side_positions t side)) ≤ most in record {
       inside = subst S resumed.side_is is_later.side;
@@ -102,7 +105,7 @@ returns-clause-descended g c =
     let rest = c.enter_next.ensures.rest in
     let E : Option Clash → Type 0 = HasAsserted t more b.asserted entered.graph entered.asserted in
     let came = subst E c.in_default.is c.in_ok-clash.ensures.entered in
-    let K : List Later → List (Step Node) → Type 0 = λ ls ss. IsState c.args.version nodes t b.graph b.asserted ls ss more in
+    let K : List Later → List (Step Node) → Type 0 = λ ls ss. KeepsState c.args.version (state_of nodes t b.graph b.asserted ls ss) more in
     let state = subst (λ ss. K entered.later.items ss) (sym rest.steps) (subst (λ ls. K ls b.refutation) (sym rest.later) c.loop-branch.invariant.state) in
     let kept =
     entered_kept c.args.version nodes t b.graph entered.graph b.asserted entered.asserted entered.later.items entered.refutation more

@@ -1,7 +1,7 @@
 use Rattle.std.proofs.Common.{◌≤◌, length}
 use Rattle.solver.specs.Spelled.{spelled}
 use Rattle.solver.specs.Places.{side_positions, IsSideIn}
-use Rattle.solver.specs.Branches.{branches_with, IsOpen}
+use Rattle.solver.specs.Branches.{branches_with, HasOpenBranch}
 use Rattle.solver.specs.Weights.{weight}
 use Rattle.solver.specs.Descents.{IsLonger}
 use Rattle.solver.proofs.descend.descend.Given as goal
@@ -9,7 +9,7 @@ use Rattle.solver.proofs.descend.descend.Given as goal
 abbrev pub invariant-loop-branch : goal.invariant-loop-branch
 invariant-loop-branch g l = record {
   inside : IsSideIn (spelled l.tree.rows) l.side;
-  state : IsOpen l.fn.version l.tree l.branch (side_positions (spelled l.tree.rows) l.side);
+  state : HasOpenBranch l.fn.version l.tree l.branch (side_positions (spelled l.tree.rows) l.side);
   lighter : weight (spelled l.tree.rows) (branches_with l.tree l.branch (side_positions (spelled l.tree.rows) l.side))
       ≤ weight (spelled l.tree.rows) (branches_with l.tree l.fn.branch (side_positions (spelled l.tree.rows) l.fn.side));
   longer : IsLonger l.fn.branch.refutation l.branch.refutation;

@@ -23,7 +23,8 @@ overflow_add-end g c =
     let n = c.args.negated in
     let at = turned_at n rows c.args.root c.row.result (turned_row n c.row.result) c.row.ensures.row refl in
     let size = size_turned n (spelled rows) in
-    let start = walk_start (turned_rows n rows) (turned n (spelled rows)) c.args.root (turned_row n c.row.result) (turned_flat n rows c.row.ensures.numbered.tree)
+    let start = walk_start (turned_rows n rows) (turned n (spelled rows)) c.args.root (turned_row n c.row.result)
+    (turned_flat n rows c.row.ensures.numbered.tree)
     (omega (arith, c.requires.root, size)) at in
     omega (arith, start.0, size, length_spelled rows c.row.ensures.numbered.tree, c.row.ensures.bound)
 
@@ -68,7 +69,8 @@ returns-in-Some-clause-entered g c =
     let P : Option Clash → Type 0 = HasAssertedRow row _ c.loop-at.graph c.loop-at.asserted c.enter_row.new.graph c.enter_row.new.asserted in
     let entered = subst P c.in-Some.is c.in_ok-clash.ensures.entered in
     let whole = positions c.args.asserted.now ++ asserted_at (spelled rows) n c.args.root in
-    part_clash rows (signed n c.loop-at.at) row old (all_signed n step.0) whole c.loop-at.graph.literals c.in-Some.clash c.row.ensures.numbered.tree at here.literals
+    part_clash rows (signed n c.loop-at.at) row old (all_signed n step.0) whole c.loop-at.graph.literals c.in-Some.clash
+    c.row.ensures.numbered.tree at here.literals
     (ap (λ ps. old ++ all_signed n ps) (sym step.1) ∙ here.walk.2) entered.1
 
 pub overflow_add-at : goal.overflow_add-at
@@ -94,8 +96,13 @@ loop-at-preserved g c =
     let entered = subst E c.in_default.is c.in_ok-clash.ensures.entered in
     let P : ℕ → Type 0 = λ k. Walk (turned_rows n rows) (c.args.root + c.row.result.skip) (c.loop-at.at + k) step.0 in record {
       end = here.end;
-      walk = (step.0, subst P (sym c.stride-at.ensures) step.2, whole_push new old (record { negated = n; position = c.loop-at.at }) here.walk.0 step.0 _ entered.0 step.1 here.walk.2);
-      literals = literals_push rows (signed n c.loop-at.at) row (positions old) (positions new) c.loop-at.graph.literals c.enter_row.new.graph.literals c.row.ensures.numbered.tree
+      walk = (
+        step.0,
+        subst P (sym c.stride-at.ensures) step.2,
+        whole_push new old (record { negated = n; position = c.loop-at.at }) here.walk.0 step.0 _ entered.0 step.1 here.walk.2,
+      );
+      literals = literals_push rows (signed n c.loop-at.at) row (positions old) (positions new) c.loop-at.graph.literals
+          c.enter_row.new.graph.literals c.row.ensures.numbered.tree
           at here.literals entered.1 (positions_push new old (record { negated = n; position = c.loop-at.at }) entered.0);
       further = further_more _ _ _ here.further c.in_ok-clash.ensures.further;
       kept = kept_push _ old new _ here.kept entered.0;

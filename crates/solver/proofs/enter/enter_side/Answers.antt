@@ -22,7 +22,8 @@ enter_part-requires g c =
     let t = spelled c.args.tree.now.rows in
     let side = c.args.side in
     let old = c.args.asserted.now in
-    let E : Option Clash → Type 0 = HasAsserted t (denied_positions t side.negated side.denied) old c.enter_denied.new.graph c.enter_denied.new.asserted in record {
+    let E : Option Clash → Type 0 =
+    HasAsserted t (denied_positions t side.negated side.denied) old c.enter_denied.new.graph c.enter_denied.new.asserted in record {
       root = c.requires.side.0;
       nodes = c.in_ok-clash.ensures.further.same_nodes ∙ c.requires.nodes;
       literals = (subst E c.in_default.is c.in_ok-clash.ensures.entered).1;
@@ -30,7 +31,8 @@ enter_part-requires g c =
 
 pub returns-clause-further : goal.returns-clause-further
 returns-clause-further g c =
-    if_ok (λ _. IsFurther c.enter_denied.new.graph c.enter_part.new.graph) (λ _. IsFurther c.args.graph.now c.enter_part.new.graph) c.enter_part.result c.enter_part.ensures.further
+    if_ok (λ _. IsFurther c.enter_denied.new.graph c.enter_part.new.graph) (λ _. IsFurther c.args.graph.now c.enter_part.new.graph)
+    c.enter_part.result c.enter_part.ensures.further
     (λ _ h. further_more c.args.graph.now c.enter_denied.new.graph c.enter_part.new.graph c.in_ok-clash.ensures.further h)
 
 pub returns-clause-kept : goal.returns-clause-kept
@@ -52,6 +54,7 @@ returns-clause-entered g c =
     let more = asserted_at t side.negated side.root in
     let E : Option Clash → Type 0 = HasAsserted t first old c.enter_denied.new.graph mid in
     let entered = subst E c.in_default.is c.in_ok-clash.ensures.entered in
-    if_ok (λ found. HasAsserted t more mid c.enter_part.new.graph new found) (λ found. HasAsserted t (side_positions t side) old c.enter_part.new.graph new found)
+    if_ok (λ found. HasAsserted t more mid c.enter_part.new.graph new found)
+    (λ found. HasAsserted t (side_positions t side) old c.enter_part.new.graph new found)
     c.enter_part.result c.enter_part.ensures.entered
     (λ found h. asserted_then t first more old mid new c.enter_denied.new.graph c.enter_part.new.graph found entered h)

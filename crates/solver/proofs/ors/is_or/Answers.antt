@@ -18,4 +18,5 @@ returns-in-Or-clause-is_or c = λ yes.
     let p = c.args.place.position in
     let inside : p < length rows = omega arith in
     let at = turned_at n rows p c.row.result c.turned.result c.row.ensures.row c.turned.ensures in
-    or_tree (turned_rows n rows) (turned n (spelled rows)) p c.turned.result (turned_flat n rows c.row.ensures.numbered.tree) (omega (arith, inside, length_turned n rows)) at c.in-Or.is
+    or_tree (turned_rows n rows) (turned n (spelled rows)) p c.turned.result (turned_flat n rows c.row.ensures.numbered.tree)
+    (omega (arith, inside, length_turned n rows)) at c.in-Or.is

@@ -26,7 +26,8 @@ pub returns-clause-sides : goal.returns-clause-sides
 returns-clause-sides c =
     let place = c.args.place in
     let P : Option ℕ → Side = λ denied. record { negated = place.negated; root = place.position + 1 + c.row.result.skip; denied = denied } in
-    or_sides c.args.tree.now.rows c.args.version (place_signed place) c.row.result _ _ c.row.ensures.numbered.tree c.row.ensures.row refl (ap P c.denied_left-denied.ensures)
+    or_sides c.args.tree.now.rows c.args.version (place_signed place) c.row.result _ _ c.row.ensures.numbered.tree
+    c.row.ensures.row refl (ap P c.denied_left-denied.ensures)
 
 pub returns-clause-left_in : goal.returns-clause-left_in
 returns-clause-left_in c = (or_left_inside (spelled c.args.tree.now.rows) (place_signed c.args.place) c.requires.is_or, tt)

@@ -4,18 +4,22 @@ use Rattle.solver.proofs.AreTruths.{and_children, or_children, kind_at, met_alwa
 use Rattle.solver.proofs.truths.is_true_at.Goals as goal
 
 pub child_flags-left-requires-clause-inner : goal.child_flags-left-requires-clause-inner
-child_flags-left-requires-clause-inner c = and_children c.args.rows.now c.args.p c.row_at.result c.requires.tree c.requires.inside c.row_at.ensures.row c.in-And.is
+child_flags-left-requires-clause-inner c =
+    and_children c.args.rows.now c.args.p c.row_at.result c.requires.tree c.requires.inside c.row_at.ensures.row c.in-And.is
 
 pub child_flags-left-requires-in-Or-clause-inner : goal.child_flags-left-requires-in-Or-clause-inner
-child_flags-left-requires-in-Or-clause-inner c = or_children c.args.rows.now c.args.p c.row_at.result c.requires.tree c.requires.inside c.row_at.ensures.row c.in-Or.is
+child_flags-left-requires-in-Or-clause-inner c =
+    or_children c.args.rows.now c.args.p c.row_at.result c.requires.tree c.requires.inside c.row_at.ensures.row c.in-Or.is
 
 pub returns-in-True : goal.returns-in-True
 returns-in-True c = λ s at.
-    met_always c.args.graph.now.literals s (kind_at c.args.rows.now c.args.p c.row_at.result s c.requires.tree c.requires.inside c.row_at.ensures.row at ∙ c.in-True.is)
+    met_always c.args.graph.now.literals s
+    (kind_at c.args.rows.now c.args.p c.row_at.result s c.requires.tree c.requires.inside c.row_at.ensures.row at ∙ c.in-True.is)
 
 pub returns-in-False : goal.returns-in-False
 returns-in-False c = λ s at.
-    met_never c.args.graph.now.literals s (kind_at c.args.rows.now c.args.p c.row_at.result s c.requires.tree c.requires.inside c.row_at.ensures.row at ∙ c.in-False.is)
+    met_never c.args.graph.now.literals s
+    (kind_at c.args.rows.now c.args.p c.row_at.result s c.requires.tree c.requires.inside c.row_at.ensures.row at ∙ c.in-False.is)
 
 pub returns-in-Lit : goal.returns-in-Lit
 returns-in-Lit c = λ s at.

@@ -1,4 +1,4 @@
-use Rattle.verdicts.proofs.Fronts.{front_numbered, front_folded}
+use Rattle.search_trait.proofs.FoundFronts.{front_numbered, front_folded}
 use Rattle.solver_tests.proofs.solving.solved.Goals as goal
 
 pub solve-requires-clause-numbered : goal.solve-requires-clause-numbered

@@ -9,8 +9,7 @@ use Rattle.static_preds.proofs.slots.with_values.Goals as goal
 
 pub loop-k-preserved : goal.loop-k-preserved
 loop-k-preserved c =
-    let env = c.args.env.now.items in
-    let inside = c.loop-k.inside.items in
+    let env = c.args.env.now.items in let inside = c.loop-k.inside.items in
     record {
       count = omega (arith, c.push.ensures.len, c.loop-k.invariant.count);
       meanings = mapped_more meaning_of (closed_value (meanings env)) (meanings env) inside c.push.new.self.items c.args.args.now c.loop-k.k c.value_of.result

@@ -1,10 +1,11 @@
-use Rattle.std.proofs.Common.{rules}
 use Rattle.std.proofs.lemmas.Result.{err_from_is_err_and}
 use Rattle.sweep_command.proofs.PatternFiles.{model_end, pattern_end}
 use Rattle.sweep_command.proofs.inputs.make_task.Goals as goal
 
 pub returns-in_err-model-clause-err : goal.returns-in_err-model-clause-err
-returns-in_err-model-clause-err c = search (rules, model_end)
+returns-in_err-model-clause-err c =
+    let end = err_from_is_err_and c.from_residual.result c.from_residual.ensures.1 in
+    rw (end.1, end.2) (model_end c.args.model.now c.args.second.now c.in_err-model.field-0.0 c.in_err-model.ensures.err)
 
 pub returns-in_err-pattern-clause-err : goal.returns-in_err-pattern-clause-err
 returns-in_err-pattern-clause-err c =

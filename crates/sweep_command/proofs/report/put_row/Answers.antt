@@ -8,7 +8,8 @@ use Rattle.sweep_command.proofs.report.put_row.Goals as goal
 pub returns-in_err-put : goal.returns-in_err-put
 returns-in_err-put g c =
     let s = c.args.swept.now in
-    puts_stop (values_text s.pattern c.args.row ++ verdict_word (get_or s.answers.items c.args.row false)) refl c.from_residual.ensures.0 c.in_err-put.ensures.puts
+    puts_stop (values_text s.pattern c.args.row ++ verdict_word (get_or s.answers.items c.args.row false)) refl
+    c.from_residual.ensures.0 c.in_err-put.ensures.puts
 
 pub returns-in_err-put_values : goal.returns-in_err-put_values
 returns-in_err-put_values g c =

@@ -31,5 +31,6 @@ returns g c =
     let p = c.args.swept.now.pattern in
     let n = rows_of p in
     let all = length_rows n in
-    puts_whole _ (ap (flat_map (row_text p c.args.swept.now.answers.items)) (take_all c.loop-row.row (range_with_len 0 n) (omega (arith, all, c.rows-row-end.ensures.value))))
+    puts_whole _ (ap (flat_map (row_text p c.args.swept.now.answers.items))
+    (take_all c.loop-row.row (range_with_len 0 n) (omega (arith, all, c.rows-row-end.ensures.value))))
     c.loop-row.invariant

@@ -22,8 +22,7 @@ loop-at-init c =
 
 pub loop-at-smaller : goal.loop-at-smaller
 loop-at-smaller c =
-    let n = c.args.negated in
-    let row = c.row-in-loop-at.result in
+    let n = c.args.negated in let row = c.row-in-loop-at.result in
     let r = turned_row n row in
     let here = turned_here n c.args.tree.now c.loop-at.at row c.row-in-loop-at.ensures.row in
     let step = c.stride-at.ensures ∙ ap (λ (x : Row NodeKey). stride x) c.turned-row.ensures ∙ sym (stride_node r.kind r.skip) in
@@ -31,15 +30,14 @@ loop-at-smaller c =
 
 pub loop-at-preserved : goal.loop-at-preserved
 loop-at-preserved c =
-    let n = c.args.negated in
-    let rows = c.args.tree.now in
-    let at = c.loop-at.at in
+    let n = c.args.negated in let rows = c.args.tree.now in let at = c.loop-at.at in
     let row = c.row-in-loop-at.result in
     let r = turned_row n row in
     let before = c.loop-at.invariant in
     let A : Row NodeKey → Type 0 = λ x. HasAdded c.loop-at.facts (facts_of_kind (signed n at) (row_node x).kind) c.add_row.new.facts in
     let here = turned_here n rows at row c.row-in-loop-at.ensures.row in
-    let next = walked_step rows n _ _ at _ _ c.add_row.new.facts (row_node r) before.walked c.loop-at-test.true here (subst A c.turned-row.ensures c.in_ok-add_row.ensures) in
+    let next = walked_step rows n _ _ at _ _ c.add_row.new.facts (row_node r) before.walked c.loop-at-test.true here
+    (subst A c.turned-row.ensures c.in_ok-add_row.ensures) in
     let step = c.stride-at.ensures ∙ ap (λ (x : Row NodeKey). stride x) c.turned-row.ensures ∙ sym (stride_node r.kind r.skip) in
     let P : ℕ → Type 0 = λ m. HasWalked rows n c.args.root (c.args.root + c.row.result.skip) (at + m) c.args.facts.now c.add_row.new.facts in
     record { end = before.end; walked = subst P (sym step) next }
@@ -52,14 +50,13 @@ returns-clause-added c = λ t flat. walked_all _ _ _ _ _ _ _ c.loop-at.invariant
 
 pub overflow_add-at : goal.overflow_add-at
 overflow_add-at c =
-    let n = c.args.negated in
-    let rows = c.args.tree.now in
-    let at = c.loop-at.at in
+    let n = c.args.negated in let rows = c.args.tree.now in let at = c.loop-at.at in
     let row = c.row-in-loop-at.result in
     let r = turned_row n row in
     let before = c.loop-at.invariant in
     let A : Row NodeKey → Type 0 = λ x. HasAdded c.loop-at.facts (facts_of_kind (signed n at) (row_node x).kind) c.add_row.new.facts in
     let here = turned_here n rows at row c.row-in-loop-at.ensures.row in
-    let next = walked_step rows n _ _ at _ _ c.add_row.new.facts (row_node r) before.walked c.loop-at-test.true here (subst A c.turned-row.ensures c.in_ok-add_row.ensures) in
+    let next = walked_step rows n _ _ at _ _ c.add_row.new.facts (row_node r) before.walked c.loop-at-test.true here
+    (subst A c.turned-row.ensures c.in_ok-add_row.ensures) in
     let step = c.stride-at.ensures ∙ ap (λ (x : Row NodeKey). stride x) c.turned-row.ensures ∙ sym (stride_node r.kind r.skip) in
     omega (arith, walked_within _ _ _ _ _ _ _ next, before.end, step, c.show_size.ensures.bound)

@@ -13,8 +13,7 @@ returns-in-Lit-clause-first c = on_ok_weaker c.add_literal.result (λ h. h.same_
 
 pub returns-in-Lit-clause-entered : goal.returns-in-Lit-clause-entered
 returns-in-Lit-clause-entered c =
-    let n = c.args.negated in
-    let rows = c.args.tree.now in
+    let n = c.args.negated in let rows = c.args.tree.now in
     let r = turned_row n c.row.result in
     on_ok_weaker c.add_literal.result
     (λ h t ps flat b. entered_literal t n rows (row_node r) (literal_node c.in-Lit.literal) c.args.facts.now c.add_literal.new.facts ps c.args.root
@@ -26,4 +25,5 @@ returns-then-has-clause-entered c = λ t ps flat b. entered_again t c.args.facts
 
 pub returns-else-has-clause-entered : goal.returns-else-has-clause-entered
 returns-else-has-clause-entered c =
-    on_ok_weaker c.add_part.result (λ h t ps flat b. entered_all t c.args.facts.now c.add_part.new.facts ps c.args.negated c.args.root (h t flat) b) c.add_part.ensures.added
+    on_ok_weaker c.add_part.result (λ h t ps flat b. entered_all t c.args.facts.now c.add_part.new.facts ps c.args.negated c.args.root (h t flat) b)
+    c.add_part.ensures.added

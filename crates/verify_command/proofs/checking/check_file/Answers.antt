@@ -14,5 +14,9 @@ returns-clause-verified g c =
     (λ found. IsTrue (g.F.Files.view c.first_bytes.new.files).modelled → IsEnough first left → Verified (question_of_parts c.args.parts) (first ++ left) found)
     (λ found. IsTrue (g.F.Files.view c.args.files.now).modelled → (bytes : List ℕ) × ((g.F.Files.view c.args.files.now).holds c.args.name.now ≡ Some bytes)
     × Verified (question_of_parts c.args.parts) bytes found)
-    (λ found h told. (first ++ left, c.in_ok-first.ensures.whole told, h (rw c.first_bytes.ensures.keeps.same_modelled told) (c.in_ok-first.ensures.enough told)))
+    (λ found h told. (
+      first ++ left,
+      c.in_ok-first.ensures.whole told,
+      h (rw c.first_bytes.ensures.keeps.same_modelled told) (c.in_ok-first.ensures.enough told),
+    ))
     (rw c.deref.ensures.value at c.check_started.ensures.verified)

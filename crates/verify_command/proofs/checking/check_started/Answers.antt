@@ -2,7 +2,7 @@ use Rattle.std.proofs.Common.{◌≡◌, true, false, Bool, List, ℕ, ◌++◌,
 use Rattle.std.specs.Prelude.{IsTrue}
 use Rattle.std.proofs.lemmas.Result.{IfOk-weaker}
 use Rattle.cert_check.specs.Questions.{question_of_parts}
-use Rattle.cert_check.specs.GraphLaws.{SaysUnobservable}
+use Rattle.cert_check.specs.GraphBegins.{SaysUnobservable}
 use Rattle.cert_check.specs.Verified.{Verified}
 use Rattle.verify_command.specs.Reading.{IsEnough}
 use Rattle.verify_command.proofs.FirstLine.{none_says}
@@ -16,7 +16,8 @@ returns-clause-verified g c =
     let left = (g.F.Files.view c.args.files.now).left in
     let text : List ℕ = c.args.first.now ++ left in
     IfOk-weaker c.check_graph-checked.result
-    (λ found. IsTrue (g.F.Files.view c.args.files.now).modelled → IsEnough c.args.first.now left → (SaysUnobservable text → ⊥) → Verified (question_of_parts c.args.parts) text found)
+    (λ found. IsTrue (g.F.Files.view c.args.files.now).modelled → IsEnough c.args.first.now left → (SaysUnobservable text → ⊥)
+    → Verified (question_of_parts c.args.parts) text found)
     (λ found. IsTrue (g.F.Files.view c.args.files.now).modelled → IsEnough c.args.first.now left → Verified (question_of_parts c.args.parts) text found)
     (λ found h told enough.
     h told enough (none_says c.args.first.now left enough (λ says. clash (c.says_unobservable.ensures.1 says) c.if-says_unobservable.false)))

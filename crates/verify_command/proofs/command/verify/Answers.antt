@@ -5,10 +5,12 @@ use Rattle.verify_command.proofs.command.verify.Goals as goal
 
 pub returns-in-Err : goal.returns-in-Err
 returns-in-Err g c =
-    third_ending (g.met.F.Files.failing_modelled c.args.files.now) c.args.certificate.now (IsJudged ((g.F.Files.view c.args.files.now).holds) c.args.certificate.now)
+    third_ending (g.met.F.Files.failing_modelled c.args.files.now) c.args.certificate.now
+    (IsJudged ((g.F.Files.view c.args.files.now).holds) c.args.certificate.now)
     c.in-Err.ending c.in-Err.ensures
 
 pub returns : goal.returns
 returns g c =
-    found_outcome (g.met.F.Files.failing_modelled c.args.files.now) {first_fault = g.S.SecondFile.first_fault} c.args.certificate.now c.in-Ok.ensures c.check_file.ensures.keeps
+    found_outcome (g.met.F.Files.failing_modelled c.args.files.now) {first_fault = g.S.SecondFile.first_fault}
+    c.args.certificate.now c.in-Ok.ensures c.check_file.ensures.keeps
     c.in_ok-check_file.field-0 c.in_ok-check_file.ensures.verified

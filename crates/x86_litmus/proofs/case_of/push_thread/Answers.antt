@@ -19,7 +19,8 @@ loop-instruction-preserved c = λ before start.
       | then-instruction-thread+in_ok-op_of+in_ok-push w ↦ ap (map micro_op) w.ops-is
           ∙ push_then words asked before xs ys c.deref-instruction-items.ensures.value k c.args.thread c.loop-instruction-test.true
           w.if-instruction-thread.true c.loop-instruction.ops w.push.new.self w.in_ok-op_of.field-0 w.len-g.result w.in_ok-push.ensures
-          (w.in_ok-op_of.ensures ∙ ap (λ is. op_of words (map plain_asked is) w.len-g.result (plain_instruction (get_or xs k nobody))) w.deref.ensures.value) w.len-g.ensures.value so_far
+          (w.in_ok-op_of.ensures ∙ ap (λ is. op_of words (map plain_asked is) w.len-g.result (plain_instruction (get_or xs k nobody)))
+          w.deref.ensures.value) w.len-g.ensures.value so_far
       | else-instruction-thread w ↦ ap (map micro_op) w.ops-is
           ∙ push_else words asked before xs ys c.deref-instruction-items.ensures.value k c.args.thread c.loop-instruction-test.true
           w.if-instruction-thread.false (map micro_op c.loop-instruction.ops) so_far

@@ -1,8 +1,8 @@
 use Rattle.std.proofs.Common.{◌+◌, drop, Result, IfErr, subst, sym, ap, ◌∙◌, arith}
 use Rattle.std.proofs.lemmas.Result.{err_from_is_err_and}
-use Rattle.x86_tokens.specs.View.{plain}
+use Rattle.uspec_lexer.specs.View.{plain}
 use Rattle.x86_litmus.specs.Reading.{IsFaultIn}
-use Rattle.x86_litmus.specs.Takes.{IsRefusal}
+use Rattle.x86_litmus.specs.Takes.{IsListingRefusal}
 use Rattle.x86_litmus.specs.Said.{Said}
 use Rattle.x86_litmus.specs.Spots.{items_from}
 use Rattle.x86_litmus.specs.Faults.{fault_of, judged}
@@ -18,7 +18,7 @@ returns-in_err-add-clause-err c =
     subst (λ (result : Result Unit X86Fault). IfErr result (IsFaultIn c.args.tokens.now)) (sym is)
     (refused_in (plain_spot c.loop-k.spot) (plain_said c.loop-k.said) c.args.tokens.now c.loop-k.k (plain c.get.result) c.get.ensures (omega arith)
     (plain_item c.in-Some.item) (sym (ap plain_some c.in-Some.is) ∙ c.after.ensures.1) c.loop-k.invariant.reads fault
-    (subst (IsRefusal (fault_of (plain_said c.loop-k.said) (plain_item c.in-Some.item))) (sym same) c.in_err-add.ensures.err))
+    (subst (IsListingRefusal (fault_of (plain_said c.loop-k.said) (plain_item c.in-Some.item))) (sym same) c.in_err-add.ensures.err))
 
 pub loop-k-preserved : goal.loop-k-preserved
 loop-k-preserved c =

@@ -1,4 +1,5 @@
-use Rattle.std.proofs.Common.{◌≡◌, true, false, ◌⊎◌, inl, inr, ◌<◌, ◌++◌, length, sym, subst}
+use Rattle.std.proofs.Common.{◌⊎◌, inl, inr, ◌<◌, ◌++◌, length, sym, subst}
+use Rattle.std.proofs.lemmas.Bool.{false≢true}
 use Rattle.pc_common.specs.declared.limits.TheConstants.{MAX_CERTIFICATE}
 use Rattle.line_judge.specs.Texts.{HoldsRefused}
 use Rattle.cert_check.specs.Certificates.{Question}
@@ -6,9 +7,6 @@ use Rattle.cert_check.specs.RawLines.{RawFirst}
 use Rattle.cert_check.specs.Fed.{judge_begins}
 use Rattle.cert_check.proofs.Raws.{holds_refused}
 use Rattle.cert_check.proofs.checker.Checker.feed.Goals as goal
-
-no : false ≡ true → ⊥
-no e = cc
 
 pub returns-clause-took : goal.returns-clause-took
 returns-clause-took c = λ q text fed.
@@ -19,4 +17,4 @@ returns-in_err-feed-clause-settled c = λ q text fed settled.
     let P : Question → Type 0 = λ p. HoldsRefused (RawFirst p) text in
     let own : (MAX_CERTIFICATE < length (text ++ c.args.piece.now)) ⊎ HoldsRefused (judge_begins fed.start) text =
     elim settled [ inl past ↦ inl past | inr holds ↦ inr (subst P (sym fed.asks) (holds_refused q text holds)) ] in
-    absurd (no (c.in_err-feed.ensures.sure fed.start MAX_CERTIFICATE text fed.taken own))
+    absurd (false≢true (c.in_err-feed.ensures.sure fed.start MAX_CERTIFICATE text fed.taken own))

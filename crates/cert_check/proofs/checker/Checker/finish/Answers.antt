@@ -21,4 +21,5 @@ returns-in-Whole-clause-outcome c = λ front text fed.
 pub returns-in-Refused-clause-verified : goal.returns-in-Refused-clause-verified
 returns-in-Refused-clause-verified c = λ q text fed.
     let A : Question → Type 0 = λ p. IsAsked p in
-    refused_verified q (subst A fed.front (c.show_asked.ensures c.of.ensures.view)) fed.start fed.asks text c.in-Refused.line (c.in-Refused.ensures fed.start MAX_CERTIFICATE text fed.taken)
+    refused_verified q (subst A fed.front (c.show_asked.ensures c.of.ensures.view)) fed.start fed.asks text c.in-Refused.line
+    (c.in-Refused.ensures fed.start MAX_CERTIFICATE text fed.taken)

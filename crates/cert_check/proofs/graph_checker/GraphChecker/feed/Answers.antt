@@ -1,14 +1,12 @@
-use Rattle.std.proofs.Common.{◌≡◌, true, false, ◌⊎◌, inl, inr, ◌<◌, ◌++◌, length, sym, subst}
+use Rattle.std.proofs.Common.{◌⊎◌, inl, inr, ◌<◌, ◌++◌, length, sym, subst}
+use Rattle.std.proofs.lemmas.Bool.{false≢true}
 use Rattle.pc_common.specs.declared.limits.TheConstants.{MAX_CERTIFICATE}
 use Rattle.line_judge.specs.Texts.{HoldsRefused}
 use Rattle.cert_check.specs.Certificates.{Question}
-use Rattle.cert_check.specs.GraphLaws.{GraphFirst}
+use Rattle.cert_check.specs.GraphBegins.{GraphFirst}
 use Rattle.cert_check.specs.GraphFed.{graph_judge_begins}
 use Rattle.cert_check.proofs.GraphJudged.{graph_holds}
 use Rattle.cert_check.proofs.graph_checker.GraphChecker.feed.Goals as goal
-
-no : false ≡ true → ⊥
-no e = cc
 
 pub returns-clause-took : goal.returns-clause-took
 returns-clause-took c = λ q text fed.
@@ -19,4 +17,4 @@ returns-in_err-feed-clause-settled c = λ q text fed settled.
     let P : Question → Type 0 = λ p. HoldsRefused (GraphFirst p) text in
     let own : (MAX_CERTIFICATE < length (text ++ c.args.piece.now)) ⊎ HoldsRefused (graph_judge_begins fed.start) text =
     elim settled [ inl past ↦ inl past | inr holds ↦ inr (subst P (sym fed.asks) (graph_holds q text holds)) ] in
-    absurd (no (c.in_err-feed.ensures.sure fed.start MAX_CERTIFICATE text fed.taken own))
+    absurd (false≢true (c.in_err-feed.ensures.sure fed.start MAX_CERTIFICATE text fed.taken own))

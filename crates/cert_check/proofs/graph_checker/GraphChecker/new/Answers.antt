@@ -10,7 +10,8 @@ pub new-requires-clause-stands : goal.new-requires-clause-stands
 new-requires-clause-stands c = (
   (let Q : Parts → Type 0 = λ p. AreReadable (names_of_parts p) in subst Q (sym c.new-judge.ensures.parts) c.new-judge.ensures.readable),
   c.new-judge.ensures.names ∙ ap names_of_parts (sym c.new-judge.ensures.parts),
-  (let P : Parts → Type 0 = λ p. RawStands (question_of_parts p) (as_stage c.new-judge.result.stage) [] in subst P (sym c.new-judge.ensures.parts) c.new-judge.ensures.stands),
+  (let P : Parts → Type 0 = λ p. RawStands (question_of_parts p) (as_stage c.new-judge.result.stage) [] in
+      subst P (sym c.new-judge.ensures.parts) c.new-judge.ensures.stands),
 )
 
 pub returns : goal.returns

@@ -6,7 +6,7 @@ use Rattle.cert_check.specs.Questions.{question_of_parts}
 use Rattle.cert_check.specs.RawLines.{RawStands}
 use Rattle.cert_check.specs.Stages.{StandsAt}
 use Rattle.cert_check.specs.GraphStages.{as_stage, HasGraphAdvanced}
-use Rattle.cert_check.specs.GraphLaws.{GraphFirst}
+use Rattle.cert_check.specs.GraphBegins.{GraphFirst}
 use Rattle.cert_check.proofs.GraphJudged.{graph_good, graph_refused}
 use Rattle.cert_check.proofs.graph_judge.GraphJudgeJudge.step.Goals as goal
 
@@ -16,8 +16,10 @@ returns-clause-goes c =
     let q = question_of_parts j.parts.now in
     let text = c.args.line.now in
     IfOk-weaker c.advance_graph.result
-    (λ good. AreReadable (names_of_parts j.parts.now) → j.names ≡ names_of_parts j.parts.now → (lines : List Line) → StandsAt q (as_stage j.stage) lines → HasGraphAdvanced q lines text c.advance_graph.new.stage good)
-    (λ good. good ≡ true → (raws : List (List ℕ)) → AreReadable (names_of_parts j.parts.now) × (j.names ≡ names_of_parts j.parts.now) × RawStands q (as_stage j.stage) raws
+    (λ good. AreReadable (names_of_parts j.parts.now) → j.names ≡ names_of_parts j.parts.now → (lines : List Line) → StandsAt q (as_stage j.stage) lines
+    → HasGraphAdvanced q lines text c.advance_graph.new.stage good)
+    (λ good. good ≡ true → (raws : List (List ℕ)) → AreReadable (names_of_parts j.parts.now) × (j.names ≡ names_of_parts j.parts.now) × RawStands q
+    (as_stage j.stage) raws
     → AreReadable (names_of_parts j.parts.now) × (j.names ≡ names_of_parts j.parts.now) × RawStands q (as_stage c.advance_graph.new.stage) (raws ++ text ∷ []))
     (λ good h e raws st. (st.0, st.1, graph_good q j.stage c.advance_graph.new.stage raws text st.2 good e (h st.0 st.1 st.2.lines st.2.stands)))
     c.advance_graph.ensures
@@ -28,7 +30,9 @@ returns-clause-refused c =
     let q = question_of_parts j.parts.now in
     let text = c.args.line.now in
     IfOk-weaker c.advance_graph.result
-    (λ good. AreReadable (names_of_parts j.parts.now) → j.names ≡ names_of_parts j.parts.now → (lines : List Line) → StandsAt q (as_stage j.stage) lines → HasGraphAdvanced q lines text c.advance_graph.new.stage good)
-    (λ good. good ≡ false → (raws : List (List ℕ)) → AreReadable (names_of_parts j.parts.now) × (j.names ≡ names_of_parts j.parts.now) × RawStands q (as_stage j.stage) raws → GraphFirst q (raws ++ text ∷ []) → ⊥)
+    (λ good. AreReadable (names_of_parts j.parts.now) → j.names ≡ names_of_parts j.parts.now → (lines : List Line) → StandsAt q (as_stage j.stage) lines
+    → HasGraphAdvanced q lines text c.advance_graph.new.stage good)
+    (λ good. good ≡ false → (raws : List (List ℕ)) → AreReadable (names_of_parts j.parts.now) × (j.names ≡ names_of_parts j.parts.now) × RawStands q
+    (as_stage j.stage) raws → GraphFirst q (raws ++ text ∷ []) → ⊥)
     (λ good h e raws st. graph_refused q j.stage c.advance_graph.new.stage raws text st.2 good e (h st.0 st.1 st.2.lines st.2.stands))
     c.advance_graph.ensures

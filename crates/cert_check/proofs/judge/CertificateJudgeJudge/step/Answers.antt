@@ -28,6 +28,7 @@ returns-clause-refused c =
     let text = c.args.line.now in
     IfOk-weaker c.advance.result
     (λ good. IsAsked q → j.names ≡ names_of j.front.now → (lines : List Line) → StandsAt q j.stage lines → HasAdvanced q lines text c.advance.new.stage good)
-    (λ good. good ≡ false → (raws : List (List ℕ)) → IsAsked q × (j.names ≡ names_of j.front.now) × RawStands q j.stage raws → RawFirst q (raws ++ text ∷ []) → ⊥)
+    (λ good. good ≡ false → (raws : List (List ℕ)) → IsAsked q × (j.names ≡ names_of j.front.now) × RawStands q j.stage raws
+    → RawFirst q (raws ++ text ∷ []) → ⊥)
     (λ good h e raws st. raw_refused q j.stage c.advance.new.stage raws text st.2 good e (h st.0 st.1 st.2.lines st.2.stands))
     c.advance.ensures

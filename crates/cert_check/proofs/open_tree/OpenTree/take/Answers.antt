@@ -22,14 +22,16 @@ returns-then-says_two c = λ q asked names lines so_far no_end.
 
 pub returns : goal.returns
 returns c =
-    let old = c.args.self.now in
-    let text = c.args.line.now in
+    let old = c.args.self.now in let text = c.args.line.now in
     let new : OpenTree = record { branches = c.take_line.new.branches; is_new = false } in
     IfOk-weaker c.take_line.result
-    (λ good. (v : Version) (t : Tree Node) (opens : List Branch) → Stands old.branches v t opens → StepsOn c.args.names.now v t opens text c.take_line.new.branches good)
-    (λ good. (q : Question) → IsAsked q → c.args.names.now ≡ q.names → (lines : List Line) → IsTreeSoFar q old lines → (text ≡ codes "end" → ⊥) → HasAdvanced q lines text (TreeStage new) good)
+    (λ good. (v : Version) (t : Tree Node) (opens : List Branch) → Stands old.branches v t opens → StepsOn c.args.names.now v t opens text
+    c.take_line.new.branches good)
+    (λ good. (q : Question) → IsAsked q → c.args.names.now ≡ q.names → (lines : List Line) → IsTreeSoFar q old lines → (text ≡ codes "end" → ⊥)
+    → HasAdvanced q lines text (TreeStage new) good)
     (λ good h q asked names lines so_far no_end.
-    tree_advanced q asked c.args.names.now names old new lines text so_far (not_two q old lines text so_far no_end (λ both. clash (c.may_say_two-says_two.ensures.1 both) c.if-says_two.false))
+    tree_advanced q asked c.args.names.now names old new lines text so_far
+    (not_two q old lines text so_far no_end (λ both. clash (c.may_say_two-says_two.ensures.1 both) c.if-says_two.false))
     refl good (h so_far.version q.tree so_far.opens so_far.stands))
     c.take_line.ensures
   where

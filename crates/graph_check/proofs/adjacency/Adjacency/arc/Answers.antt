@@ -6,8 +6,7 @@ use Rattle.graph_check.proofs.adjacency.Adjacency.arc.Goals as goal
 
 pub returns-clause-walk : goal.returns-clause-walk
 returns-clause-walk c =
-    let x = c.index.result.now in
-    let items = c.self.inside.arcs.items in
+    let x = c.index.result.now in let items = c.self.inside.arcs.items in
     let P : Arcs → Type 0 = λ v. c.args.at ≤ length v.arcs → (a : ℕ) → IsWalk v a c.args.at → IsWalk v a x.before × Joins v a x.to in
     subst P c.self.view_is
     (λ low. walk_on (record { heads = c.self.inside.heads.items; arcs = items }) c.args.at x c.self.invariant c.requires.some
@@ -16,8 +15,7 @@ returns-clause-walk c =
 
 pub returns-clause-rest : goal.returns-clause-rest
 returns-clause-rest c =
-    let x = c.index.result.now in
-    let items = c.self.inside.arcs.items in
+    let x = c.index.result.now in let items = c.self.inside.arcs.items in
     let P : Arcs → Type 0 = λ v. c.args.at ≤ length v.arcs → (b : ℕ) → ComesTo v c.args.at b → (x.to ≡ b) ⊎ ComesTo v x.before b in
     subst P c.self.view_is
     (λ low. walk_rest (record { heads = c.self.inside.heads.items; arcs = items }) c.args.at x c.requires.some

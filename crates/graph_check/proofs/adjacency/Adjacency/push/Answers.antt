@@ -14,7 +14,9 @@ invariant_of-self-2 c =
     let from_in = subst P (sym c.self.view_is) c.requires.from in
     entered_so AreLinked v c.args.from c.args.to c.index-before.result.now c.len.result c.push.new.self.items
     (c.index-before.ensures ∙ get_or_default_zero c.self.inside.heads.items c.args.from c.index-before.result.now from_in)
-    (let n = ap length c.in_ok-push.ensures.items in let m = length-append c.self.inside.arcs.items (record { from = c.args.from; to = c.args.to; before = c.index-before.result.now } ∷ []) in omega (arith, c.len.ensures, n, m))
+    (let n = ap length c.in_ok-push.ensures.items in
+    let m = length-append c.self.inside.arcs.items (record { from = c.args.from; to = c.args.to; before = c.index-before.result.now } ∷ []) in
+    omega (arith, c.len.ensures, n, m))
     c.in_ok-push.ensures.items
     (linked_more v c.args.from c.args.to from_in (subst Q (sym c.self.view_is) c.requires.to) c.self.invariant)
 
@@ -27,7 +29,9 @@ returns-clause-joins c =
     let from_in = subst P (sym c.self.view_is) c.requires.from in
     rw (sym c.self.view_is) (entered_so R v c.args.from c.args.to c.index-before.result.now c.len.result c.push.new.self.items
     (c.index-before.ensures ∙ get_or_default_zero c.self.inside.heads.items c.args.from c.index-before.result.now from_in)
-    (let n = ap length c.in_ok-push.ensures.items in let m = length-append c.self.inside.arcs.items (record { from = c.args.from; to = c.args.to; before = c.index-before.result.now } ∷ []) in omega (arith, c.len.ensures, n, m))
+    (let n = ap length c.in_ok-push.ensures.items in
+    let m = length-append c.self.inside.arcs.items (record { from = c.args.from; to = c.args.to; before = c.index-before.result.now } ∷ []) in
+    omega (arith, c.len.ensures, n, m))
     c.in_ok-push.ensures.items
     (joins_more v c.args.from c.args.to from_in (subst Q (sym c.self.view_is) c.requires.to)))
 
@@ -39,6 +43,8 @@ returns-clause-linked c =
     let from_in = subst P (sym c.self.view_is) c.requires.from in
     entered_so AreLinked v c.args.from c.args.to c.index-before.result.now c.len.result c.push.new.self.items
     (c.index-before.ensures ∙ get_or_default_zero c.self.inside.heads.items c.args.from c.index-before.result.now from_in)
-    (let n = ap length c.in_ok-push.ensures.items in let m = length-append c.self.inside.arcs.items (record { from = c.args.from; to = c.args.to; before = c.index-before.result.now } ∷ []) in omega (arith, c.len.ensures, n, m))
+    (let n = ap length c.in_ok-push.ensures.items in
+    let m = length-append c.self.inside.arcs.items (record { from = c.args.from; to = c.args.to; before = c.index-before.result.now } ∷ []) in
+    omega (arith, c.len.ensures, n, m))
     c.in_ok-push.ensures.items
     (linked_more v c.args.from c.args.to from_in (subst Q (sym c.self.view_is) c.requires.to) c.self.invariant)

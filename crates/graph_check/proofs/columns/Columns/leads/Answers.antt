@@ -6,13 +6,15 @@ use Rattle.graph_check.proofs.columns.Columns.leads.Goals as goal
 
 pub index-requires : goal.index-requires
 index-requires c =
-    let known = column_at c.args.adjacency.now c.args.self.now c.args.b c.index-slot.result.now c.requires.columns c.requires.b_in c.if-slot-gt0.true c.index-slot.ensures in
+    let known = column_at c.args.adjacency.now c.args.self.now c.args.b c.index-slot.result.now c.requires.columns
+    c.requires.b_in c.if-slot-gt0.true c.index-slot.ensures in
     let low = slice_get_within c.args.self.now.columns.items (c.index-slot.result.now - 1) known.0 known.1 in
     omega (arith, low, c.args.self.now.columns.ok)
 
 pub index-requires-then-slot-gt0 : goal.index-requires-then-slot-gt0
 index-requires-then-slot-gt0 c =
-    let is = column_found c.args.adjacency.now c.args.self.now c.args.b c.index-slot.result.now c.requires.columns c.requires.b_in c.if-slot-gt0.true c.index-slot.ensures
+    let is = column_found c.args.adjacency.now c.args.self.now c.args.b c.index-slot.result.now c.requires.columns
+    c.requires.b_in c.if-slot-gt0.true c.index-slot.ensures
     c.index.result.now c.index.ensures in
     let sized = is.sized in
     omega (arith, sized, c.requires.a_in, c.index.result.now.ok)
@@ -23,7 +25,8 @@ returns-then-slot-gt0-clause-leads c =
     let is = column_found v c.args.self.now c.args.b c.index-slot.result.now c.requires.columns c.requires.b_in c.if-slot-gt0.true c.index-slot.ensures
     c.index.result.now c.index.ensures in
     flag_leads v c.args.b c.args.a c.index.result.now.items c.index-then-slot-gt0.result.now is c.requires.a_in
-    (let sized = is.sized in flag_read c.index.result.now.items c.args.a c.index-then-slot-gt0.result.now (omega (arith, sized, c.requires.a_in)) c.index-then-slot-gt0.ensures)
+    (let sized = is.sized in flag_read c.index.result.now.items c.args.a c.index-then-slot-gt0.result.now
+    (omega (arith, sized, c.requires.a_in)) c.index-then-slot-gt0.ensures)
 
 pub returns-in_err-push-clause-columns : goal.returns-in_err-push-clause-columns
 returns-in_err-push-clause-columns c = columns_same c.args.adjacency.now c.args.self.now _ c.requires.columns refl c.in_err-push.ensures.items
@@ -31,7 +34,8 @@ returns-in_err-push-clause-columns c = columns_same c.args.adjacency.now c.args.
 pub returns-clause-columns : goal.returns-clause-columns
 returns-clause-columns c =
     columns_more c.args.adjacency.now c.args.self.now _ c.args.b c.in_ok-column.column c.requires.columns c.requires.b_in c.in_ok-column.ensures
-    (ap (set c.args.self.now.slots.items c.args.b) (let n = ap length c.in_ok-push.ensures.items in let m = length-append c.args.self.now.columns.items (c.in_ok-column.column ∷ []) in omega (arith, c.len.ensures, n, m)))
+    (ap (set c.args.self.now.slots.items c.args.b) (let n = ap length c.in_ok-push.ensures.items in
+    let m = length-append c.args.self.now.columns.items (c.in_ok-column.column ∷ []) in omega (arith, c.len.ensures, n, m)))
     c.in_ok-push.ensures.items
 
 pub returns-then-joins-clause-leads : goal.returns-then-joins-clause-leads
@@ -47,4 +51,5 @@ pub returns-clause-leads : goal.returns-clause-leads
 returns-clause-leads c =
     let is = c.in_ok-column.ensures in
     flag_leads c.args.adjacency.now c.args.b c.args.a c.in_ok-column.column.items c.index-leads.result.now is c.requires.a_in
-    (let sized = is.sized in flag_read c.in_ok-column.column.items c.args.a c.index-leads.result.now (omega (arith, sized, c.requires.a_in)) c.index-leads.ensures)
+    (let sized = is.sized in flag_read c.in_ok-column.column.items c.args.a c.index-leads.result.now
+    (omega (arith, sized, c.requires.a_in)) c.index-leads.ensures)

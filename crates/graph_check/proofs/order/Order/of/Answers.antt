@@ -30,11 +30,10 @@ returns c = (
   refl,
   (let same = rw c.as_slice.ensures.value at c.in_ok-nodes.ensures in
       let arcs = rw c.as_slice-2.ensures.value at (rw c.in-Some.is at c.in_ok-adjacency.ensures) in
-      let nodes = c.in_ok-nodes.nodes in
-      let edges = graph_edges c.args.graph.now in
-      let v = c.in-Some.adjacency in
+      let nodes = c.in_ok-nodes.nodes in let edges = graph_edges c.args.graph.now in let v = c.in-Some.adjacency in
       record {
         ends = ends_over nodes (graph_nodes c.args.graph.now) edges (λ a h. (same a).0 h) arcs.ends;
-        acyclic = acyclic_down nodes edges v arcs (topological_acyclic v c.in-Some-2.order.items (rw c.in-Some-2.is at c.in_ok-order.ensures) (starts_within nodes edges v arcs));
+        acyclic = acyclic_down nodes edges v arcs
+            (topological_acyclic v c.in-Some-2.order.items (rw c.in-Some-2.is at c.in_ok-order.ensures) (starts_within nodes edges v arcs));
       }),
 )

@@ -10,7 +10,10 @@ use Rattle.lifted_facts.proofs.open_branches.Branches.derive.Goals as goal
 pub invariant_of-self : goal.invariant_of-self
 invariant_of-self c =
     let me = c.args.self.now in
-    record { kept = kept_push me.case.now me.facts.items c.push.new.self.items me.later.items c.in-Some.part (is_ok c.push.result) me.kept c.in-Some.ensures.proper c.push.ensures.items }
+    record {
+      kept = kept_push me.case.now me.facts.items c.push.new.self.items me.later.items c.in-Some.part (is_ok c.push.result)
+          me.kept c.in-Some.ensures.proper c.push.ensures.items;
+    }
 
 pub returns-in_ok-push-in-Some-clause-advanced : goal.returns-in_ok-push-in-Some-clause-advanced
 returns-in_ok-push-in-Some-clause-advanced c =

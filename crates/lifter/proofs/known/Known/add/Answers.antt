@@ -12,4 +12,5 @@ returns-in_ok-insert-in-None c =
     let es = c.self.inside.map.entries in
     let P : List Entry → Type 0 = λ xs. (j : ℕ) → In (entry (plain_key c.args.key) j) xs → ⊥ in
     let none = subst P (sym c.self.view_is) c.in-None.ensures in
-    rw (sym c.self.view_is) (marked_new es c.insert.new.self.entries c.args.key c.args.number (c.in_ok-insert-in-None.ensures.entries ∙ put_last c.args.key c.args.number es none))
+    rw (sym c.self.view_is) (marked_new es c.insert.new.self.entries c.args.key c.args.number
+    (c.in_ok-insert-in-None.ensures.entries ∙ put_last c.args.key c.args.number es none))

@@ -8,8 +8,7 @@ pub returns-then-not-branch : goal.returns-then-not-branch
 returns-then-not-branch g c = λ start text good.
     let loop = c.loop-line.invariant in
     let line = c.in-Some.line.now ++ 10 ∷ [] in
-    let rest = c.in-Some.rest.now in
-    let number = c.end_line.new.self.lines in
+    let rest = c.in-Some.rest.now in let number = c.end_line.new.self.lines in
     let state = c.in_ok-end_line.ensures start (text ++ loop.0) (loop.2 start text good) in
     let bad : IsBad g.J.Judge.begins start ((text ++ loop.0) ++ line) number = MatchBool-at_false {b = c.in_ok-end_line.field-0} _ _ (search rules) state in
     let is : ((text ++ loop.0) ++ line) ++ rest ≡ text ++ c.args.piece.now =

@@ -10,7 +10,8 @@ use Rattle.litmus_reader.proofs.builder.CaseBuilder.fault.Goals as goal
 pub returns-in-Microop : goal.returns-in-Microop
 returns-in-Microop c = λ before k.
     subst (λ (i : Item). Answers (IsFaultOf before i) c.microop_fault.result) (sym c.in-Microop.is)
-    (subst (λ (hs : List Head). Answers (First (HeadFault hs c.in-Microop.microop.head) (ActionFault c.in-Microop.microop.action)) c.microop_fault.result) (c.deref.ensures.value ∙ k.heads) c.microop_fault.ensures)
+    (subst (λ (hs : List Head). Answers (First (HeadFault hs c.in-Microop.microop.head) (ActionFault c.in-Microop.microop.action))
+    c.microop_fault.result) (c.deref.ensures.value ∙ k.heads) c.microop_fault.ensures)
 
 pub returns-in-Relationship : goal.returns-in-Relationship
 returns-in-Relationship c = λ before k.
@@ -30,9 +31,11 @@ returns-in-Final c = λ before k.
 pub returns-in-Permitted : goal.returns-in-Permitted
 returns-in-Permitted c = λ before k.
     subst (λ (i : Item). Answers (IsFaultOf before i) c.expectation_fault.result) (sym c.in-Permitted.is)
-    (subst (λ (es : List (Expectation × Place)). Answers (AgainExpected es c.in-Permitted.at) c.expectation_fault.result) k.expected c.expectation_fault.ensures)
+    (subst (λ (es : List (Expectation × Place)). Answers (AgainExpected es c.in-Permitted.at) c.expectation_fault.result)
+    k.expected c.expectation_fault.ensures)
 
 pub returns-in-Forbidden : goal.returns-in-Forbidden
 returns-in-Forbidden c = λ before k.
     subst (λ (i : Item). Answers (IsFaultOf before i) c.expectation_fault-in-Forbidden.result) (sym c.in-Forbidden.is)
-    (subst (λ (es : List (Expectation × Place)). Answers (AgainExpected es c.in-Forbidden.at) c.expectation_fault-in-Forbidden.result) k.expected c.expectation_fault-in-Forbidden.ensures)
+    (subst (λ (es : List (Expectation × Place)). Answers (AgainExpected es c.in-Forbidden.at) c.expectation_fault-in-Forbidden.result)
+    k.expected c.expectation_fault-in-Forbidden.ensures)

@@ -16,7 +16,8 @@ expansion-binding-requires-in-Some t c =
     lower c.in-Expand.at c.in-Expand.name c.in-Expand.args ms (macro_at callee, before (plain_macros c.args.self.now.macros.now) callee.number)
     (ap (callee_of ms) (sym c.as_slice.ensures.value) ∙ c.in-Some.ensures.2) in
     let here = ap (λ f. expanded_height ms (written f)) c.in-Expand.is in
-    let fact : 2 * expanded_height (before (plain_macros c.args.self.now.macros.now) callee.number) (written callee.body.now) + 1 < t = omega (arith, c.decreases, here, below) in
+    let fact : 2 * expanded_height (before (plain_macros c.args.self.now.macros.now) callee.number) (written callee.body.now) + 1 < t =
+    omega (arith, c.decreases, here, below) in
     (fact, c.requires)
 
 pub expansion-returns-in-Some : goal.expansion-returns-in-Some

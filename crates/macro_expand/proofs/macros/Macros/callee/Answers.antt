@@ -12,7 +12,8 @@ returns-in-Some c =
     c.in-Some.is c.if-found-earlier.true in (
       c.if-found-earlier.true,
       subst (λ ms. slice_get (plain_macros ms) m.now.number ≡ Some (macro_at m.now)) c.self.view_is here.0,
-      subst (λ ms. callee_of (before (plain_macros ms) c.args.earlier) c.args.name.now ≡ Some (macro_at m.now, before (plain_macros ms) m.now.number)) c.self.view_is here.1,
+      subst (λ ms. callee_of (before (plain_macros ms) c.args.earlier) c.args.name.now ≡ Some (macro_at m.now, before (plain_macros ms) m.now.number))
+          c.self.view_is here.1,
     )
 
 pub returns-in_default : goal.returns-in_default

@@ -17,17 +17,15 @@ some_is (Some m) p b h e t = ap is_some (sym h)
 
 pub invariant_of-self : goal.invariant_of-self
 invariant_of-self c =
-    let table = c.self.inside.by_name in
-    still_table table c.insert.new.self.entries c.as_slice-key.result
+    still_table c.self.inside.by_name c.insert.new.self.entries c.as_slice-key.result
     (record { number = c.len-number.result; name = c.args.name; parameters = c.args.parameters; body = c.args.body })
     (none_is c.get.result _ c.is_none.result c.get.ensures.value c.is_none.ensures c.if-is_none.true)
     c.in_ok-insert.ensures.entries c.self.invariant.0 c.as_slice-key.ensures.value c.self.invariant.1 c.len-number.ensures.len
 
 pub returns-in_ok-insert : goal.returns-in_ok-insert
 returns-in_ok-insert c =
-    let table = c.self.inside.by_name in
     let m : Macro = record { number = c.len-number.result; name = c.args.name; parameters = c.args.parameters; body = c.args.body } in
-    entered_new table c.insert.new.self.entries c.as_slice-key.result m
+    entered_new c.self.inside.by_name c.insert.new.self.entries c.as_slice-key.result m
     (none_is c.get.result _ c.is_none.result c.get.ensures.value c.is_none.ensures c.if-is_none.true)
     c.in_ok-insert.ensures.entries c.self.invariant.0 c.as_slice-key.ensures.value
     ∙ ap (λ ms. with_macro (plain_macros ms) (macro_at m)) c.self.view_is

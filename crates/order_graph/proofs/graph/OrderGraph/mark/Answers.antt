@@ -12,8 +12,7 @@ overflow_add-index_mut c =
     let counts : List ℕ = s.counts.items in
     let at = c.len-last.result - 1 in
     let size = s.counts.ok.0 in
-    let all = c.self.invariant.counts_all in
-    let len = c.len-last.ensures in
+    let all = c.self.invariant.counts_all in let len = c.len-last.ensures in
     let inside : at < length counts = omega arith in
     let count : c.index_mut.result.now ≡ get_or counts at 0 = get_or_read counts at c.index_mut.result.now inside c.index_mut.ensures.value 0 in
     let below = get_or-le-sum_by (λ x. x) counts at 0 inside in
@@ -37,7 +36,8 @@ invariant_of-self c =
     get_or_read counts at c.index_mut.result.now inside c.index_mut.ensures.value 0 ∙ ap (λ k. get_or counts k 0) last in
     let more : List ℕ = set counts n (get_or counts n 0 + 1) in
     rw (last, count)
-    (order_marked s.nodes s.table s.literals.items s.moments.items counts s.live c.self.invariant more (s.live + 1) (length-set counts n (get_or counts n 0 + 1))
+    (order_marked s.nodes s.table s.literals.items s.moments.items counts s.live c.self.invariant more (s.live + 1)
+    (length-set counts n (get_or counts n 0 + 1))
     (ap (λ m. m + 1) c.self.invariant.lived ∙ sym (ap length (marks_last counts n all) ∙ length_push (marks_from 0 counts) n)))
 
 pub returns-clause-graph : goal.returns-clause-graph

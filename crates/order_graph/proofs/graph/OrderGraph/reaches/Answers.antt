@@ -6,8 +6,7 @@ pub returns : goal.returns
 returns c =
     let s = c.self.inside in
     let nodes = ap (λ v. v.nodes) c.self.view_is in
-    let a_in = c.requires.a_in in
-    let b_in = c.requires.b_in in
+    let a_in = c.requires.a_in in let b_in = c.requires.b_in in
     let sized = order_sized s.nodes s.table s.literals.items s.moments.items s.counts.items s.live c.self.invariant in
     let wide = sized.1 in
     let now = order_now s.nodes s.table s.literals.items s.moments.items s.counts.items s.live c.self.invariant in

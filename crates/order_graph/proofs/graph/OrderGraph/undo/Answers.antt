@@ -9,8 +9,7 @@ use Rattle.order_graph.proofs.graph.OrderGraph.undo.Goals as goal
 
 pub count_at-count-requires-clause-all : goal.count_at-count-requires-clause-all
 count_at-count-requires-clause-all g c =
-    let s = c.self.inside in
-    c.self.invariant.lived ∙ length-marks 0 s.counts.items ∙ ap sum (sym c.deref.ensures.value)
+    c.self.invariant.lived ∙ length-marks 0 c.self.inside.counts.items ∙ ap sum (sym c.deref.ensures.value)
 
 pub undo-requires : goal.undo-requires
 undo-requires g c =
@@ -18,8 +17,7 @@ undo-requires g c =
     let moments : List ℕ = s.moments.items in
     let k = c.count_at-count.result.0 in
     let inside = rw c.deref.ensures.value at c.count_at-count.ensures.inside in
-    let counts_all = c.self.invariant.counts_all in
-    let moments_all = c.self.invariant.moments_all in
+    let counts_all = c.self.invariant.counts_all in let moments_all = c.self.invariant.moments_all in
     let moment : c.index.result.now ≡ get_or moments k 0 = get_or_read moments k c.index.result.now (omega arith) c.index.ensures 0 in
     let cost = order_cost s.nodes s.table s.literals.items moments s.counts.items s.live c.self.invariant k (omega arith) in
     let low = cost.0 in
@@ -32,7 +30,8 @@ cut g c =
     let inside = rw c.deref.ensures.value at c.count_at-count.ensures.inside in
     let place = rw c.deref.ensures.value at c.count_at-count.ensures.place in
     let high = rw c.deref.ensures.value at c.count_at-count.ensures.high in
-    cut_at c.self.inside.counts.items c.count_at-count.result.0 c.count_at-count.result.1 c.args.mark inside (place ∙ ap (λ m. m + 1) c.place.ensures) c.count_at-count.ensures.low high
+    cut_at c.self.inside.counts.items c.count_at-count.result.0 c.count_at-count.result.1 c.args.mark inside (place ∙ ap (λ m. m + 1) c.place.ensures)
+    c.count_at-count.ensures.low high
 
 -- the cut is within the literals
 low : (g : Over) (c : goal.After-self-2-1 g) → c.count_at-count.result.0 ≤ length c.self.inside.literals.items
@@ -49,13 +48,13 @@ moment g c =
 
 pub invariant_of-self : goal.invariant_of-self
 invariant_of-self g c =
-    let s = c.self.inside in
-    let k = c.count_at-count.result.0 in
+    let s = c.self.inside in let k = c.count_at-count.result.0 in
     let inside = rw c.deref.ensures.value at c.count_at-count.ensures.inside in
     let tables_are : tables c.undo.new.self ≡ take (get_or s.moments.items k 0 + 1) (tables s.table) =
     c.undo.ensures.tables ∙ ap (λ m. take (m + 1) (tables s.table)) (moment g c) in
     rw (c.truncate.ensures.items, c.truncate-2.ensures.items, c.truncate-3.ensures.items, c.place-2.ensures)
-    (order_undone s.nodes s.table c.undo.new.self s.literals.items s.moments.items s.counts.items s.live c.self.invariant k c.count_at-count.result.1 c.args.mark inside (cut g c)
+    (order_undone s.nodes s.table c.undo.new.self s.literals.items s.moments.items s.counts.items s.live c.self.invariant k c.count_at-count.result.1
+    c.args.mark inside (cut g c)
     c.undo.ensures.rows c.undo.ensures.words tables_are)
 
 pub returns-clause-cut : goal.returns-clause-cut
@@ -65,7 +64,8 @@ returns-clause-cut g c =
     rw (← c.self.view_is, (cut g c).at) record {
       same_nodes = refl;
       literals = c.truncate.ensures.items;
-      marks = ap (marks_from 0) (c.truncate-3.ensures.items ∙ take_more_set s.counts.items c.count_at-count.result.0 c.count_at-count.result.1 inside) ∙ (cut g c).marks;
+      marks = ap (marks_from 0) (c.truncate-3.ensures.items ∙ take_more_set s.counts.items c.count_at-count.result.0 c.count_at-count.result.1 inside)
+          ∙ (cut g c).marks;
       recorded = c.truncate-2.ensures.items;
     }
 
@@ -76,14 +76,12 @@ pub returns-clause-cost : goal.returns-clause-cost
 returns-clause-cost g c =
     let s = c.self.inside in
     let at = moment g c in
-    let last = c.self.invariant.last in
-    let counted = c.undo.ensures.cost in
+    let last = c.self.invariant.last in let counted = c.undo.ensures.cost in
     rw (← c.self.view_is, (cut g c).at) (omega arith)
 
 pub returns-clause-bound : goal.returns-clause-bound
 returns-clause-bound g c =
-    let s = c.self.inside in
-    let k = c.count_at-count.result.0 in
+    let s = c.self.inside in let k = c.count_at-count.result.0 in
     let at = moment g c in
     let counted = c.undo.ensures.cost in
     let cost = order_cost s.nodes s.table s.literals.items s.moments.items s.counts.items s.live c.self.invariant k (low g c) in

@@ -27,20 +27,24 @@ index-requires c =
 
 pub slice_bounds-result-count : goal.slice_bounds-result-count
 slice_bounds-result-count c =
-    (place c.self.inside.bytes.items c.self.inside.ends.items c.as_slice.result.now c.deref.result.now c.args.self.now c.args.k c.begin_of.result c.index.result.now
+    (place c.self.inside.bytes.items c.self.inside.ends.items c.as_slice.result.now c.deref.result.now c.args.self.now
+    c.args.k c.begin_of.result c.index.result.now
     c.self.view_is c.requires c.self.invariant.0 c.as_slice.ensures.value c.deref.ensures.value c.begin_of.ensures c.index.ensures).0
 
 pub slice_bounds-result-start : goal.slice_bounds-result-start
 slice_bounds-result-start c =
-    (place c.self.inside.bytes.items c.self.inside.ends.items c.as_slice.result.now c.deref.result.now c.args.self.now c.args.k c.begin_of.result c.index.result.now
+    (place c.self.inside.bytes.items c.self.inside.ends.items c.as_slice.result.now c.deref.result.now c.args.self.now
+    c.args.k c.begin_of.result c.index.result.now
     c.self.view_is c.requires c.self.invariant.0 c.as_slice.ensures.value c.deref.ensures.value c.begin_of.ensures c.index.ensures).0
 
 pub slice_bounds-result-end : goal.slice_bounds-result-end
 slice_bounds-result-end c =
-    (place c.self.inside.bytes.items c.self.inside.ends.items c.as_slice.result.now c.deref.result.now c.args.self.now c.args.k c.begin_of.result c.index.result.now
+    (place c.self.inside.bytes.items c.self.inside.ends.items c.as_slice.result.now c.deref.result.now c.args.self.now
+    c.args.k c.begin_of.result c.index.result.now
     c.self.view_is c.requires c.self.invariant.0 c.as_slice.ensures.value c.deref.ensures.value c.begin_of.ensures c.index.ensures).1
 
 pub returns : goal.returns
 returns c =
-    (place c.self.inside.bytes.items c.self.inside.ends.items c.as_slice.result.now c.deref.result.now c.args.self.now c.args.k c.begin_of.result c.index.result.now
+    (place c.self.inside.bytes.items c.self.inside.ends.items c.as_slice.result.now c.deref.result.now c.args.self.now
+    c.args.k c.begin_of.result c.index.result.now
     c.self.view_is c.requires c.self.invariant.0 c.as_slice.ensures.value c.deref.ensures.value c.begin_of.ensures c.index.ensures).2

@@ -4,9 +4,7 @@ use Rattle.pc_case.proofs.type_names.TypeNames.push.Goals as goal
 
 pub invariant_of-self-2 : goal.invariant_of-self-2
 invariant_of-self-2 c =
-    let name = c.args.name.now in
-    let bytes = c.extend_from_slice.new.self in
-    let old = c.self.inside in
+    let name = c.args.name.now in let bytes = c.extend_from_slice.new.self in let old = c.self.inside in
     one_more_held old.bytes.items name old.ends.items bytes.items c.push.new.self.items
     (c.in_ok-extend_from_slice.ensures.items ∙ ap (λ bs. bs ++ name) c.reserve.ensures.items)
     (c.in_ok-push.ensures.items ∙ (λ i. c.reserve-2.ensures.items i ++ (c.len.ensures ∙ bytes.ok.0) i ∷ []))
@@ -14,9 +12,7 @@ invariant_of-self-2 c =
 
 pub returns : goal.returns
 returns c =
-    let name = c.args.name.now in
-    let bytes = c.extend_from_slice.new.self in
-    let old = c.self.inside in
+    let name = c.args.name.now in let bytes = c.extend_from_slice.new.self in let old = c.self.inside in
     one_more_cut old.bytes.items name old.ends.items bytes.items c.push.new.self.items
     (c.in_ok-extend_from_slice.ensures.items ∙ ap (λ bs. bs ++ name) c.reserve.ensures.items)
     (c.in_ok-push.ensures.items ∙ (λ i. c.reserve-2.ensures.items i ++ (c.len.ensures ∙ bytes.ok.0) i ∷ []))

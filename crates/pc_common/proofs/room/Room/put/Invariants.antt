@@ -8,7 +8,8 @@ abbrev pub invariant-loop-at : goal.invariant-loop-at
 invariant-loop-at g l = record {
   within : l.at ≤ length l.piece;
   puts : Puts g.K.Sink.view l.initial.self l.self success (take l.at l.piece);
-  fits : l.initial.self.waiting.used + length l.piece ≤ 4096 → (l.self.waiting.used ≡ l.initial.self.waiting.used + l.at) × (l.self.out.now ≡ l.initial.self.out.now);
+  fits : l.initial.self.waiting.used + length l.piece ≤ 4096 → (l.self.waiting.used ≡ l.initial.self.waiting.used + l.at)
+      × (l.self.out.now ≡ l.initial.self.out.now);
 }
 
 abbrev pub decreases-loop-at : goal.decreases-loop-at

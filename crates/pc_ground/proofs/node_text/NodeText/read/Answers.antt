@@ -13,7 +13,8 @@ returns-in_default-clause-again c = λ a inside is. c.in_default.ensures (formed
 pub returns-in-Some-named-clause-read : goal.returns-in-Some-named-clause-read
 returns-in-Some-named-clause-read c = (
   named_in c.args.self.now c.in-Some.words (key_node c.in-Some-named.key) c.in-Some-named.key.in_range.1 c.in-Some-named.ensures,
-  named_text c.args.self.now c.args.word.now c.in-Some.words (key_node c.in-Some-named.key) c.show_kept.ensures.stages c.in-Some.ensures c.in-Some-named.ensures,
+  named_text c.args.self.now c.args.word.now c.in-Some.words (key_node c.in-Some-named.key) c.show_kept.ensures.stages
+      c.in-Some.ensures c.in-Some-named.ensures,
 )
 
 pub returns-in-Some-named-clause-readable : goal.returns-in-Some-named-clause-readable
@@ -23,7 +24,8 @@ pub returns-in-Some-named-clause-again : goal.returns-in-Some-named-clause-again
 returns-in-Some-named-clause-again c = λ a inside is.
     (readable c.args.self.now c.show_kept.ensures).apart (key_node c.in-Some-named.key) a
     (named_in c.args.self.now c.in-Some.words (key_node c.in-Some-named.key) c.in-Some-named.key.in_range.1 c.in-Some-named.ensures) inside
-    (sym (named_text c.args.self.now c.args.word.now c.in-Some.words (key_node c.in-Some-named.key) c.show_kept.ensures.stages c.in-Some.ensures c.in-Some-named.ensures) ∙ is)
+    (sym (named_text c.args.self.now c.args.word.now c.in-Some.words (key_node c.in-Some-named.key) c.show_kept.ensures.stages
+    c.in-Some.ensures c.in-Some-named.ensures) ∙ is)
 
 pub returns-in-None-clause-read : goal.returns-in-None-clause-read
 returns-in-None-clause-read c = (

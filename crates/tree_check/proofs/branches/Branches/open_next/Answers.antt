@@ -11,7 +11,8 @@ returns-in-Some c =
     let old = subst P (sym c.self.view_is) st in record {
       version = old.version;
       rows = old.rows;
-      are_open = did_open me.is_open t me.facts c.truncate.new.self c.enter_side.new.facts me.later.items c.pop.new.self.items c.in-Some.next ps opens old.are_open
+      are_open = did_open me.is_open t me.facts c.truncate.new.self c.enter_side.new.facts me.later.items c.pop.new.self.items
+          c.in-Some.next ps opens old.are_open
           c.in-Some.ensures.items c.truncate.ensures first (λ qs b. entered t qs old.rows b);
     })
     c.enter_side.ensures.first c.enter_side.ensures.entered

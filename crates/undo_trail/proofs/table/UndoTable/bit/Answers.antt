@@ -12,8 +12,7 @@ returns c =
     let place = c.args.r * s.words + c.args.c / 64 in
     let rows = ap (λ v. v.rows) c.self.view_is in
     let words = ap (λ v. v.words) c.self.view_is in
-    let row_in = c.requires.row_in in
-    let column_in = c.requires.column_in in
+    let row_in = c.requires.row_in in let column_in = c.requires.column_in in
     let below = place_in c.args.r c.args.c s.rows s.words (omega arith) (omega arith) in
     let size = c.self.invariant.1.all in
     let word : c.index.result.now ≡ get_or s.table.items place 0 =

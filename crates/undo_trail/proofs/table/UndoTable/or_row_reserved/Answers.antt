@@ -10,7 +10,6 @@ or_into-requires-clause-apart c = rows_apart c.args.src c.args.dst c.self.inside
 
 pub returns-clause-row : goal.returns-clause-row
 returns-clause-row c =
-    let t = c.self.inside.table.items in
     let u = c.or_into.new.table in
     let size : length u ≡ c.self.inside.table.len = c.or_into.auto.table ∙ c.deref_mut.ensures.len in
     rw (← c.self.view_is, with_items_is c.self.inside.table u size, ← c.deref_mut.ensures.value)
@@ -18,8 +17,7 @@ returns-clause-row c =
 
 pub returns-clause-trail : goal.returns-clause-trail
 returns-clause-trail c =
-    let s = c.self.inside in
-    let u = c.or_into.new.table in
+    let s = c.self.inside in let u = c.or_into.new.table in
     let size : length u ≡ s.table.len = c.or_into.auto.table ∙ c.deref_mut.ensures.len in
     let room = vec_capacity s.trail - vec_len s.trail in
     let left = vec_capacity c.or_into.new.trail - vec_len c.or_into.new.trail in

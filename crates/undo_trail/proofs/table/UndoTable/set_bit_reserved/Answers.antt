@@ -14,8 +14,7 @@ returns-clause-set c =
     let size : length u ≡ s.table.len = c.put.auto.table ∙ c.deref_mut.ensures.len in
     let rows = ap (λ v. v.rows) c.self.view_is in
     let words = ap (λ v. v.words) c.self.view_is in
-    let row_in = c.requires.row_in in
-    let column_in = c.requires.column_in in
+    let row_in = c.requires.row_in in let column_in = c.requires.column_in in
     let column_low : c.args.c < 64 * s.words = omega arith in
     let below = place_in c.args.r c.args.c s.rows s.words (omega arith) column_low in
     let all = c.self.invariant.1.all in
@@ -28,8 +27,7 @@ returns-clause-set c =
 
 pub returns-clause-trail : goal.returns-clause-trail
 returns-clause-trail c =
-    let s = c.self.inside in
-    let u = c.put.new.table in
+    let s = c.self.inside in let u = c.put.new.table in
     let size : length u ≡ s.table.len = c.put.auto.table ∙ c.deref_mut.ensures.len in
     let room = vec_capacity s.trail - vec_len s.trail in
     let left = vec_capacity c.put.new.trail - vec_len c.put.new.trail in

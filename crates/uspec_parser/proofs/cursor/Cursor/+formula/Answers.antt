@@ -41,9 +41,11 @@ operand-returns-in_ok-head-in-Exists t c =
 
 pub operand-returns-in_default : goal.operand-returns-in_default
 operand-returns-in_default t c =
-    ok_map c.atom.result (λ f. Atom (next c.args.self.now) c.args.self.now (written f) c.atom.new.self) (λ f. Operand c.args.self.now (written f) c.atom.new.self)
+    ok_map c.atom.result (λ f. Atom (next c.args.self.now) c.args.self.now (written f) c.atom.new.self)
+    (λ f. Operand c.args.self.now (written f) c.atom.new.self)
     c.atom.ensures
-    (λ f a. atom c.next.result c.args.self.now c.atom.new.self (written f) c.next.ensures c.in_default.not-Not c.in_default.not-Open c.in_default.not-Forall c.in_default.not-Exists a)
+    (λ f a. atom c.next.result c.args.self.now c.atom.new.self (written f) c.next.ensures c.in_default.not-Not
+    c.in_default.not-Open c.in_default.not-Forall c.in_default.not-Exists a)
 
 pub formula-loop-connective-init : goal.formula-loop-connective-init
 formula-loop-connective-init t c = (
@@ -72,7 +74,8 @@ formula-loop-connective-preserved t c =
     let j : Link = record { operand = c.loop-connective.last; connective = c.in-Some.connective } in (
       omega (arith, c.loop-connective.invariant.0),
       λ more rest tail.
-          let operand = subst (λ (xs : List Lexeme). Operand xs (written c.in_ok-last-2.last) c.operand-in-Some.new.self) c.skip.ensures c.in_ok-last-2.ensures in
+          let operand = subst (λ (xs : List Lexeme). Operand xs (written c.in_ok-last-2.last) c.operand-in-Some.new.self)
+          c.skip.ensures c.in_ok-last-2.ensures in
           let longer = Tail.goes_on {w = last} op (ap connective (sym c.next.ensures) ∙ c.in-Some.ensures) operand tail in
           let all = c.loop-connective.invariant.1 (chain last op more) rest longer in
           row_pushed c.args.self.now rest c.push.new.self.items items j more c.in_ok-push.ensures.items all,

@@ -11,7 +11,8 @@ use Rattle.uspec_parser.proofs.cursor.Cursor.elements.Goals as goal
 pub loop-alloc-smaller : goal.loop-alloc-smaller
 loop-alloc-smaller g c =
     let opens : next c.loop-alloc.self ≡ Open = c.is_next.ensures.0 c.loop-alloc-test.true in
-    let left : c.semicolon.new.self ≡ behind_semicolon (g.E.Element.behind_one c.loop-alloc.self) = c.semicolon.ensures ∙ ap behind_semicolon c.in_ok-read.ensures.rest in
+    let left : c.semicolon.new.self ≡ behind_semicolon (g.E.Element.behind_one c.loop-alloc.self) = c.semicolon.ensures
+    ∙ ap behind_semicolon c.in_ok-read.ensures.rest in
     let same = ap length left in
     let after = semicolon_no_longer (g.E.Element.behind_one c.loop-alloc.self) in
     let read = ap length c.in_ok-read.ensures.rest in
@@ -23,11 +24,13 @@ loop-alloc-smaller g c =
 pub loop-alloc-preserved : goal.loop-alloc-preserved
 loop-alloc-preserved g c = λ more rest others.
     let opens : next c.loop-alloc.self ≡ Open = c.is_next.ensures.0 c.loop-alloc-test.true in
-    let left : c.semicolon.new.self ≡ behind_semicolon (g.E.Element.behind_one c.loop-alloc.self) = c.semicolon.ensures ∙ ap behind_semicolon c.in_ok-read.ensures.rest in
+    let left : c.semicolon.new.self ≡ behind_semicolon (g.E.Element.behind_one c.loop-alloc.self) = c.semicolon.ensures
+    ∙ ap behind_semicolon c.in_ok-read.ensures.rest in
     let all = c.loop-alloc.invariant (g.E.Element.one c.loop-alloc.self ∷ more) rest
     (goes_on opens (subst (λ (xs : List Lexeme). Elements g.E.Element.one g.E.Element.behind_one xs more rest) left others)) in
     subst (λ (es : List _). Elements g.E.Element.one g.E.Element.behind_one c.args.self.now es rest)
-    (pushed c.push.new.self c.loop-alloc.elements more c.in_ok-read.field-0 (g.E.Element.one c.loop-alloc.self) c.in_ok-push.ensures c.in_ok-read.ensures.value) all
+    (pushed c.push.new.self c.loop-alloc.elements more c.in_ok-read.field-0 (g.E.Element.one c.loop-alloc.self)
+    c.in_ok-push.ensures c.in_ok-read.ensures.value) all
 
 pub returns : goal.returns
 returns g c =
@@ -36,4 +39,5 @@ returns g c =
     subst (λ (xs : List Lexeme). Elements g.E.Element.one g.E.Element.behind_one c.args.self.now c.loop-alloc.elements xs) (sym c.skip.ensures)
     (subst (λ (es : List _). Elements g.E.Element.one g.E.Element.behind_one c.args.self.now es (behind c.loop-alloc.self)) (append-nil c.loop-alloc.elements)
     (c.loop-alloc.invariant [] (behind c.loop-alloc.self) (ends none))) in
-    all_shared c.of.result c.loop-alloc.elements (λ (es : List _). Elements g.E.Element.one g.E.Element.behind_one c.args.self.now es c.skip.new.self) all c.of.ensures
+    all_shared c.of.result c.loop-alloc.elements (λ (es : List _). Elements g.E.Element.one g.E.Element.behind_one c.args.self.now es c.skip.new.self)
+    all c.of.ensures

@@ -33,9 +33,11 @@ returns-in_ok-push-in-Axiom c =
     let (l, rest, body, is, left) = c.in_ok-axiom-in-Axiom.ensures in (
       [],
       axiom_ (place old) (formula_of l) ∷ [],
-      subst (λ (xs : List Lexeme). Item old [] (axiom_ (place old) (formula_of l) ∷ []) xs) (sym left) (Item.axiom_line (sym c.next.ensures ∙ c.in-Axiom.is) body),
+      subst (λ (xs : List Lexeme). Item old [] (axiom_ (place old) (formula_of l) ∷ []) xs) (sym left)
+          (Item.axiom_line (sym c.next.ensures ∙ c.in-Axiom.is) body),
       sym (append-nil c.args.file.now.stages),
-      more_items c.push-in-Axiom.new.self c.args.file.now.items c.in_ok-axiom-in-Axiom.axiom (axiom_ (place old) (formula_of l)) c.in_ok-push-in-Axiom.ensures is,
+      more_items c.push-in-Axiom.new.self c.args.file.now.items c.in_ok-axiom-in-Axiom.axiom (axiom_ (place old) (formula_of l))
+          c.in_ok-push-in-Axiom.ensures is,
     )
 
 macro_next : (t : Terminal) → begins_item t ≡ true → (t ≡ StageName → ⊥) → (t ≡ Axiom → ⊥) → t ≡ DefineMacro
@@ -54,5 +56,6 @@ returns-in_ok-push-in_default c =
       macro_item old ws l ∷ [],
       subst (λ (xs : List Lexeme). Item old [] (macro_item old ws l ∷ []) xs) (sym left) (Item.macro here parameters body),
       sym (append-nil c.args.file.now.stages),
-      more_items c.push-in_default.new.self c.args.file.now.items c.in_ok-definition-in_default.definition (macro_item old ws l) c.in_ok-push-in_default.ensures is,
+      more_items c.push-in_default.new.self c.args.file.now.items c.in_ok-definition-in_default.definition (macro_item old ws l)
+          c.in_ok-push-in_default.ensures is,
     )

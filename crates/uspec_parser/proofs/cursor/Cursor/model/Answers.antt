@@ -22,7 +22,8 @@ pub loop-alloc-preserved : goal.loop-alloc-preserved
 loop-alloc-preserved c = λ ss is others.
     let (added, lines, item, stages, items) = c.in_ok-item.ensures in
     let file = c.loop-alloc.file in
-    moved c.args.self.now (file.stages ++ (added ++ ss)) (c.item.new.file.stages ++ ss) (map written_item file.items ++ (lines ++ is)) (map written_item c.item.new.file.items ++ is)
+    moved c.args.self.now (file.stages ++ (added ++ ss)) (c.item.new.file.stages ++ ss) (map written_item file.items ++ (lines ++ is))
+    (map written_item c.item.new.file.items ++ is)
     (rejoined c.item.new.file.stages file.stages added ss stages)
     (rejoined (map written_item c.item.new.file.items) (map written_item file.items) lines is items)
     (c.loop-alloc.invariant (added ++ ss) (lines ++ is) (Items.goes_on item others))

@@ -1,5 +1,5 @@
 use Rattle.std.proofs.Common.{rules, ◌≡◌, sym, ◌∙◌}
-use Rattle.uspec_lexer.specs.Span.{kind_of}
+use Rattle.uspec_lexer.specs.Span.{kind_of_token}
 use Rattle.uspec_parser.specs.declared.terminal.Terminal.TheVariants.{Number}
 use Rattle.uspec_parser.proofs.StageNames.{number_only}
 use Rattle.uspec_parser.proofs.cursor.Cursor.number.Goals as goal
@@ -7,4 +7,4 @@ use Rattle.uspec_parser.proofs.cursor.Cursor.number.Goals as goal
 pub value-requires : goal.value-requires
 value-requires c =
     let same : c.from_token.result ≡ Number = search rules in
-    number_only (kind_of c.in-Some.token.kind) c.in-Some.token.piece.now (sym c.from_token.ensures ∙ same)
+    number_only (kind_of_token c.in-Some.token.kind) c.in-Some.token.piece.now (sym c.from_token.ensures ∙ same)

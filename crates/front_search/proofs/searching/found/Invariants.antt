@@ -1,5 +1,0 @@
--- The ledger is the one that the blank is of.
-use Rattle.front_search.proofs.searching.found.Given as goal
-
-abbrev pub ghosts-searched : goal.ghosts-searched
-ghosts-searched a = record { name = a.blank.name; parts = a.blank.parts }

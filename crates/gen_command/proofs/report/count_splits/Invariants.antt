@@ -1,7 +1,0 @@
--- The splits of the first steps were counted.
-use Rattle.std.proofs.Common.{◌≡◌, ◌≤◌, take}
-use Rattle.gen_command.specs.Summaries.{splits_of}
-use Rattle.gen_command.proofs.report.count_splits.Given as goal
-
-abbrev pub invariant-loop-k : goal.invariant-loop-k
-invariant-loop-k l = (l.splits ≡ splits_of (take l.k l.steps)) × (l.splits ≤ l.k)

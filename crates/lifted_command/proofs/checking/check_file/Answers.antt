@@ -1,8 +1,0 @@
-use Rattle.lifted_check.specs.LiftedTexts.{asked}
-use Rattle.lifted_command.proofs.OneAnswer.{file_found}
-use Rattle.lifted_command.proofs.checking.check_file.Goals as goal
-
-pub returns-clause-found : goal.returns-clause-found
-returns-clause-found g c = λ told.
-    file_found c.finish.result (rw c.as_slice.ensures.value at c.new-checker.ensures) (c.in_ok-checker.ensures.took told)
-    (λ text fed. c.finish.ensures.found (asked c.args.parts.now.case c.args.parts.now.axioms) text fed)

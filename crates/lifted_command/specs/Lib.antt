@@ -1,3 +1,0 @@
-pub mod LiftedTexts
-pub mod Reading
-pub mod LiftedAnswers

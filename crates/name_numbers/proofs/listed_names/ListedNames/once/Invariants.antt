@@ -1,6 +1,0 @@
-use Rattle.std.proofs.Common.{map, take, All}
-use Rattle.name_numbers.specs.Numbers.{name_bytes, IsAmong}
-use Rattle.name_numbers.proofs.listed_names.ListedNames.once.Given as goal
-
-abbrev pub invariant-loop-name : goal.invariant-loop-name
-invariant-loop-name l = All (λ name. IsAmong (map name_bytes l.once.keys) name.now) (take l.name-index l.name-items)

@@ -1,8 +1,0 @@
-use Rattle.pc_syntax.specs.Written.{written}
-use Rattle.query_front.proofs.InquiryParts.{pushed_is}
-use Rattle.query_front.proofs.denial.with_denial.Goals as goal
-
-pub returns : goal.returns
-returns c =
-    let model = c.args.model in
-    rw c.in_ok-push.ensures (pushed_is model.stages model.items c.in_ok-body.body (written c.args.formula) c.in_ok-body.ensures)

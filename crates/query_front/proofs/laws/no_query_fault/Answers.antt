@@ -1,5 +1,0 @@
-use Rattle.query_front.proofs.OneQuery.{no_fault_beside}
-use Rattle.query_front.proofs.laws.no_query_fault.Goals as goal
-
-pub returns : goal.returns
-returns c = λ m. no_fault_beside m c.args.bytes.now

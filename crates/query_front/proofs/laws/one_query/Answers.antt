@@ -1,5 +1,0 @@
-use Rattle.query_front.proofs.OneQuery.{one_whole_formula}
-use Rattle.query_front.proofs.laws.one_query.Goals as goal
-
-pub returns : goal.returns
-returns c = one_whole_formula c.args.bytes.now

@@ -1,5 +1,0 @@
-use Rattle.query_front.proofs.OneQuery.{one_fault}
-use Rattle.query_front.proofs.laws.one_query_fault.Goals as goal
-
-pub returns : goal.returns
-returns c = λ m. one_fault m c.args.bytes.now

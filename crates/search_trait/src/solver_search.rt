@@ -1,0 +1,31 @@
+use super::search::Search;
+use super::searching::search_front;
+use super::shortening::shorten_found;
+use pc_case::Case;
+use pc_common::Memory;
+use pc_ground::{Axioms, Front, Parts, Version};
+use solver::Answer;
+use std::alloc::Global;
+
+/// The grounder behind `front_maker`, and the search of `solver`.
+pub struct Solver;
+
+impl Search for Solver {
+    fn front_of(alloc: Global, parts: Parts) -> Result<Front, Memory> {
+        front_maker::front_of(alloc, parts)
+    }
+
+    fn front_with(
+        alloc: Global,
+        front: &Front,
+        case: Case,
+        axioms: Axioms,
+    ) -> Result<Front, Memory> {
+        front_maker::front_with(alloc, front, case, axioms)
+    }
+
+    fn found_of(alloc: Global, front: &Front) -> Result<Answer, Memory> {
+        let found = search_front(alloc, front, Version::One)?;
+        shorten_found(alloc, front, Version::One, found)
+    }
+}

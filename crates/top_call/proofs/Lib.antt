@@ -1,0 +1,5 @@
+pub mod WordsOutcomes
+pub mod WrittenStatus
+pub mod Headline
+pub mod OneVerdict
+pub mod WrittenOut

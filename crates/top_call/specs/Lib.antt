@@ -1,0 +1,6 @@
+pub mod Answers
+pub mod Headline
+pub mod AnswerTexts
+pub mod Runs
+pub mod Decides
+pub mod Laws

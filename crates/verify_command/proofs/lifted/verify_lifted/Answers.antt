@@ -1,0 +1,16 @@
+use Rattle.command_base.proofs.ThirdFile.{third_ending}
+use Rattle.verify_command.specs.LiftedAnswers.{IsJudged}
+use Rattle.verify_command.proofs.LiftedOutcomes.{found_outcome}
+use Rattle.verify_command.proofs.lifted.verify_lifted.Goals as goal
+
+pub returns-in-Err : goal.returns-in-Err
+returns-in-Err g c =
+    third_ending (g.met.F.Files.failing_modelled c.args.files.now) c.args.certificate.now
+    (IsJudged ((g.F.Files.view c.args.files.now).holds) c.args.certificate.now)
+    c.in-Err.ending c.in-Err.ensures
+
+pub returns : goal.returns
+returns g c =
+    found_outcome (g.met.F.Files.failing_modelled c.args.files.now) {first_fault = g.S.SecondFile.first_fault}
+    c.args.certificate.now c.in-Ok.ensures c.check_lifted-checked.ensures.keeps
+    c.in_ok-checked.field-0 c.in_ok-checked.ensures.found

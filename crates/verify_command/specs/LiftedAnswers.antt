@@ -1,0 +1,37 @@
+-- The answer of `verify-lifted` to three files, and the status that is due.
+use Rattle.std.specs.Prelude.{◌≡◌, ℕ, List, Some}
+use Rattle.pc_common.specs.Case.{Case}
+use Rattle.pc_common.specs.declared.fault.InputFault.{InputFault}
+use Rattle.pc_common.specs.declared.status.Status.{Status}
+use Rattle.pc_syntax.specs.Written.{WrittenModel}
+use Rattle.lifted_check.specs.declared.lifted.Lifted.{Lifted}
+use Rattle.lifted_check.specs.LiftedTexts.{Question}
+use Rattle.lifted_check.specs.Fed.{IsFound}
+use Rattle.command_base.specs.Inputs.{Inputs, Contents}
+use Rattle.command_base.specs.FileAnswers.{AnswersFiles, IsDueOfFiles}
+use Rattle.verify_command.specs.LiftedTexts.{lifted_status, lifted_text}
+use Rattle.command_base.specs.LiftedQuestions.{lifted_question}
+
+-- what the third file is to the model and the case
+pub data IsJudged (holds : Contents) (certificate : List ℕ) (m : WrittenModel) (c : Case) : Status → List ℕ → Type 0 where
+  judged : {bytes : List ℕ} {found : Lifted} → holds certificate ≡ Some bytes → IsFound (lifted_question m c) bytes found
+      → IsJudged holds certificate m c (lifted_status found) (lifted_text found)
+
+-- the status is that of the one thing that a text is to a question
+pub record IsStatusOf (q : Question) (text : List ℕ) (status : Status) : Type 0 where
+  pub found : Lifted
+  pub is : IsFound q text found
+  pub only : (other : Lifted) → IsFound q text other → other ≡ found
+  pub status_is : status ≡ lifted_status found
+
+-- the status of what the third file holds
+abbrev pub IsDueCheck : Contents → List ℕ → WrittenModel → Case → Status → Type 0
+IsDueCheck holds certificate m c status = (bytes : List ℕ) → holds certificate ≡ Some bytes → IsStatusOf (lifted_question m c) bytes status
+
+module _ (case_of : List ℕ → Case → Type 0) (first_fault : List ℕ → List ℕ → InputFault → Type 0) (holds : Contents) (i : Inputs) (certificate : List ℕ) where
+  -- the refusal by the first fault, or what the third file is
+  abbrev pub AnswersLifted : Status → List ℕ → Type 0
+  AnswersLifted = AnswersFiles case_of first_fault holds i (IsJudged holds certificate)
+
+  abbrev pub IsLiftedDue : Status → Type 0
+  IsLiftedDue = IsDueOfFiles case_of first_fault holds i (IsDueCheck holds certificate)
