@@ -5,6 +5,7 @@ turn, less one for the start of each search: both are the same in each run, what
 split. The splits of a text are fewer, since a refutation is written without those that it does not need, and a graph has
 none.
 """
+import math
 import os
 import re
 import subprocess
@@ -56,6 +57,11 @@ def saved(folder: str, name: str, text: str) -> str:
     return path
 
 
+def saved_all(folder: str, **texts: str) -> list[str]:
+    """A file for each text, by its name."""
+    return [saved(folder, name, text) for name, text in texts.items()]
+
+
 def calls_of(profile: str, functions: tuple[str, ...]) -> list[int]:
     """How often a profile of callgrind has each of these functions called."""
     names: dict[str, str] = {}
@@ -98,3 +104,36 @@ def timed(limit: float, out: str, *words: str) -> Timed:
     done = subprocess.run(command, stdout=subprocess.PIPE, check=True)
     seconds, peak, status = done.stdout.split()
     return Timed(float(seconds), 1024 * int(peak), int(status) != TIMED_OUT)
+
+
+def instructions(*words: str) -> int:
+    """How many instructions the program takes."""
+    return counted(*words).instructions
+
+
+def heap_peak(*words: str) -> int:
+    """The most bytes of the heap that the program has at one time, by massif."""
+    with tempfile.TemporaryDirectory() as folder:
+        out = os.path.join(folder, "heap")
+        command = ["valgrind", "--tool=massif", "--peak-inaccuracy=0.0", f"--massif-out-file={out}", PROGRAM, *words]
+        subprocess.run(command, stdout=subprocess.DEVNULL, stderr=subprocess.DEVNULL, check=False)
+        with open(out, encoding="ascii") as file:
+            return max(map(int, re.findall(r"^mem_heap_B=(\d+)$", file.read(), re.MULTILINE)))
+
+
+def peak_bytes(*words: str) -> int:
+    """The peak memory of the program, in bytes."""
+    return timed(math.inf, os.devnull, PROGRAM, *words).peak
+
+
+def is_built() -> bool:
+    """Whether the program stands; `pipecheck` builds it where a source changed. Says so where it does not."""
+    stands = subprocess.run([os.path.join(TOP, "pipecheck")], stdout=subprocess.DEVNULL, check=False).returncode != 125
+    if not stands:
+        print("not built: nothing to measure")
+    return stands
+
+
+def show(what: str, figure: float, bar: float, width: int = 84) -> None:
+    """One line of a table: a figure beside its bar."""
+    print(f"{what:{width}} {figure:8.2f}   bar {bar}", flush=True)
