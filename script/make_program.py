@@ -23,8 +23,9 @@ import time
 from dataclasses import dataclass
 from typing import Iterator, Optional
 
+import jobs
 from preview import Preview, is_misuse, previewing
-from processes import SIGNALS, Ended, Process, end_by, running, stop_with
+from processes import SIGNALS, Ended, Process, end_by, running
 
 # Lines of `rt` that say nothing of why a build failed.
 WELL = re.compile(r": proved$|^(statements|library|logic|by-macro) ")
@@ -152,9 +153,9 @@ def make(job: Job) -> None:
         checkout, temporary = f"{room}/checkout", f"{room}/temporary"
         os.mkdir(temporary, 0o711)
         copy_crates(job, checkout)
+        os.environ.update(jobs.environment())
         # a crate reads of those below it what they state, and not their proofs: so this takes less time than `rt run`
         with running(["rt", "ci"], checkout, temporary, log, log) as gate:
-            stop_with(gate)
             with previewing(job.top, job.words, checkout, temporary) as preview:
                 status = wait_for(gate, preview, job)
         if status != 0:

@@ -17,7 +17,7 @@ MEMORY = 4 << 30
 
 def forms_of(top: str, word: str) -> list[tuple[str, list[str]]]:
     """The forms of a command by the table of commands: whose each is, and what the words after the first are."""
-    with open(f"{top}/commands", encoding="utf-8") as table:
+    with open(f"{top}/commands.txt", encoding="utf-8") as table:
         rows = [line.split("|") for line in table]
     return [(row[0], row[2].split()) for row in rows if len(row) > 2 and row[1] == word]
 

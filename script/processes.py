@@ -7,7 +7,7 @@ import os
 import signal
 import subprocess
 from types import FrameType
-from typing import IO, Iterator, Optional
+from typing import IO, Callable, Iterator, Optional
 
 Process = subprocess.Popen
 
@@ -26,23 +26,38 @@ class Ended(BaseException):
 
 class Signals:
     """What asks for an end. The first signal raises `Ended`, later where it is held. Others after it are passed over,
-    so that what was begun is cleared once, and whole."""
+    so that what was begun is cleared once, and whole.
+
+    And Ctrl-Z, which the terminal sends to this process's group alone: it stops what was begun here too."""
 
     def __init__(self) -> None:
         self.is_held = False
         self.number = 0
+        self.is_stop_held = False
+        self.leaders: list[Process[bytes]] = []
 
     def receive(self) -> None:
-        for it in ENDING:
+        answers: dict[int, Callable[[int, Optional[FrameType]], None]] = dict.fromkeys(ENDING, self.end)
+        answers[signal.SIGTSTP] = self.stop
+        for it, answer in answers.items():
             # what is ignored, as under `nohup`, stays so
             if signal.getsignal(it) is not signal.SIG_IGN:
-                signal.signal(it, self.end)
+                signal.signal(it, answer)
 
     def end(self, number: int, _: Optional[FrameType]) -> None:
         if self.number == 0:
             self.number = number
             if not self.is_held:
                 raise Ended(number)
+
+    def stop(self, _: int, __: Optional[FrameType]) -> None:
+        self.is_stop_held = self.is_held
+        if not self.is_held:
+            for it in self.leaders:
+                signal_group(it, signal.SIGTSTP)
+            os.kill(os.getpid(), signal.SIGSTOP)
+            for it in self.leaders:
+                signal_group(it, signal.SIGCONT)
 
     @contextlib.contextmanager
     def held(self) -> Iterator[None]:
@@ -52,6 +67,8 @@ class Signals:
             yield
         finally:
             self.is_held = False
+            if self.is_stop_held:
+                self.stop(signal.SIGTSTP, None)
         if self.number != before:
             raise Ended(self.number)
 
@@ -96,23 +113,13 @@ def running(
                     start_new_session=True,
                 )
             )
+            SIGNALS.leaders += leaders
         yield leaders[0]
     finally:
         with SIGNALS.held():
             for it in leaders:
                 end_group(it)
-
-
-def stop_with(leader: Process[bytes]) -> None:
-    """Has Ctrl-Z, which the terminal sends to this process's group alone, stop the other group too."""
-
-    def stop(_: int, __: Optional[FrameType]) -> None:
-        signal_group(leader, signal.SIGTSTP)
-        os.kill(os.getpid(), signal.SIGSTOP)
-        signal_group(leader, signal.SIGCONT)
-
-    if signal.getsignal(signal.SIGTSTP) is not signal.SIG_IGN:
-        signal.signal(signal.SIGTSTP, stop)
+                SIGNALS.leaders.remove(it)
 
 
 def end_by(number: int) -> None:

@@ -1,7 +1,7 @@
 """Random models, tests, queries and certificates, and changes of them, for tests/hostile.
 
 What is made here is well-formed, and may mean anything. A change may spoil a text or not: what the answer has to be is
-said by the second reading, which reads the changed text too. Rewritings of certificates keep them right.
+said by the second implementation, which reads the changed text too. Rewritings of certificates keep them right.
 """
 import re
 from random import Random

@@ -20,7 +20,7 @@ from typing import Callable
 
 TOP = os.path.dirname(os.path.dirname(os.path.realpath(__file__)))
 sys.dont_write_bytecode = True
-sys.path[0] = os.path.join(TOP, "reading")
+sys.path[0] = os.path.join(TOP, "second_implementation")
 
 # pylint: disable=wrong-import-position
 from second.memory_models import memory_model_of
@@ -92,7 +92,7 @@ def commands(cases: Cases) -> None:
             (place, [place]),
             (f"'{place}' -x", [place, "-x"]),
             (f"{folder}/a\\ b", [place]),
-            ("python3 reading/second_reading.py", ["python3", "reading/second_reading.py"]),
+            ("python3 second_implementation/pipecheck_second.py", ["python3", "second_implementation/pipecheck_second.py"]),
             ("a '' $HOME * `b` $(c) ; d", ["a", "", "$HOME", "*", "`b`", "$(c)", ";", "d"]),
         ):
             cases.same(f"PIPECHECK is {value.replace(folder, '..')}", command_of(value), wanted)
@@ -285,7 +285,7 @@ def ends_build(cases: Cases, folder: str) -> None:
     """A build ends with the suite, and may clean up before."""
     copy = os.path.join(folder, "copy")
     os.makedirs(os.path.join(copy, "script"))
-    for name in ("reading", "examples"):
+    for name in ("second_implementation", "examples"):
         subprocess.run(["cp", "-r", os.path.join(TOP, name), copy], check=True)
     note = os.path.join(folder, "built")
     with open(os.path.join(copy, "script", "program"), "w", encoding="ascii") as file:

@@ -1,7 +1,7 @@
 """Herd's X86 listings as the machines run them: each column is a core.
 
 This reads with a few patterns, as litmus.py does. It is made for listings that are well-formed, and shares no code with the
-program or with the second reading.
+program or with the second implementation.
 """
 import re
 

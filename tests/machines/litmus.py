@@ -1,7 +1,7 @@
 """Litmus tests as the machines run them: each core's micro-ops in program order, and the stated outcome.
 
 This reads the files of examples/ by a few regular expressions, in both formats, and patterns, whose reads may be open. It is
-made for files that are well-formed, and shares no code with the program or with the second reading.
+made for files that are well-formed, and shares no code with the program or with the second implementation.
 """
 import re
 from dataclasses import dataclass, replace

@@ -5,7 +5,7 @@
 
 Of a test it writes `yes` or `no`: whether the outcome comes up. Of a pattern it writes what its open reads get, a line
 `row ..` for each way, as a sweep does, and `end`. The status is 3 where the machine does not run such tests, or where the
-machines read other micro-ops than the second reading, which takes each test that has no fault: they are made for usual
+machines read other micro-ops than the second implementation, which takes each test that has no fault: they are made for usual
 layouts.
 """
 import os
@@ -17,7 +17,7 @@ from listing import read_file
 from litmus import Reads, Test, Value
 
 TOP = os.path.dirname(os.path.dirname(os.path.dirname(os.path.realpath(__file__))))
-sys.path.append(os.path.join(TOP, "reading"))
+sys.path.append(os.path.join(TOP, "second_implementation"))
 
 # pylint: disable=wrong-import-position
 from second.cases import Case, Entry
@@ -48,13 +48,13 @@ def line_of(row: Reads) -> str:
 
 
 def case_of(path: str) -> Case:
-    """The case of a file, as the second reading has it."""
+    """The case of a file, as the second implementation has it."""
     with open(path, "rb") as file:
         return read_file_items(path, file.read())[0]
 
 
 def value_of(value: ReadValue | None) -> Value:
-    """A value of the second reading as the machines have it."""
+    """A value of the second implementation as the machines have it."""
     return (value.tag, value.accessed, value.dirty) if isinstance(value, Entry) else value or 0
 
 

@@ -20,7 +20,7 @@ class Lint:
     """Calls of lint, one for each model with all tests."""
 
     def __init__(self, top: str, tests: Sequence[File], calls: Calls) -> None:
-        self.program = os.path.join(top, "reading", "lint.py")
+        self.program = os.path.join(top, "second_implementation", "lint.py")
         self.paths = [test.path for test in tests]
         self.calls = calls
 

@@ -1,27 +1,27 @@
 #!/usr/bin/env python3
 """A second judge of models, tests and certificates, apart from the proved program and sharing no code with it.
 
-    second_reading.py check MODEL TEST         the verdict with its certificate
-    second_reading.py check2 MODEL TEST        the same; a refutation is of version 2
-    second_reading.py verify MODEL TEST CERT   whether CERT is a certificate of this model and test
-    second_reading.py core MODEL TEST          a minimal set of axioms that forbid the outcome, with certificates
-    second_reading.py ask MODEL TEST QUERY     whether a formula holds in all worlds, in some or in none
-    second_reading.py check86 MODEL FILE       as check, of a listing of herd's for X86
-    second_reading.py verify86 MODEL FILE CERT as verify, of a listing
-    second_reading.py verify-lifted MODEL TEST CERT
+    pipecheck_second.py check MODEL TEST         the verdict with its certificate
+    pipecheck_second.py check2 MODEL TEST        the same; a refutation is of version 2
+    pipecheck_second.py verify MODEL TEST CERT   whether CERT is a certificate of this model and test
+    pipecheck_second.py core MODEL TEST          a minimal set of axioms that forbid the outcome, with certificates
+    pipecheck_second.py ask MODEL TEST QUERY     whether a formula holds in all worlds, in some or in none
+    pipecheck_second.py check86 MODEL FILE       as check, of a listing of herd's for X86
+    pipecheck_second.py verify86 MODEL FILE CERT as verify, of a listing
+    pipecheck_second.py verify-lifted MODEL TEST CERT
                                                whether CERT is a lifted refutation of this model and test
-    second_reading.py lift MODEL TEST CERT     a lifted refutation in place of CERT, a refutation of version 1
-    second_reading.py sweep MODEL PATTERN      whether each combination of what the open reads may get is observable
-    second_reading.py dimacs MODEL TEST        the question for a SAT solver
-    second_reading.py smt MODEL TEST           the question for an SMT solver
+    pipecheck_second.py lift MODEL TEST CERT     a lifted refutation in place of CERT, a refutation of version 1
+    pipecheck_second.py sweep MODEL PATTERN      whether each combination of what the open reads may get is observable
+    pipecheck_second.py dimacs MODEL TEST        the question for a SAT solver
+    pipecheck_second.py smt MODEL TEST           the question for an SMT solver
 
 The modules are in second/. All text goes to standard output, in the lines and with the exit statuses that the program
 has: 0 observable, 1 unobservable, 2 words that are no command, 3 a file with a fault, 4 a file that cannot be read, 6
 a refused certificate; of `core` and `ask` 0 where no file has a fault. The verdict of `check`, `check2` and `check86`
-is found in two ways, by a search of this reading's own and by one that makes the program's choices and gives the text;
+is found in two ways, by a search of its own and by one that makes the program's choices and gives the text;
 they have to agree, and the certificate is judged before it is written. So is each certificate of `core` and of `ask`.
 `verify` and `verify86` judge certificates of version 1 and of version 2; `verify-lifted` judges lifted refutations, on
-the axioms as they are written. `sweep` ends with 0 and takes the search of this reading's own alone; the witness of an
+the axioms as they are written. `sweep` ends with 0 and takes its own search alone; the witness of an
 observable row is judged by the written axioms.
 """
 import signal

@@ -12,13 +12,14 @@ class Unread(Exception):
 
 
 def open_streams() -> None:
-    """Has both streams write names as the system has them. No file of the suite gets the number of a closed one."""
+    """Has both streams write names as the system has them. No file of the suite gets the number of a closed one, nor
+    does one of what it calls."""
     for number in range(3):
         try:
             os.fstat(number)
         except OSError:
-            # it gets the lowest number that is free
-            os.open(os.devnull, os.O_RDWR)
+            # it gets the lowest number that is free, and what is called gets it too
+            os.set_inheritable(os.open(os.devnull, os.O_RDWR), True)
     for stream in (sys.stdout, sys.stderr):
         if isinstance(stream, io.TextIOWrapper):
             stream.reconfigure(encoding=sys.getfilesystemencoding(), errors="surrogateescape")

@@ -1,4 +1,4 @@
-"""The 26 static predicates: what each takes, and when it holds in a case."""
+"""The static predicates: what each takes, and when it holds in a case."""
 from typing import Callable
 
 from .cases import Case, Entry, EntryAddress, Op, Page
