@@ -24,7 +24,7 @@ use Rattle.ask_command.proofs.OneQuery.{no_fault_beside}
 use Rattle.command_base.specs.declared.refusal.Refusal.{Refusal}
 use Rattle.command_base.specs.declared.ending.Ending.{Ending}
 use Rattle.command_base.specs.declared.ending.Ending.TheVariants.{ReadFault as a_read_fault, Memory as a_memory, Refused as a_refusal}
-use Rattle.command_base.specs.Inputs.{Inputs, Contents, IsRead, IsTooLarge, too_large, large_model as model_is_large, large_test as test_is_large, in_bytes as bytes_have_one}
+use Rattle.command_base.specs.Inputs.{Inputs, Contents, IsTooLarge, too_large, large_model as model_is_large, large_test as test_is_large, in_bytes as bytes_have_one}
 use Rattle.command_base.specs.SecondFiles.{NoFault}
 use Rattle.command_base.specs.Refusals.{IsInputRefusal as IsRefusalOfTwo, refusal as refusal_of_two}
 use Rattle.command_base.specs.Endings.{ending_status, refusal_text, IsUnread}

@@ -1,5 +1,5 @@
 -- The answer of `ask` to three files, and the status that is due.
-use Rattle.std.specs.Prelude.{◌≡◌, ℕ, Bool, List, [], IsTrue}
+use Rattle.std.specs.Prelude.{◌≡◌, ℕ, Bool, List, [], Result, IsTrue}
 use Rattle.pc_common.specs.Outside.{FilesView}
 use Rattle.pc_common.specs.Case.{Case}
 use Rattle.pc_common.specs.World.{Node, World}
@@ -14,9 +14,14 @@ use Rattle.ask_command.specs.Queries.{with_axiom, with_denial}
 use Rattle.ask_command.specs.declared.outcome.AskWord.{AskWord}
 use Rattle.ask_command.specs.Words.{IsWord}
 use Rattle.verdicts.specs.Certified.{IsCertified}
-use Rattle.command_base.specs.Inputs.{Inputs, Contents}
+use Rattle.command_base.specs.declared.inputs.Inputs.{Inputs as CodeInputs}
+use Rattle.command_base.specs.declared.ending.Ending.{Ending}
+use Rattle.command_base.specs.Inputs.{Inputs, Contents, plain_inputs}
+use Rattle.command_base.specs.Endings.{HasOutcome}
 use Rattle.command_base.specs.Outcomes.{IsOutcome}
+use Rattle.ask_command.specs.declared.command.FoundAsk.{FoundAsk}
 use Rattle.ask_command.specs.AskTexts.{ask_text}
+use Rattle.ask_command.specs.FoundAsks.{found_text}
 use Rattle.ask_command.specs.AskFiles.{SaysAll, IsFirstAskFault, IsAskRefusal, LacksAskedFile}
 
 -- a world of the model and the case that satisfies the model
@@ -54,3 +59,8 @@ abbrev pub IsAskOutcome : {F : Type 0} → (F → FilesView) → Inputs → List
 IsAskOutcome view i query old new status text =
     IsOutcome view ⊥ (IsTrue (view old).modelled) (LacksAskedFile (view old).holds i query)
     (AnswersAsk (view old).holds i query) old new status text
+
+-- what `ask` returns: the word with its certificates, or the ending
+abbrev pub ReturnsAsk : {F : Type 0} → (F → FilesView) → CodeInputs → List ℕ → F → F → Result FoundAsk Ending → Type 0
+ReturnsAsk view i query old new result =
+    HasOutcome result (λ found. Done) found_text (IsAskOutcome view (plain_inputs i) query old new)

@@ -7,5 +7,5 @@ pub mod Asking
 pub mod Words
 pub mod AskTexts
 pub mod AskFiles
-pub mod AskAnswers
 pub mod FoundAsks
+pub mod AskAnswers

@@ -1,10 +1,7 @@
 ghost use Rattle.std.specs.Prelude.{◌≡◌, IfOk};
-ghost use Rattle.pc_common.specs.declared.status.Status.TheVariants.{Done};
-ghost use Rattle.command_base.specs.Inputs.{plain_inputs};
-ghost use Rattle.command_base.specs.Endings.{returned_status, returned_text};
-ghost use Rattle.ask_command.specs.AskAnswers.{IsAskOutcome};
+ghost use Rattle.ask_command.specs.AskAnswers.{ReturnsAsk};
 ghost use Rattle.ask_command.specs.FoundAsks.{verdict_of as verdict_in, verdicts_of as verdicts_in};
-ghost use Rattle.ask_command.specs.FoundAsks.{found_text, IsAskWritable};
+ghost use Rattle.ask_command.specs.FoundAsks.{IsAskWritable};
 
 use super::asking::ask_parts;
 use super::files::read_three;
@@ -63,8 +60,7 @@ pub fn ask_files<S: Search, F: Files>(
     query: &str,
     files: &mut F,
 ) -> Result<FoundAsk, Ending>
-    ensures outcome { IsAskOutcome F.view (plain_inputs inputs.entry) query.now files.old files.new
-        (returned_status (λ found. Done) result) (returned_text found_text result) }
+    ensures outcome { ReturnsAsk F.view inputs.entry query.now files.old files.new result }
     ensures writable { IfOk result IsAskWritable }
 {
     let inquiry = match read_three(alloc, inputs, query, files) {

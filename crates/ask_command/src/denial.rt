@@ -7,7 +7,7 @@ ghost use Rattle.pc_front.specs.ModelFront.{closed_axiom};
 ghost use Rattle.ask_command.specs.Queries.{FormulaOf, with_denial as with_denial_of, first_query_fault, IsQueryEnd};
 ghost use Rattle.ask_command.specs.Denials.{EndsWithAxiom, EndsWithDenial, IsLastExpansion, IsFirstQueryEnd};
 
-use super::ends::moved;
+use super::ends::move_end;
 use macro_expand::{MacroFault, expand};
 use pc_common::{Memory, Place, Which};
 use pc_front::FrontEnd;
@@ -53,11 +53,11 @@ fn close_as_named(alloc: Global, model: &ModelFile) -> Result<Closed, FrontEnd>
 {
     let denied = match last_expansion(alloc, model) {
         Ok(denied) => denied,
-        Err(fault) => return Err(moved(Which::Query, FrontEnd::from(fault))),
+        Err(fault) => return Err(move_end(Which::Query, FrontEnd::from(fault))),
     };
     match close_query(alloc, model, &denied) {
         Ok(closed) => Ok(closed),
-        Err((file, fault)) => Err(moved(file, FrontEnd::from(fault))),
+        Err((file, fault)) => Err(move_end(file, FrontEnd::from(fault))),
     }
 }
 

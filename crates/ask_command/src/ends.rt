@@ -16,7 +16,7 @@ fn fault_in(file: Which, kind: FaultKind, place: Place) -> InputFault
 }
 
 /// An end with its fault told of this file.
-pub(crate) fn moved(file: Which, end: FrontEnd) -> FrontEnd
+pub(crate) fn move_end(file: Which, end: FrontEnd) -> FrontEnd
     ensures { result ≡ moved_end file end }
 {
     match end {

@@ -6,7 +6,7 @@ ghost use Rattle.ask_command.specs.AskFiles.{bytes_of as bytes_in, IsBytesEnding
 
 use super::inquiry::Inquiry;
 use super::three_files::read_inquiry;
-use command_base::{Ending, Inputs, placed, two_files, unread};
+use command_base::{Ending, Inputs, place_fault, two_files, unread_ending};
 use pc_common::{Files, Which, read_all};
 use pc_front::{FrontEnd, MAX_FILE};
 use std::alloc::Global;
@@ -33,7 +33,7 @@ fn inquiry_of(alloc: Global, model: &[u8], test: &[u8], query: &[u8]) -> Result<
     match read_inquiry(alloc, model, test, query) {
         Ok(asked) => Ok(asked),
         Err(FrontEnd::Refused(fault)) => {
-            Err(Ending::Refused(placed(fault, bytes_of(fault.file, model, test, query))))
+            Err(Ending::Refused(place_fault(fault, bytes_of(fault.file, model, test, query))))
         }
         Err(FrontEnd::Memory) => Err(Ending::Memory),
     }
@@ -57,7 +57,7 @@ pub(crate) fn read_three<F: Files>(
     };
     let third = match read_all(alloc, files, query, MAX_FILE) {
         Ok(bytes) => bytes,
-        Err(end) => return Err(unread(Which::Query, end)),
+        Err(end) => return Err(unread_ending(Which::Query, end)),
     };
     inquiry_of(alloc, &model, &test, &third)
 }

@@ -3,7 +3,7 @@ ghost use Rattle.pc_syntax.specs.Written.{written, WrittenModel};
 ghost use Rattle.uspec_lexer.specs.Spells.{Spells};
 ghost use Rattle.ask_command.specs.Queries.{FormulaOf, IsQueryEnd};
 
-use super::ends::{moved, no_tree};
+use super::ends::{move_end, no_tree};
 use pc_common::Which;
 use pc_front::FrontEnd;
 use pc_syntax::Formula;
@@ -19,7 +19,7 @@ pub(crate) fn read_formula(alloc: Global, bytes: &[u8]) -> Result<Formula, Front
 {
     match tokens(alloc, bytes) {
         Ok(tokens) => formula_of(alloc, bytes, &tokens),
-        Err(fault) => Err(moved(Which::Query, FrontEnd::from(fault))),
+        Err(fault) => Err(move_end(Which::Query, FrontEnd::from(fault))),
     }
 }
 

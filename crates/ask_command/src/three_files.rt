@@ -1,6 +1,5 @@
-ghost use Rattle.std.specs.Prelude.{◌≡◌, ◌<◌, ◌^◌, ℕ, List, length, map, IfOk, IfErr};
+ghost use Rattle.std.specs.Prelude.{◌<◌, ◌^◌, ℕ, List, length, IfOk, IfErr};
 ghost use Rattle.pc_syntax.specs.Written.{written_model};
-ghost use Rattle.pc_ground.specs.Stages.{plain_stage, plain_axioms, numbers_of, AreStages, AxiomsWithin};
 ghost use Rattle.pc_front.specs.ModelFront.{ModelOf};
 ghost use Rattle.pc_front.specs.Front.{IsEnd as IsEndOfTwo};
 ghost use Rattle.ask_command.specs.Inquiries.{SaysInquiry, IsEnd};
@@ -10,25 +9,10 @@ use super::denial::close_formula;
 use super::formula::read_formula;
 use super::inquiry::Inquiry;
 use litmus_reader::read_case;
-use pc_case::Case;
-use pc_front::{FrontEnd, ModelFront, judged, parsed};
+use pc_front::{FrontEnd, judged, parsed, parts_of};
 use pc_ground::Parts;
 use pc_syntax::ModelFile;
 use std::alloc::Global;
-
-/// The parts of a case and a model.
-fn parts_of(case: Case, model: ModelFront) -> Parts
-    requires named { AreStages (map plain_stage model.stages) }
-    requires within { AxiomsWithin (numbers_of (map plain_stage model.stages)) (plain_axioms model.axioms) }
-    ensures { (result.case ≡ case) × (result.stages ≡ model.stages) × (result.axioms ≡ model.axioms) }
-{
-    let ModelFront { stages, axioms } = model;
-    Parts {
-        case,
-        stages,
-        axioms,
-    }
-}
 
 /// What a model as written and the bytes of a test say together.
 fn judged_parts(alloc: Global, model: &ModelFile, test_bytes: &[u8]) -> Result<Parts, FrontEnd>

@@ -10,7 +10,7 @@ use Rattle.pc_common.proofs.Bools.{and_first, and_second}
 use Rattle.pc_syntax.specs.Closed.{PlainClosed, closed_true}
 use Rattle.pc_syntax.specs.StagesWithin.{StagesWithin}
 use Rattle.pc_ground.specs.Stages.{AxiomsWithin}
-use Rattle.axiom_core.specs.Chosen.{Choice, after_first, taken, less}
+use Rattle.axiom_core.specs.Chosen.{Choice, after_first, taken}
 use Rattle.axiom_core.specs.Cores.{Allow, Forbid}
 
 -- choices that agree at the places of a list take the same of it
@@ -113,6 +113,3 @@ pub map_taken : {X Y : Type 0} (f : X → Y) (keep : Choice) (xs : List X) → m
 map_taken f keep [] = refl
 map_taken f keep (x ∷ xs) =
     map_front f (keep zero) x (taken (after_first keep) xs) (taken (after_first keep) (map f xs)) (map_taken f (after_first keep) xs)
-
-pub less_kept : (i : ℕ) (keep : Choice) (k : ℕ) → IsTrue (less i keep k) → IsTrue (keep k)
-less_kept i keep k h = and_first (keep k) _ h

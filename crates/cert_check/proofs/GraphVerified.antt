@@ -16,7 +16,7 @@ use Rattle.cert_check.specs.Ends.{checked_of}
 use Rattle.cert_check.specs.RawLines.{RawBegins, RawWhole}
 use Rattle.cert_check.specs.GraphStages.{as_stage}
 use Rattle.cert_check.specs.GraphBegins.{SaysUnobservable, IsUnobservableFirst, GraphFirst, GraphWhole}
-use Rattle.cert_check.specs.GraphFed.{graph_judge_begins, graph_judge_whole, graph_judge_stands}
+use Rattle.cert_check.specs.GraphFed.{graph_judge_view}
 use Rattle.cert_check.specs.declared.checked.Checked.TheVariants.{Refused}
 use Rattle.cert_check.specs.declared.graph_judge.GraphJudge.{GraphJudge}
 use Rattle.cert_check.proofs.Propers.{proper_seen}
@@ -88,7 +88,7 @@ all_made q text made =
     record { lines = made.lines; are_lines = made.are_lines; text_is = made.text_is; accepted = made.accepted.whole }
 
 pub graph_verified : (q : Question) (start judge : GraphJudge) → question_of_parts start.parts.now ≡ q → (text : List ℕ) → length text ≤ MAX_CERTIFICATE
-    → IsWhole graph_judge_begins graph_judge_whole graph_judge_stands start text judge → Verified q text (checked_of (as_stage judge.stage))
+    → IsWhole graph_judge_view start text judge → Verified q text (checked_of (as_stage judge.stage))
 graph_verified q start judge asks text short is_whole =
     let own = question_of_parts start.parts.now in
     let P : Question → Type 0 = λ p. Verified p text (checked_of (as_stage judge.stage)) in
@@ -98,7 +98,7 @@ graph_verified q start judge asks text short is_whole =
     subst P asks (ended_verified own (question_of_parts judge.parts.now) text short (all_made own text made) (as_stage judge.stage) st ended)
 
 pub graph_refused_verified : (q : Question) → AreReadable q.names → (start : GraphJudge) → question_of_parts start.parts.now ≡ q → (text : List ℕ) (number : ℕ)
-    → (SaysUnobservable text → ⊥) → IsRefusedBy (graph_judge_begins start) (graph_judge_whole start) MAX_CERTIFICATE text number
+    → (SaysUnobservable text → ⊥) → IsRefusedBy (graph_judge_view start).begins (graph_judge_view start).whole MAX_CERTIFICATE text number
     → Verified q text (Refused number)
 graph_refused_verified q readable start asks text zero other by = too_long (by.past refl)
 graph_refused_verified q readable start asks text (suc k) other by =

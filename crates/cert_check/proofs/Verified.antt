@@ -12,7 +12,7 @@ use Rattle.cert_check.specs.Questions.{question_of}
 use Rattle.cert_check.specs.Ends.{checked_of}
 use Rattle.cert_check.specs.Stages.{is_end}
 use Rattle.cert_check.specs.RawLines.{RawWhole, RawStands}
-use Rattle.cert_check.specs.Fed.{judge_begins, judge_whole, judge_stands}
+use Rattle.cert_check.specs.Fed.{judge_view}
 use Rattle.cert_check.specs.declared.header.Verdict.TheVariants.{Observable, Unobservable}
 use Rattle.cert_check.specs.declared.checked.Checked.TheVariants.{Refused}
 use Rattle.cert_check.specs.declared.stage.Stage.{Stage}
@@ -64,7 +64,7 @@ ended_verified q r text short made (Ended Unobservable) st e =
     (same_verdict r q unobservable w.verdict made.lines st.lines w.lines st.are w.are st.stands w.certificate) c)
 
 pub whole_verified : (q : Question) (start judge : CertificateJudge) → question_of start.front.now ≡ q → (text : List ℕ) → length text ≤ MAX_CERTIFICATE
-    → IsWhole judge_begins judge_whole judge_stands start text judge → Verified q text (checked_of judge.stage)
+    → IsWhole judge_view start text judge → Verified q text (checked_of judge.stage)
 whole_verified q start judge asks text short is_whole =
     let own = question_of start.front.now in
     let P : Question → Type 0 = λ p. Verified p text (checked_of judge.stage) in
@@ -74,7 +74,7 @@ whole_verified q start judge asks text short is_whole =
     subst P asks (ended_verified own (question_of judge.front.now) text short made judge.stage st ended)
 
 pub refused_verified : (q : Question) → IsAsked q → (start : CertificateJudge) → question_of start.front.now ≡ q → (text : List ℕ) (number : ℕ)
-    → IsRefusedBy (judge_begins start) (judge_whole start) MAX_CERTIFICATE text number → Verified q text (Refused number)
+    → IsRefusedBy (judge_view start).begins (judge_view start).whole MAX_CERTIFICATE text number → Verified q text (Refused number)
 refused_verified q asked start asks text zero by = too_long (by.past refl)
 refused_verified q asked start asks text (suc k) by =
     let own = question_of start.front.now in

@@ -1,29 +1,33 @@
 -- What a checker is after a text.
-use Rattle.std.specs.Prelude.{◌≡◌, ℕ, List}
+use Rattle.std.specs.Prelude.{◌≡◌, ◌<◌, ◌⊎◌, ◌++◌, ℕ, List, length}
 use Rattle.pc_common.specs.declared.limits.TheConstants.{MAX_CERTIFICATE}
 use Rattle.pc_ground.specs.NodeForm.{names_of}
+use Rattle.line_judge.specs.Judges.{JudgeView}
 use Rattle.line_judge.specs.Feeds.{HasTaken}
+use Rattle.line_judge.specs.Texts.{HoldsRefused}
 use Rattle.cert_check.specs.Certificates.{Question}
 use Rattle.cert_check.specs.Proper.{IsAsked}
 use Rattle.cert_check.specs.Questions.{question_of}
-use Rattle.cert_check.specs.RawLines.{RawFirst, RawWhole, RawStands}
+use Rattle.cert_check.specs.RawLines.{RawFirst, RawWhole, RawStands, RawBegins}
 use Rattle.cert_check.specs.declared.judge.CertificateJudge.{CertificateJudge}
 use Rattle.cert_check.specs.declared.checker.Checker.{Checker}
 
-abbrev pub judge_begins : CertificateJudge → List (List ℕ) → Type 0
-judge_begins j raws = RawFirst (question_of j.front.now) raws
-
-abbrev pub judge_whole : CertificateJudge → List (List ℕ) → Type 0
-judge_whole j raws = RawWhole (question_of j.front.now) raws
-
-abbrev pub judge_stands : CertificateJudge → List (List ℕ) → Type 0
-judge_stands j raws =
-    IsAsked (question_of j.front.now) × (j.names ≡ names_of j.front.now)
-    × RawStands (question_of j.front.now) j.stage raws
+-- what a judge of certificates means
+abbrev pub judge_view : CertificateJudge → JudgeView
+judge_view j = record {
+  begins = RawFirst (question_of j.front.now);
+  whole = RawWhole (question_of j.front.now);
+  stands = λ raws. IsAsked (question_of j.front.now) × (j.names ≡ names_of j.front.now)
+      × RawStands (question_of j.front.now) j.stage raws;
+}
 
 -- the checker is one of this question, and took this text
 pub record IsFed (c : Checker) (q : Question) (text : List ℕ) : Type 0 where
   pub start : CertificateJudge
   pub asks : question_of start.front.now ≡ q
   pub front : question_of c.front.now ≡ q
-  pub taken : HasTaken judge_begins judge_whole judge_stands start MAX_CERTIFICATE text c.feed
+  pub taken : HasTaken judge_view start MAX_CERTIFICATE text c.feed
+
+-- the next piece is only counted: the text is too long with it, or has a refused line
+abbrev pub IsSettled : Question → List ℕ → List ℕ → Type 0
+IsSettled q text piece = (MAX_CERTIFICATE < length (text ++ piece)) ⊎ HoldsRefused (RawBegins q) text

@@ -2,6 +2,7 @@
 use Rattle.std.specs.Prelude.{◌≡◌, ℕ, List}
 use Rattle.pc_common.specs.declared.limits.TheConstants.{MAX_CERTIFICATE}
 use Rattle.pc_ground.specs.NodeForm.{names_of_parts, AreReadable}
+use Rattle.line_judge.specs.Judges.{JudgeView}
 use Rattle.line_judge.specs.Feeds.{HasTaken}
 use Rattle.cert_check.specs.Certificates.{Question}
 use Rattle.cert_check.specs.Questions.{question_of_parts}
@@ -11,20 +12,18 @@ use Rattle.cert_check.specs.GraphBegins.{GraphFirst, GraphWhole}
 use Rattle.cert_check.specs.declared.graph_judge.GraphJudge.{GraphJudge}
 use Rattle.cert_check.specs.declared.graph_checker.GraphChecker.{GraphChecker}
 
-abbrev pub graph_judge_begins : GraphJudge → List (List ℕ) → Type 0
-graph_judge_begins j raws = GraphFirst (question_of_parts j.parts.now) raws
-
-abbrev pub graph_judge_whole : GraphJudge → List (List ℕ) → Type 0
-graph_judge_whole j raws = GraphWhole (question_of_parts j.parts.now) raws
-
-abbrev pub graph_judge_stands : GraphJudge → List (List ℕ) → Type 0
-graph_judge_stands j raws =
-    AreReadable (names_of_parts j.parts.now) × (j.names ≡ names_of_parts j.parts.now)
-    × RawStands (question_of_parts j.parts.now) (as_stage j.stage) raws
+-- what a judge of certificates that are no refutations means
+abbrev pub graph_judge_view : GraphJudge → JudgeView
+graph_judge_view j = record {
+  begins = GraphFirst (question_of_parts j.parts.now);
+  whole = GraphWhole (question_of_parts j.parts.now);
+  stands = λ raws. AreReadable (names_of_parts j.parts.now) × (j.names ≡ names_of_parts j.parts.now)
+      × RawStands (question_of_parts j.parts.now) (as_stage j.stage) raws;
+}
 
 -- the checker is one of this question, and took this text
 pub record IsGraphFed (c : GraphChecker) (q : Question) (text : List ℕ) : Type 0 where
   pub start : GraphJudge
   pub asks : question_of_parts start.parts.now ≡ q
   pub readable : AreReadable q.names
-  pub taken : HasTaken graph_judge_begins graph_judge_whole graph_judge_stands start MAX_CERTIFICATE text c.feed
+  pub taken : HasTaken graph_judge_view start MAX_CERTIFICATE text c.feed

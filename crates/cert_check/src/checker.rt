@@ -1,13 +1,10 @@
-ghost use Rattle.std.specs.Prelude.{◌<◌, ◌⊎◌, ◌++◌, [], ℕ, List, length, IfOk, IsOk};
-ghost use Rattle.pc_common.specs.declared.limits.TheConstants.{MAX_CERTIFICATE};
+ghost use Rattle.std.specs.Prelude.{◌++◌, [], ℕ, List, IfOk, IsOk};
 ghost use Rattle.pc_ground.specs.declared.front.Front.{Front as AnyFront};
-ghost use Rattle.line_judge.specs.Texts.{HoldsRefused};
 ghost use Rattle.cert_check.specs.Certificates.{Question};
 ghost use Rattle.cert_check.specs.Questions.{question_of};
 ghost use Rattle.cert_check.specs.Verified.{Verified};
 ghost use Rattle.cert_check.specs.Outcomes.{SaysOutcome};
-ghost use Rattle.cert_check.specs.RawLines.{RawBegins};
-ghost use Rattle.cert_check.specs.Fed.{IsFed};
+ghost use Rattle.cert_check.specs.Fed.{IsFed, IsSettled};
 
 use super::checked::Checked;
 use super::judge::CertificateJudge;
@@ -44,7 +41,7 @@ impl<'a> Checker<'a> {
         ensures took { (q : Question) (text : List ℕ) → IsFed self.entry q text
             → IfOk result (λ c. IsFed c q (text ++ piece.now)) }
         ensures settled { (q : Question) (text : List ℕ) → IsFed self.entry q text
-            → (MAX_CERTIFICATE < length (text ++ piece.now)) ⊎ HoldsRefused (RawBegins q) text → IsOk result }
+            → IsSettled q text piece.now → IsOk result }
     {
         Ok(Checker {
             front: self.front,

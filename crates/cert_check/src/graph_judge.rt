@@ -4,7 +4,7 @@ ghost use Rattle.cert_check.specs.Questions.{question_of_parts};
 ghost use Rattle.cert_check.specs.Ends.{checked_of};
 ghost use Rattle.cert_check.specs.RawLines.{RawStands};
 ghost use Rattle.cert_check.specs.GraphStages.{as_stage};
-ghost use Rattle.cert_check.specs.GraphBegins.{GraphFirst, GraphWhole};
+ghost use Rattle.cert_check.specs.GraphFed.{graph_judge_view};
 ghost use Rattle.cert_check.specs.LawsOfJudges.{graph_first, graph_taken, graph_whole};
 
 use super::checked::Checked;
@@ -58,17 +58,12 @@ impl<'a> GraphJudge<'a> {
     pub(crate) fn verdict(&self) -> Checked
         ensures { result ≡ checked_of (as_stage self.now.stage) }
     {
-        self.stage.checked()
+        self.stage.verdict()
     }
 }
 
 impl<'a> Judge for GraphJudge<'a> {
-    ghost begins = { λ j. GraphFirst (question_of_parts j.parts.now) };
-
-    ghost whole = { λ j. GraphWhole (question_of_parts j.parts.now) };
-
-    ghost stands = { λ j raws. AreReadable (names_of_parts j.parts.now) × (j.names ≡ names_of_parts j.parts.now)
-        × RawStands (question_of_parts j.parts.now) (as_stage j.stage) raws };
+    ghost view = { graph_judge_view };
 
     ghost stands_begins = { λ j lines stands. graph_taken (question_of_parts j.parts.now) j.stage lines stands.2 };
 

@@ -39,7 +39,7 @@ impl GraphStage {
     }
 
     /// The verdict of a whole certificate. A stage before the last line counts as refused.
-    pub(crate) fn checked(&self) -> Checked
+    pub(crate) fn verdict(&self) -> Checked
         ensures { result ≡ checked_of (as_stage self.now) }
     {
         match self {

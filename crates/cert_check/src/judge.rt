@@ -3,7 +3,8 @@ ghost use Rattle.pc_ground.specs.NodeForm.{names_of};
 ghost use Rattle.cert_check.specs.Questions.{question_of};
 ghost use Rattle.cert_check.specs.Proper.{IsAsked};
 ghost use Rattle.cert_check.specs.Ends.{checked_of};
-ghost use Rattle.cert_check.specs.RawLines.{RawFirst, RawWhole, RawStands};
+ghost use Rattle.cert_check.specs.RawLines.{RawStands};
+ghost use Rattle.cert_check.specs.Fed.{judge_view};
 ghost use Rattle.cert_check.specs.LawsOfJudges.{first_begins, taken_begins, whole_begins};
 
 use super::checked::Checked;
@@ -62,17 +63,12 @@ impl<'a> CertificateJudge<'a> {
     pub(crate) fn verdict(&self) -> Checked
         ensures { result ≡ checked_of self.now.stage }
     {
-        self.stage.checked()
+        self.stage.verdict()
     }
 }
 
 impl<'a> Judge for CertificateJudge<'a> {
-    ghost begins = { λ j. RawFirst (question_of j.front.now) };
-
-    ghost whole = { λ j. RawWhole (question_of j.front.now) };
-
-    ghost stands = { λ j raws. IsAsked (question_of j.front.now) × (j.names ≡ names_of j.front.now)
-        × RawStands (question_of j.front.now) j.stage raws };
+    ghost view = { judge_view };
 
     ghost stands_begins = { λ j lines stands. taken_begins (question_of j.front.now) j.stage lines stands.2 };
 

@@ -1,26 +1,22 @@
-ghost use Rattle.std.specs.Prelude.{◌≡◌, ◌≤◌, ◌↔◌, true, [], ◌∷◌, List, IfOk, codes, map};
+ghost use Rattle.std.specs.Prelude.{◌≡◌, ◌≤◌, ◌↔◌, true, [], ◌∷◌, List, IfOk, codes};
 ghost use Rattle.pc_common.specs.World.{Node};
-ghost use Rattle.pc_common.specs.Steps.{Step};
 ghost use Rattle.pc_common.specs.Lines.{Line, verdict, unobservable, second_text};
-ghost use Rattle.pc_ground.specs.Keys.{key_node};
 ghost use Rattle.pc_ground.specs.Tree.{Tree};
 ghost use Rattle.pc_ground.specs.declared.version.Version.{Version};
 ghost use Rattle.pc_ground.specs.Refutes.{Branch};
-ghost use Rattle.refutation.specs.Reading.{head_of, nodes_of};
 ghost use Rattle.refutation.specs.Words.{spaces as spaces_in};
-ghost use Rattle.tree_check.specs.OpenBranches.{Stands, HasStepped};
+ghost use Rattle.tree_check.specs.OpenBranches.{Stands};
 ghost use Rattle.cert_check.specs.Certificates.{Question};
 ghost use Rattle.cert_check.specs.Questions.{question_of};
 ghost use Rattle.cert_check.specs.Proper.{IsAsked};
-ghost use Rattle.cert_check.specs.Stages.{GoesOn, Advances, HasAdvanced, StepsOn, IsTreeSoFar};
-ghost use Rattle.cert_check.specs.declared.stage.Stage.TheVariants.{Tree as TreeStage, Ended};
-ghost use Rattle.cert_check.specs.declared.header.Verdict.TheVariants.{Unobservable};
+ghost use Rattle.cert_check.specs.Stages.{GoesOn, HasAdvanced, StepsOn, IsTreeSoFar};
+ghost use Rattle.cert_check.specs.declared.stage.Stage.TheVariants.{Tree as TreeStage};
 
 use pc_common::Memory;
-use pc_ground::{Front, NodeKey, NodeText};
-use refutation::{NodeRow, StepHead, read_line};
+use pc_ground::{Front, NodeText};
+use refutation::{NodeRow, read_line};
 use std::alloc::Global;
-use tree_check::{Branches, Leaf};
+use tree_check::Branches;
 
 /// A refutation so far.
 pub(crate) struct OpenTree<'a> {
@@ -37,22 +33,6 @@ impl Drop for OpenTree<'_> {
             branches: _,
             is_new: _,
         } = self;
-    }
-}
-
-/// Takes a step whose nodes are these.
-fn take_step(branches: &mut Branches<'_>, head: StepHead, nodes: &[NodeKey]) -> Result<bool, Memory>
-    requires { (s : Step Node) × (head ≡ head_of s) × (map key_node nodes.now ≡ nodes_of s) }
-    ensures { IfOk result (λ good. (s : Step Node) → head ≡ head_of s → map key_node nodes.now ≡ nodes_of s
-        → (v : Version) (t : Tree Node) (opens : List Branch) → Stands branches.old v t opens
-        → HasStepped v t s opens branches.new good) }
-{
-    match head {
-        StepHead::Split { negated, position } => branches.split(negated, position),
-        StepHead::Cycle => branches.close(Leaf::Cycle(nodes)),
-        StepHead::Path => branches.close(Leaf::Path(nodes)),
-        StepHead::Absent => branches.close(Leaf::Absent(nodes[0])),
-        StepHead::False => branches.close(Leaf::False),
     }
 }
 
@@ -89,7 +69,7 @@ fn take_line(
 {
     row.reserve(room_for(line))?;
     match read_line(names, line, row) {
-        Ok(head) => take_step(branches, head, row.as_slice()),
+        Ok(head) => branches.take(head.kind(row.as_slice())),
         Err(_) => Ok(false),
     }
 }

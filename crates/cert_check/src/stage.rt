@@ -43,7 +43,7 @@ impl<'a> Stage<'a> {
     }
 
     /// The verdict of a whole certificate. A stage before the last line counts as refused.
-    pub(crate) fn checked(&self) -> Checked
+    pub(crate) fn verdict(&self) -> Checked
         ensures { result ≡ checked_of self.now }
     {
         match self {

@@ -1,10 +1,9 @@
-ghost use Rattle.std.specs.Prelude.{◌≡◌, ◌<◌, ◌++◌, ◌∷◌, [], List, IfOk, IfSome, OnOk, MatchOption, length, map};
+ghost use Rattle.std.specs.Prelude.{◌≡◌, ◌<◌, ◌++◌, ◌∷◌, [], List, IfOk, IfSome, OnOk, MatchOption, length};
 ghost use Rattle.pc_common.specs.World.{Node};
 ghost use Rattle.pc_common.specs.Steps.{Step as PlainStep};
-ghost use Rattle.pc_ground.specs.Keys.{key_node};
 ghost use Rattle.pc_ground.specs.Tree.{Tree};
-ghost use Rattle.refutation.specs.Steps.{HasLine, open_branches};
-ghost use Rattle.refutation.specs.Reading.{head_of, nodes_of, IsLineOf};
+ghost use Rattle.refutation.specs.Steps.{open_branches};
+ghost use Rattle.refutation.specs.Reading.{IsLineOf};
 ghost use Rattle.line_judge.specs.Texts.{IsLine, IsFirstLine};
 ghost use Rattle.cert_check.specs.Questions.{question_of};
 ghost use Rattle.cert_check.specs.Ones.{IsTreeText};
@@ -15,8 +14,8 @@ use super::next::{is_end, show_asked};
 use super::open_tree::room_for;
 use memchr::memchr;
 use pc_common::Memory;
-use pc_ground::{Front, NodeKey, NodeText};
-use refutation::{NodeRow, Nodes, Refutation, Step, StepHead, read_line};
+use pc_ground::{Front, NodeText};
+use refutation::{NodeRow, Refutation, read_line};
 use std::alloc::Global;
 
 /// The first line without its LF, and what stands after the LF. None where there is no LF.
@@ -25,38 +24,6 @@ fn first_line(text: &[u8]) -> Option<(&[u8], &[u8])>
 {
     let at = memchr(b'\n', text)?;
     Some((&text[..at], &text[at + 1..]))
-}
-
-/// A list of these nodes.
-fn list_of(alloc: Global, nodes: &[NodeKey]) -> Result<Nodes, Memory>
-    ensures { IfOk result (λ list. list ≡ nodes.now) }
-{
-    let mut list = Nodes::new(alloc);
-    for node in nodes {
-        list.push(*node)?;
-    }
-    Ok(list)
-}
-
-/// Puts the step last whose nodes are these.
-fn push_step(
-    alloc: Global,
-    refutation: &mut Refutation,
-    head: StepHead,
-    nodes: &[NodeKey],
-) -> Result<(), Memory>
-    requires open { 0 < open_branches refutation.old }
-    requires said { (s : PlainStep Node) × HasLine s × (head ≡ head_of s) × (map key_node nodes.now ≡ nodes_of s) }
-    ensures { OnOk result ((s : PlainStep Node) → head ≡ head_of s → map key_node nodes.now ≡ nodes_of s
-        → refutation.new ≡ refutation.old ++ s ∷ []) }
-{
-    match head {
-        StepHead::Split { negated, position } => refutation.push_split(negated, position),
-        StepHead::Cycle => refutation.close_leaf(Step::Cycle(list_of(alloc, nodes)?)),
-        StepHead::Path => refutation.close_leaf(Step::Path(list_of(alloc, nodes)?)),
-        StepHead::Absent => refutation.close_leaf(Step::Absent(nodes[0])),
-        StepHead::False => refutation.close_leaf(Step::False),
-    }
 }
 
 /// Puts the step last whose line this is.
@@ -74,7 +41,7 @@ fn push_line(
 {
     row.reserve(room_for(line))?;
     match read_line(names, line, row) {
-        Ok(head) => push_step(alloc, refutation, head, row.as_slice()),
+        Ok(head) => refutation.push(alloc, head.kind(row.as_slice())),
         Err(_) => Ok(()),
     }
 }

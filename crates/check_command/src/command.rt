@@ -1,10 +1,7 @@
 ghost use Rattle.std.specs.Prelude.{IfOk};
 ghost use Rattle.pc_ground.specs.NodeForm.{names_of};
-ghost use Rattle.command_base.specs.Inputs.{plain_inputs};
-ghost use Rattle.command_base.specs.Endings.{returned_status, returned_text};
-ghost use Rattle.command_base.specs.Outcomes.{IsFilesOutcome};
-ghost use Rattle.verdicts.specs.Verdicts.{status_of, verdict_text, IsWritable};
-ghost use Rattle.verdicts.specs.Certified.{IsCertified};
+ghost use Rattle.verdicts.specs.Verdicts.{IsWritable};
+ghost use Rattle.check_command.specs.CheckAnswers.{ReturnsVerdict};
 
 use command_base::{Ending, Inputs, SecondFile, read_inputs};
 use pc_common::{Files, Memory};
@@ -20,8 +17,7 @@ pub fn check<S: SecondFile, F: Files>(
     version: Version,
     files: &mut F,
 ) -> Result<Verdict, Ending>
-    ensures outcome { IsFilesOutcome F.view S.case_of S.first_fault (plain_inputs inputs.entry) (IsCertified version)
-        files.old files.new (returned_status (λ v. status_of v.found) result) (returned_text verdict_text result) }
+    ensures outcome { ReturnsVerdict F.view S.case_of S.first_fault version inputs.entry files.old files.new result }
     ensures writable { IfOk result (λ v. IsWritable (names_of v.front) v.found) }
 {
     let front = match read_inputs::<S, F>(alloc, inputs, files) {

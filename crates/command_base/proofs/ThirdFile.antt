@@ -1,9 +1,8 @@
 -- The outcome of a command that reads a third file where the two have no fault.
-use Rattle.std.proofs.Common.{◌≡◌, ◌≢◌, ◌⊎◌, ℕ, Bool, List, [], inl, inr, Some, None, refl, sym, ◌∙◌, subst}
+use Rattle.std.proofs.Common.{◌≡◌, ◌≢◌, ◌⊎◌, ℕ, Bool, List, inl, inr, Some, None, refl, sym, ◌∙◌, subst}
 use Rattle.std.specs.Prelude.{IsTrue}
 use Rattle.pc_common.specs.Outside.{FilesView}
 use Rattle.pc_common.specs.Case.{Case}
-use Rattle.pc_common.specs.Faults.{Rose}
 use Rattle.pc_common.specs.Reads.{Reads}
 use Rattle.pc_common.specs.declared.fault.InputFault.{InputFault}
 use Rattle.pc_common.specs.declared.status.Status.{Status}
@@ -15,7 +14,7 @@ use Rattle.command_base.specs.FileAnswers.{refused, found}
 use Rattle.command_base.specs.Inputs.{Inputs, Contents, LacksInput}
 use Rattle.command_base.specs.Endings.{ending_status, ending_text}
 use Rattle.command_base.specs.Outcomes.{HasFront, IsInputsEnding, IsThirdOutcome, LacksThirdFile}
-use Rattle.command_base.proofs.InputsRead.{reads_then, rose_later}
+use Rattle.command_base.proofs.InputsRead.{reads_then}
 
 some_none : {x : List ℕ} → Some x ≡ None → ⊥
 some_none e = cc
@@ -86,41 +85,3 @@ module _ {F : Type 0} {view : F → FilesView} {old mid : F}
             → (status ≡ ReadFault) ⊎ (status ≡ Memory)
         due c (inl l) = absurd (f.held c l)
         due c (inr l) = (let held = is (told_mid f (failing_modelled c)) in absurd (some_none (sym (held_old f third held.0 held.1) ∙ l.missing)))
-
-    -- a call failed at the third file
-    pub third_fault : Rose (view mid).faults (view new).faults → (IsTrue (view mid).only_missing_fail → (view mid).holds third ≡ None)
-        → IsThirdOutcome view case_of first_fault i third finds old new ReadFault []
-    third_fault rose none = record {
-      keeps = reads_then f.keeps keeps;
-      usage_only = no_usage;
-      cause = λ e. rose_later f.keeps.count rose;
-      missing_only = λ c e. inr (record { m = f.m; c = f.c; says = f.says (failing_modelled c); missing = gone c });
-      missing_due = λ c l. inl refl;
-      answers = λ t no_fault memory. absurd (no_fault refl);
-    }
-      where
-        no_usage : ReadFault ≡ Usage → ⊥
-        no_usage e = cc
-
-        gone : IsTrue (view old).only_missing_fail → (view old).holds third ≡ None
-        gone c =
-            let P : Bool → Type 0 = λ b. IsTrue b in
-            let Q : Contents → Type 0 = λ k. k third ≡ None in
-            subst Q f.keeps.same_held (none (subst P (sym f.keeps.same_failing) c))
-
-    -- memory was refused at the third file
-    pub third_memory : IsThirdOutcome view case_of first_fault i third finds old new Memory []
-    third_memory = record {
-      keeps = reads_then f.keeps keeps;
-      usage_only = no_usage;
-      cause = λ e. absurd (no_read_fault e);
-      missing_only = λ c e. absurd (no_read_fault e);
-      missing_due = λ c l. inr refl;
-      answers = λ t no_fault memory. absurd (memory refl);
-    }
-      where
-        no_usage : Memory ≡ Usage → ⊥
-        no_usage e = cc
-
-        no_read_fault : Memory ≡ ReadFault → ⊥
-        no_read_fault e = cc

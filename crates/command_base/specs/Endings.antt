@@ -1,5 +1,5 @@
 -- The status and the text of an ending, and of what a command returns.
-use Rattle.std.specs.Prelude.{◌≡◌, ◌++◌, ⊤, ℕ, List, [], Result, Ok, Err, codes}
+use Rattle.std.specs.Prelude.{◌≡◌, ◌++◌, ⊤, ℕ, List, [], Result, Ok, Err, MatchResult, codes}
 use Rattle.std.specs.Fmt.{decimal}
 use Rattle.pc_common.specs.Case.{Case}
 use Rattle.pc_common.specs.LineColumn.{line_of, column_of}
@@ -10,6 +10,7 @@ use Rattle.pc_common.specs.declared.fault.Which.{Which}
 use Rattle.pc_common.specs.declared.fault.Which.TheVariants.{Model, Test, Query}
 use Rattle.pc_common.specs.declared.reading.ReadEnd.{ReadEnd}
 use Rattle.pc_common.specs.declared.reading.ReadEnd.TheVariants.{ReadFault as an_outside_fault, TooLarge as past_limit, Memory as no_memory}
+use Rattle.pc_ground.specs.declared.front.Front.{Front}
 use Rattle.command_base.specs.declared.refusal.Refusal.{Refusal}
 use Rattle.command_base.specs.declared.ending.Ending.{Ending}
 use Rattle.command_base.specs.declared.ending.Ending.TheVariants.{ReadFault as a_read_fault, Memory as a_memory, Refused as a_refusal}
@@ -17,7 +18,7 @@ use Rattle.command_base.specs.declared.feed_end.FeedEnd.{FeedEnd}
 use Rattle.command_base.specs.declared.feed_end.FeedEnd.TheVariants.{ReadFault as a_failed_call, Memory as refused_memory}
 use Rattle.command_base.specs.Words.{fault_word, file_word}
 use Rattle.command_base.specs.Inputs.{too_large}
-use Rattle.command_base.specs.SecondFiles.{SaysNone, IsOfTwo}
+use Rattle.command_base.specs.SecondFiles.{SaysFront, SaysNone, IsOfTwo}
 
 abbrev pub refusal_text : Refusal → List ℕ
 refusal_text r =
@@ -49,6 +50,11 @@ abbrev pub returned_text : {T : Type 0} → (T → List ℕ) → Result T Ending
 returned_text text (Ok answer) = text answer
 returned_text text (Err ending) = ending_text ending
 
+-- the outcome is that of the status and the text of what a command returns
+abbrev pub HasOutcome : {T : Type 0} → Result T Ending → (T → Status) → (T → List ℕ) → (Status → List ℕ → Type 0)
+    → Type 0
+HasOutcome result status text outcome = outcome (returned_status status result) (returned_text text result)
+
 -- the line and the column are those of the fault's place in these bytes
 abbrev pub IsPlaced : List ℕ → Refusal → Type 0
 IsPlaced bytes r = (r.line ≡ line_of bytes r.fault.place.offset) × (r.column ≡ column_of bytes r.fault.place.offset)
@@ -67,6 +73,12 @@ IsBytesEnding case_of first_fault model second (a_refusal r) =
     × IsPlaced (bytes_of r.fault.file model second) r
 IsBytesEnding case_of first_fault model second a_memory = ⊤
 IsBytesEnding case_of first_fault model second a_read_fault = ⊥
+
+-- the front that these bytes say, or the ending
+abbrev pub ReturnsFront : (List ℕ → Case → Type 0) → (List ℕ → List ℕ → InputFault → Type 0) → List ℕ → List ℕ
+    → Result Front Ending → Type 0
+ReturnsFront case_of first_fault model second result =
+    MatchResult result (SaysFront case_of model second) (IsBytesEnding case_of first_fault model second)
 
 -- the ending where a file could not be read whole
 abbrev pub IsUnread : Which → ReadEnd → Ending → Type 0

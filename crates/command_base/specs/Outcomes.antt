@@ -1,5 +1,6 @@
 -- What a command keeps of the files, and when it returns which status and text.
-use Rattle.std.specs.Prelude.{◌≡◌, ◌≢◌, ◌≤◌, ◌⊎◌, ℕ, List, None, length, IsTrue}
+use Rattle.std.specs.Prelude.{◌≡◌, ◌≢◌, ◌≤◌, ◌⊎◌, ℕ, List, None, Result, MatchResult, length, IsTrue}
+use Rattle.std.specs.Global.{Vec}
 use Rattle.pc_common.specs.Outside.{FilesView}
 use Rattle.pc_common.specs.Case.{Case}
 use Rattle.pc_common.specs.Faults.{Rose}
@@ -10,9 +11,11 @@ use Rattle.pc_common.specs.declared.status.Status.TheVariants.{Usage, ReadFault,
 use Rattle.pc_case.specs.MicroOps.{AreMicroOps}
 use Rattle.pc_syntax.specs.Written.{WrittenModel}
 use Rattle.pc_ground.specs.declared.front.Front.{Front}
+use Rattle.pc_ground.specs.declared.parts.Parts.{Parts}
 use Rattle.pc_front.specs.declared.limits.TheConstants.{MAX_FILE}
 use Rattle.pc_front.specs.Front.{IsFrontOf}
 use Rattle.command_base.specs.declared.ending.Ending.{Ending}
+use Rattle.command_base.specs.Fronts.{front_of_parts}
 use Rattle.command_base.specs.Inputs.{Inputs, Contents, IsRead, Says, LacksInput}
 use Rattle.command_base.specs.SecondFiles.{AnyCase, NoFault}
 use Rattle.command_base.specs.Refusals.{IsInputRefusal}
@@ -68,6 +71,15 @@ module _ {F : Type 0} (view : F → FilesView)
       × ((m : WrittenModel) (c : Case) → Says case_of (view old).holds i m c → ⊥))
       old new (ending_status e) (ending_text e)
 
+  -- the front of the two files, or the ending
+  abbrev pub ReadsFront : F → F → Result Front Ending → Type 0
+  ReadsFront old new result = MatchResult result (HasFront view case_of i old new) (IsInputsEnding old new)
+
+  -- the same without a ground tree
+  abbrev pub ReadsParts : F → F → Result Parts Ending → Type 0
+  ReadsParts old new result =
+      MatchResult result (λ parts. HasFront view case_of i old new (front_of_parts parts)) (IsInputsEnding old new)
+
   -- the outcome of a command that reads two files, and finds this of what they say
   abbrev pub IsFilesOutcome : (WrittenModel → Case → Status → List ℕ → Type 0) → F → F → Status → List ℕ → Type 0
   IsFilesOutcome finds old new status text =
@@ -86,3 +98,8 @@ module _ {F : Type 0} (view : F → FilesView)
 -- is no fault of the outside
 abbrev pub IsUnreadEnding : {F : Type 0} → (F → FilesView) → Inputs → F → F → Ending → Type 0
 IsUnreadEnding view i old new e = IsInputsEnding view AnyCase NoFault i old new e
+
+-- the bytes of the two files, or the ending
+abbrev pub ReadsBytes : {F : Type 0} → (F → FilesView) → Inputs → F → F → Result (Vec ℕ × Vec ℕ) Ending → Type 0
+ReadsBytes view i old new result =
+    MatchResult result (λ both. HasBytes view i old new both.0.items both.1.items) (IsUnreadEnding view i old new)

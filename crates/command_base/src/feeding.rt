@@ -2,7 +2,7 @@ ghost use Rattle.std.specs.Prelude.{◌≡◌, ◌≢◌, ◌<◌, Err, length, 
 ghost use Rattle.pc_common.specs.Faults.{Rose};
 ghost use Rattle.pc_common.specs.Reads.{Reads};
 ghost use Rattle.command_base.specs.declared.feed_end.FeedEnd.TheVariants.{ReadFault as a_read_fault};
-ghost use Rattle.command_base.specs.Feeding.{TookFirst};
+ghost use Rattle.command_base.specs.Feeding.{TookLeft};
 
 use super::feed_end::FeedEnd;
 use super::text_check::TextCheck;
@@ -25,8 +25,7 @@ pub fn feed_rest<C: TextCheck, F: Files>(
     requires room { 0 < length buf.old }
     requires started { IsTrue (F.view files.old).started }
     ensures keeps { Reads F.view files.old files.new }
-    ensures took { IfOk result (λ c. IsTrue (F.view files.old).modelled
-        → TookFirst C.is_fed checker c limit (F.view files.old).left (F.view files.new).left) }
+    ensures took { IfOk result (λ c. TookLeft C.is_fed checker c limit (F.view files.old) (F.view files.new)) }
     ensures cause { result ≡ Err a_read_fault → Rose (F.view files.old).faults (F.view files.new).faults }
     ensures sure { IsTrue (F.view files.old).only_missing_fail → result ≢ Err a_read_fault }
 {

@@ -1,14 +1,14 @@
-ghost use Rattle.std.specs.Prelude.{◌≡◌, ◌≤◌, length, IfOk, IfErr, MatchResult};
+ghost use Rattle.std.specs.Prelude.{◌≡◌, ◌≤◌, length, MatchResult};
 ghost use Rattle.pc_front.specs.declared.limits.TheConstants.{MAX_FILE};
 ghost use Rattle.pc_front.specs.Front.{fault_at};
 ghost use Rattle.command_base.specs.Inputs.{plain_inputs, start};
 ghost use Rattle.command_base.specs.Fronts.{front_of_parts};
 ghost use Rattle.command_base.specs.SecondFiles.{SaysFront};
-ghost use Rattle.command_base.specs.Endings.{bytes_of as bytes_in, IsUnread, IsBytesEnding};
-ghost use Rattle.command_base.specs.Outcomes.{HasBytes, HasFront, IsInputsEnding, IsUnreadEnding};
+ghost use Rattle.command_base.specs.Endings.{bytes_of as bytes_in, IsUnread, IsBytesEnding, ReturnsFront};
+ghost use Rattle.command_base.specs.Outcomes.{ReadsBytes, ReadsFront, ReadsParts};
 
 use super::ending::Ending;
-use super::refusal::placed;
+use super::refusal::place_fault;
 use super::second_file::SecondFile;
 use pc_common::{FaultKind, Files, InputFault, Place, ReadEnd, Which, read_all};
 use pc_front::{FrontEnd, MAX_FILE};
@@ -24,7 +24,7 @@ pub struct Inputs<'a> {
 }
 
 /// A fault at the first byte of a file.
-fn at_start(file: Which, kind: FaultKind) -> InputFault
+fn fault_at_start(file: Which, kind: FaultKind) -> InputFault
     ensures { result ≡ fault_at file kind start }
 {
     InputFault {
@@ -35,7 +35,7 @@ fn at_start(file: Which, kind: FaultKind) -> InputFault
 }
 
 /// The ending of a command that could not read a file whole.
-pub fn unread(file: Which, end: ReadEnd) -> Ending
+pub fn unread_ending(file: Which, end: ReadEnd) -> Ending
     ensures { IsUnread file end result }
 {
     match end {
@@ -43,7 +43,7 @@ pub fn unread(file: Which, end: ReadEnd) -> Ending
         ReadEnd::Memory => Ending::Memory,
         ReadEnd::TooLarge => {
             let limit = MAX_FILE as u64;
-            Ending::Refused(placed(at_start(file, FaultKind::TooLarge { limit }), b""))
+            Ending::Refused(place_fault(fault_at_start(file, FaultKind::TooLarge { limit }), b""))
         }
     }
 }
@@ -63,13 +63,12 @@ pub fn bytes_of<'a>(file: Which, model: &'a [u8], second: &'a [u8]) -> &'a [u8]
 pub fn front_of<S: SecondFile>(alloc: Global, model: &[u8], second: &[u8]) -> Result<Front, Ending>
     requires model_short { length model.now ≤ MAX_FILE }
     requires second_short { length second.now ≤ MAX_FILE }
-    ensures { MatchResult result (SaysFront S.case_of model.now second.now)
-        (IsBytesEnding S.case_of S.first_fault model.now second.now) }
+    ensures { ReturnsFront S.case_of S.first_fault model.now second.now result }
 {
     match S::front(alloc, model, second) {
         Ok(front) => Ok(front),
         Err(FrontEnd::Refused(fault)) => {
-            Err(Ending::Refused(placed(fault, bytes_of(fault.file, model, second))))
+            Err(Ending::Refused(place_fault(fault, bytes_of(fault.file, model, second))))
         }
         Err(FrontEnd::Memory) => Err(Ending::Memory),
     }
@@ -85,7 +84,7 @@ fn parts_of<S: SecondFile>(alloc: Global, model: &[u8], second: &[u8]) -> Result
     match S::parts(alloc, model, second) {
         Ok(parts) => Ok(parts),
         Err(FrontEnd::Refused(fault)) => {
-            Err(Ending::Refused(placed(fault, bytes_of(fault.file, model, second))))
+            Err(Ending::Refused(place_fault(fault, bytes_of(fault.file, model, second))))
         }
         Err(FrontEnd::Memory) => Err(Ending::Memory),
     }
@@ -98,17 +97,15 @@ pub fn two_files<F: Files>(
     inputs: Inputs<'_>,
     files: &mut F,
 ) -> Result<(Vec<u8>, Vec<u8>), Ending>
-    ensures { MatchResult result
-        (λ both. HasBytes F.view (plain_inputs inputs.entry) files.old files.new both.0.items both.1.items)
-        (IsUnreadEnding F.view (plain_inputs inputs.entry) files.old files.new) }
+    ensures { ReadsBytes F.view (plain_inputs inputs.entry) files.old files.new result }
 {
     let model = match read_all(alloc, files, inputs.model, MAX_FILE) {
         Ok(bytes) => bytes,
-        Err(end) => return Err(unread(Which::Model, end)),
+        Err(end) => return Err(unread_ending(Which::Model, end)),
     };
     let second = match read_all(alloc, files, inputs.test, MAX_FILE) {
         Ok(bytes) => bytes,
-        Err(end) => return Err(unread(Which::Test, end)),
+        Err(end) => return Err(unread_ending(Which::Test, end)),
     };
     Ok((model, second))
 }
@@ -120,9 +117,7 @@ pub fn read_inputs<S: SecondFile, F: Files>(
     inputs: Inputs<'_>,
     files: &mut F,
 ) -> Result<Front, Ending>
-    ensures { MatchResult result
-        (HasFront F.view S.case_of (plain_inputs inputs.entry) files.old files.new)
-        (IsInputsEnding F.view S.case_of S.first_fault (plain_inputs inputs.entry) files.old files.new) }
+    ensures { ReadsFront F.view S.case_of S.first_fault (plain_inputs inputs.entry) files.old files.new result }
 {
     match two_files(alloc, inputs, files) {
         Ok((model, second)) => front_of::<S>(alloc, &model, &second),
@@ -136,9 +131,7 @@ pub fn read_parts<S: SecondFile, F: Files>(
     inputs: Inputs<'_>,
     files: &mut F,
 ) -> Result<Parts, Ending>
-    ensures { MatchResult result
-        (λ parts. HasFront F.view S.case_of (plain_inputs inputs.entry) files.old files.new (front_of_parts parts))
-        (IsInputsEnding F.view S.case_of S.first_fault (plain_inputs inputs.entry) files.old files.new) }
+    ensures { ReadsParts F.view S.case_of S.first_fault (plain_inputs inputs.entry) files.old files.new result }
 {
     match two_files(alloc, inputs, files) {
         Ok((model, second)) => parts_of::<S>(alloc, &model, &second),

@@ -16,8 +16,8 @@
 //! A command reads the model, then its second file, at most 1,048,576 bytes each: `read_inputs` returns what both
 //! say together as a `Front`, or the `Ending` of the command, which is a failed call, refused memory, or the first
 //! fault; `read_parts` does so without a ground tree. The form of the second file is a `SecondFile`; a test is a
-//! `TestFile`. `two_files` reads the two and judges neither, and `unread`, `placed` and `bytes_of` make the ending of a
-//! command that judges files in its own way.
+//! `TestFile`. `two_files` reads the two and judges neither, and `unread_ending`, `place_fault` and `bytes_of` make the
+//! ending of a command that judges files in its own way.
 //!
 //! A third file is started by the command itself, after these two are judged or before. `feed_rest` feeds a checker, a
 //! `TextCheck`, what is left of a file that was started, by pieces; a `FeedEnd` says why a file could not be checked.
@@ -43,9 +43,9 @@ pub use checked::{checked_status, write_checked};
 pub use ending::{Ending, ending_status, write_ending};
 pub use feed_end::FeedEnd;
 pub use feeding::{MOST, PIECE, feed_rest};
-pub use inputs::{Inputs, bytes_of, front_of, read_inputs, read_parts, two_files, unread};
+pub use inputs::{Inputs, bytes_of, front_of, read_inputs, read_parts, two_files, unread_ending};
 pub use laws::{case_or_first_fault, no_first_fault, one_first_fault, one_model_and_case};
 pub use line::{LINE, join};
-pub use refusal::{Refusal, placed};
+pub use refusal::{Refusal, place_fault};
 pub use second_file::{SecondFile, TestFile};
 pub use text_check::TextCheck;

@@ -19,7 +19,7 @@ pub struct Refusal {
 /// A fault with its line and column in the bytes of its file. A place past their end is told as their end.
 /// No fault has a place past the end, and the code need not show that.
 #[tactic(auto, using(crate::proofs::EndOfText::line_min, crate::proofs::EndOfText::column_min))]
-pub fn placed(fault: InputFault, bytes: &[u8]) -> Refusal
+pub fn place_fault(fault: InputFault, bytes: &[u8]) -> Refusal
     requires { length bytes.now < 4294967295 }
     ensures fault { result.fault ≡ fault }
     ensures placed { IsPlaced bytes.now result }

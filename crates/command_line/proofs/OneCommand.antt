@@ -81,9 +81,6 @@ spelt (gen n) within = ap gen (let some = within.0 in number_found 16 n (omega a
 pub one_command : (words : List (List ℕ)) (c d : Command) → IsCommand words c → IsCommand words d → c ≡ d
 one_command words c d x y = sym (spelt c x.1) ∙ ap command_by (sym x.0 ∙ y.0) ∙ spelt d y.1
 
-pub within_of : (words : List (List ℕ)) (c : Command) → IsCommand words c → IsWithin c
-within_of words c is = is.1
-
 module _ (words : List (List ℕ)) (no_check : (i : Inputs) → words ≡ codes "check" ∷ i.model ∷ i.test ∷ [] → ⊥)
     (no_check2 : (i : Inputs) → words ≡ codes "check2" ∷ i.model ∷ i.test ∷ [] → ⊥)
     (no_verify : (i : Inputs) (third : List ℕ) → words ≡ codes "verify" ∷ i.model ∷ i.test ∷ third ∷ [] → ⊥)

@@ -1,8 +1,8 @@
-ghost use Rattle.std.specs.Prelude.{◌≡◌, ◌∷◌, [], ℕ, List, MatchOption, codes};
+ghost use Rattle.std.specs.Prelude.{◌≡◌, ◌∷◌, [], ℕ, List, MatchOption};
 ghost use Rattle.command_base.specs.Inputs.{Inputs as Names};
 ghost use Rattle.command_line.specs.Command.{word_bytes, Spell, IsNoCommand};
 
-use super::cores::cores_behind;
+use super::cores::take_cores;
 use command_base::Inputs;
 use pc_ground::Version;
 
@@ -48,7 +48,7 @@ pub enum Command<'a> {
 }
 
 /// The names of a model and of a test, where the words are this one and these two.
-fn inputs_behind<'a>(word: &str, words: &'a [String]) -> Option<Inputs<'a>>
+fn take_inputs<'a>(word: &str, words: &'a [String]) -> Option<Inputs<'a>>
     ensures { MatchOption result
         ((i : Names) → word_bytes words.now ≡ word.now ∷ i.model ∷ i.test ∷ [] → ⊥)
         (λ i. word_bytes words.now ≡ word.now ∷ i.model.now ∷ i.test.now ∷ []) }
@@ -66,7 +66,7 @@ fn inputs_behind<'a>(word: &str, words: &'a [String]) -> Option<Inputs<'a>>
 }
 
 /// The names of a model, of a test and of a third file, where the words are this one and these three.
-fn three_behind<'a>(word: &str, words: &'a [String]) -> Option<(Inputs<'a>, &'a str)>
+fn take_three<'a>(word: &str, words: &'a [String]) -> Option<(Inputs<'a>, &'a str)>
     ensures { MatchOption result
         ((i : Names) (third : List ℕ) → word_bytes words.now ≡ word.now ∷ i.model ∷ i.test ∷ third ∷ [] → ⊥)
         (λ p. word_bytes words.now ≡ word.now ∷ p.0.model.now ∷ p.0.test.now ∷ p.1.now ∷ []) }
@@ -88,48 +88,48 @@ fn three_behind<'a>(word: &str, words: &'a [String]) -> Option<(Inputs<'a>, &'a 
 pub fn parse<'a>(words: &'a [String]) -> Option<Command<'a>>
     ensures { MatchOption result (IsNoCommand (word_bytes words.now)) (Spell (word_bytes words.now)) }
 {
-    if let Some(inputs) = inputs_behind("check", words) {
+    if let Some(inputs) = take_inputs("check", words) {
         return Some(Command::Check(Version::One, inputs));
     }
-    if let Some(inputs) = inputs_behind("check2", words) {
+    if let Some(inputs) = take_inputs("check2", words) {
         return Some(Command::Check(Version::Two, inputs));
     }
-    if let Some((inputs, certificate)) = three_behind("verify", words) {
+    if let Some((inputs, certificate)) = take_three("verify", words) {
         return Some(Command::Verify {
             inputs,
             certificate,
         });
     }
-    if let Some(inputs) = inputs_behind("core", words) {
+    if let Some(inputs) = take_inputs("core", words) {
         return Some(Command::Core(inputs));
     }
-    if let Some(inputs) = inputs_behind("check86", words) {
+    if let Some(inputs) = take_inputs("check86", words) {
         return Some(Command::CheckListing(inputs));
     }
-    if let Some((inputs, certificate)) = three_behind("verify86", words) {
+    if let Some((inputs, certificate)) = take_three("verify86", words) {
         return Some(Command::VerifyListing {
             inputs,
             certificate,
         });
     }
-    if let Some(inputs) = inputs_behind("sweep", words) {
+    if let Some(inputs) = take_inputs("sweep", words) {
         return Some(Command::Sweep(inputs));
     }
-    if let Some((inputs, certificate)) = three_behind("verify-lifted", words) {
+    if let Some((inputs, certificate)) = take_three("verify-lifted", words) {
         return Some(Command::VerifyLifted {
             inputs,
             certificate,
         });
     }
-    if let Some((inputs, query)) = three_behind("ask", words) {
+    if let Some((inputs, query)) = take_three("ask", words) {
         return Some(Command::Ask { inputs, query });
     }
-    if let Some((inputs, certificate)) = three_behind("lift", words) {
+    if let Some((inputs, certificate)) = take_three("lift", words) {
         return Some(Command::Lift {
             inputs,
             certificate,
         });
     }
-    let n = cores_behind(words)?;
+    let n = take_cores(words)?;
     Some(Command::Gen(n))
 }

@@ -27,7 +27,7 @@ fn cores(text: &str) -> Option<u8>
 }
 
 /// The number of cores, where the words are `gen` and this number.
-pub(crate) fn cores_behind(words: &[String]) -> Option<u8>
+pub(crate) fn take_cores(words: &[String]) -> Option<u8>
     ensures { MatchOption result
         ((n : ℕ) → IsCommand (word_bytes words.now) (gen n) → ⊥)
         (λ n. IsCommand (word_bytes words.now) (gen n)) }

@@ -1,5 +1,6 @@
 -- The answer of `core` to two files, and the status that is due.
-use Rattle.std.specs.Prelude.{◌≡◌, ℕ, List, [], ◌∷◌, length, Contains}
+use Rattle.std.specs.Prelude.{◌≡◌, ℕ, List, [], ◌∷◌, length, Contains, Result}
+use Rattle.pc_common.specs.Outside.{FilesView}
 use Rattle.pc_common.specs.Case.{Case}
 use Rattle.pc_common.specs.declared.fault.InputFault.{InputFault}
 use Rattle.pc_common.specs.declared.status.Status.{Status}
@@ -9,10 +10,16 @@ use Rattle.pc_syntax.specs.Observable.{axioms_of, Observable}
 use Rattle.pc_ground.specs.declared.version.Version.TheVariants.{One}
 use Rattle.axiom_core.specs.Chosen.{Choice, among, less, AreRising}
 use Rattle.axiom_core.specs.ModelWith.{model_with}
-use Rattle.command_base.specs.Inputs.{Inputs, Contents}
+use Rattle.command_base.specs.declared.inputs.Inputs.{Inputs as CodeInputs}
+use Rattle.command_base.specs.declared.ending.Ending.{Ending}
+use Rattle.command_base.specs.Inputs.{Inputs, Contents, plain_inputs}
+use Rattle.command_base.specs.Endings.{HasOutcome}
+use Rattle.command_base.specs.Outcomes.{IsFilesOutcome}
 use Rattle.command_base.specs.FileAnswers.{AnswersFiles, IsDueOfFiles}
 use Rattle.verdicts.specs.Certified.{IsCertified}
+use Rattle.core_command.specs.declared.command.FoundCore.{FoundCore}
 use Rattle.core_command.specs.CoreTexts.{no_core_text, core_text}
+use Rattle.core_command.specs.Found.{found_text}
 
 -- the axioms of these numbers, counted from 0, make the outcome unobservable, and without any one of them the others don't
 pub record IsMinimalSet (m : WrittenModel) (c : Case) (numbers : List ℕ) : Type 0 where
@@ -48,3 +55,10 @@ module _ (case_of : List ℕ → Case → Type 0) (first_fault : List ℕ → Li
   -- refused, or done
   abbrev pub IsCoreDue : Status → Type 0
   IsCoreDue = IsDueOfFiles case_of first_fault holds i (λ m c status. status ≡ Done)
+
+-- what `core` returns: the core with its certificates, or the ending
+abbrev pub ReturnsCore : {F : Type 0} → (F → FilesView) → (List ℕ → Case → Type 0)
+    → (List ℕ → List ℕ → InputFault → Type 0) → CodeInputs → F → F → Result FoundCore Ending → Type 0
+ReturnsCore view case_of first_fault i old new result =
+    HasOutcome result (λ found. Done) found_text
+    (IsFilesOutcome view case_of first_fault (plain_inputs i) IsCoreText old new)

@@ -17,10 +17,10 @@ abbrev pub without_line : ℕ → List ℕ
 without_line n = numbered_line (codes "without ") n
 
 -- two lists side by side
-abbrev pub beside : {X Y : Type 0} → List X → List Y → List (X × Y)
-beside [] ys = []
-beside (x ∷ xs) [] = []
-beside (x ∷ xs) (y ∷ ys) = (x, y) ∷ beside xs ys
+abbrev pub pairs : {X Y : Type 0} → List X → List Y → List (X × Y)
+pairs [] ys = []
+pairs (x ∷ xs) [] = []
+pairs (x ∷ xs) (y ∷ ys) = (x, y) ∷ pairs xs ys
 
 -- the number of an axiom, and the certificate of a graph without it
 abbrev pub without_text : ℕ × List ℕ → List ℕ
@@ -34,4 +34,4 @@ no_core_text graph = codes "core none\n" ++ (graph ++ codes "end\n")
 abbrev pub core_text : List ℕ → List ℕ → List (List ℕ) → List ℕ
 core_text numbers tree graphs =
     core_line (length numbers) ++ (flat_map axiom_line numbers ++ (codes "refutation\n" ++ (tree
-    ++ (flat_map without_text (beside numbers graphs) ++ codes "end\n"))))
+    ++ (flat_map without_text (pairs numbers graphs) ++ codes "end\n"))))

@@ -1,3 +1,3 @@
 pub mod CoreTexts
-pub mod CoreAnswers
 pub mod Found
+pub mod CoreAnswers

@@ -1,10 +1,6 @@
 ghost use Rattle.std.specs.Prelude.{IfOk};
-ghost use Rattle.pc_common.specs.declared.status.Status.TheVariants.{Done};
-ghost use Rattle.command_base.specs.Inputs.{plain_inputs};
-ghost use Rattle.command_base.specs.Endings.{returned_status, returned_text};
-ghost use Rattle.command_base.specs.Outcomes.{IsFilesOutcome};
-ghost use Rattle.core_command.specs.CoreAnswers.{IsCoreText};
-ghost use Rattle.core_command.specs.Found.{found_text, IsCoreWritable};
+ghost use Rattle.core_command.specs.CoreAnswers.{ReturnsCore};
+ghost use Rattle.core_command.specs.Found.{IsCoreWritable};
 
 use axiom_core::{Core, core};
 use command_base::{Ending, Inputs, SecondFile, read_inputs};
@@ -32,8 +28,7 @@ pub fn find_core<S: SecondFile, R: Search, F: Files>(
     inputs: Inputs<'_>,
     files: &mut F,
 ) -> Result<FoundCore, Ending>
-    ensures outcome { IsFilesOutcome F.view S.case_of S.first_fault (plain_inputs inputs.entry) IsCoreText
-        files.old files.new (returned_status (λ found. Done) result) (returned_text found_text result) }
+    ensures outcome { ReturnsCore F.view S.case_of S.first_fault inputs.entry files.old files.new result }
     ensures writable { IfOk result IsCoreWritable }
 {
     let front = match read_inputs::<S, F>(alloc, inputs, files) {

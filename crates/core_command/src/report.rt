@@ -1,10 +1,10 @@
-ghost use Rattle.std.specs.Prelude.{◌≡◌, ◌≤◌, ◌++◌, length, map, All, codes};
+ghost use Rattle.std.specs.Prelude.{◌≡◌, ◌≤◌, length, map, All};
 ghost use Rattle.std.specs.List.{flat_map};
 ghost use Rattle.pc_common.specs.Writes.{Writes};
 ghost use Rattle.pc_ground.specs.NodeForm.{names_of};
 ghost use Rattle.solver.specs.declared.answer.Answer.TheVariants.{Observable as a_graph, Unobservable as a_refutation};
 ghost use Rattle.verdicts.specs.Verdicts.{IsWritable};
-ghost use Rattle.core_command.specs.CoreTexts.{numbered_line, axiom_line, beside, without_text, no_core_text, core_text};
+ghost use Rattle.core_command.specs.CoreTexts.{numbered_line, axiom_line, pairs, without_text, no_core_text, core_text};
 ghost use Rattle.core_command.specs.Found.{graph_text, tree_text, found_text, IsCoreWritable};
 
 use super::certificates::{write_refuted, write_shown};
@@ -60,7 +60,8 @@ fn write_without<K: Sink>(out: &mut K, number: usize, shown: &(Front, Graph)) ->
 fn write_graphs<K: Sink>(out: &mut K, kept: &AxiomNumbers, without: &Shown) -> Result<(), Failed>
     requires writable { All (λ s. IsWritable (names_of s.0) (a_graph s.1)) without.now }
     requires beside { length kept.now ≡ length without.now }
-    ensures { Writes K.view out.old out.new result (flat_map without_text (beside kept.now (map graph_text without.now))) }
+    ensures { Writes K.view out.old out.new result
+        (flat_map without_text (pairs kept.now (map graph_text without.now))) }
 {
     for (k, shown) in without.as_slice().iter().enumerate() {
         write_without(out, *kept.get(k), shown)?;
@@ -88,7 +89,8 @@ fn write_minimal<K: Sink>(
     requires refuted { IsWritable (names_of refuted.now.0) (a_refutation refuted.now.1) }
     requires writable { All (λ s. IsWritable (names_of s.0) (a_graph s.1)) without.now }
     requires beside { length kept.now ≡ length without.now }
-    ensures { Writes K.view out.old out.new result (core_text kept.now (tree_text refuted.now) (map graph_text without.now)) }
+    ensures { Writes K.view out.old out.new result
+        (core_text kept.now (tree_text refuted.now) (map graph_text without.now)) }
 {
     write_line(out, b"core ", kept.len())?;
     write_axioms(out, kept)?;

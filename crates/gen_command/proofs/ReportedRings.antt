@@ -1,6 +1,6 @@
 -- The report on the ring's front says what is found of its model and its case.
 use Rattle.std.proofs.Common.{◌≡◌, ℕ, List, length, refl, sym, ◌∙◌, ap, subst}
-use Rattle.std.specs.Prelude.{MatchResult, Result}
+use Rattle.std.specs.Prelude.{Result}
 use Rattle.pc_common.specs.Case.{Case}
 use Rattle.pc_common.specs.World.{Node}
 use Rattle.pc_common.specs.Lines.{Verdict as Kind, observable, unobservable}
@@ -23,7 +23,7 @@ use Rattle.cert_check.specs.Verdicts.{plain_verdict}
 use Rattle.gen_command.specs.Ring.{ring_model, ring_test}
 use Rattle.command_base.specs.declared.ending.Ending.{Ending}
 use Rattle.command_base.specs.SecondFiles.{SaysFront}
-use Rattle.command_base.specs.Endings.{IsBytesEnding}
+use Rattle.command_base.specs.Endings.{ReturnsFront}
 use Rattle.verdicts.specs.declared.verdict.Verdict.{Verdict}
 use Rattle.gen_command.specs.declared.report.Report.{Report}
 use Rattle.command_base.specs.Questions.{question_by}
@@ -39,11 +39,10 @@ use Rattle.verdicts.proofs.VerdictTexts.{verdict_certified}
 
 -- what is said of these bytes is said of those
 pub front_moved : (r : Result Front Ending) (mb tb model test : List ℕ) → mb ≡ model → tb ≡ test
-    → MatchResult r (SaysFront CaseOf mb tb) (IsBytesEnding CaseOf IsTestFault mb tb)
-    → MatchResult r (SaysFront CaseOf model test) (IsBytesEnding CaseOf IsTestFault model test)
+    → ReturnsFront CaseOf IsTestFault mb tb r → ReturnsFront CaseOf IsTestFault model test r
 front_moved r mb tb model test em et h =
-    let P : List ℕ → Type 0 = λ b. MatchResult r (SaysFront CaseOf b tb) (IsBytesEnding CaseOf IsTestFault b tb) in
-    let Q : List ℕ → Type 0 = λ b. MatchResult r (SaysFront CaseOf model b) (IsBytesEnding CaseOf IsTestFault model b) in
+    let P : List ℕ → Type 0 = λ b. ReturnsFront CaseOf IsTestFault b tb r in
+    let Q : List ℕ → Type 0 = λ b. ReturnsFront CaseOf IsTestFault model b r in
     subst Q et (subst P em h)
 
 true_kind : (version : Version) (m : WrittenModel) (c : Case) (text : List ℕ) (found : Found) → IsCertified version m c (status_of found) text

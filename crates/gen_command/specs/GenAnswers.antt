@@ -1,5 +1,5 @@
 -- The answer of `gen`, and the status that is due.
-use Rattle.std.specs.Prelude.{◌≡◌, ◌≢◌, ℕ, List}
+use Rattle.std.specs.Prelude.{◌≡◌, ◌≢◌, ℕ, List, Result}
 use Rattle.pc_common.specs.Case.{Case}
 use Rattle.pc_common.specs.Lines.{Verdict}
 use Rattle.pc_common.specs.declared.fault.InputFault.{InputFault}
@@ -9,8 +9,10 @@ use Rattle.pc_syntax.specs.Written.{WrittenModel}
 use Rattle.cert_check.specs.Verdicts.{plain_verdict}
 use Rattle.gen_command.specs.Ring.{ring_model, ring_test}
 use Rattle.command_base.specs.Refusals.{refused_text}
-use Rattle.command_base.specs.Endings.{bytes_of}
+use Rattle.command_base.specs.declared.ending.Ending.{Ending}
+use Rattle.command_base.specs.Endings.{bytes_of, HasOutcome}
 use Rattle.gen_command.specs.declared.report.Report.{Report}
+use Rattle.gen_command.specs.Reports.{report_text}
 use Rattle.gen_command.specs.Texts.{SaysRing, IsRingFault, ring_text}
 use Rattle.gen_command.specs.Summaries.{IsSummary}
 
@@ -35,8 +37,12 @@ pub record IsGenDue (n : ℕ) (status : Status) : Type 0 where
   pub found : (m : WrittenModel) (c : Case) → SaysRing n m c → status ≡ Done
   pub fault : (f : InputFault) → IsRingFault n f → status ≡ Refused
 
--- what `gen` returns, whatever the files are
+-- the outcome of `gen`, whatever the files are
 pub record IsGenOutcome (n : ℕ) (status : Status) (text : List ℕ) : Type 0 where
   pub no_usage : status ≢ Usage
   pub no_read_fault : status ≢ ReadFault
   pub answers : status ≢ Memory → AnswersGen n status text
+
+-- what `gen` returns: the report, or the ending
+abbrev pub ReturnsReport : ℕ → Result Report Ending → Type 0
+ReturnsReport n result = HasOutcome result (λ r. Done) report_text (IsGenOutcome n)

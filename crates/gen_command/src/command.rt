@@ -1,12 +1,9 @@
-ghost use Rattle.std.specs.Prelude.{◌≤◌, MatchResult};
-ghost use Rattle.pc_common.specs.declared.status.Status.TheVariants.{Done};
+ghost use Rattle.std.specs.Prelude.{◌≤◌};
 ghost use Rattle.litmus_reader.specs.Answer.{CaseOf};
 ghost use Rattle.pc_front.specs.Front.{IsFirstFrontFault as IsTestFault};
 ghost use Rattle.gen_command.specs.Ring.{ring_model, ring_test};
-ghost use Rattle.command_base.specs.SecondFiles.{SaysFront};
-ghost use Rattle.command_base.specs.Endings.{IsBytesEnding, returned_status, returned_text};
-ghost use Rattle.gen_command.specs.Reports.{report_text};
-ghost use Rattle.gen_command.specs.GenAnswers.{IsGenOutcome};
+ghost use Rattle.command_base.specs.Endings.{ReturnsFront};
+ghost use Rattle.gen_command.specs.GenAnswers.{ReturnsReport};
 
 use super::pair::gen_texts;
 use super::report::{Report, report_of};
@@ -19,8 +16,7 @@ use verdicts::verdict_on;
 /// The front of the two texts of the ring of `n` cores, or how the command ends where they say none.
 fn ring_front(alloc: Global, n: u8) -> Result<Front, Ending>
     requires { 2 ≤ n × n ≤ 16 }
-    ensures { MatchResult result (SaysFront CaseOf ring_model (ring_test n))
-        (IsBytesEnding CaseOf IsTestFault ring_model (ring_test n)) }
+    ensures { ReturnsFront CaseOf IsTestFault ring_model (ring_test n) result }
 {
     match gen_texts(alloc, n) {
         Ok((model, test)) => front_of::<TestFile>(alloc, &model, &test),
@@ -32,7 +28,7 @@ fn ring_front(alloc: Global, n: u8) -> Result<Front, Ending>
 /// which is the first fault of the texts, or want of memory. Touches no file.
 pub fn generate(alloc: Global, n: u8) -> Result<Report, Ending>
     requires { 2 ≤ n × n ≤ 16 }
-    ensures { IsGenOutcome n (returned_status (λ r. Done) result) (returned_text report_text result) }
+    ensures { ReturnsReport n result }
 {
     let front = match ring_front(alloc, n) {
         Ok(front) => front,

@@ -1,7 +1,6 @@
 ghost use Rattle.std.specs.Prelude.{◌≡◌};
 ghost use Rattle.pc_common.specs.Room.{Puts};
 ghost use Rattle.pc_common.specs.Writes.{Writes};
-ghost use Rattle.cert_check.specs.Verdicts.{plain_verdict};
 ghost use Rattle.gen_command.specs.Reports.{IsReport, report_text};
 
 use cert_check::{Verdict as Kind, verdict_line};

@@ -1,5 +1,5 @@
 -- What a search along edges keeps, step by step.
-use Rattle.std.proofs.Common.{◌≡◌, ℕ, ◌+◌, ◌<◌, ◌≤◌, ◌⊎◌, inl, inr, List, [], ◌∷◌, ◌++◌, Some, length, set, take, replicate, get_or, slice_get, refl, sym, ◌∙◌, ap, subst, arith}
+use Rattle.std.proofs.Common.{◌≡◌, ℕ, ◌+◌, ◌<◌, ◌⊎◌, inl, inr, List, [], ◌∷◌, ◌++◌, Some, length, set, take, replicate, get_or, slice_get, refl, sym, ◌∙◌, ap, subst, arith}
 use Rattle.std.proofs.lemmas.Bool.{cases_eq, cases_lt}
 use Rattle.std.proofs.lemmas.List.{map-append, get_or-set_same, get_or-set_other, length-set, length-append, length-replicate, get_or-replicate, get_or_past, take-append-le, take_all}
 use Rattle.std.proofs.lemmas.List.Sums.{sum_by_push, sum_by-set}
@@ -111,14 +111,6 @@ module _ (v : Arcs) where
 
       low : node < length p.marks
       low = (let same = s.sized in omega (arith, same, node_in))
-
-  pub fewer_opened : (p : Progress) (node at : ℕ) → node < length p.marks → mark_of p.marks node ≡ New → at ≤ length v.arcs
-      → steps_left v (record { marks = set p.marks node Open; path = p.path ++ record { node = node; at = at } ∷ []; order = p.order }) < steps_left v p
-  fewer_opened p node at low was_new short =
-      let cost = ap (steps_of (length v.arcs)) was_new in
-      let marks = sum_by-set (steps_of (length v.arcs)) p.marks node Open New low in
-      let path = sum_by_push (λ (x : Visit). x.at + 1) p.path (record { node = node; at = at }) in
-      omega (arith, cost, marks, path, short)
 
   module _ (p : Progress) (x : Visit) (s : IsSearching v (with_visit p x)) where
     pub here : In x (p.path ++ x ∷ [])

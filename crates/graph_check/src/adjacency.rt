@@ -1,4 +1,4 @@
-ghost use Rattle.std.specs.Prelude.{◌≡◌, ◌<◌, ◌≤◌, ◌-◌, ◌↔◌, ◌⊎◌, [], ℕ, true, length, slice_get, Some, IfOk, OnOk};
+ghost use Rattle.std.specs.Prelude.{◌≡◌, ◌<◌, ◌≤◌, ◌-◌, ◌↔◌, ◌⊎◌, [], ℕ, true, length, IfOk, OnOk};
 ghost use Rattle.graph_check.specs.Arcs.{Joins, IsWalk, ComesTo, AreLinked};
 ghost use Rattle.graph_check.specs.Columns.{is_set};
 

@@ -27,7 +27,7 @@ pub fn check_graph_of(
 ) -> Result<bool, Memory>
     ensures { IfOk result (λ yes. (yes ≡ true) ↔ IsShownOf case.now (plain_axioms axioms.now) graph.now) }
 {
-    match Order::of(alloc, graph)? {
+    match Order::generate(alloc, graph)? {
         Some(mut order) => are_true(case, &mut order, axioms.as_slice()),
         None => Ok(false),
     }

@@ -1,4 +1,4 @@
-ghost use Rattle.std.specs.Prelude.{◌≡◌, ◌↔◌, ◌∷◌, [], ◌++◌, ℕ, List, length, map, Contains, IfOk, MatchOption, MatchBool};
+ghost use Rattle.std.specs.Prelude.{◌≡◌, ◌↔◌, map, Contains, IfOk, MatchOption};
 ghost use Rattle.pc_common.specs.World.{Node, World, has_node, has_edge};
 ghost use Rattle.pc_common.specs.Generated.{HasEnds, IsGenerated};
 ghost use Rattle.pc_ground.specs.Keys.{key_node};
@@ -94,7 +94,7 @@ impl<'a> Order<'a> {
     /// The order of a graph: None where an end of an edge is on no node line, or where the edges have a cycle.
     ///
     /// It takes time and memory in proportion to nodes and edges. The one error is that memory was refused.
-    pub(crate) fn of(alloc: Global, graph: &'a Graph) -> Result<Option<Order<'a>>, Memory>
+    pub(crate) fn generate(alloc: Global, graph: &'a Graph) -> Result<Option<Order<'a>>, Memory>
         ensures { IfOk result (λ found. MatchOption found
             (IsOrdered (graph_nodes graph.now) (graph_edges graph.now) → ⊥)
             (λ order. (order ≡ plain_graph graph.now) × IsOrdered order.nodes order.edges)) }

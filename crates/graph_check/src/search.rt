@@ -1,4 +1,4 @@
-ghost use Rattle.std.specs.Prelude.{◌≡◌, ◌<◌, [], ◌++◌, ◌∷◌, ℕ, true, length, IfOk, OnOk, MatchBool, MatchOption};
+ghost use Rattle.std.specs.Prelude.{◌≡◌, ◌<◌, [], ℕ, true, length, IfOk, OnOk, MatchBool, MatchOption};
 ghost use Rattle.pc_common.specs.Elements.{In};
 ghost use Rattle.pc_common.specs.Chain.{Chain, Acyclic};
 ghost use Rattle.graph_check.specs.Arcs.{Joins};

@@ -1,7 +1,7 @@
 -- A graph over plain nodes, and its lines.
 use Rattle.std.specs.Prelude.{ℕ, List, ◌++◌, map}
 use Rattle.pc_common.specs.World.{Node, Edge}
-use Rattle.pc_common.specs.Lines.{Names, Line, node as node_line, edge as edge_line, line_text}
+use Rattle.pc_common.specs.Lines.{Names, Line, node as node_line, edge as edge_line, line_text, lines_text}
 use Rattle.pc_ground.specs.Keys.{key_node}
 use Rattle.pc_ground.specs.NodeForm.{IsNodeIn}
 use Rattle.pc_ground.specs.declared.node_key.NodeKey.{NodeKey}
@@ -19,6 +19,10 @@ graph_edges g = map key_edge g.edges
 -- the node lines, and then the edge lines
 abbrev pub graph_lines : List Node → List Edge → List Line
 graph_lines nodes edges = map node_line nodes ++ map (λ e. edge_line e.0 e.1) edges
+
+-- the text of these lines
+abbrev pub text_of_graph : Names → Graph → List ℕ
+text_of_graph names g = lines_text names (graph_lines (graph_nodes g) (graph_edges g))
 
 abbrev pub node_line_text : Names → NodeKey → List ℕ
 node_line_text names k = line_text names (node_line (key_node k))

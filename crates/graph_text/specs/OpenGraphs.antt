@@ -1,5 +1,5 @@
 -- The lines of a graph one after another: which may stand next, and what a graph is with one line more.
-use Rattle.std.specs.Prelude.{ℕ, ◌≡◌, ◌↔◌, ◌++◌, List, [], ◌∷◌, map, Contains}
+use Rattle.std.specs.Prelude.{ℕ, ◌≡◌, ◌↔◌, ◌++◌, Bool, List, [], ◌∷◌, map, Contains, MatchBool}
 use Rattle.pc_common.specs.World.{Node, Edge}
 use Rattle.pc_common.specs.Lines.{Names, Line, verdict, second, node, edge, version_two, step, end, line_words}
 use Rattle.pc_common.specs.Generated.{HasEnds}
@@ -42,6 +42,14 @@ pub record Takes (names : Names) (text : List ℕ) (old new : PlainGraph) : Type
 -- no line of these names that may stand next has this text
 abbrev pub Refuses : Names → List ℕ → PlainGraph → Type 0
 Refuses names text g = (line : Line) → IsGraphLineIn names line → Follows g line → text ≡ line_words names line → ⊥
+
+-- what came of putting a line last: the new graph has it, or it may not stand next and nothing changed
+abbrev pub HasPut : PlainGraph → Line → PlainGraph → Bool → Type 0
+HasPut old line new put = MatchBool put (IsWithLine old new line) ((Follows old line → ⊥) × (new ≡ old))
+
+-- what came of a text: the new graph has its line last, or no line that may stand next has it and nothing changed
+abbrev pub HasTakenText : Names → List ℕ → PlainGraph → PlainGraph → Bool → Type 0
+HasTakenText names text old new taken = MatchBool taken (Takes names text old new) (Refuses names text old × (new ≡ old))
 
 -- the keys are those of the nodes listed, and each edge joins two of these
 pub record IsOpen (keys : List NodeKey) (nodes : List Node) (edges : List Edge) : Type 0 where

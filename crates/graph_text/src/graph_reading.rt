@@ -1,6 +1,5 @@
 ghost use Rattle.std.specs.Prelude.{◌≡◌, []};
 ghost use Rattle.pc_common.specs.Lines.{Names};
-ghost use Rattle.pc_ground.specs.NodeForm.{AreReadable};
 ghost use Rattle.graph_text.specs.OpenGraphs.{PlainGraph};
 ghost use Rattle.graph_text.specs.GraphReading.{AreGraphLines, IsTakenBy, IsTextOf, ReadsGraph, AnswersGraph};
 ghost use Rattle.graph_text.specs.LawsOfGraphs.{first_lines_of};
@@ -32,11 +31,11 @@ struct GraphJudge<'a, K> {
 }
 
 impl<'a, K: Named> Judge for GraphJudge<'a, K> {
-    ghost begins = { λ judge lines. AreGraphLines K.names lines };
-
-    ghost whole = { λ judge lines. AreGraphLines K.names lines };
-
-    ghost stands = { λ judge lines. (judge.names.now ≡ K.names) × IsTakenBy K.names judge.graph lines };
+    ghost view = { λ judge. record {
+      begins = AreGraphLines K.names;
+      whole = AreGraphLines K.names;
+      stands = λ lines. (judge.names.now ≡ K.names) × IsTakenBy K.names judge.graph lines;
+    } };
 
     ghost stands_begins = { λ judge lines taken. (judge.graph, taken.1.taken) };
 

@@ -1,10 +1,10 @@
-ghost use Rattle.std.specs.Prelude.{◌≡◌, All, MatchBool, IfOk, OnErr};
+ghost use Rattle.std.specs.Prelude.{◌≡◌, All, IfOk, OnErr};
 ghost use Rattle.pc_common.specs.Generated.{HasEnds};
 ghost use Rattle.pc_common.specs.Lines.{node, edge};
 ghost use Rattle.pc_ground.specs.Keys.{key_node};
 ghost use Rattle.pc_ground.specs.NodeForm.{IsNodeIn};
 ghost use Rattle.graph_text.specs.Graphs.{graph_nodes, graph_edges};
-ghost use Rattle.graph_text.specs.OpenGraphs.{empty_graph, Follows, IsWithLine, Takes, Refuses};
+ghost use Rattle.graph_text.specs.OpenGraphs.{empty_graph, HasPut, HasTakenText};
 
 use super::graph::{Edges, Graph, Nodes};
 use super::graph_line::GraphLine;
@@ -25,7 +25,6 @@ pub struct OpenGraph {
 }
 
 impl Model for OpenGraph {
-    ghost use Rattle.std.specs.Prelude.{map};
     ghost use Rattle.indexmap.specs.IndexMap.{keys};
     ghost use Rattle.graph_text.specs.Graphs.{graph_nodes, graph_edges};
     ghost use Rattle.graph_text.specs.OpenGraphs.{PlainGraph, IsOpen};
@@ -56,8 +55,7 @@ impl OpenGraph {
     ///
     /// After false, and where memory is refused, nothing has changed.
     pub fn take(&mut self, names: &NodeText<'_>, line: &[u8]) -> Result<bool, Memory>
-        ensures taken { IfOk result (λ taken. MatchBool taken (Takes names.now line.now self.old self.new)
-            (Refuses names.now line.now self.old × (self.new ≡ self.old))) }
+        ensures taken { IfOk result (HasTakenText names.now line.now self.old self.new) }
         ensures kept { OnErr result (self.new ≡ self.old) }
         ensures of_names { All (IsNodeIn names.now) self.old.nodes → All (IsNodeIn names.now) self.new.nodes }
     {
@@ -70,8 +68,7 @@ impl OpenGraph {
 
     /// Puts a node line last where there is no edge yet. The room of the map is taken first.
     fn take_node(&mut self, key: NodeKey) -> Result<bool, Memory>
-        ensures taken { IfOk result (λ taken. MatchBool taken (IsWithLine self.old self.new (node (key_node key)))
-            ((Follows self.old (node (key_node key)) → ⊥) × (self.new ≡ self.old))) }
+        ensures taken { IfOk result (HasPut self.old (node (key_node key)) self.new) }
         ensures kept { OnErr result (self.new ≡ self.old) }
     {
         if self.graph.edges.len() > 0 {
@@ -85,9 +82,7 @@ impl OpenGraph {
 
     /// Puts an edge line last where both of its ends are listed.
     fn take_edge(&mut self, from: NodeKey, to: NodeKey) -> Result<bool, Memory>
-        ensures taken { IfOk result (λ taken. MatchBool taken
-            (IsWithLine self.old self.new (edge (key_node from) (key_node to)))
-            ((Follows self.old (edge (key_node from) (key_node to)) → ⊥) × (self.new ≡ self.old))) }
+        ensures taken { IfOk result (HasPut self.old (edge (key_node from) (key_node to)) self.new) }
         ensures kept { OnErr result (self.new ≡ self.old) }
     {
         if !self.listed.contains_key(&from) || !self.listed.contains_key(&to) {

@@ -1,4 +1,4 @@
-ghost use Rattle.std.specs.Prelude.{◌≡◌, List, MatchOption};
+ghost use Rattle.std.specs.Prelude.{◌≡◌, MatchOption};
 ghost use Rattle.pc_common.specs.Lines.{Line, line_words};
 ghost use Rattle.pc_ground.specs.NodeWords.{Lacks, IsCut};
 ghost use Rattle.graph_text.specs.GraphTexts.{space, IsGraphLineIn, ReadsLine, AnswersLine, ReadsEnds, AnswersEnds, both_ends, as_node, as_edge};
@@ -19,7 +19,7 @@ fn cut(line: &[u8]) -> Option<(&[u8], &[u8])>
 }
 
 /// Both nodes, where both were read; else `Malformed` where one of them is, and `Foreign` elsewhere.
-fn both(
+fn join_ends(
     from: Result<NodeKey, LineFault>,
     to: Result<NodeKey, LineFault>,
 ) -> Result<(NodeKey, NodeKey), LineFault>
@@ -42,7 +42,7 @@ fn read_ends(names: &NodeText<'_>, words: &[u8]) -> Result<(NodeKey, NodeKey), L
     let Some((from, to)) = cut(words) else {
         return Err(LineFault::Malformed);
     };
-    both(names.read(from), names.read(to))
+    join_ends(names.read(from), names.read(to))
 }
 
 /// The line of a node that was read.

@@ -1,10 +1,8 @@
 ghost use Rattle.std.specs.Prelude.{All, ◌++◌};
 ghost use Rattle.std.specs.List.{flat_map};
-ghost use Rattle.pc_common.specs.Lines.{line_text, lines_text, node, edge};
 ghost use Rattle.pc_common.specs.Room.{Puts};
 ghost use Rattle.pc_common.specs.Writes.{Writes};
-ghost use Rattle.pc_ground.specs.Keys.{key_node};
-ghost use Rattle.graph_text.specs.Graphs.{graph_nodes, graph_edges, graph_lines, node_line_text, edge_line_text, IsKeyIn, IsEdgeIn};
+ghost use Rattle.graph_text.specs.Graphs.{text_of_graph, node_line_text, edge_line_text, IsKeyIn, IsEdgeIn};
 
 use super::graph::Graph;
 use pc_common::{Failed, Room, Sink};
@@ -107,8 +105,7 @@ fn put_graph<K: Sink>(
 pub fn write_graph<K: Sink>(sink: &mut K, names: &NodeText<'_>, graph: &Graph) -> Result<(), Failed>
     requires nodes { All (IsKeyIn names.now) graph.now.nodes }
     requires edges { All (IsEdgeIn names.now) graph.now.edges }
-    ensures { Writes K.view sink.old sink.new result
-        (lines_text names.now (graph_lines (graph_nodes graph.now) (graph_edges graph.now))) }
+    ensures { Writes K.view sink.old sink.new result (text_of_graph names.now graph.now) }
 {
     let mut room = Room::new(sink);
     put_graph(&mut room, names, graph)?;

@@ -11,12 +11,10 @@ use Rattle.std.proofs.lemmas.Option.{slice_get_within, get_or_from_slice_get}
 use Rattle.pc_common.specs.Case.{MicroOp}
 use Rattle.pc_common.specs.Lines.{op_text}
 use Rattle.static_preds.proofs.Walked.{map_take}
-use Rattle.lifted_facts.specs.declared.way.Instance.{Instance}
 use Rattle.lifted_facts.specs.declared.way.Instance.TheVariants.{Op as OpInstance}
-use Rattle.lifted_facts.specs.declared.way.Way.TheVariants.{Inst as InstWay, Member as MemberWay}
-use Rattle.lifted_facts.specs.Lifted.{LiftedStep, derive, close, cycle, path}
+use Rattle.lifted_facts.specs.Lifted.{LiftedStep, close, cycle, path}
 use Rattle.lifted_check.specs.StepLines.{value_text}
-use Rattle.lift_command.specs.WrittenLines.{line_of, line_text, spaced}
+use Rattle.lift_command.specs.WrittenLines.{line_of, line_text, spaced_words}
 use Rattle.lift_command.proofs.SpacedLines.{line_is, spaced_more}
 
 -- first these bytes, and then those
@@ -27,33 +25,24 @@ pub put_as : {T E : Type 0} (r : Result T E) (old new xs ys : List ℕ) → xs �
 put_as r old new xs ys same h = on_ok_weaker r (λ e. e ∙ ap (λ (t : List ℕ). old ++ t) same) h
 
 pub cycle_line : (ops : List MicroOp) (k : ℕ) (ks : List ℕ)
-    → codes "cycle" ++ ((codes " " ++ decimal k) ++ spaced (map decimal ks)) ≡ line_of ops (close (cycle k ks))
+    → codes "cycle" ++ ((codes " " ++ decimal k) ++ spaced_words (map decimal ks)) ≡ line_of ops (close (cycle k ks))
 cycle_line ops k ks = sym (line_is ops (close (cycle k ks))
-    ∙ ap (λ (r : List ℕ). codes "cycle" ++ r) (append-nil ((codes " " ++ decimal k) ++ spaced (map decimal ks))))
+    ∙ ap (λ (r : List ℕ). codes "cycle" ++ r) (append-nil ((codes " " ++ decimal k) ++ spaced_words (map decimal ks))))
 
 pub path_line : (ops : List MicroOp) (k : ℕ) (ks : List ℕ) (denial : ℕ)
-    → (codes "path" ++ ((codes " " ++ decimal k) ++ spaced (map decimal ks))) ++ (codes " " ++ decimal denial) ≡ line_of ops (close (path k ks denial))
+    → (codes "path" ++ ((codes " " ++ decimal k) ++ spaced_words (map decimal ks))) ++ (codes " " ++ decimal denial) ≡ line_of ops (close (path k ks denial))
 path_line ops k ks denial =
     let first : List ℕ = codes " " ++ decimal k in
     let last : List ℕ = codes " " ++ decimal denial in
-    let mid = spaced (map decimal ks) in
-    let more : spaced (map decimal (ks ++ denial ∷ [])) ≡ mid ++ last =
-    ap spaced (map-append decimal ks (denial ∷ [])) ∙ spaced_more (map decimal ks) (decimal denial ∷ []) ∙ ap (λ (r : List ℕ). mid ++ r) (append-nil last) in
+    let mid = spaced_words (map decimal ks) in
+    let more : spaced_words (map decimal (ks ++ denial ∷ [])) ≡ mid ++ last =
+    ap spaced_words (map-append decimal ks (denial ∷ [])) ∙ spaced_more (map decimal ks) (decimal denial ∷ [])
+    ∙ ap (λ (r : List ℕ). mid ++ r) (append-nil last) in
     sym (line_is ops (close (path k ks denial))
-    ∙ ap (λ (r : List ℕ). codes "path" ++ r) (append-nil (first ++ spaced (map decimal (ks ++ denial ∷ []))))
+    ∙ ap (λ (r : List ℕ). codes "path" ++ r) (append-nil (first ++ spaced_words (map decimal (ks ++ denial ∷ []))))
     ∙ ap (λ (r : List ℕ). codes "path" ++ (first ++ r)) more
     ∙ ap (λ (r : List ℕ). codes "path" ++ r) (sym (append_assoc first mid last))
     ∙ sym (append_assoc (codes "path") (first ++ mid) last))
-
--- one number more, and one line more
-pub spaced_next : (numbers : List ℕ) (k x : ℕ) (front old new : List ℕ) → slice_get numbers k ≡ Some x → old ≡ front ++ spaced (map decimal (take k numbers))
-    → new ≡ old ++ (codes " " ++ decimal x) → new ≡ front ++ spaced (map decimal (take (k + 1) numbers))
-spaced_next numbers k x front old new there before is =
-    let sofar = map decimal (take k numbers) in
-    let last : List ℕ = codes " " ++ decimal x in
-    let more : spaced (map decimal (take (k + 1) numbers)) ≡ spaced sofar ++ last =
-    ap spaced (map_take decimal numbers k x there) ∙ spaced_more sofar (decimal x ∷ []) ∙ ap (λ (r : List ℕ). spaced sofar ++ r) (append-nil last) in
-    is ∙ ap (λ (t : List ℕ). t ++ last) before ∙ append_assoc front (spaced sofar) last ∙ ap (λ (r : List ℕ). front ++ r) (sym more)
 
 taken_next : {X : Type 0} (xs : List X) (k : ℕ) (x : X) → slice_get xs k ≡ Some x → take (k + 1) xs ≡ take k xs ++ x ∷ []
 taken_next xs k x there = sym (map_same (take (k + 1) xs)) ∙ map_take (λ y. y) xs k x there ∙ ap (λ ys. ys ++ x ∷ []) (map_same (take k xs))
@@ -62,6 +51,7 @@ taken_next xs k x there = sym (map_same (take (k + 1) xs)) ∙ map_take (λ y. y
     map_same [] = refl
     map_same (x ∷ xs) = ap (λ ys. x ∷ ys) (map_same xs)
 
+-- one line more
 pub lines_next : (ops : List MicroOp) (steps : List LiftedStep) (k : ℕ) (s : LiftedStep) (front old new : List ℕ) → slice_get steps k ≡ Some s
     → old ≡ front ++ flat_map (line_text ops) (take k steps) → new ≡ old ++ line_text ops s → new ≡ front ++ flat_map (line_text ops) (take (k + 1) steps)
 lines_next ops steps k s front old new there before is =
@@ -88,17 +78,6 @@ put_header_text r old one two new given second same first next h =
 -- one more of those before a place
 pub all_next : {X : Type 0} (P : X → Type 0) (xs : List X) (k : ℕ) (x : X) → slice_get xs k ≡ Some x → All P (take k xs) → P x → All P (take (k + 1) xs)
 all_next P xs k x there before here = (subst (λ ys. All P ys) (sym (taken_next xs k x there)) (All-push P (take k xs) x before here))
-
--- the lines of a part that an instance or a member is
-pub inst_line : (ops : List MicroOp) (v : Instance) (k : ℕ)
-    → ((codes "inst" ++ (codes " " ++ decimal k)) ++ codes " ") ++ value_text ops v ≡ line_of ops (derive (InstWay v) k)
-inst_line ops v k =
-    append_assoc (codes "inst" ++ (codes " " ++ decimal k)) (codes " ") (value_text ops v)
-    ∙ append_assoc (codes "inst") (codes " " ++ decimal k) (codes " " ++ value_text ops v)
-
-pub member_line : (ops : List MicroOp) (k j : ℕ)
-    → (codes "member" ++ (codes " " ++ decimal k)) ++ (codes " " ++ decimal j) ≡ line_of ops (derive (MemberWay j) k)
-member_line ops k j = append_assoc (codes "member") (codes " " ++ decimal k) (codes " " ++ decimal j)
 
 -- the name of the micro-op at a place
 pub put_op : {T E : Type 0} (r : Result T E) (ops : List MicroOp) (i : ℕ) (o : MicroOp) (old one two new : List ℕ)

@@ -15,19 +15,20 @@ use Rattle.lifted_facts.specs.declared.way.Instance.TheVariants.{Op as OpInstanc
 use Rattle.lifted_facts.specs.declared.way.Way.TheVariants.{Left as LeftWay, Right as RightWay, Not as NotWay, Bind as BindWay, Inst as InstWay, Member as MemberWay}
 use Rattle.lifted_facts.specs.Lifted.{LiftedStep, derive, split, close, falsity, cycle, path, absent}
 use Rattle.lifted_check.specs.StepLines.{keyword_text, keyword_of, numbers_of, value_text, value_words, IsSmall, IsValue, HasValue}
-use Rattle.lift_command.specs.WrittenLines.{line_of, spaced}
+use Rattle.lift_command.specs.WrittenLines.{line_of, spaced_words}
 
-pub joined_spaced : (w : List ℕ) (ws : List (List ℕ)) → join_with_byte 32 (w ∷ ws) ≡ w ++ spaced ws
+pub joined_spaced : (w : List ℕ) (ws : List (List ℕ)) → join_with_byte 32 (w ∷ ws) ≡ w ++ spaced_words ws
 joined_spaced w [] = sym (append-nil w)
 joined_spaced w (v ∷ vs) = ap (λ (r : List ℕ). w ++ 32 ∷ r) (joined_spaced v vs)
 
-pub spaced_more : (xs ys : List (List ℕ)) → spaced (xs ++ ys) ≡ spaced xs ++ spaced ys
+pub spaced_more : (xs ys : List (List ℕ)) → spaced_words (xs ++ ys) ≡ spaced_words xs ++ spaced_words ys
 spaced_more [] ys = refl
-spaced_more (x ∷ xs) ys = ap (λ (r : List ℕ). (codes " " ++ x) ++ r) (spaced_more xs ys) ∙ sym (append_assoc (codes " " ++ x) (spaced xs) (spaced ys))
+spaced_more (x ∷ xs) ys =
+    ap (λ (r : List ℕ). (codes " " ++ x) ++ r) (spaced_more xs ys) ∙ sym (append_assoc (codes " " ++ x) (spaced_words xs) (spaced_words ys))
 
 -- a line is its keyword, and then its numbers and its value after spaces
 pub line_is : (ops : List MicroOp) (s : LiftedStep)
-    → line_of ops s ≡ keyword_text (keyword_of s) ++ (spaced (map decimal (numbers_of s)) ++ spaced (value_words ops s))
+    → line_of ops s ≡ keyword_text (keyword_of s) ++ (spaced_words (map decimal (numbers_of s)) ++ spaced_words (value_words ops s))
 line_is ops s =
     joined_spaced (keyword_text (keyword_of s)) (map decimal (numbers_of s) ++ value_words ops s)
     ∙ ap (λ (r : List ℕ). keyword_text (keyword_of s) ++ r) (spaced_more (map decimal (numbers_of s)) (value_words ops s))
@@ -56,10 +57,11 @@ keyword_lacks (close (absent denial k)) = refl
 number_lacks : (k : ℕ) → IsSmall k → Lacks 10 (decimal k)
 number_lacks k small = decimal_lacks 10 (decimal k) refl (k, (small, refl))
 
-numbers_lack : (ks : List ℕ) → All IsSmall ks → Lacks 10 (spaced (map decimal ks))
+numbers_lack : (ks : List ℕ) → All IsSmall ks → Lacks 10 (spaced_words (map decimal ks))
 numbers_lack [] h = refl
 numbers_lack (k ∷ ks) h =
-    lacks_append 10 (codes " " ++ decimal k) (spaced (map decimal ks)) (number_lacks k (All-head IsSmall k ks h)) (numbers_lack ks (All-tail IsSmall k ks h))
+    lacks_append 10 (codes " " ++ decimal k) (spaced_words (map decimal ks)) (number_lacks k (All-head IsSmall k ks h))
+    (numbers_lack ks (All-tail IsSmall k ks h))
 
 value_lacks : (ops : List MicroOp) (v : Instance) → IsValue ops v → Lacks 10 (value_text ops v)
 value_lacks ops (CoreInstance k) h = number_lacks k h
@@ -69,7 +71,7 @@ value_lacks ops (OpInstance i) h =
     subst P (sym (ap op_text h.1))
     (lacks_append 10 (decimal o.g ++ codes ".") (decimal o.n) (lacks_append 10 (decimal o.g) (codes ".") (number_lacks o.g h.2) refl) (number_lacks o.n h.3)))
 
-values_lack : (ops : List MicroOp) (s : LiftedStep) → HasValue ops s → Lacks 10 (spaced (value_words ops s))
+values_lack : (ops : List MicroOp) (s : LiftedStep) → HasValue ops s → Lacks 10 (spaced_words (value_words ops s))
 values_lack ops (derive (InstWay v) k) h = lacks_append 10 (codes " " ++ value_text ops v) [] (value_lacks ops v h) refl
 values_lack ops (derive LeftWay k) h = refl
 values_lack ops (derive RightWay k) h = refl
@@ -93,6 +95,7 @@ pub line_fits : (ops : List MicroOp) (s : LiftedStep) → All IsSmall (numbers_o
 line_fits ops s small value =
     let P : List ℕ → Type 0 = λ xs. IsLine xs in
     subst P (sym (line_is ops s))
-    (lacks_line (keyword_text (keyword_of s) ++ (spaced (map decimal (numbers_of s)) ++ spaced (value_words ops s)))
-    (lacks_append 10 (keyword_text (keyword_of s)) (spaced (map decimal (numbers_of s)) ++ spaced (value_words ops s)) (keyword_lacks s)
-    (lacks_append 10 (spaced (map decimal (numbers_of s))) (spaced (value_words ops s)) (numbers_lack (numbers_of s) small) (values_lack ops s value))))
+    (lacks_line (keyword_text (keyword_of s) ++ (spaced_words (map decimal (numbers_of s)) ++ spaced_words (value_words ops s)))
+    (lacks_append 10 (keyword_text (keyword_of s)) (spaced_words (map decimal (numbers_of s)) ++ spaced_words (value_words ops s)) (keyword_lacks s)
+    (lacks_append 10 (spaced_words (map decimal (numbers_of s))) (spaced_words (value_words ops s)) (numbers_lack (numbers_of s) small)
+    (values_lack ops s value))))

@@ -1,5 +1,6 @@
 -- The answer of `lift` to three files, and the status that is due.
-use Rattle.std.specs.Prelude.{◌≡◌, ℕ, List, Some}
+use Rattle.std.specs.Prelude.{◌≡◌, ℕ, List, Some, Result}
+use Rattle.pc_common.specs.Outside.{FilesView}
 use Rattle.pc_common.specs.Case.{Case}
 use Rattle.pc_common.specs.declared.fault.InputFault.{InputFault}
 use Rattle.pc_common.specs.declared.status.Status.{Status}
@@ -9,7 +10,11 @@ use Rattle.cert_check.specs.Certificates.{Question}
 use Rattle.cert_check.specs.Ones.{IsOne}
 use Rattle.cert_check.specs.declared.one.One.{One}
 use Rattle.cert_check.specs.declared.one.One.TheVariants.{Graph, Tree, Refused}
-use Rattle.command_base.specs.Inputs.{Inputs, Contents}
+use Rattle.command_base.specs.declared.inputs.Inputs.{Inputs as CodeInputs}
+use Rattle.command_base.specs.declared.ending.Ending.{Ending}
+use Rattle.command_base.specs.Inputs.{Inputs, Contents, plain_inputs}
+use Rattle.command_base.specs.Endings.{HasOutcome}
+use Rattle.command_base.specs.Outcomes.{IsThirdOutcome}
 use Rattle.command_base.specs.Questions.{question_by}
 use Rattle.command_base.specs.FileAnswers.{AnswersFiles, IsDueOfFiles}
 use Rattle.command_base.specs.LiftedQuestions.{lifted_question}
@@ -47,3 +52,10 @@ module _ (case_of : List ℕ → Case → Type 0) (first_fault : List ℕ → Li
 
   abbrev pub IsLiftDue : Status → Type 0
   IsLiftDue = IsDueOfFiles case_of first_fault holds i (IsDueLift holds certificate)
+
+-- what `lift` returns: what the third file is made into, or the ending
+abbrev pub ReturnsLift : {F : Type 0} → (F → FilesView) → (List ℕ → Case → Type 0)
+    → (List ℕ → List ℕ → InputFault → Type 0) → CodeInputs → List ℕ → F → F → Result FoundLift Ending → Type 0
+ReturnsLift view case_of first_fault i third old new result =
+    HasOutcome result lift_status lift_text
+    (IsThirdOutcome view case_of first_fault (plain_inputs i) third (IsLifted (view old).holds third) old new)

@@ -16,8 +16,8 @@ abbrev pub lines_of : List MicroOp → List LiftedStep → List (List ℕ)
 lines_of ops steps = map (line_of ops) steps
 
 -- each word after a space
-abbrev pub spaced : List (List ℕ) → List ℕ
-spaced ws = flat_map (λ w. codes " " ++ w) ws
+abbrev pub spaced_words : List (List ℕ) → List ℕ
+spaced_words ws = flat_map (λ w. codes " " ++ w) ws
 
 -- with its LF
 abbrev pub line_text : List MicroOp → LiftedStep → List ℕ

@@ -1,4 +1,4 @@
-ghost use Rattle.std.specs.Prelude.{◌≡◌, ◌≤◌, ◌++◌, ℕ, All, List, codes, slice_get, Some, IfOk, OnOk};
+ghost use Rattle.std.specs.Prelude.{◌≡◌, ◌≤◌, ◌++◌, All, codes, IfOk, OnOk};
 ghost use Rattle.std.specs.List.{flat_map};
 ghost use Rattle.pc_common.specs.Lines.{unobservable, second_text};
 ghost use Rattle.pc_case.specs.Plain.{expectation};
@@ -7,10 +7,9 @@ ghost use Rattle.pc_ground.specs.GroundTree.{closed_ground_tree};
 ghost use Rattle.pc_ground.specs.Stages.{plain_axioms};
 ghost use Rattle.pc_ground.specs.Refutes.{IsRefutation};
 ghost use Rattle.pc_ground.specs.declared.version.Version.TheVariants.{One};
-ghost use Rattle.line_judge.specs.Texts.{IsMadeOf, text_of_lines};
-ghost use Rattle.lifted_facts.specs.Lifted.{IsLiftedRefutation};
+ghost use Rattle.line_judge.specs.Texts.{IsMadeOf};
 ghost use Rattle.lifted_check.specs.StepLines.{numbers_of, IsSmall, HasValue};
-ghost use Rattle.lifted_check.specs.LiftedTexts.{asked, header, IsLiftedText};
+ghost use Rattle.lifted_check.specs.LiftedTexts.{asked, IsLiftedText};
 ghost use Rattle.lift_command.specs.WrittenLines.{line_text, HasSmallCore};
 
 use super::lines::{put_line, show_line};
@@ -35,8 +34,8 @@ fn second_line(expect: Expect) -> &'static [u8]
 
 /// Puts the three lines of the header.
 fn put_header(text: &mut Vec<u8>, case: &Case) -> Result<(), Memory>
-    ensures { OnOk result (text.new.items
-        ≡ text.old.items ++ (codes "unobservable\n" ++ ((second_text unobservable case.now.expectation ++ codes "\n") ++ codes "lifted\n"))) }
+    ensures { OnOk result (text.new.items ≡ text.old.items ++ (codes "unobservable\n"
+        ++ ((second_text unobservable case.now.expectation ++ codes "\n") ++ codes "lifted\n"))) }
 {
     put(text, b"unobservable\n")?;
     put(text, second_line(case.expect()))?;

@@ -1,9 +1,9 @@
-ghost use Rattle.std.specs.Prelude.{◌≡◌, ◌++◌, ◌∷◌, [], All, codes, map, slice_get, OnOk};
+ghost use Rattle.std.specs.Prelude.{◌≡◌, ◌++◌, All, codes, map, OnOk};
 ghost use Rattle.std.specs.Fmt.{decimal};
 ghost use Rattle.lifted_facts.specs.Lifted.{derive};
 ghost use Rattle.lifted_check.specs.StepLines.{value_text, numbers_of, IsSmall, IsValue, HasValue};
 ghost use Rattle.lifter.specs.WrittenSteps.{plain_line};
-ghost use Rattle.lift_command.specs.WrittenLines.{line_of, line_text, spaced, HasSmallCore};
+ghost use Rattle.lift_command.specs.WrittenLines.{line_of, line_text, spaced_words, HasSmallCore};
 
 use super::words::{put, put_decimal, put_number, put_numbers};
 use lifted_facts::{Instance, Way};
@@ -38,7 +38,7 @@ fn put_one(text: &mut Vec<u8>, keyword: &[u8], number: u64) -> Result<(), Memory
 /// Puts a keyword and numbers, each after a space.
 fn put_many(text: &mut Vec<u8>, keyword: &[u8], first: u64, more: &[u64]) -> Result<(), Memory>
     ensures { OnOk result (text.new.items
-        ≡ text.old.items ++ (keyword.now ++ ((codes " " ++ decimal first) ++ spaced (map decimal more.now)))) }
+        ≡ text.old.items ++ (keyword.now ++ ((codes " " ++ decimal first) ++ spaced_words (map decimal more.now)))) }
 {
     put_one(text, keyword, first)?;
     put_numbers(text, more)

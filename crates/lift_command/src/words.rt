@@ -1,6 +1,6 @@
-ghost use Rattle.std.specs.Prelude.{◌≡◌, ◌++◌, ◌∷◌, codes, map, OnOk};
+ghost use Rattle.std.specs.Prelude.{◌≡◌, ◌++◌, codes, map, OnOk};
 ghost use Rattle.std.specs.Fmt.{decimal};
-ghost use Rattle.lift_command.specs.WrittenLines.{spaced};
+ghost use Rattle.lift_command.specs.WrittenLines.{spaced_words};
 
 use itoa::Buffer;
 use pc_common::Memory;
@@ -31,7 +31,7 @@ pub(crate) fn put_number(text: &mut Vec<u8>, number: u64) -> Result<(), Memory>
 
 /// Puts decimal numbers, each after a space.
 pub(crate) fn put_numbers(text: &mut Vec<u8>, numbers: &[u64]) -> Result<(), Memory>
-    ensures { OnOk result (text.new.items ≡ text.old.items ++ spaced (map decimal numbers.now)) }
+    ensures { OnOk result (text.new.items ≡ text.old.items ++ spaced_words (map decimal numbers.now)) }
 {
     for number in numbers {
         put_number(text, *number)?;

@@ -12,7 +12,7 @@ use Rattle.line_judge.specs.declared.feed.Finished.{Finished}
 use Rattle.line_judge.specs.declared.feed.Finished.TheVariants.{Whole as a_whole_text, Refused as refused_at}
 use Rattle.line_judge.specs.Feeds.{IsRefusedBy, IsAnswer}
 use Rattle.lifted_check.specs.LiftedTexts.{Question, IsLiftedText, BeginsLifted}
-use Rattle.lifted_check.specs.Fed.{IsFound, unseen, too_long, refused, SaysOutcome, lifted_of, judge_question, judge_begins, judge_whole, judge_stands}
+use Rattle.lifted_check.specs.Fed.{IsFound, unseen, too_long, refused, SaysOutcome, lifted_of, judge_question, judge_view}
 use Rattle.lifted_check.specs.declared.judge.LiftedJudge.{LiftedJudge}
 use Rattle.lifted_check.specs.declared.lifted.Lifted.{Lifted}
 use Rattle.lifted_check.specs.declared.lifted.Lifted.TheVariants.{Unobservable, Refused}
@@ -31,12 +31,12 @@ outcome_holds q text found (too_long long) = tt
 outcome_holds q text found (refused n short is) = tt
 
 pub whole_found : (q : Question) (start judge : LiftedJudge) → judge_question start ≡ q → (text : List ℕ) → length text ≤ MAX_CERTIFICATE
-    → IsWhole judge_begins judge_whole judge_stands start text judge → IsFound q text Unobservable
+    → IsWhole judge_view start text judge → IsFound q text Unobservable
 whole_found q start judge asks text short w =
     unseen short (let P : Question → Type 0 = λ p. IsMadeOf (IsLiftedText p) text in subst P asks w.made)
 
 pub refused_found : (q : Question) (start : LiftedJudge) → judge_question start ≡ q → (text : List ℕ) (n : ℕ)
-    → IsRefusedBy (judge_begins start) (judge_whole start) MAX_CERTIFICATE text n → IsFound q text (Refused n)
+    → IsRefusedBy (judge_view start).begins (judge_view start).whole MAX_CERTIFICATE text n → IsFound q text (Refused n)
 refused_found q start asks text n r =
     (let P : Question → Type 0 = λ p. IsRefusedBy (BeginsLifted p) (IsLiftedText p) MAX_CERTIFICATE text n in go n (subst P asks r))
   where
@@ -45,6 +45,6 @@ refused_found q start asks text n r =
     go (suc n) r = refused (suc n) (r.within (omega arith)) (r.line (omega arith))
 
 pub finished_found : (q : Question) (start : LiftedJudge) → judge_question start ≡ q → (text : List ℕ) (finished : Finished LiftedJudge)
-    → IsAnswer judge_begins judge_whole judge_stands start MAX_CERTIFICATE text finished → IsFound q text (lifted_of finished)
+    → IsAnswer judge_view start MAX_CERTIFICATE text finished → IsFound q text (lifted_of finished)
 finished_found q start asks text (a_whole_text judge) end = whole_found q start judge asks text end.0 end.1
 finished_found q start asks text (refused_at n) end = refused_found q start asks text n end

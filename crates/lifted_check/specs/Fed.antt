@@ -4,6 +4,7 @@ use Rattle.pc_common.specs.World.{Node, World, IsWorld}
 use Rattle.pc_common.specs.declared.limits.TheConstants.{MAX_CERTIFICATE}
 use Rattle.pc_syntax.specs.Closed.{closed_satisfies}
 use Rattle.line_judge.specs.Texts.{IsMadeOf, IsRefusedAt}
+use Rattle.line_judge.specs.Judges.{JudgeView}
 use Rattle.line_judge.specs.declared.feed.Finished.{Finished}
 use Rattle.line_judge.specs.declared.feed.Finished.TheVariants.{Whole as a_whole_text, Refused as refused_at}
 use Rattle.line_judge.specs.Feeds.{HasTaken}
@@ -34,17 +35,20 @@ lifted_of (refused_at n) = Refused n
 abbrev pub judge_question : LiftedJudge → Question
 judge_question j = asked j.case.now j.axioms.now
 
-abbrev pub judge_begins : LiftedJudge → List (List ℕ) → Type 0
-judge_begins j lines = BeginsLifted (judge_question j) lines
-
-abbrev pub judge_whole : LiftedJudge → List (List ℕ) → Type 0
-judge_whole j lines = IsLiftedText (judge_question j) lines
-
-abbrev pub judge_stands : LiftedJudge → List (List ℕ) → Type 0
-judge_stands j lines = Stands (judge_question j) j.stage lines
+-- what a judge of lifted texts means
+abbrev pub judge_view : LiftedJudge → JudgeView
+judge_view j = record {
+  begins = BeginsLifted (judge_question j);
+  whole = IsLiftedText (judge_question j);
+  stands = Stands (judge_question j) j.stage;
+}
 
 -- the checker is one of this question, and took this text
 pub record IsFed (c : LiftedChecker) (q : Question) (text : List ℕ) : Type 0 where
   pub start : LiftedJudge
   pub asks : judge_question start ≡ q
-  pub taken : HasTaken judge_begins judge_whole judge_stands start MAX_CERTIFICATE text c.feed
+  pub taken : HasTaken judge_view start MAX_CERTIFICATE text c.feed
+
+-- this holds of each question and text of which the checker is
+abbrev pub EachFed : LiftedChecker → (Question → List ℕ → Type 0) → Type 0
+EachFed c Says = (q : Question) (text : List ℕ) → IsFed c q text → Says q text

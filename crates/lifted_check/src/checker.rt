@@ -1,8 +1,8 @@
-ghost use Rattle.std.specs.Prelude.{◌≡◌, ◌<◌, ◌⊎◌, ◌++◌, [], ℕ, List, length, IfOk, IsOk};
+ghost use Rattle.std.specs.Prelude.{◌≡◌, ◌++◌, [], ℕ, List, IfOk, IsOk};
 ghost use Rattle.pc_common.specs.declared.limits.TheConstants.{MAX_CERTIFICATE};
-ghost use Rattle.line_judge.specs.Texts.{HoldsRefused};
+ghost use Rattle.line_judge.specs.Feeds.{IsDecided};
 ghost use Rattle.lifted_check.specs.LiftedTexts.{Question, asked, BeginsLifted};
-ghost use Rattle.lifted_check.specs.Fed.{IsFound, SaysOutcome, IsFed, lifted_of as lifted_by};
+ghost use Rattle.lifted_check.specs.Fed.{IsFound, SaysOutcome, IsFed, EachFed, lifted_of as lifted_by};
 
 use super::judge::LiftedJudge;
 use super::lifted::Lifted;
@@ -46,8 +46,8 @@ impl<'a> LiftedChecker<'a> {
     pub fn feed(self, piece: &[u8]) -> Result<LiftedChecker<'a>, Memory>
         ensures took { (q : Question) (text : List ℕ) → IsFed self.entry q text
             → IfOk result (λ c. IsFed c q (text ++ piece.now)) }
-        ensures settled { (q : Question) (text : List ℕ) → IsFed self.entry q text
-            → (MAX_CERTIFICATE < length (text ++ piece.now)) ⊎ HoldsRefused (BeginsLifted q) text → IsOk result }
+        ensures settled { EachFed self.entry (λ q text.
+            IsDecided (BeginsLifted q) MAX_CERTIFICATE text (text ++ piece.now) → IsOk result) }
     {
         Ok(LiftedChecker {
             feed: self.feed.feed(piece)?,

@@ -1,6 +1,7 @@
 ghost use Rattle.std.specs.Prelude.{◌≡◌, []};
-ghost use Rattle.lifted_check.specs.LiftedTexts.{asked, IsLiftedText, BeginsLifted};
+ghost use Rattle.lifted_check.specs.LiftedTexts.{asked};
 ghost use Rattle.lifted_check.specs.Stages.{Stands};
+ghost use Rattle.lifted_check.specs.Fed.{judge_view};
 ghost use Rattle.lifted_check.specs.Laws.{first_begins, taken_begins, whole_begins};
 
 use super::next::advance;
@@ -54,11 +55,7 @@ impl<'a> LiftedJudge<'a> {
 }
 
 impl<'a> Judge for LiftedJudge<'a> {
-    ghost begins = { λ j. BeginsLifted (asked j.case.now j.axioms.now) };
-
-    ghost whole = { λ j. IsLiftedText (asked j.case.now j.axioms.now) };
-
-    ghost stands = { λ j lines. Stands (asked j.case.now j.axioms.now) j.stage lines };
+    ghost view = { judge_view };
 
     ghost stands_begins = { λ j lines stands. taken_begins (asked j.case.now j.axioms.now) j.stage lines stands.1 };
 

@@ -1,4 +1,4 @@
-ghost use Rattle.std.specs.Prelude.{◌≡◌, ◌<◌, ◌^◌, ◌∷◌, [], ◌++◌, length, Some, IfSome};
+ghost use Rattle.std.specs.Prelude.{◌≡◌, ◌<◌, ◌∷◌, [], ◌++◌, length, Some, IfSome};
 ghost use Rattle.std.specs.Option.{option_map};
 ghost use Rattle.pc_syntax.specs.Closed.{meaning_of, plain_closed};
 ghost use Rattle.pc_syntax.specs.IsClosed.{IsClosed, with_sort};
@@ -6,7 +6,7 @@ ghost use Rattle.pc_syntax.specs.declared.limits.TheConstants.{MAX_VARIABLES};
 ghost use Rattle.static_preds.specs.Slots.{AreInRange, IsInRange};
 ghost use Rattle.static_preds.specs.Values.{meanings, sort_bound, scope_of};
 ghost use Rattle.lifted_facts.specs.PlainFacts.{plain_fact, IsProper};
-ghost use Rattle.lifted_facts.specs.Parts.{value_at_place, said_at, said_inside};
+ghost use Rattle.lifted_facts.specs.Parts.{value_at_place, said_at};
 
 use super::fact::{Fact, Said};
 use pc_case::Case;

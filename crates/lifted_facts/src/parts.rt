@@ -1,4 +1,4 @@
-ghost use Rattle.std.specs.Prelude.{◌≡◌, ◌≤◌, ◌<◌, ◌+◌, length, IfSome};
+ghost use Rattle.std.specs.Prelude.{◌≡◌, ◌<◌, length, IfSome};
 ghost use Rattle.std.specs.Option.{option_map};
 ghost use Rattle.pc_common.specs.Case.{Case as PlainCase};
 ghost use Rattle.pc_syntax.specs.Closed.{plain_closed};
@@ -88,7 +88,7 @@ fn right<'a>(said: &Said<'a>) -> Option<Fact<'a>>
 }
 
 /// What a `~` stands before, with the other sign.
-fn negated<'a>(said: &Said<'a>) -> Option<Fact<'a>>
+fn part_of_not<'a>(said: &Said<'a>) -> Option<Fact<'a>>
     ensures is { (c : PlainCase) → option_map plain_fact result ≡ part_of c NotWay (plain_part said.now) }
     ensures proper { (c : PlainCase) → IsProperPart c said.now → IfSome result (IsProper c) }
 {
@@ -99,7 +99,7 @@ fn negated<'a>(said: &Said<'a>) -> Option<Fact<'a>>
 }
 
 /// The body of a binding.
-fn bound<'a>(said: &Said<'a>) -> Option<Fact<'a>>
+fn part_of_bind<'a>(said: &Said<'a>) -> Option<Fact<'a>>
     requires { (c : PlainCase) × IsProperPart c said.now }
     ensures is { (c : PlainCase) → option_map plain_fact result ≡ part_of c BindWay (plain_part said.now) }
     ensures proper { (c : PlainCase) → IsProperPart c said.now → IfSome result (IsProper c) }
@@ -219,8 +219,8 @@ fn part_of_said<'a>(case: &Case, said: &Said<'a>, way: Way) -> Option<Fact<'a>>
     match way {
         Way::Left => left(said),
         Way::Right => right(said),
-        Way::Not => negated(said),
-        Way::Bind => bound(said),
+        Way::Not => part_of_not(said),
+        Way::Bind => part_of_bind(said),
         Way::Inst(value) => instance(case, said, value),
         Way::Member(place) => member(case, said, place),
     }

@@ -10,7 +10,7 @@ use Rattle.pc_ground.specs.Tree.{always}
 use Rattle.pc_ground.specs.Stages.{plain_axioms}
 use Rattle.lifted_facts.specs.PlainFacts.{PlainFact, said, root}
 use Rattle.lifter.specs.Trees.{fact_tree, joined_trees}
-use Rattle.lifter.specs.Unfoldings.{facts_from}
+use Rattle.lifter.specs.PartLists.{facts_from}
 use Rattle.lifter.proofs.RootTrees.{axiom_there}
 
 pub as_many : (axioms : List Closed) → length (root (plain_axioms axioms)) ≡ length axioms

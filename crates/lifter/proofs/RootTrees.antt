@@ -31,7 +31,8 @@ use Rattle.lifter.proofs.TreeLaws.{over_all, start_tree}
 use Rattle.lifter.specs.declared.state.State.{State}
 use Rattle.lifter.specs.KnownFacts.{IsPart, TellsAll}
 use Rattle.lifter.specs.States.{branch_of, IsGood, IsGoodState, no_more, IsMatchedState}
-use Rattle.lifter.specs.Unfoldings.{facts_from, HasUnfolded}
+use Rattle.lifter.specs.PartLists.{facts_from}
+use Rattle.lifter.specs.Unfoldings.{HasUnfolded}
 use Rattle.lifter.specs.Progress.{HasStepsLeft}
 use Rattle.lifter.proofs.CoveredBranches.{covered_all}
 use Rattle.lifter.proofs.KnownLaws.{good_same, matched_same}

@@ -43,7 +43,7 @@ pub no_sides : (o : Option (PlainFact × PlainFact)) (f g : PlainFact) → o ≡
 no_sides o f g e h = cc
 
 -- what is known of an Or, of its two sides by their names
-pub or_sides : (c : Case) (rows : List (Row Node)) (f g h : PlainFact) (p : ℕ) → IsOr c rows f p → sides c f ≡ Some (g, h)
+or_sides : (c : Case) (rows : List (Row Node)) (f g h : PlainFact) (p : ℕ) → IsOr c rows f p → sides c f ≡ Some (g, h)
     → (kind_of (fact_tree c g) ≡ Open) × (kind_of (fact_tree c h) ≡ Open) × IsPart rows p (either (fact_tree c g) (fact_tree c h))
 or_sides c rows f g h p is are =
     let s = same_sides (sides c f) is.first is.second g h is.are are in
@@ -64,6 +64,14 @@ fact_read facts k x f h is =
 pub proper_read : (c : Case) (facts : List Fact) (k : ℕ) (x : Fact) → All (IsProper c) facts → k < length facts → x ≡ get_or facts k x → IsProper c x
 proper_read c facts k x all within is = (let P : Fact → Type 0 = λ y. IsProper c y in subst P (sym is) (All-get_or (IsProper c) facts k x within all))
 
+-- the fact of this number is that of the Or at a position, and these are its sides
+pub record IsSplitBy (c : Case) (rows : List (Row Node)) (s : State) (p n : ℕ) (x : Fact) (g h : PlainFact) : Type 0 where
+  pub has : HasFact (branch_of s) n (plain_fact x)
+  pub first_open : kind_of (fact_tree c g) ≡ Open
+  pub second_open : kind_of (fact_tree c h) ≡ Open
+  pub stands : IsPart rows p (either (fact_tree c g) (fact_tree c h))
+  pub left : IsPart rows (p + 1) (fact_tree c g)
+
 -- the Or at a position that is known, by its fact in the code
 module _ (c : Case) (rows : List (Row Node)) (start : List Branch) (s : State) (p n : ℕ) (good : IsGoodState c rows start s)
     (key : In (entry (at_position p) n) s.known) where
@@ -76,6 +84,18 @@ module _ (c : Case) (rows : List (Row Node)) (start : List Branch) (s : State) (
       let same = sym (fact_read s.facts.items n x k.0 k.1 is) in
       let P : PlainFact → Type 0 = λ f. HasFact (branch_of s) n f × IsOr c rows f p in
       subst P same (k.1, k.2)
+
+  pub split_by : (x : Fact) (g h : PlainFact) → x ≡ get_or s.facts.items n x → sides c (plain_fact x) ≡ Some (pair g h) → IsSplitBy c rows s p n x g h
+  split_by x g h is are =
+      let o = or_fact x is in
+      let two = or_sides c rows (plain_fact x) g h p o.1 are in
+      record {
+        has = o.0;
+        first_open = two.0;
+        second_open = two.1;
+        stands = two.2;
+        left = (parts_either rows p (fact_tree c g) (fact_tree c h) two.2).0;
+      }
 
 same_trees : (a b x y : Tree Node) → either a b ≡ either x y → (a ≡ x) × (b ≡ y)
 same_trees a b x y e = (cc, cc)

@@ -17,7 +17,7 @@ use Rattle.lifted_facts.specs.Lifted.{Runs}
 use Rattle.lifter.specs.declared.state.State.{State}
 use Rattle.lifter.specs.KnownFacts.{at_position, no_node, present, HasKey, IsCycleKnown, IsPathKnown}
 use Rattle.lifter.specs.States.{IsGoodState, IsCovered}
-use Rattle.lifter.specs.Progress.{HasFollowed, HasStepsLeft, LeavesWaiting, HasSplitOr, HasClosedBy}
+use Rattle.lifter.specs.Progress.{HasFollowed, HasStepsLeft, IsNextStep, HasTakenStep, LeavesWaiting, AreWaiting, HasGoneOn, HasSplitOr, HasClosedBy}
 use Rattle.lifter.proofs.CoveredBranches.{split_known, cycle_known, path_known, absent_known, only_false}
 use Rattle.lifter.proofs.LeftBranches.{left_by}
 
@@ -34,7 +34,7 @@ module _ (c : Case) (rows : List (Row Node)) (start : List Branch) (s : State) w
       let r = run_here (split n p ∷ rest) h in
       (h.at.good, (split_known h.tree s.known h.at.first (covered_here (split n p ∷ rest) h) n p r.0 r.1 r.2).2)
 
-  pub did_split : (new : State) (n : Bool) (p : ℕ) (rest : List (Step Node)) → HasSplitOr c rows p s new → HasStepsLeft c rows start s true (split n p ∷ rest)
+  did_split : (new : State) (n : Bool) (p : ℕ) (rest : List (Step Node)) → HasSplitOr c rows p s new → HasStepsLeft c rows start s true (split n p ∷ rest)
       → HasStepsLeft c rows start new true rest
   did_split new n p rest by h =
       let r = run_here (split n p ∷ rest) h in
@@ -70,10 +70,9 @@ module _ (c : Case) (rows : List (Row Node)) (start : List Branch) (s : State) w
       → LeavesWaiting c rows start mid h.at.rest
   left_leaf mid l rest by h = left_by c rows start s mid h.at.rest by h.at.good h.at.matched
 
-  pub did_leaf : (mid new : State) (is_open : Bool) (l : Leaf Node) (rest : List (Step Node)) → HasClosedBy s mid
+  did_leaf : (mid new : State) (is_open : Bool) (l : Leaf Node) (rest : List (Step Node)) → HasClosedBy s mid
       → ((opens : List TreeBranch) → LeavesWaiting c rows start mid opens → HasFollowed c rows start new is_open opens)
-      → HasStepsLeft c rows start s true (close l ∷ rest)
-      → HasStepsLeft c rows start new is_open rest
+      → HasStepsLeft c rows start s true (close l ∷ rest) → HasStepsLeft c rows start new is_open rest
   did_leaf mid new is_open l rest by goes h = record {
     tree = h.tree;
     spelled = h.spelled;
@@ -104,14 +103,26 @@ module _ (c : Case) (rows : List (Row Node)) (start : List Branch) (s : State) w
   all_closed false h = h.at.1
   all_closed true h = (let e : h.at.first ∷ h.at.rest ≡ [] = sym h.at.are ∙ h.run in cc)
 
--- a leaf closed the first branch, and then the next one was entered
-pub leaf_taken : {E : Type 0} (c : Case) (rows : List (Row Node)) (s mid new : State) (l : Leaf Node) (r : Result Bool E) → HasClosedBy s mid
-    → IfOk r (λ is_open. (start : List Branch) (opens : List TreeBranch) → LeavesWaiting c rows start mid opens → HasFollowed c rows start new is_open opens)
-    → IfOk r (λ is_open. (start : List Branch) (rest : List (Step Node)) → HasStepsLeft c rows start s true (close l ∷ rest)
-    → HasStepsLeft c rows start new is_open rest)
-leaf_taken c rows s mid new l r by goes =
-    IfOk-weaker r (λ is_open. (start : List Branch) (opens : List TreeBranch) → LeavesWaiting c rows start mid opens
-    → HasFollowed c rows start new is_open opens)
-    (λ is_open. (start : List Branch) (rest : List (Step Node)) → HasStepsLeft c rows start s true (close l ∷ rest)
-    → HasStepsLeft c rows start new is_open rest)
-    (λ is_open go start rest h. did_leaf c rows start s mid new is_open l rest by (go start) h) goes
+-- the next step by another name
+pub next_same : {c : Case} {rows : List (Row Node)} {s : State} {x y : Step Node} → x ≡ y → IsNextStep c rows s x → IsNextStep c rows s y
+next_same {c} {rows} {s} is next = (let P : Step Node → Type 0 = λ z. IsNextStep c rows s z in subst P is next)
+
+taken_same : (c : Case) (rows : List (Row Node)) (old new : State) (x y : Step Node) (is_open : Bool) → x ≡ y → HasTakenStep c rows old new y is_open
+    → HasTakenStep c rows old new x is_open
+taken_same c rows old new x y is_open is taken = (let P : Step Node → Type 0 = λ z. HasTakenStep c rows old new z is_open in subst P (sym is) taken)
+
+pub split_taken : (c : Case) (rows : List (Row Node)) (s new : State) (x : Step Node) (n : Bool) (p : ℕ) → x ≡ split n p → HasSplitOr c rows p s new
+    → HasTakenStep c rows s new x true
+split_taken c rows s new x n p is by = taken_same c rows s new x (split n p) true is (λ start rest h. did_split c rows start s new n p rest by h)
+
+-- a leaf closed the first branch: the others wait
+pub leaf_waits : (c : Case) (rows : List (Row Node)) (s mid : State) (l : Leaf Node) → HasClosedBy s mid → IsNextStep c rows s (close l)
+    → AreWaiting c rows mid
+leaf_waits c rows s mid l by next = (next.0, next.2.at.rest, left_leaf c rows next.0 s mid l next.1 by next.2)
+
+-- and then the next one was entered
+pub leaf_taken : {E : Type 0} (c : Case) (rows : List (Row Node)) (s mid new : State) (x : Step Node) (l : Leaf Node) (r : Result Bool E) → x ≡ close l
+    → HasClosedBy s mid → IfOk r (HasGoneOn c rows mid new) → IfOk r (HasTakenStep c rows s new x)
+leaf_taken c rows s mid new x l r is by goes =
+    IfOk-weaker r (HasGoneOn c rows mid new) (HasTakenStep c rows s new x)
+    (λ is_open go. taken_same c rows s new x (close l) is_open is (λ start rest h. did_leaf c rows start s mid new is_open l rest by (go start) h)) goes

@@ -17,7 +17,8 @@ use Rattle.lifter.proofs.PartWays.{rest_next, kind_rest, is_always, only_true, b
 use Rattle.lifter.specs.declared.state.State.{State}
 use Rattle.lifter.specs.KnownFacts.{IsPart, TellsAll, Entry, HaveMore}
 use Rattle.lifter.specs.States.{Moves}
-use Rattle.lifter.specs.Unfoldings.{facts_from, HasUnfolded, HasTaken}
+use Rattle.lifter.specs.PartLists.{facts_from}
+use Rattle.lifter.specs.Unfoldings.{HasUnfolded, HasTaken}
 use Rattle.lifter.proofs.StateMoves.{moves_same, moves_then}
 use Rattle.lifter.proofs.Tellings.{tells_both, tells_more}
 

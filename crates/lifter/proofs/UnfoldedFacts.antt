@@ -3,6 +3,8 @@ use Rattle.std.proofs.Common.{◌≡◌, ℕ, Bool, true, false, List, Some, Non
 use Rattle.std.specs.Prelude.{Result, Ok, Err, OnOk}
 use Rattle.pc_common.specs.Case.{Case}
 use Rattle.pc_common.specs.World.{Node}
+use Rattle.pc_ground.specs.Keys.{literal_node}
+use Rattle.pc_ground.specs.declared.node_key.NodeKey.{NodeKey}
 use Rattle.pc_ground.specs.declared.literal.Literal.{Literal}
 use Rattle.pc_ground.specs.declared.literal.Literal.TheVariants.{Node as a_node, Edge as an_edge, NoNode as not_node, NoEdge as not_edge}
 use Rattle.pc_ground.specs.declared.row.Row.{Row}
@@ -10,20 +12,21 @@ use Rattle.pc_ground.specs.Tree.{Tree, never, leaf}
 use Rattle.pc_ground.specs.PlainGround.{disjoined}
 use Rattle.pc_ground.specs.Refutes.{asserted}
 use Rattle.pc_ground.proofs.NormalForms.{disjoined_never}
-use Rattle.lifted_facts.specs.PlainFacts.{PlainFact}
+use Rattle.lifted_facts.specs.PlainFacts.{PlainFact, Branch}
 use Rattle.lifted_facts.specs.Parts.{sides, is_false}
+use Rattle.lifted_facts.specs.Lifted.{HasFact}
 use Rattle.lifter.specs.Trees.{fact_tree}
 use Rattle.lifter.specs.declared.kind.Kind.{Kind}
 use Rattle.lifter.specs.declared.kind.Kind.TheVariants.{True, False, Open}
 use Rattle.lifter.specs.Kinds.{kind_of, joined_kind}
-use Rattle.lifter.specs.PartLists.{IsSaid}
+use Rattle.lifter.specs.PartLists.{IsSaid, parts_from}
 use Rattle.lifter.proofs.KindLaws.{kind_joined}
 use Rattle.lifter.proofs.SideLaws.{sides_tree, parts_tree, false_tree}
 use Rattle.lifter.proofs.PartWays.{is_never}
 use Rattle.lifter.specs.declared.state.State.{State}
 use Rattle.lifter.specs.KnownFacts.{at_position, HasKey, IsPart, IsOr, TellsLiteral, TellsAll}
-use Rattle.lifter.specs.States.{Moves}
-use Rattle.lifter.specs.Unfoldings.{fact_of, parts_from, HasUnfolded}
+use Rattle.lifter.specs.States.{branch_of, Moves}
+use Rattle.lifter.specs.Unfoldings.{fact_of, HasUnfolded}
 use Rattle.lifter.proofs.StateMoves.{moves_then}
 use Rattle.lifter.proofs.Tellings.{tells_leaf, tells_either}
 use Rattle.lifter.proofs.TakenParts.{open_either}
@@ -114,6 +117,20 @@ both_ok (Err e) f p q = tt
 
 -- a literal of which all is known
 pub literal_unfolded : (c : Case) (rows : List (Row Node)) (old new : State) (l : Literal Node) (at : ℕ) → IsPart rows at (leaf l) → Moves c rows old new
-    → TellsLiteral new.known l
-    → HasUnfolded c rows (leaf l) at old new
+    → TellsLiteral new.known l → HasUnfolded c rows (leaf l) at old new
 literal_unfolded c rows old new l at here moves told = record { moves = moves; told = tells_leaf rows new.known at l here told }
+
+-- the fact of a literal by another name
+pub fact_as : (b : Branch) (n : ℕ) {l m : Literal NodeKey} → l ≡ m → HasFact b n (fact_of (literal_node l)) → HasFact b n (fact_of (literal_node m))
+fact_as b n is has = (let P : Literal NodeKey → Type 0 = λ x. HasFact b n (fact_of (literal_node x)) in subst P is has)
+
+-- a literal of the code of which all is known
+pub literal_marked : {T E : Type 0} (c : Case) (rows : List (Row Node)) (old new : State) (n at : ℕ) (r : Result T E) {l m : Literal NodeKey} → l ≡ m
+    → HasFact (branch_of old) n (fact_of (literal_node l)) → IsPart rows at (leaf (literal_node l))
+    → OnOk r (HasFact (branch_of old) n (fact_of (literal_node m)) → Moves c rows old new) → OnOk r (TellsLiteral new.known (literal_node m))
+    → OnOk r (HasUnfolded c rows (leaf (literal_node l)) at old new)
+literal_marked c rows old new n at r {l} {m} is has here moves told =
+    let S : Literal NodeKey → Type 0 = λ x. IsPart rows at (leaf (literal_node x)) in
+    let U : Literal NodeKey → Type 0 = λ x. OnOk r (HasUnfolded c rows (leaf (literal_node x)) at old new) in
+    subst U (sym is)
+    (both_ok r (λ go key. literal_unfolded c rows old new (literal_node m) at (subst S is here) (go (fact_as (branch_of old) n is has)) key) moves told)

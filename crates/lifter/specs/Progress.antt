@@ -38,6 +38,17 @@ pub record HasStepsLeft (c : Case) (rows : List (Row Node)) (start : List Branch
   pub run : TreeRuns One tree steps opens []
   pub at : HasFollowed c rows start s is_open opens
 
+-- some steps are left, and the first of them is this one
+abbrev pub IsNextStep : Case → List (Row Node) → State → Step Node → Type 0
+IsNextStep c rows s step =
+    (start : List Branch) × (rest : List (Step Node)) × HasStepsLeft c rows start s true (step ∷ rest)
+
+-- where the next step is this one, the steps behind it are left afterwards
+abbrev pub HasTakenStep : Case → List (Row Node) → State → State → Step Node → Bool → Type 0
+HasTakenStep c rows old new step is_open =
+    (start : List Branch) (rest : List (Step Node))
+    → HasStepsLeft c rows start old true (step ∷ rest) → HasStepsLeft c rows start new is_open rest
+
 -- the first branch is closed: the steps lead to those that wait
 pub record HasClosedFirst (c : Case) (rows : List (Row Node)) (start : List Branch) (b : Branch) (es : List Entry)
     (ls : List Later) (steps : List LiftedStep) (opens : List TreeBranch) : Type 0 where
@@ -47,6 +58,16 @@ pub record HasClosedFirst (c : Case) (rows : List (Row Node)) (start : List Bran
 
 abbrev pub LeavesWaiting : Case → List (Row Node) → List Branch → State → List TreeBranch → Type 0
 LeavesWaiting c rows start s opens = HasClosedFirst c rows start (branch_of s) s.known (reverse s.later.items) s.steps opens
+
+-- some branches wait to be followed
+abbrev pub AreWaiting : Case → List (Row Node) → State → Type 0
+AreWaiting c rows s = (start : List Branch) × (opens : List TreeBranch) × LeavesWaiting c rows start s opens
+
+-- those that waited are followed
+abbrev pub HasGoneOn : Case → List (Row Node) → State → State → Bool → Type 0
+HasGoneOn c rows old new is_open =
+    (start : List Branch) (opens : List TreeBranch)
+    → LeavesWaiting c rows start old opens → HasFollowed c rows start new is_open opens
 
 -- the next waiting branch has a side to take, whose root stands at p
 pub record CanEnterNext (c : Case) (rows : List (Row Node)) (start : List Branch) (b : Branch) (es : List Entry) (l : Later)
@@ -58,6 +79,17 @@ pub record CanEnterNext (c : Case) (rows : List (Row Node)) (start : List Branch
 
 abbrev pub CanEnter : Case → List (Row Node) → List Branch → State → Later → ℕ → TreeBranch → List TreeBranch → Type 0
 CanEnter c rows start s l p ps rest = CanEnterNext c rows start (branch_of s) s.known l (reverse s.later.items) s.steps p ps rest
+
+-- some branch can be entered so
+abbrev pub CanBeEntered : Case → List (Row Node) → State → Later → ℕ → Type 0
+CanBeEntered c rows s l p =
+    (start : List Branch) × (ps : TreeBranch) × (rest : List TreeBranch) × CanEnter c rows start s l p ps rest
+
+-- the branch that could be entered is the first one
+abbrev pub HasEntered : Case → List (Row Node) → State → State → Later → ℕ → Type 0
+HasEntered c rows old new l p =
+    (start : List Branch) (ps : TreeBranch) (rest : List TreeBranch)
+    → CanEnter c rows start old l p ps rest → FollowsBranches c rows start new (ps ∷ rest)
 
 -- the sides of an Or of the tree were put in its branch's place
 abbrev pub HasSplitOr : Case → List (Row Node) → ℕ → State → State → Type 0

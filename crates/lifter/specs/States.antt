@@ -90,3 +90,7 @@ pub record HasGained (c : Case) (rows : List (Row Node)) (old new : State) (k : 
   pub number : k ≡ length (branch_of old)
   pub last : branch_of new ≡ branch_of old ++ g ∷ []
   pub moves : Moves c rows old new
+
+-- whatever the ground tree is
+abbrev pub GainsFact : Case → State → State → PlainFact → ℕ → Type 0
+GainsFact c old new g k = (rows : List (Row Node)) → HasGained c rows old new k g

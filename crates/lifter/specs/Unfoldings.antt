@@ -1,5 +1,5 @@
 -- A fact is unfolded: what its tree asserts is known.
-use Rattle.std.specs.Prelude.{ℕ, ◌+◌, true, false, Some, List, map, drop}
+use Rattle.std.specs.Prelude.{ℕ, ◌+◌, true, false, Some, List}
 use Rattle.pc_common.specs.Case.{Case}
 use Rattle.pc_common.specs.World.{Node}
 use Rattle.pc_ground.specs.declared.row.Row.{Row}
@@ -8,8 +8,7 @@ use Rattle.pc_ground.specs.declared.literal.Literal.TheVariants.{Node as a_node,
 use Rattle.pc_ground.specs.Tree.{Tree}
 use Rattle.pc_ground.specs.Refutes.{asserted}
 use Rattle.lifted_facts.specs.PlainFacts.{PlainFact, one_node, one_edge}
-use Rattle.lifter.specs.Trees.{fact_tree, joined_trees}
-use Rattle.lifter.specs.PartLists.{parts}
+use Rattle.lifter.specs.PartLists.{facts_from}
 use Rattle.lifter.specs.declared.state.State.{State}
 use Rattle.lifter.specs.KnownFacts.{Entry, IsPart, TellsAll, HaveMore}
 use Rattle.lifter.specs.States.{Moves}
@@ -25,13 +24,6 @@ fact_of (not_edge a b) = one_edge false (Some a) (Some b)
 pub record HasUnfolded (c : Case) (rows : List (Row Node)) (t : Tree Node) (at : ℕ) (old new : State) : Type 0 where
   pub moves : Moves c rows old new
   pub told : TellsAll rows new.known (asserted t at)
-
--- And over facts from a place on
-abbrev pub facts_from : Case → List PlainFact → ℕ → Tree Node
-facts_from c fs k = joined_trees true (map (fact_tree c) (drop k fs))
-
-abbrev pub parts_from : Case → PlainFact → ℕ → Tree Node
-parts_from c f k = facts_from c (parts c f) k
 
 -- the fact at a place is unfolded, and those after it stand further on
 pub record HasTaken (c : Case) (rows : List (Row Node)) (fs : List PlainFact) (k at next : ℕ) (old new : State) : Type 0 where

@@ -56,7 +56,8 @@ pub(crate) fn close(
 pub(crate) fn close_due(case: &Case, due: &Later<'_>, steps: &mut Steps) -> Result<(), Memory>
     requires proper { IsProper case.now due.now.fact }
     requires kind { kind_of (fact_tree case.now (plain_fact due.now.fact)) ≡ False }
-    ensures { OnOk result (HasClosed case.now (plain_fact due.now.fact) due.now.count (due.now.count + 1) steps.old steps.new) }
+    ensures { OnOk result
+        (HasClosed case.now (plain_fact due.now.fact) due.now.count (due.now.count + 1) steps.old steps.new) }
 {
     let count = due.count as u64;
     close(case, &due.fact, count, next(count)?, steps)

@@ -1,10 +1,10 @@
-ghost use Rattle.std.specs.Prelude.{ℕ, ◌≡◌, ◌<◌, ◌+◌, length, map, drop, Some, true};
+ghost use Rattle.std.specs.Prelude.{ℕ, ◌≡◌, ◌<◌, ◌+◌, length, Some};
 ghost use Rattle.pc_ground.specs.Tree.{always};
 ghost use Rattle.lifted_facts.specs.PlainFacts.{plain_fact, IsProper};
 ghost use Rattle.lifted_facts.specs.Parts.{part_of};
-ghost use Rattle.lifter.specs.Trees.{fact_tree, joined_trees};
+ghost use Rattle.lifter.specs.Trees.{fact_tree};
 ghost use Rattle.lifter.specs.Kinds.{kind_of};
-ghost use Rattle.lifter.specs.PartLists.{parts};
+ghost use Rattle.lifter.specs.PartLists.{parts, parts_from};
 ghost use Rattle.lifter.specs.declared.kind.Kind.TheVariants.{False, Open};
 
 use super::kind::Kind;
@@ -28,7 +28,7 @@ pub fn kind_of_fact(case: &Case, fact: &Fact<'_>) -> Kind
 /// The first part that is False, with how it is named, of a fact that is False for one. Takes no memory.
 pub fn false_part<'a>(case: &Case, fact: &Fact<'a>) -> (Way, Fact<'a>)
     requires proper { IsProper case.now fact.now }
-    requires kind { kind_of (joined_trees true (map (fact_tree case.now) (parts case.now (plain_fact fact.now)))) ≡ False }
+    requires kind { kind_of (parts_from case.now (plain_fact fact.now) 0) ≡ False }
     ensures is { part_of case.now result.0 (plain_fact fact.now) ≡ Some (plain_fact result.1) }
     ensures kind { kind_of (fact_tree case.now (plain_fact result.1)) ≡ False }
     ensures proper { IsProper case.now result.1 }
@@ -46,11 +46,10 @@ pub fn false_part<'a>(case: &Case, fact: &Fact<'a>) -> (Way, Fact<'a>)
 /// The place of the last part that is no constant, of a fact that is none and holds where all parts do. Takes no memory.
 pub fn last_open(case: &Case, fact: &Fact<'_>) -> usize
     requires proper { IsProper case.now fact.now }
-    requires kind { kind_of (joined_trees true (map (fact_tree case.now) (parts case.now (plain_fact fact.now)))) ≡ Open }
+    requires kind { kind_of (parts_from case.now (plain_fact fact.now) 0) ≡ Open }
     ensures within { result < length (parts case.now (plain_fact fact.now)) }
-    ensures rest { joined_trees true (map (fact_tree case.now) (drop (result + 1) (parts case.now (plain_fact fact.now)))) ≡ always }
-    ensures up_to { (j : ℕ) → j < result + 1
-        → kind_of (joined_trees true (map (fact_tree case.now) (drop j (parts case.now (plain_fact fact.now))))) ≡ Open }
+    ensures rest { parts_from case.now (plain_fact fact.now) (result + 1) ≡ always }
+    ensures up_to { (j : ℕ) → j < result + 1 → kind_of (parts_from case.now (plain_fact fact.now) j) ≡ Open }
 {
     let count = part_count(case, fact);
     for k in 0..count {

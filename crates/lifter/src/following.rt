@@ -1,17 +1,15 @@
-ghost use Rattle.std.specs.Prelude.{ℕ, ◌≡◌, ◌∷◌, ◌+◌, List, [], true, IfOk, OnOk};
-ghost use Rattle.pc_common.specs.World.{Node};
-ghost use Rattle.pc_common.specs.Steps.{Step as PlainStep};
+ghost use Rattle.std.specs.Prelude.{◌≡◌, ◌+◌, List, [], true, IfOk, OnOk};
 ghost use Rattle.pc_ground.specs.Rows.{rows_of};
 ghost use Rattle.pc_ground.specs.GroundTree.{closed_ground_tree};
 ghost use Rattle.pc_ground.specs.Stages.{plain_axioms};
-ghost use Rattle.pc_ground.specs.Refutes.{Branch as TreeBranch, IsRefutation};
+ghost use Rattle.pc_ground.specs.Refutes.{IsRefutation};
 ghost use Rattle.pc_ground.specs.declared.version.Version.TheVariants.{One};
 ghost use Rattle.refutation.specs.Steps.{plain_step};
 ghost use Rattle.lifted_facts.specs.PlainFacts.{Branch, root, IsProper};
 ghost use Rattle.lifted_facts.specs.Lifted.{Runs, IsLiftedRefutation};
 ghost use Rattle.lifter.specs.KnownFacts.{at_position, HasKey};
 ghost use Rattle.lifter.specs.States.{branch_of, AreKept, IsGoodState};
-ghost use Rattle.lifter.specs.Progress.{HasStepsLeft, HasFollowed, FollowsBranches, LeavesWaiting, CanEnter, HasSplitOr};
+ghost use Rattle.lifter.specs.Progress.{HasStepsLeft, IsNextStep, HasTakenStep, AreWaiting, HasGoneOn, CanBeEntered, HasEntered, HasSplitOr};
 
 use super::closing::close_due;
 use super::key::Key;
@@ -72,10 +70,9 @@ fn enter<'a>(
     at: usize,
 ) -> Result<(), Memory>
     requires proper { IsProper case.now next.now.fact }
-    requires can { (start : List Branch) × (ps : TreeBranch) × (rest : List TreeBranch) × CanEnter case.now tree.now start state.old next.now at ps rest }
+    requires can { CanBeEntered case.now tree.now state.old next.now at }
     ensures kept { OnOk result (AreKept case.now state.old → AreKept case.now state.new) }
-    ensures on { OnOk result ((start : List Branch) (ps : TreeBranch) (rest : List TreeBranch)
-        → CanEnter case.now tree.now start state.old next.now at ps rest → FollowsBranches case.now tree.now start state.new (ps ∷ rest)) }
+    ensures on { OnOk result (HasEntered case.now tree.now state.old state.new next.now at) }
 {
     state.facts.truncate(next.count);
     state.known.truncate(next.known);
@@ -87,10 +84,9 @@ fn enter<'a>(
 /// False where there is none.
 fn go_on<'a>(case: &Case, tree: &Flat, state: &mut State<'a>) -> Result<bool, Memory>
     requires kept { AreKept case.now state.old }
-    requires left { (start : List Branch) × (opens : List TreeBranch) × LeavesWaiting case.now tree.now start state.old opens }
+    requires left { AreWaiting case.now tree.now state.old }
     ensures kept { OnOk result (AreKept case.now state.new) }
-    ensures at { IfOk result (λ is_open. (start : List Branch) (opens : List TreeBranch)
-        → LeavesWaiting case.now tree.now start state.old opens → HasFollowed case.now tree.now start state.new is_open opens) }
+    ensures at { IfOk result (HasGoneOn case.now tree.now state.old state.new) }
 {
     while let Some(next) = state.later.pop() {
         match next.task {
@@ -113,10 +109,9 @@ fn take_step<'a>(
     step: &Step,
 ) -> Result<bool, Memory>
     requires kept { AreKept case.now state.old }
-    requires ahead { (start : List Branch) × (rest : List (PlainStep Node)) × HasStepsLeft case.now tree.now start state.old true (plain_step step.now ∷ rest) }
+    requires ahead { IsNextStep case.now tree.now state.old (plain_step step.now) }
     ensures kept { OnOk result (AreKept case.now state.new) }
-    ensures ahead { IfOk result (λ is_open. (start : List Branch) (rest : List (PlainStep Node))
-        → HasStepsLeft case.now tree.now start state.old true (plain_step step.now ∷ rest) → HasStepsLeft case.now tree.now start state.new is_open rest) }
+    ensures ahead { IfOk result (HasTakenStep case.now tree.now state.old state.new (plain_step step.now)) }
 {
     match step {
         Step::Split { position, .. } => {

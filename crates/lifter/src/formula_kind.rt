@@ -8,7 +8,7 @@ ghost use Rattle.static_preds.specs.Values.{meanings, scope_of};
 ghost use Rattle.lifter.specs.Trees.{signed_tree, said_tree, joined_tree, joined_trees, bodies};
 ghost use Rattle.lifter.specs.Kinds.{kind_of, kind_over};
 
-use super::kind::{Kind, decides, joined, neutral};
+use super::kind::{Kind, decides, join_kinds, neutral};
 use pc_case::Case;
 use pc_syntax::{ClosedArgs, ClosedFormula, Env, Sort};
 use static_preds::{bind_next, copy_of, holds, range_len, value_in_range, with_values};
@@ -81,7 +81,7 @@ fn kind_of_two(
     if decides(all, first) {
         return first;
     }
-    joined(all, first, kind_of_formula(case, env, right_plus, right))
+    join_kinds(all, first, kind_of_formula(case, env, right_plus, right))
 }
 
 /// Which constant a quantifier's body is at all values of its range from a place on, or, where not `all`, at some.
@@ -110,7 +110,7 @@ pub(crate) fn kind_of_range(
         if decides(all, member) {
             return member;
         }
-        kind = joined(all, kind, member);
+        kind = join_kinds(all, kind, member);
     }
     kind
 }
@@ -126,7 +126,8 @@ fn kind_of_bound(
 ) -> Kind
     requires closed { IsClosed (scope_of env.now.items) (closed_bind args.now (plain_closed body.now)) }
     requires range { AreInRange case.now env.now.items }
-    ensures { result ≡ kind_of (said_tree case.now plus (closed_bind args.now (plain_closed body.now)) (meanings env.now.items)) }
+    ensures { result
+        ≡ kind_of (said_tree case.now plus (closed_bind args.now (plain_closed body.now)) (meanings env.now.items)) }
 {
     let inside = with_values(env, args);
     kind_of_formula(case, &inside, plus, body)

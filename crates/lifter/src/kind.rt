@@ -41,7 +41,7 @@ fn either(first: Kind, second: Kind) -> Kind
 }
 
 /// And of two, or, where not `all`, Or of two.
-pub(crate) fn joined(all: bool, first: Kind, second: Kind) -> Kind
+pub(crate) fn join_kinds(all: bool, first: Kind, second: Kind) -> Kind
     ensures { result ≡ joined_kind all first second }
 {
     if all {

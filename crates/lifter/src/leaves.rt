@@ -1,4 +1,4 @@
-ghost use Rattle.std.specs.Prelude.{◌≡◌, ◌∷◌, ◌++◌, [], IfOk, OnOk, map};
+ghost use Rattle.std.specs.Prelude.{◌∷◌, ◌++◌, [], IfOk, OnOk, map};
 ghost use Rattle.pc_common.specs.Elements.{In};
 ghost use Rattle.pc_ground.specs.Keys.{key_node};
 ghost use Rattle.lifter.specs.KnownFacts.{plain_key, present, no_node, HasKey, entry, AreEdges, AreNumbers, IsCycleKnown, IsPathKnown};
@@ -53,7 +53,8 @@ fn numbers_to(
     to: NodeKey,
 ) -> Result<(u64, Numbers), Memory>
     requires { AreEdges known.now (key_node from) (map key_node via.now ++ key_node to ∷ []) }
-    ensures { IfOk result (λ r. AreNumbers known.now (key_node from) (map key_node via.now ++ key_node to ∷ []) (r.0 ∷ r.1)) }
+    ensures { IfOk result
+        (λ r. AreNumbers known.now (key_node from) (map key_node via.now ++ key_node to ∷ []) (r.0 ∷ r.1)) }
 {
     match via {
         [] => Ok((number_of(known, Key::Edge(from, to)), Listed::new(alloc))),

@@ -3,12 +3,12 @@ ghost use Rattle.pc_common.specs.Case.{Case as PlainCase};
 ghost use Rattle.pc_common.specs.World.{Node};
 ghost use Rattle.pc_ground.specs.declared.row.Row.{Row as PlainRow};
 ghost use Rattle.lifted_facts.specs.PlainFacts.{plain_fact, IsProper};
-ghost use Rattle.lifted_facts.specs.Lifted.{HasFact, HasPart, HasSides};
+ghost use Rattle.lifted_facts.specs.Lifted.{HasPart, HasSides};
 ghost use Rattle.lifter.specs.Trees.{fact_tree};
 ghost use Rattle.lifter.specs.Kinds.{kind_of};
 ghost use Rattle.lifter.specs.declared.kind.Kind.TheVariants.{False};
 ghost use Rattle.lifter.specs.KnownFacts.{plain_key, HasKey, IsKnown};
-ghost use Rattle.lifter.specs.States.{branch_of, Moves, HasGained};
+ghost use Rattle.lifter.specs.States.{branch_of, Moves, GainsFact};
 
 use super::closing::close;
 use super::key::Key;
@@ -53,7 +53,7 @@ pub(crate) fn derive<'a>(
 ) -> Result<u64, Memory>
     requires proper { IsProper case.now part.now }
     requires is { HasPart case.now (branch_of state.old) way number (plain_fact part.now) }
-    ensures { IfOk result (λ n. (rows : List (PlainRow Node)) → HasGained case.now rows state.old state.new n (plain_fact part.now)) }
+    ensures { IfOk result (GainsFact case.now state.old state.new (plain_fact part.now)) }
 {
     let count = state.facts.len();
     state.steps.push(Line::Derive(way, number))?;
@@ -74,7 +74,7 @@ pub(crate) fn lose_first<'a>(
     requires second_proper { IsProper case.now second.now }
     requires are { HasSides case.now (branch_of state.old) number (plain_fact first.now) (plain_fact second.now) }
     requires kind { kind_of (fact_tree case.now (plain_fact first.now)) ≡ False }
-    ensures { IfOk result (λ n. (rows : List (PlainRow Node)) → HasGained case.now rows state.old state.new n (plain_fact second.now)) }
+    ensures { IfOk result (GainsFact case.now state.old state.new (plain_fact second.now)) }
 {
     let count = state.facts.len();
     state.steps.push(Line::Split(number))?;
@@ -102,7 +102,7 @@ pub(crate) fn lose_second<'a>(
     requires second_proper { IsProper case.now second.now }
     requires are { HasSides case.now (branch_of state.old) number (plain_fact first.now) (plain_fact second.now) }
     requires kind { kind_of (fact_tree case.now (plain_fact second.now)) ≡ False }
-    ensures { IfOk result (λ n. (rows : List (PlainRow Node)) → HasGained case.now rows state.old state.new n (plain_fact first.now)) }
+    ensures { IfOk result (GainsFact case.now state.old state.new (plain_fact first.now)) }
 {
     let count = state.facts.len();
     let known = state.known.len();
@@ -125,7 +125,8 @@ pub(crate) fn mark<'a>(
     number: u64,
 ) -> Result<(), Memory>
     requires { (rows : List (PlainRow Node)) × IsKnown case.now rows (branch_of state.old) (plain_key key) number }
-    ensures moves { OnOk result ((rows : List (PlainRow Node)) → IsKnown case.now rows (branch_of state.old) (plain_key key) number
+    ensures moves { OnOk result
+        ((rows : List (PlainRow Node)) → IsKnown case.now rows (branch_of state.old) (plain_key key) number
         → Moves case.now rows state.old state.new) }
     ensures has { OnOk result (HasKey state.new.known (plain_key key)) }
 {

@@ -10,7 +10,8 @@ ghost use Rattle.lifter.specs.Kinds.{kind_of};
 ghost use Rattle.lifter.specs.declared.kind.Kind.TheVariants.{False, Open};
 ghost use Rattle.lifter.specs.KnownFacts.{IsPart};
 ghost use Rattle.lifter.specs.States.{branch_of, AreKept};
-ghost use Rattle.lifter.specs.Unfoldings.{facts_from, HasUnfolded, HasTaken};
+ghost use Rattle.lifter.specs.PartLists.{facts_from};
+ghost use Rattle.lifter.specs.Unfoldings.{HasUnfolded, HasTaken};
 
 use super::closing::close;
 use super::fact_kind::kind_of_fact;
@@ -111,11 +112,13 @@ fn unfold_next_axiom<'a>(
     at: usize,
 ) -> Result<usize, Memory>
     requires within { k < length axioms.now }
-    requires has { (f : PlainFact) → slice_get (root (plain_axioms axioms.now)) k ≡ Some f → HasFact (branch_of state.old) k f }
+    requires has { (f : PlainFact)
+        → slice_get (root (plain_axioms axioms.now)) k ≡ Some f → HasFact (branch_of state.old) k f }
     requires kind { kind_of (facts_from case.now (root (plain_axioms axioms.now)) k) ≡ Open }
     requires rest { kind_of (facts_from case.now (root (plain_axioms axioms.now)) (k + 1)) ≡ Open }
     requires stands { IsPart tree.now at (facts_from case.now (root (plain_axioms axioms.now)) k) }
-    ensures { IfOk result (λ next. HasTaken case.now tree.now (root (plain_axioms axioms.now)) k at next state.old state.new) }
+    ensures { IfOk result
+        (λ next. HasTaken case.now tree.now (root (plain_axioms axioms.now)) k at next state.old state.new) }
 {
     let fact = axiom_fact(&axioms[k]);
     match kind_of_fact(case, &fact) {
@@ -138,7 +141,8 @@ pub(crate) fn unfold_axioms<'a>(
     requires facts { branch_of state.old ≡ root (plain_axioms axioms.now) }
     requires kind { kind_of (facts_from case.now (root (plain_axioms axioms.now)) 0) ≡ Open }
     requires stands { IsPart tree.now 0 (facts_from case.now (root (plain_axioms axioms.now)) 0) }
-    ensures { OnOk result (HasUnfolded case.now tree.now (facts_from case.now (root (plain_axioms axioms.now)) 0) 0 state.old state.new) }
+    ensures { OnOk result
+        (HasUnfolded case.now tree.now (facts_from case.now (root (plain_axioms axioms.now)) 0) 0 state.old state.new) }
 {
     let last = last_axiom(case, axioms);
     let mut at = 0;
@@ -157,7 +161,8 @@ pub(crate) fn close_axiom(
 ) -> Result<(), Memory>
     requires facts { branch_of state.old ≡ root (plain_axioms axioms.now) }
     requires kind { kind_of (facts_from case.now (root (plain_axioms axioms.now)) 0) ≡ False }
-    ensures { OnOk result ((start opens : List Branch) → Runs case.now state.old.steps start (root (plain_axioms axioms.now) ∷ opens)
+    ensures { OnOk result
+        ((start opens : List Branch) → Runs case.now state.old.steps start (root (plain_axioms axioms.now) ∷ opens)
         → Runs case.now state.new.steps start opens) }
 {
     let found = false_axiom(case, axioms);

@@ -1,4 +1,4 @@
-ghost use Rattle.std.specs.Prelude.{◌≡◌, ◌<◌, ◌+◌, ℕ, List, length, Some, IfOk, OnOk, MatchOption};
+ghost use Rattle.std.specs.Prelude.{◌≡◌, ◌<◌, ◌+◌, length, Some, IfOk, OnOk, MatchOption};
 ghost use Rattle.pc_common.specs.World.{Node};
 ghost use Rattle.pc_ground.specs.Keys.{literal_node};
 ghost use Rattle.pc_ground.specs.Tree.{leaf, always};
@@ -7,11 +7,11 @@ ghost use Rattle.lifted_facts.specs.Parts.{sides as sides_of};
 ghost use Rattle.lifted_facts.specs.Lifted.{HasFact};
 ghost use Rattle.lifter.specs.Trees.{fact_tree};
 ghost use Rattle.lifter.specs.Kinds.{kind_of};
-ghost use Rattle.lifter.specs.PartLists.{IsSaid, parts};
+ghost use Rattle.lifter.specs.PartLists.{IsSaid, parts, parts_from};
 ghost use Rattle.lifter.specs.declared.kind.Kind.TheVariants.{Open};
 ghost use Rattle.lifter.specs.KnownFacts.{IsPart};
 ghost use Rattle.lifter.specs.States.{branch_of};
-ghost use Rattle.lifter.specs.Unfoldings.{fact_of, HasUnfolded, HasTaken, parts_from};
+ghost use Rattle.lifter.specs.Unfoldings.{fact_of, HasUnfolded, HasTaken};
 
 use super::fact_kind::{kind_of_fact, last_open};
 use super::key::Key;
@@ -90,7 +90,8 @@ pub(crate) fn unfold<'a>(
     requires has { HasFact (branch_of state.old) number (plain_fact fact.now) }
     requires kind { kind_of (fact_tree case.now (plain_fact fact.now)) ≡ Open }
     requires stands { IsPart tree.now at (fact_tree case.now (plain_fact fact.now)) }
-    ensures { OnOk result (HasUnfolded case.now tree.now (fact_tree case.now (plain_fact fact.now)) at state.old state.new) }
+    ensures { OnOk result
+        (HasUnfolded case.now tree.now (fact_tree case.now (plain_fact fact.now)) at state.old state.new) }
 {
     match literal_of(fact) {
         Some(literal) => mark_literal(case, tree, state, literal, number, at),
@@ -121,7 +122,8 @@ fn unfold_either<'a>(
     requires has { HasFact (branch_of state.old) number (plain_fact fact.now) }
     requires kind { kind_of (fact_tree case.now (plain_fact fact.now)) ≡ Open }
     requires stands { IsPart tree.now at (fact_tree case.now (plain_fact fact.now)) }
-    ensures { OnOk result (HasUnfolded case.now tree.now (fact_tree case.now (plain_fact fact.now)) at state.old state.new) }
+    ensures { OnOk result
+        (HasUnfolded case.now tree.now (fact_tree case.now (plain_fact fact.now)) at state.old state.new) }
 {
     // the contract alone speaks of it
     let _whole = fact;
@@ -154,7 +156,8 @@ fn unfold_all<'a>(
     requires has { HasFact (branch_of state.old) number (plain_fact fact.now) }
     requires kind { kind_of (parts_from case.now (plain_fact fact.now) 0) ≡ Open }
     requires stands { IsPart tree.now at (parts_from case.now (plain_fact fact.now) 0) }
-    ensures { OnOk result (HasUnfolded case.now tree.now (parts_from case.now (plain_fact fact.now) 0) at state.old state.new) }
+    ensures { OnOk result
+        (HasUnfolded case.now tree.now (parts_from case.now (plain_fact fact.now) 0) at state.old state.new) }
 {
     let last = last_open(case, fact);
     let mut at = at;
@@ -181,7 +184,8 @@ fn unfold_next<'a>(
     requires kind { kind_of (parts_from case.now (plain_fact fact.now) k) ≡ Open }
     requires rest { kind_of (parts_from case.now (plain_fact fact.now) (k + 1)) ≡ Open }
     requires stands { IsPart tree.now at (parts_from case.now (plain_fact fact.now) k) }
-    ensures { IfOk result (λ next. HasTaken case.now tree.now (parts case.now (plain_fact fact.now)) k at next state.old state.new) }
+    ensures { IfOk result
+        (λ next. HasTaken case.now tree.now (parts case.now (plain_fact fact.now)) k at next state.old state.new) }
 {
     let named = part_at(case, fact, k);
     match kind_of_fact(case, &named.1) {
@@ -212,7 +216,8 @@ fn unfold_last<'a>(
     requires kind { kind_of (parts_from case.now (plain_fact fact.now) k) ≡ Open }
     requires rest { parts_from case.now (plain_fact fact.now) (k + 1) ≡ always }
     requires stands { IsPart tree.now at (parts_from case.now (plain_fact fact.now) k) }
-    ensures { OnOk result (HasUnfolded case.now tree.now (parts_from case.now (plain_fact fact.now) k) at state.old state.new) }
+    ensures { OnOk result
+        (HasUnfolded case.now tree.now (parts_from case.now (plain_fact fact.now) k) at state.old state.new) }
 {
     let named = part_at(case, fact, k);
     let next = derive(case, state, named.0, number, &named.1)?;

@@ -1,13 +1,24 @@
 -- A judge takes a line, and what its lines are of the text afterwards.
 use Rattle.std.proofs.Common.{◌≡◌, ◌≤◌, ◌<◌, ◌+◌, ℕ, Bool, true, false, List, [], ◌∷◌, ◌++◌, Result, Ok, Err, length, min, refl, sym, ◌∙◌, ap, subst, arith, append_assoc, length-append}
-use Rattle.std.specs.Prelude.{◌↔◌, IfOk, MatchBool}
+use Rattle.std.specs.Prelude.{◌↔◌, IfOk}
 use Rattle.std.proofs.lemmas.List.{append-nil}
 use Rattle.std.proofs.lemmas.List.Elements.{All-append, All-push, All-nil}
 use Rattle.line_judge.specs.Texts.{IsLine, text_of_lines, IsRefusedAt}
-use Rattle.line_judge.specs.JudgedLines.{IsGood, IsBad, IsWhole, IsRefusedWith}
+use Rattle.line_judge.specs.Judges.{JudgeView, GoesOn, Refuses}
+use Rattle.line_judge.specs.JudgedLines.{IsGood, IsBad, IsJudged, IsWhole, IsRefusedWith}
 use Rattle.line_judge.specs.declared.judged.Judged.{Judged}
 use Rattle.line_judge.proofs.Cuts.{text_append, lines_within}
 use Rattle.line_judge.proofs.Refusals.{refused_at_line, refused_at_end}
+
+-- what a judge's laws say of it: first lines of those that begin well do so too, and what it took, and what is whole
+abbrev pub FirstBegins : JudgeView → Type 0
+FirstBegins judge = (lines more : List (List ℕ)) → judge.begins (lines ++ more) → judge.begins lines
+
+abbrev pub StandsBegins : JudgeView → Type 0
+StandsBegins judge = (lines : List (List ℕ)) → judge.stands lines → judge.begins lines
+
+abbrev pub WholeBegins : JudgeView → Type 0
+WholeBegins judge = (lines : List (List ℕ)) → judge.whole lines → judge.begins lines
 
 -- the open line and its end, after the lines so far
 line_ends : (lines : List (List ℕ)) (part end line : List ℕ) → line ≡ part ++ end
@@ -22,18 +33,18 @@ line_is : (end line part : List ℕ) → IsLine end → line ≡ part ++ end →
 line_is end line part is_end is is_part = subst IsLine (sym is) (All-append (λ byte. byte ≡ 10 → ⊥) part end is_part is_end)
 
 -- a line was judged
-pub line_judged : {J : Type 0} (begins whole stands : J → List (List ℕ) → Type 0)
-    (stands_begins : (judge : J) → (lines : List (List ℕ)) → stands judge lines → begins judge lines)
+pub line_judged : {J : Type 0} (view : J → JudgeView)
+    (stands_begins : (judge : J) → StandsBegins (view judge))
     (start : J) (text end line : List ℕ) (old new : Judged J) (is_good : Bool)
     → IsLine end → line ≡ old.part.items ++ end
     → new.lines ≡ min (old.lines + 1) 18446744073709551615 → new.part.items ≡ []
-    → ((lines : List (List ℕ)) → begins old.judge lines ↔ begins new.judge lines)
-    → ((lines : List (List ℕ)) → whole old.judge lines ↔ whole new.judge lines)
-    → (is_good ≡ true → (lines : List (List ℕ)) → stands old.judge lines → stands new.judge (lines ++ line ∷ []))
-    → (is_good ≡ false → (lines : List (List ℕ)) → stands old.judge lines → begins old.judge (lines ++ line ∷ []) → ⊥)
-    → IsGood begins whole stands start text old
-    → MatchBool is_good (IsGood begins whole stands start (text ++ (end ++ 10 ∷ [])) new) (IsBad begins start (text ++ (end ++ 10 ∷ [])) new.lines)
-line_judged begins whole stands stands_begins start text end line old new true is_end is count empty same_begins same_whole goes refused good =
+    → ((lines : List (List ℕ)) → (view old.judge).begins lines ↔ (view new.judge).begins lines)
+    → ((lines : List (List ℕ)) → (view old.judge).whole lines ↔ (view new.judge).whole lines)
+    → (is_good ≡ true → GoesOn (view old.judge) (view new.judge) line)
+    → (is_good ≡ false → Refuses (view old.judge) line)
+    → IsGood view start text old
+    → IsJudged view start (text ++ (end ++ 10 ∷ [])) new is_good
+line_judged view stands_begins start text end line old new true is_end is count empty same_begins same_whole goes refused good =
     let before = good.count in record {
       lines = good.lines ++ line ∷ [];
       are_lines = All-push IsLine good.lines line good.are_lines (line_is end line old.part.items is_end is good.is_open);
@@ -47,7 +58,7 @@ line_judged begins whole stands stands_begins start text end line old new true i
         same_whole = λ lines. let one = good.alike.same_whole lines in let two = same_whole lines in (λ b. two.0 (one.0 b), λ b. one.1 (two.1 b));
       };
     }
-line_judged begins whole stands stands_begins start text end line old new false is_end is count empty same_begins same_whole goes refused good =
+line_judged view stands_begins start text end line old new false is_end is count empty same_begins same_whole goes refused good =
     let before = good.count in record {
       lines = good.lines;
       line = line;
@@ -61,26 +72,25 @@ line_judged begins whole stands stands_begins start text end line old new false 
     }
 
 -- the same, where the judge may get no memory
-pub line_stepped : {J : Type 0} (begins whole stands : J → List (List ℕ) → Type 0)
-    (stands_begins : (judge : J) → (lines : List (List ℕ)) → stands judge lines → begins judge lines)
+pub line_stepped : {J : Type 0} (view : J → JudgeView)
+    (stands_begins : (judge : J) → StandsBegins (view judge))
     (start : J) (text end line : List ℕ) (old new : Judged J) {E : Type 0} (result : Result Bool E)
     → IsLine end → line ≡ old.part.items ++ end
     → new.lines ≡ min (old.lines + 1) 18446744073709551615 → new.part.items ≡ []
-    → ((lines : List (List ℕ)) → begins old.judge lines ↔ begins new.judge lines)
-    → ((lines : List (List ℕ)) → whole old.judge lines ↔ whole new.judge lines)
-    → IfOk result (λ good. good ≡ true → (lines : List (List ℕ)) → stands old.judge lines → stands new.judge (lines ++ line ∷ []))
-    → IfOk result (λ good. good ≡ false → (lines : List (List ℕ)) → stands old.judge lines → begins old.judge (lines ++ line ∷ []) → ⊥)
-    → IsGood begins whole stands start text old
-    → IfOk result (λ good. MatchBool good (IsGood begins whole stands start (text ++ (end ++ 10 ∷ [])) new)
-    (IsBad begins start (text ++ (end ++ 10 ∷ [])) new.lines))
-line_stepped begins whole stands stands_begins start text end line old new (Err e) is_end is count empty same_begins same_whole goes refused good = tt
-line_stepped begins whole stands stands_begins start text end line old new (Ok is_good) is_end is count empty same_begins same_whole goes refused good =
-    line_judged begins whole stands stands_begins start text end line old new is_good is_end is count empty same_begins same_whole goes refused good
+    → ((lines : List (List ℕ)) → (view old.judge).begins lines ↔ (view new.judge).begins lines)
+    → ((lines : List (List ℕ)) → (view old.judge).whole lines ↔ (view new.judge).whole lines)
+    → IfOk result (λ good. good ≡ true → GoesOn (view old.judge) (view new.judge) line)
+    → IfOk result (λ good. good ≡ false → Refuses (view old.judge) line)
+    → IsGood view start text old
+    → IfOk result (IsJudged view start (text ++ (end ++ 10 ∷ [])) new)
+line_stepped view stands_begins start text end line old new (Err e) is_end is count empty same_begins same_whole goes refused good = tt
+line_stepped view stands_begins start text end line old new (Ok is_good) is_end is count empty same_begins same_whole goes refused good =
+    line_judged view stands_begins start text end line old new is_good is_end is count empty same_begins same_whole goes refused good
 
 -- a refused line stays so, whatever follows
-pub bad_stays : {J : Type 0} (begins : J → List (List ℕ) → Type 0) (start : J) (text more : List ℕ) (number : ℕ)
-    → IsBad begins start text number → IsBad begins start (text ++ more) number
-bad_stays begins start text more number bad = record {
+pub bad_stays : (begins : List (List ℕ) → Type 0) (text more : List ℕ) (number : ℕ)
+    → IsBad begins text number → IsBad begins (text ++ more) number
+bad_stays begins text more number bad = record {
   lines = bad.lines;
   line = bad.line;
   rest = bad.rest ++ more;
@@ -97,10 +107,10 @@ pub next_taken : (taken line left rest piece : List ℕ) → piece ≡ taken ++ 
 next_taken taken line left rest piece is next = is ∙ ap (λ xs. taken ++ xs) next ∙ sym (append_assoc taken line rest)
 
 -- the text ends, no line is open, and the lines are a whole text
-pub whole_at_end : {J : Type 0} (begins whole stands : J → List (List ℕ) → Type 0) (start : J) (text : List ℕ) (judged : Judged J)
-    → judged.part.items ≡ [] → ((lines : List (List ℕ)) → stands judged.judge lines → whole judged.judge lines)
-    → IsGood begins whole stands start text judged → IsWhole begins whole stands start text judged.judge
-whole_at_end begins whole stands start text judged empty done good = record {
+pub whole_at_end : {J : Type 0} (view : J → JudgeView) (start : J) (text : List ℕ) (judged : Judged J)
+    → judged.part.items ≡ [] → ((lines : List (List ℕ)) → (view judged.judge).stands lines → (view judged.judge).whole lines)
+    → IsGood view start text judged → IsWhole view start text judged.judge
+whole_at_end view start text judged empty done good = record {
   made = record {
     lines = good.lines;
     are_lines = good.are_lines;
@@ -112,13 +122,13 @@ whole_at_end begins whole stands start text judged empty done good = record {
 }
 
 -- the text ends where it is not whole
-pub refused_end : {J : Type 0} (begins whole stands : J → List (List ℕ) → Type 0)
-    (first : (judge : J) → (lines more : List (List ℕ)) → begins judge (lines ++ more) → begins judge lines)
-    (stands_begins : (judge : J) → (lines : List (List ℕ)) → stands judge lines → begins judge lines)
+pub refused_end : {J : Type 0} (view : J → JudgeView)
+    (first : (judge : J) → FirstBegins (view judge))
+    (stands_begins : (judge : J) → StandsBegins (view judge))
     (start : J) (text : List ℕ) (judged : Judged J) (number : ℕ) → number ≡ min (judged.lines + 1) 18446744073709551615
-    → (judged.part.items ≡ [] → (lines : List (List ℕ)) → stands judged.judge lines → whole judged.judge lines → ⊥)
-    → IsGood begins whole stands start text judged → IsRefusedWith (begins start) (whole start) text number
-refused_end begins whole stands first stands_begins start text judged number count not_whole good =
+    → (judged.part.items ≡ [] → (lines : List (List ℕ)) → (view judged.judge).stands lines → (view judged.judge).whole lines → ⊥)
+    → IsGood view start text judged → IsRefusedWith (view start).begins (view start).whole text number
+refused_end view first stands_begins start text judged number count not_whole good =
     let before = good.count in
     let fewer : length good.lines ≤ length text = subst (λ t. length good.lines ≤ length t) (sym good.text_is)
     (lines_within good.lines judged.part.items) in record {
@@ -126,25 +136,25 @@ refused_end begins whole stands first stands_begins start text judged number cou
       from_one = omega arith;
       few = omega arith;
       count = omega arith;
-      refused = refused_at_end (begins start) (whole start) (first start) good.lines judged.part.items text good.are_lines good.is_open good.text_is
+      refused = refused_at_end (view start).begins (view start).whole (first start) good.lines judged.part.items text good.are_lines good.is_open good.text_is
           ((good.alike.same_begins good.lines).1 (stands_begins judged.judge good.lines good.stand))
           (λ empty accepted. not_whole empty good.lines good.stand ((good.alike.same_whole good.lines).0 accepted));
     }
 
 -- the line that is refused
-pub refused_line : {J : Type 0} (begins whole : J → List (List ℕ) → Type 0)
-    (first : (judge : J) → (lines more : List (List ℕ)) → begins judge (lines ++ more) → begins judge lines)
-    (whole_begins : (judge : J) → (lines : List (List ℕ)) → whole judge lines → begins judge lines)
-    (start : J) (text : List ℕ) (number : ℕ) → length text < 18446744073709551615 → IsBad begins start text number
-    → (0 < number) × IsRefusedAt (begins start) (whole start) text number
-refused_line begins whole first whole_begins start text number short bad =
+pub refused_line : {J : Type 0} (view : J → JudgeView)
+    (first : (judge : J) → FirstBegins (view judge))
+    (whole_begins : (judge : J) → WholeBegins (view judge))
+    (start : J) (text : List ℕ) (number : ℕ) → length text < 18446744073709551615 → IsBad (view start).begins text number
+    → (0 < number) × IsRefusedAt (view start).begins (view start).whole text number
+refused_line view first whole_begins start text number short bad =
     let counted = bad.count in
     let few : length (bad.lines ++ bad.line ∷ []) ≤ length text =
     subst (λ t. length (bad.lines ++ bad.line ∷ []) ≤ length t) (sym bad.text_is) (lines_within (bad.lines ++ bad.line ∷ []) bad.rest) in
     let one = length-append bad.lines (bad.line ∷ []) in
     let is : length bad.lines + 1 ≡ number = omega arith in (
       omega arith,
-      subst (λ n. IsRefusedAt (begins start) (whole start) text n) is
-          (refused_at_line (begins start) (whole start) (first start) (whole_begins start) bad.lines bad.line bad.rest text bad.are_lines bad.is_line
+      subst (λ n. IsRefusedAt (view start).begins (view start).whole text n) is
+          (refused_at_line (view start).begins (view start).whole (first start) (whole_begins start) bad.lines bad.line bad.rest text bad.are_lines bad.is_line
           bad.text_is bad.begin bad.bad),
     )

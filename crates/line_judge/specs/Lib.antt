@@ -1,3 +1,4 @@
 pub mod Texts
+pub mod Judges
 pub mod JudgedLines
 pub mod Feeds

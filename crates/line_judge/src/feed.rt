@@ -1,6 +1,5 @@
-ghost use Rattle.std.specs.Prelude.{◌≡◌, ◌<◌, ◌^◌, ◌++◌, ◌⊎◌, ◌↔◌, [], List, ℕ, IsTrue, IsOk, IfOk, length};
-ghost use Rattle.line_judge.specs.Texts.{HoldsRefused};
-ghost use Rattle.line_judge.specs.Feeds.{HasTaken, IsSettled, IsAnswer};
+ghost use Rattle.std.specs.Prelude.{◌<◌, ◌^◌, ◌++◌, ◌↔◌, [], IsTrue, IsOk, IfOk};
+ghost use Rattle.line_judge.specs.Feeds.{HasTaken, EachTaken, IsDecided, IsSettled, IsAnswer};
 
 use super::judge::Judge;
 use super::judged::Judged;
@@ -29,9 +28,9 @@ pub enum Finished<J> {
 impl<J: Judge> Feed<J> {
     /// No text yet, of at most `limit` bytes, a number below 2^63. Takes no memory.
     pub fn new(alloc: Global, judge: J, limit: u64) -> Feed<J>
-        requires stands { J.stands judge [] }
+        requires stands { (J.view judge).stands [] }
         requires short { limit < 2 ^ 63 }
-        ensures { HasTaken J.begins J.whole J.stands judge limit [] result }
+        ensures { HasTaken J.view judge limit [] result }
     {
         Feed {
             judged: Judged::new(alloc, judge),
@@ -45,9 +44,8 @@ impl<J: Judge> Feed<J> {
     /// memory.
     pub fn is_settled(&self) -> bool
         ensures is { IsTrue result ↔ IsSettled self.now }
-        ensures by_text { (start : J) → (limit : ℕ) → (text : List ℕ)
-            → HasTaken J.begins J.whole J.stands start limit text self.now
-            → IsTrue result ↔ ((limit < length text) ⊎ HoldsRefused (J.begins start) text) }
+        ensures by_text { EachTaken J.view self.now (λ start limit text.
+            IsTrue result ↔ IsDecided (J.view start).begins limit text text) }
     {
         self.refused || self.limit < self.bytes
     }
@@ -55,13 +53,11 @@ impl<J: Judge> Feed<J> {
     /// Takes the next piece of the text. `Memory` comes where the open line or the judge gets none, and never
     /// where the feed is settled, before the piece or by its length: then the piece is only counted.
     pub fn feed(mut self, piece: &[u8]) -> Result<Feed<J>, Memory>
-        ensures took { (start : J) → (limit : ℕ) → (text : List ℕ)
-            → HasTaken J.begins J.whole J.stands start limit text self
-            → IfOk result (HasTaken J.begins J.whole J.stands start limit (text ++ piece.now)) }
+        ensures took { EachTaken J.view self (λ start limit text.
+            IfOk result (HasTaken J.view start limit (text ++ piece.now))) }
         ensures settled { IsSettled self → IsOk result }
-        ensures sure { (start : J) → (limit : ℕ) → (text : List ℕ)
-            → HasTaken J.begins J.whole J.stands start limit text self
-            → (limit < length (text ++ piece.now)) ⊎ HoldsRefused (J.begins start) text → IsOk result }
+        ensures sure { EachTaken J.view self (λ start limit text.
+            IsDecided (J.view start).begins limit text (text ++ piece.now) → IsOk result) }
     {
         self.bytes = self.bytes.saturating_add(piece.len() as u64);
         if !self.is_settled() {
@@ -72,9 +68,7 @@ impl<J: Judge> Feed<J> {
 
     /// What the text is. Takes no memory.
     pub fn finish(self) -> Finished<J>
-        ensures { (start : J) → (limit : ℕ) → (text : List ℕ)
-            → HasTaken J.begins J.whole J.stands start limit text self
-            → IsAnswer J.begins J.whole J.stands start limit text result }
+        ensures { EachTaken J.view self (λ start limit text. IsAnswer J.view start limit text result) }
     {
         if self.limit < self.bytes {
             return Finished::Refused(0);

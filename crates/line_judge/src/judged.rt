@@ -1,6 +1,6 @@
-ghost use Rattle.std.specs.Prelude.{◌≡◌, ◌++◌, [], List, ℕ, codes, IfOk, MatchBool};
+ghost use Rattle.std.specs.Prelude.{◌≡◌, ◌++◌, [], IfOk};
 ghost use Rattle.line_judge.specs.Texts.{IsLine};
-ghost use Rattle.line_judge.specs.JudgedLines.{IsGood, IsBad, IsEnd};
+ghost use Rattle.line_judge.specs.JudgedLines.{IsGood, IsJudged, EachGood, IsEnd, with_lf};
 
 use super::judge::Judge;
 use super::line::split_line;
@@ -20,8 +20,8 @@ pub(crate) struct Judged<J> {
 impl<J: Judge> Judged<J> {
     /// No text yet. Takes no memory.
     pub(crate) fn new(alloc: Global, judge: J) -> Judged<J>
-        requires { J.stands judge [] }
-        ensures { IsGood J.begins J.whole J.stands judge [] result }
+        requires { (J.view judge).stands [] }
+        ensures { IsGood J.view judge [] result }
     {
         Judged {
             judge,
@@ -33,9 +33,8 @@ impl<J: Judge> Judged<J> {
     /// Takes the next piece of the text, up to the end of the first line that is refused. Returns whether
     /// there is none. Each byte is looked at once, and only a line that goes over a cut is copied.
     pub(crate) fn read(&mut self, piece: &[u8]) -> Result<bool, Memory>
-        ensures { (start : J) → (text : List ℕ) → IsGood J.begins J.whole J.stands start text self.old
-            → IfOk result (λ good. MatchBool good (IsGood J.begins J.whole J.stands start (text ++ piece.now) self.new)
-            (IsBad J.begins start (text ++ piece.now) self.new.lines)) }
+        ensures { EachGood J.view self.old (λ start text.
+            IfOk result (IsJudged J.view start (text ++ piece.now) self.new)) }
     {
         let mut left = piece;
         while let Some((line, rest)) = split_line(left) {
@@ -52,10 +51,8 @@ impl<J: Judge> Judged<J> {
     /// go over a cut is judged where it stands.
     fn end_line(&mut self, end: &[u8]) -> Result<bool, Memory>
         requires { IsLine end.now }
-        ensures { (start : J) → (text : List ℕ) → IsGood J.begins J.whole J.stands start text self.old
-            → IfOk result (λ good. MatchBool good
-            (IsGood J.begins J.whole J.stands start (text ++ (end.now ++ codes "\n")) self.new)
-            (IsBad J.begins start (text ++ (end.now ++ codes "\n")) self.new.lines)) }
+        ensures { EachGood J.view self.old (λ start text.
+            IfOk result (IsJudged J.view start (text ++ with_lf end.now) self.new)) }
     {
         self.lines = self.lines.saturating_add(1);
         if self.part.is_empty() {
@@ -77,8 +74,7 @@ impl<J: Judge> Judged<J> {
     /// The judge, where the text is whole: no line is open, and the lines are a whole text. Else the number
     /// of the line that is refused at the text's end, from 1. Takes no memory.
     pub(crate) fn end(self) -> Result<J, u64>
-        ensures { (start : J) → (text : List ℕ) → IsGood J.begins J.whole J.stands start text self
-            → IsEnd J.begins J.whole J.stands start text result }
+        ensures { EachGood J.view self (λ start text. IsEnd J.view start text result) }
     {
         if self.part.is_empty() && self.judge.is_done() {
             return Ok(self.judge);

@@ -8,18 +8,18 @@ use super::judge::Judge;
 
 /// A text that has a refused line is not whole.
 pub fn no_text_is_whole_and_refused<J: Judge>(judge: &J, text: &[u8])
-    ensures { (n : ℕ) → IsMadeOf (J.whole judge.now) text.now
-        → IsRefusedAt (J.begins judge.now) (J.whole judge.now) text.now n → ⊥ }
+    ensures { let view = J.view judge.now in (n : ℕ) → IsMadeOf view.whole text.now
+        → IsRefusedAt view.begins view.whole text.now n → ⊥ }
 {}
 
 /// A text has one refused line at most.
 pub fn one_line_is_refused<J: Judge>(judge: &J, text: &[u8])
-    ensures { (m n : ℕ) → IsRefusedAt (J.begins judge.now) (J.whole judge.now) text.now m
-        → IsRefusedAt (J.begins judge.now) (J.whole judge.now) text.now n → m ≡ n }
+    ensures { let view = J.view judge.now in (m n : ℕ) → IsRefusedAt view.begins view.whole text.now m
+        → IsRefusedAt view.begins view.whole text.now n → m ≡ n }
 {}
 
 /// A text has one answer: it is whole, is past the limit, or has this refused line, whatever was read.
 pub fn a_text_has_one_answer<J: Judge>(judge: &J, limit: u64, text: &[u8])
-    ensures { (one other : Finished J) → IsAnswer J.begins J.whole J.stands judge.now limit text.now one
-        → IsAnswer J.begins J.whole J.stands judge.now limit text.now other → AreAlike one other }
+    ensures { (one other : Finished J) → IsAnswer J.view judge.now limit text.now one
+        → IsAnswer J.view judge.now limit text.now other → AreAlike one other }
 {}

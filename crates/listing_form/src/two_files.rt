@@ -1,5 +1,4 @@
-ghost use Rattle.std.specs.Prelude.{◌≡◌, ◌^◌, ◌<◌, length, map, IfOk, IfErr};
-ghost use Rattle.pc_ground.specs.Stages.{plain_stage, plain_axioms, numbers_of, AreStages, AxiomsWithin};
+ghost use Rattle.std.specs.Prelude.{◌≡◌, ◌^◌, ◌<◌, length, IfOk, IfErr};
 ghost use Rattle.pc_common.specs.declared.fault.Which.TheVariants.{Test};
 ghost use Rattle.pc_front.specs.declared.model_front.FrontEnd.TheVariants.{Refused};
 ghost use Rattle.pc_front.specs.Front.{fault_at};
@@ -8,14 +7,13 @@ ghost use Rattle.command_base.specs.Fronts.{front_of_parts};
 ghost use Rattle.command_base.specs.SecondFiles.{SaysFront, IsFrontEnd};
 ghost use Rattle.listing_form.specs.Listings.{IsFirstListingFault, listing_end};
 
-use pc_case::Case;
 use pc_common::{FaultKind, InputFault, Place, Which};
-use pc_front::{FrontEnd, ModelFront, read_model};
+use pc_front::{FrontEnd, parts_of, read_model};
 use pc_ground::Parts;
 use std::alloc::Global;
 use x86_litmus::{X86Fault, read_x86};
 
-fn in_listing(kind: FaultKind, place: Place) -> FrontEnd
+fn fault_of_listing(kind: FaultKind, place: Place) -> FrontEnd
     ensures { result ≡ Refused (fault_at Test kind place) }
 {
     FrontEnd::Refused(InputFault {
@@ -30,24 +28,10 @@ fn end_of(fault: X86Fault) -> FrontEnd
     ensures { result ≡ listing_end fault }
 {
     match fault {
-        X86Fault::Lexical(place) => in_listing(FaultKind::Lexical, place),
-        X86Fault::Syntax(place) => in_listing(FaultKind::Syntax, place),
-        X86Fault::Content(kind, place) => in_listing(kind, place),
+        X86Fault::Lexical(place) => fault_of_listing(FaultKind::Lexical, place),
+        X86Fault::Syntax(place) => fault_of_listing(FaultKind::Syntax, place),
+        X86Fault::Content(kind, place) => fault_of_listing(kind, place),
         X86Fault::Memory => FrontEnd::Memory,
-    }
-}
-
-/// The parts of a case and a model.
-fn parts_of(case: Case, model: ModelFront) -> Parts
-    requires named { AreStages (map plain_stage model.stages) }
-    requires within { AxiomsWithin (numbers_of (map plain_stage model.stages)) (plain_axioms model.axioms) }
-    ensures { (result.case ≡ case) × (result.stages ≡ model.stages) × (result.axioms ≡ model.axioms) }
-{
-    let ModelFront { stages, axioms } = model;
-    Parts {
-        case,
-        stages,
-        axioms,
     }
 }
 

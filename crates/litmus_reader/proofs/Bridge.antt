@@ -1,6 +1,5 @@
 -- The table reads exactly the terminals of the tests.
 use Rattle.std.proofs.Common.{◌≡◌, ℕ, Bool, true, false, List, [], ◌∷◌, ◌++◌, Some, None, IsTrue, MatchOption, map, codes, refl, sym, ap, subst, ◌∙◌, append_assoc, if◌then◌else◌}
-use Rattle.std.proofs.lemmas.Bool.{eqb-true}
 use Rattle.std.proofs.lemmas.List.{append-nil, map-append}
 use Rattle.pc_case.specs.declared.address.Page.{Page}
 use Rattle.pc_case.specs.declared.address.Address.{Address}
@@ -12,10 +11,12 @@ use Rattle.ll_grammar.specs.declared.grammar.Symbol.{Symbol}
 use Rattle.ll_grammar.specs.declared.grammar.Symbol.TheVariants.{Terminal as a_terminal, Nonterminal as a_nonterminal}
 use Rattle.ll_grammar.proofs.DerivesLaws.{Each, meaning, derives-begin, derives-end}
 use Rattle.ll_grammar.proofs.DerivesLaws.Each.{none, class, part}
-use Rattle.uspec_lexer.specs.Token.{Token, Kind}
-use Rattle.litmus_reader.specs.Expected.{Expected, a_word, word_at, a_number, number_at, a_text, a_symbol, Is, Spell}
+use Rattle.uspec_lexer.specs.Token.{Token}
+use Rattle.uspec_lexer.specs.Vocabulary.{expected_terminal}
+use Rattle.uspec_lexer.specs.Expected.{Expected, a_word, a_number, Is, Spell}
+use Rattle.litmus_reader.specs.Expected.{word_at, number_at}
 use Rattle.litmus_reader.specs.Syntax.{spelled_page, spelled_address, spelled_entry, spelled_value, spelled_stated, spelled_touch, spelled_access, spelled_head, spelled_statement, spelled_item, spelled_items, spelled_test, open_, close_, dot, arrow, format_word, IsAddressOf, IsValueOf, IsActionOf, IsItemOf, AreItemsOf, IsTest}
-use Rattle.litmus_reader.specs.Terminals.{spelling, word_terminal, symbol_terminal, kind_terminal, terminal_of, is_name}
+use Rattle.litmus_reader.specs.Terminals.{spelling, word_terminal, symbol_terminal, vocabulary, terminal_of, sort_of, is_name}
 use Rattle.litmus_reader.specs.Phrases.{production, is_nullable, deep, rules}
 use Rattle.litmus_reader.specs.declared.item.Numeral.{Numeral}
 use Rattle.litmus_reader.specs.declared.format.Format.{Format}
@@ -31,15 +32,16 @@ use Rattle.litmus_reader.specs.declared.item.ValueLine.{ValueLine}
 use Rattle.litmus_reader.specs.declared.item.Item.{Item}
 use Rattle.litmus_reader.specs.declared.item.Item.TheVariants.{Microop as microop, Relationship as relationship, Initial as initial, Final as final, Permitted as permitted, Forbidden as forbidden}
 use Rattle.litmus_reader.specs.declared.terminal.Terminal.{Terminal}
-use Rattle.litmus_reader.specs.declared.terminal.Terminal.TheVariants.{Litmus, Litmus2, Microop, Relationship, Init, Final, Permitted, Forbidden, Read, Write, Fence, Va, Pa, Entry, Data, Maps, Name, Number, Text, Open, Close, Dot, Arrow, Other}
+use Rattle.litmus_reader.specs.declared.terminal.Terminal.TheVariants.{Litmus, Litmus2, Microop, Relationship, Init, Final, Permitted, Forbidden, Read, Write, Fence, Va, Pa, Entry, Data, Maps, Name, Number, Text, Open, Close, Dot, Arrow}
 use Rattle.litmus_reader.specs.declared.phrase.Phrase.{Phrase}
 use Rattle.litmus_reader.specs.declared.phrase.Phrase.TheVariants.{Test, Items, Access, Types, AnyName, VirtualPage, Address as AddressPart, AddressInside, ReadValue, WriteValue, ValueInside, StatedValue}
-use Rattle.litmus_reader.proofs.Words.{sort_of, name-of_kind, number-of_kind, text-of_kind, word-of_kind, symbol-of_kind, is_name-sort, word_is_name}
-use Rattle.litmus_reader.proofs.Spelling.{spell-append, map-head, map-part}
+use Rattle.litmus_reader.proofs.Words.{sorted}
+use Rattle.uspec_lexer.proofs.Spelling.{spell-append, map-head, map-part}
+use Rattle.uspec_lexer.proofs.Words.{is_word, is_placed_word, is_symbol, is_number, is_text, is_named, word_is_name, terminals-of_tokens}
 
 -- From the table to the grammar: tokens of these terminals spell a text.
 
-place_of : Token → Place
+abbrev place_of : Token → Place
 place_of t = record { offset = t.at }
 
 -- what a phrase's tokens spell
@@ -63,61 +65,34 @@ Means n cs marks = (ts : List Token) → map terminal_of ts ≡ cs → Spelled n
 means-end : (n : Phrase) → IsTrue (is_nullable n) → Means n [] []
 means-end (Items f) h [] e = ([], tt, tt)
 means-end Types h [] e = ([], tt)
-means-end Test h [] e = absurd (cc)
-means-end (Access f) h [] e = absurd (cc)
-means-end AnyName h [] e = absurd (cc)
-means-end VirtualPage h [] e = absurd (cc)
-means-end (AddressPart f) h [] e = absurd (cc)
-means-end (AddressInside f) h [] e = absurd (cc)
-means-end (ReadValue f) h [] e = absurd (cc)
-means-end (WriteValue f) h [] e = absurd (cc)
-means-end (ValueInside f) h [] e = absurd (cc)
-means-end (StatedValue f) h [] e = absurd (cc)
-means-end n h (t ∷ ts) e = absurd (cc)
+means-end n h ts e = absurd (cc)
 
 abbrev IsRule : Phrase → Terminal → List (Symbol Terminal Phrase) → Type 0
 IsRule n c body = (cs : List Terminal) (marks : List Bool) → Each Means body cs marks → Means n (c ∷ cs) (false ∷ marks)
 
 -- what a token of a terminal is
-is_word : (t : Token) (c : Terminal) → sort_of c ≡ 0 → (c ≡ Name → ⊥) → terminal_of t ≡ c → Is (a_word (spelling c)) t
-is_word t c s own e = word-of_kind t.kind t.piece c s own e
-
-is_word_at : (t : Token) (c : Terminal) → sort_of c ≡ 0 → (c ≡ Name → ⊥) → terminal_of t ≡ c → Is (word_at (spelling c) (place_of t)) t
-unfolding place_of
-is_word_at t c s own e = let w = word-of_kind t.kind t.piece c s own e in (w.0, w.1, refl)
-
-is_symbol : (t : Token) (c : Terminal) → sort_of c ≡ 3 → (c ≡ Other → ⊥) → terminal_of t ≡ c → Is (a_symbol (spelling c)) t
-is_symbol t c s own e = symbol-of_kind t.kind t.piece c s own e
-
-is_number : (t : Token) → terminal_of t ≡ Number → (n : ℕ) × Is (a_number n) t
-is_number t e = number-of_kind t.kind t.piece e
-
 is_number_at : (t : Token) → terminal_of t ≡ Number → (n : Numeral) × Is (number_at n) t
-unfolding place_of
-is_number_at t e =
-    let (n, k) = number-of_kind t.kind t.piece e in (record { value = n; at = place_of t }, (k, refl))
+is_number_at t e = let (n, k) = is_number sorted t e in (record { value = n; at = place_of t }, (k, refl))
 
 is_any_name : (t : Token) → is_name (terminal_of t) ≡ true → Is (a_word t.piece) t
-is_any_name t e =
-    let s : sort_of (terminal_of t) ≡ 0 = eqb-true (sort_of (terminal_of t)) 0 (sym (is_name-sort (terminal_of t)) ∙ e) in
-    (name-of_kind t.kind t.piece (terminal_of t) s refl, refl)
+is_any_name t e = (is_named sorted t (terminal_of t) e refl, refl)
 
 is_dot : (t : Token) → terminal_of t ≡ Dot → Is dot t
-is_dot t e = is_symbol t Dot refl (λ h. cc) e
+is_dot t e = is_symbol sorted t Dot refl (λ h. cc) e
 
 is_open : (t : Token) → terminal_of t ≡ Open → Is open_ t
-is_open t e = is_symbol t Open refl (λ h. cc) e
+is_open t e = is_symbol sorted t Open refl (λ h. cc) e
 
 is_close : (t : Token) → terminal_of t ≡ Close → Is close_ t
-is_close t e = is_symbol t Close refl (λ h. cc) e
+is_close t e = is_symbol sorted t Close refl (λ h. cc) e
 
 -- "(" word t x ")"
 page_of : (ts : List Token) (c : Terminal) → sort_of c ≡ 0 → (c ≡ Name → ⊥)
     → map terminal_of ts ≡ Open ∷ c ∷ Number ∷ Number ∷ Close ∷ [] → (p : Page) × Spell (spelled_page (spelling c) p) ts
 page_of (o ∷ w ∷ t ∷ x ∷ z ∷ []) c s own e =
-    let (tag, is_tag) = is_number t cc in
-    let (index, is_index) = is_number x cc in
-    (record { tag = tag; index = index }, (is_open o cc, (is_word w c s own cc, (is_tag, (is_index, (is_close z cc, tt))))))
+    let (tag, is_tag) = is_number sorted t cc in
+    let (index, is_index) = is_number sorted x cc in
+    (record { tag = tag; index = index }, (is_open o cc, (is_word sorted w c s own cc, (is_tag, (is_index, (is_close z cc, tt))))))
 page_of ts c s own e = absurd (cc)
 
 virtual_page : IsRule VirtualPage Open (a_terminal Va ∷ a_terminal Number ∷ a_terminal Number ∷ a_terminal Close ∷ [])
@@ -126,17 +101,17 @@ virtual_page _ _ (class (class (class (class none)))) ts e = page_of ts Va refl 
 -- after the bracket of an address
 page_inside : (f : Format) → IsRule (AddressInside f) Pa (a_terminal Number ∷ a_terminal Number ∷ a_terminal Close ∷ [])
 page_inside f _ _ (class (class (class none))) (w ∷ t ∷ x ∷ z ∷ []) e =
-    let (tag, is_tag) = is_number t cc in
-    let (index, is_index) = is_number x cc in
-    let is_pa = is_word w Pa refl (λ h. cc) cc in
+    let (tag, is_tag) = is_number sorted t cc in
+    let (index, is_index) = is_number sorted x cc in
+    let is_pa = is_word sorted w Pa refl (λ h. cc) cc in
     let closes : Is close_ z = is_close z cc in
     (PageAddress tag index, tt, λ o opens. (opens, (is_pa, (is_tag, (is_index, (closes, tt))))))
 page_inside f _ _ (class (class (class none))) ts e = absurd (cc)
 
 entry_inside : IsRule (AddressInside Two) Entry (a_terminal Number ∷ a_terminal Close ∷ [])
 entry_inside _ _ (class (class none)) (w ∷ t ∷ z ∷ []) e =
-    let (tag, is_tag) = is_number t cc in
-    let is_entry = is_word w Entry refl (λ h. cc) cc in
+    let (tag, is_tag) = is_number sorted t cc in
+    let is_entry = is_word sorted w Entry refl (λ h. cc) cc in
     let closes : Is close_ z = is_close z cc in
     (EntryAddress tag, tt, λ o opens. (opens, (is_entry, (is_tag, (closes, tt)))))
 entry_inside _ _ (class (class none)) ts e = absurd (cc)
@@ -150,8 +125,8 @@ address f _ _ (part inside none) [] e = absurd (cc)
 -- after the bracket of a value
 number_inside : (f : Format) → IsRule (ValueInside f) Data (a_terminal Number ∷ a_terminal Close ∷ [])
 number_inside f _ _ (class (class none)) (w ∷ d ∷ z ∷ []) e =
-    let (n, is_n) = is_number d cc in
-    let is_data = is_word w Data refl (λ h. cc) cc in
+    let (n, is_n) = is_number sorted d cc in
+    let is_data = is_word sorted w Data refl (λ h. cc) cc in
     let closes : Is close_ z = is_close z cc in
     (number_text n, tt, λ o opens. (opens, (is_data, (is_n, (closes, tt)))))
 number_inside f _ _ (class (class none)) ts e = absurd (cc)
@@ -160,10 +135,10 @@ number_inside f _ _ (class (class none)) ts e = absurd (cc)
 entry_of : (ts : List Token) → map terminal_of ts ≡ Maps ∷ Number ∷ Number ∷ Number ∷ Close ∷ []
     → (tag : ℕ) × (accessed : Numeral) × (dirty : Numeral) × ((o : Token) → Is open_ o → Spell (spelled_entry tag accessed dirty) (o ∷ ts))
 entry_of (w ∷ t ∷ a ∷ d ∷ z ∷ []) e =
-    let (tag, is_tag) = is_number t cc in
+    let (tag, is_tag) = is_number sorted t cc in
     let (accessed, is_accessed) = is_number_at a cc in
     let (dirty, is_dirty) = is_number_at d cc in
-    let is_maps = is_word w Maps refl (λ h. cc) cc in
+    let is_maps = is_word sorted w Maps refl (λ h. cc) cc in
     let closes : Is close_ z = is_close z cc in
     (tag, accessed, dirty, λ o opens. (opens, (is_maps, (is_tag, (is_accessed, (is_dirty, (closes, tt)))))))
 entry_of ts e = absurd (cc)
@@ -182,7 +157,7 @@ some_value f _ _ (part inside none) [] e = absurd (cc)
 
 -- what a line states
 stated_number : (f : Format) → IsRule (StatedValue f) Number []
-stated_number f _ _ none (d ∷ []) e = let (n, is_n) = is_number d cc in (number_text n, tt, (is_n, tt))
+stated_number f _ _ none (d ∷ []) e = let (n, is_n) = is_number sorted d cc in (number_text n, tt, (is_n, tt))
 stated_number f _ _ none ts e = absurd (cc)
 
 stated_entry : IsRule (StatedValue Two) Open (a_terminal Maps ∷ a_terminal Number ∷ a_terminal Number ∷ a_terminal Number ∷ a_terminal Close ∷ [])
@@ -234,14 +209,14 @@ access_read : (f : Format) → IsRule (Access f) Read
     (a_nonterminal Types ∷ a_nonterminal VirtualPage ∷ a_nonterminal (AddressPart f) ∷ a_nonterminal (ReadValue f) ∷ [])
 access_read f cs marks each (t ∷ ts) e =
     let (ws, m, of, has, s) = touched f (ReadValue f) (λ us v. v) cs marks each ts cc in
-    (ws, read m, (of, has), (is_word t Read refl (λ h. cc) cc, s))
+    (ws, read m, (of, has), (is_word sorted t Read refl (λ h. cc) cc, s))
 access_read f cs marks each [] e = absurd (cc)
 
 access_write : (f : Format) → IsRule (Access f) Write
     (a_nonterminal Types ∷ a_nonterminal VirtualPage ∷ a_nonterminal (AddressPart f) ∷ a_nonterminal (WriteValue f) ∷ [])
 access_write f cs marks each (t ∷ ts) e =
     let (ws, m, of, has, s) = touched f (WriteValue f) (λ us v. v) cs marks each ts cc in
-    (ws, write m, (of, has), (is_word t Write refl (λ h. cc) cc, s))
+    (ws, write m, (of, has), (is_word sorted t Write refl (λ h. cc) cc, s))
 access_write f cs marks each [] e = absurd (cc)
 
 access_fence : (f : Format) → IsRule (Access f) Fence (a_nonterminal Types ∷ [])
@@ -250,7 +225,7 @@ access_fence f _ _ (part {cs = cs} names none) (t ∷ ts) e =
       ws,
       fence,
       tt,
-      (is_word t Fence refl (λ h. cc) cc, subst (λ (es : List Expected). Spell es ts) (sym (append-nil (map a_word ws))) s),
+      (is_word sorted t Fence refl (λ h. cc) cc, subst (λ (es : List Expected). Spell es ts) (sym (append-nil (map a_word ws))) s),
     )
 access_fence f _ _ (part names none) [] e = absurd (cc)
 
@@ -262,7 +237,7 @@ items_expectation f c item s own of spells _ _ (class (part {cs = cs} others non
       item (place_of t) ∷ is,
       (of (place_of t), are),
       subst (λ (es : List Expected). Spell (es ++ spelled_items is) (t ∷ d ∷ ts)) (sym (spells (place_of t)))
-          (is_word_at t c s own cc, (is_dot d cc, r)),
+          (is_placed_word sorted t c s own cc, (is_dot d cc, r)),
     )
 items_expectation f c item s own of spells _ _ (class (part others none)) ts e = absurd (cc)
 
@@ -292,7 +267,7 @@ items_value f c item s own of spells _ _ (part {cs = xs} {ds = ys} page (part {c
       item line ∷ is,
       (of line of_pa of_value, are),
       subst (λ (es : List Expected). Spell (es ++ more) (t ∷ ts)) (sym (spells line))
-          (is_word_at t c s own cc, subst (λ (es : List Expected). Spell es ts) (sym together) said),
+          (is_placed_word sorted t c s own cc, subst (λ (es : List Expected). Spell es ts) (sym together) said),
     )
 items_value f c item s own of spells _ _ (part page (part value (class (part others none)))) [] e = absurd (cc)
 
@@ -303,10 +278,10 @@ ends_of : (ts : List Token) (cs : List Terminal) → map terminal_of ts ≡ Numb
     → Spell (number_at source.g ∷ a_number source.n ∷ arrow ∷ number_at target.g ∷ a_number target.n ∷ dot ∷ es) ts)
 ends_of (g1 ∷ n1 ∷ a ∷ g2 ∷ n2 ∷ d ∷ rest) cs e =
     let (sg, is_sg) = is_number_at g1 cc in
-    let (sn, is_sn) = is_number n1 cc in
+    let (sn, is_sn) = is_number sorted n1 cc in
     let (tg, is_tg) = is_number_at g2 cc in
-    let (tn, is_tn) = is_number n2 cc in
-    let is_arrow : Is arrow a = is_symbol a Arrow refl (λ h. cc) cc in
+    let (tn, is_tn) = is_number sorted n2 cc in
+    let is_arrow : Is arrow a = is_symbol sorted a Arrow refl (λ h. cc) cc in
     let ends : Is dot d = is_dot d cc in
     (record { g = sg; n = sn }, record { g = tg; n = tn }, rest, cc, λ es s. (is_sg, (is_sn, (is_arrow, (is_tg, (is_tn, (ends, s)))))))
 ends_of ts cs e = absurd (cc)
@@ -323,7 +298,7 @@ items_relationship f _ _ (part {cs = xs} {ds = ys} kind (class (class (class (cl
       relationship (record { kind = w; source = source; target = target }) ∷ is,
       (tt, are),
       (
-        is_word t Relationship refl (λ h. cc) cc,
+        is_word sorted t Relationship refl (λ h. cc) cc,
         subst (Spell (a_word w ∷ ends)) (sym same) (spell-append (a_word w ∷ []) ends us vs s (spells (spelled_items is) q)),
       ),
     )
@@ -337,8 +312,8 @@ head_of (t ∷ g ∷ c ∷ h ∷ n ∷ o ∷ rest) cs e =
     let (ng, is_g) = is_number_at g cc in
     let (nc, is_c) = is_number_at c cc in
     let (nh, is_h) = is_number_at h cc in
-    let (nn, is_n) = is_number n cc in
-    let begins : Is (word_at (codes "Microop") (place_of t)) t = is_word_at t Microop refl (λ h. cc) cc in
+    let (nn, is_n) = is_number sorted n cc in
+    let begins : Is (word_at (codes "Microop") (place_of t)) t = is_placed_word sorted t Microop refl (λ h. cc) cc in
     let opens : Is open_ o = is_open o cc in (
       record { at = place_of t; g = ng; core = nc; thread = nh; n = nn },
       rest,
@@ -379,8 +354,8 @@ test_of_word : (f : Format) (c : Terminal) → sort_of c ≡ 0 → (c ≡ Name �
     → IsRule Test c (a_terminal Text ∷ a_terminal Dot ∷ a_nonterminal (Items f) ∷ [])
 test_of_word f c s own word _ _ (class (class (part {cs = cs} others none))) (t ∷ x ∷ d ∷ ts) e =
     let (is, are, q) = others ts (let rest : map terminal_of ts ≡ cs ++ [] = cc in rest ∙ append-nil cs) in
-    let begins : Is (a_word (format_word f)) t = subst (λ (w : List ℕ). Is (a_word w) t) (sym word) (is_word t c s own cc) in
-    (is, (f, are, (begins, (text-of_kind x.kind x.piece cc, (is_dot d cc, q)))))
+    let begins : Is (a_word (format_word f)) t = subst (λ (w : List ℕ). Is (a_word w) t) (sym word) (is_word sorted t c s own cc) in
+    (is, (f, are, (begins, (is_text sorted x Text refl cc, (is_dot d cc, q)))))
 test_of_word f c s own word _ _ (class (class (part others none))) ts e = absurd (cc)
 
 rule : (n : Phrase) (c : Terminal) → MatchOption (production n c) (Unit {0})
@@ -430,37 +405,15 @@ rule (StatedValue Two) Open = stated_entry
 rule (StatedValue f) _ = tt
 
 -- tokens whose terminals the table reads are a test
-pub test_of_derives : (ts : List Token) (marks : List Bool) → Derives rules Test (map terminal_of ts) marks → IsTest ts
-test_of_derives ts marks reads =
+pub test_of_derives : (ts : List Token) → IsText (Derives rules Test) (map terminal_of ts) → IsTest ts
+test_of_derives ts (marks, reads) =
     meaning rules Means (record { empty = means-end; rule = rule }) Test (map terminal_of ts) marks reads ts refl
 
 -- From the grammar to the table: the terminals of a test are read.
 
 -- the terminal of what is expected
 abbrev pub terminal : Expected → Terminal
-terminal (a_word w) = word_terminal w
-terminal (word_at w at) = word_terminal w
-terminal (a_number n) = Number
-terminal (number_at n) = Number
-terminal a_text = Text
-terminal (a_symbol s) = symbol_terminal s
-
-pub terminal-of_token : (e : Expected) (t : Token) → Is e t → terminal_of t ≡ terminal e
-terminal-of_token (a_word w) t h = ap (λ (k : Kind). kind_terminal k t.piece) h.0 ∙ ap word_terminal h.1
-terminal-of_token (word_at w at) t h = ap (λ (k : Kind). kind_terminal k t.piece) h.0 ∙ ap word_terminal h.1
-terminal-of_token (a_number n) t h = ap (λ (k : Kind). kind_terminal k t.piece) h
-terminal-of_token (number_at n) t h = ap (λ (k : Kind). kind_terminal k t.piece) h.0
-terminal-of_token a_text t h = ap (λ (k : Kind). kind_terminal k t.piece) h
-terminal-of_token (a_symbol s) t h = ap (λ (k : Kind). kind_terminal k t.piece) h.0 ∙ ap symbol_terminal h.1
-
-terminals-of_tokens : (es : List Expected) (ts : List Token) → Spell es ts → map terminal_of ts ≡ map terminal es
-terminals-of_tokens [] [] s = refl
-terminals-of_tokens [] (t ∷ ts) s = absurd s
-terminals-of_tokens (e ∷ es) [] s = absurd s
-terminals-of_tokens (e ∷ es) (t ∷ ts) s =
-    let here = terminal-of_token e t s.0 in
-    let others = terminals-of_tokens es ts s.1 in
-    λ i. here i ∷ others i
+terminal e = expected_terminal vocabulary e
 
 abbrev Reads : Phrase → List Terminal → Type 0
 Reads n cs = IsText (Derives rules n) cs
@@ -479,11 +432,11 @@ read_types : (ws : List (List ℕ)) → Reads Types (map terminal (map a_word ws
 read_types [] = ([], derives-end Types refl)
 read_types (w ∷ ws) =
     let (marks, d) = read_types ws in
-    begin Types (word_terminal w) (a_nonterminal Types ∷ []) (types_behind (word_terminal w) (word_is_name w)) (part d none)
+    begin Types (word_terminal w) (a_nonterminal Types ∷ []) (types_behind (word_terminal w) (word_is_name sorted w)) (part d none)
     (word_terminal w ∷ map terminal (map a_word ws)) (ap (λ (cs : List Terminal). word_terminal w ∷ cs) (sym (append-nil (map terminal (map a_word ws)))))
 
 read_any_name : (w : List ℕ) → Reads AnyName (word_terminal w ∷ [])
-read_any_name w = begin AnyName (word_terminal w) [] (any_name_behind (word_terminal w) (word_is_name w)) none (word_terminal w ∷ []) refl
+read_any_name w = begin AnyName (word_terminal w) [] (any_name_behind (word_terminal w) (word_is_name sorted w)) none (word_terminal w ∷ []) refl
 
 read_virtual : (p : Page) → Reads VirtualPage (map terminal (spelled_page (codes "VA") p))
 unfolding word_terminal symbol_terminal
@@ -604,4 +557,4 @@ read_test Two is are =
 -- the terminals of a test are read
 pub derives_of_test : (ts : List Token) → IsTest ts → IsText (Derives rules Test) (map terminal_of ts)
 derives_of_test ts (is, (f, are, s)) =
-    subst (Reads Test) (sym (terminals-of_tokens (spelled_test f is) ts s)) (read_test f is are)
+    subst (Reads Test) (sym (terminals-of_tokens vocabulary (spelled_test f is) ts s)) (read_test f is are)

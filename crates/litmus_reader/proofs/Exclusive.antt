@@ -1,9 +1,7 @@
 -- A text has one case at most, and none where it has a first fault.
-use Rattle.std.proofs.Common.{◌≡◌, ◌≢◌, ℕ, ◌+◌, ◌≤◌, List, length, drop, refl, sym, ap, subst, ◌∙◌, arith}
-use Rattle.std.proofs.lemmas.List.{take-append-drop}
+use Rattle.std.proofs.Common.{◌≡◌, ◌≢◌, ℕ, List, refl, sym, ap, subst, ◌∙◌}
 use Rattle.pc_common.specs.Case.{Case}
-use Rattle.ll_grammar.specs.FirstFault.{IsFaultAt}
-use Rattle.uspec_lexer.specs.Token.{Token}
+use Rattle.ll_grammar.proofs.Faults.{no_place}
 use Rattle.uspec_lexer.proofs.SpellsLaws.{spells-unique, spells-no_fault}
 use Rattle.litmus_reader.specs.Syntax.{IsTestOf, IsTest}
 use Rattle.litmus_reader.specs.Items.{case_of}
@@ -22,17 +20,11 @@ one_reading bytes xs ys s t =
 pub one_case : (bytes : List ℕ) (c d : Case) → CaseOf bytes c → CaseOf bytes d → c ≡ d
 one_case bytes c d s t = s.is ∙ ap case_of (one_reading bytes s.items t.items s.text t.text) ∙ sym t.is
 
-pub no_syntax_fault : (ts : List Token) (k : ℕ) → IsTest ts → IsFaultAt IsTest ts k → ⊥
-no_syntax_fault ts k test f =
-    let within : k ≤ length ts = f.within in
-    let not_end : k ≡ length ts → ⊥ = λ end. f.at_end end test in
-    f.through (omega arith) (drop (k + 1) ts, subst IsTest (sym (take-append-drop (k + 1) ts)) test)
-
 -- a text with a case has no fault
 pub no_fault : (bytes : List ℕ) (c : Case) (fault : CaseFault) → CaseOf bytes c → fault ≢ Memory → IsCaseFault bytes fault → ⊥
 no_fault bytes c (Lexical place) s not f = spells-no_fault s.text.spelled f
 no_fault bytes c (Syntax place) s not f =
-    no_syntax_fault f.tokens f.k (s.items, subst (IsTestOf s.items) (spells-unique s.text.spelled f.spelled) s.text.test) f.fault
+    no_place IsTest f.tokens f.k (s.items, subst (IsTestOf s.items) (spells-unique s.text.spelled f.spelled) s.text.test) f.fault
 no_fault bytes c (Content kind place) s not (items, said, f) =
     s.clean f.before f.item f.after (one_reading bytes s.items items s.text said ∙ f.are) kind place f.here
 no_fault bytes c Memory s not f = not refl

@@ -1,5 +1,4 @@
 mod Words
-pub mod Spelling
 pub mod Bridge
 pub mod SyntaxFaults
 pub mod Places
@@ -15,6 +14,5 @@ pub mod Within
 pub mod OneContentFault
 pub mod OneFault
 mod Decisions
-pub mod SyntaxTotality
 pub mod ContentTotality
 pub mod Totality

@@ -6,9 +6,10 @@ use Rattle.pc_case.specs.declared.address.Address.{Address}
 use Rattle.pc_case.specs.declared.address.Address.TheVariants.{Page as PageAddress, Entry as EntryAddress}
 use Rattle.pc_common.specs.declared.place.Place.{Place}
 use Rattle.uspec_lexer.specs.Token.{Token}
-use Rattle.litmus_reader.specs.Expected.{Expected, a_word, word_at, a_number, a_symbol}
+use Rattle.uspec_lexer.specs.Expected.{Expected, a_word, a_number, a_symbol}
+use Rattle.litmus_reader.specs.Expected.{word_at}
 use Rattle.litmus_reader.specs.Syntax.{spelled_page, spelled_address, spelled_entry, spelled_value, spelled_stated, spelled_touch, spelled_action, spelled_access, spelled_head, spelled_statement, spelled_item, action_word, open_, close_, dot}
-use Rattle.litmus_reader.specs.Terminals.{word_terminal, symbol_terminal, terminal_of}
+use Rattle.litmus_reader.specs.Terminals.{word_terminal, symbol_terminal, vocabulary, terminal_of}
 use Rattle.litmus_reader.specs.Reading.{StandsAt, IsPageAt, IsNameAt, BeginsAt, NamesAt, SomeAt, IsReadAt, IsValueLineAt, terminal_of_action, spelled_microop, spelled_relationship}
 use Rattle.litmus_reader.specs.declared.item.Numeral.{Numeral}
 use Rattle.litmus_reader.specs.declared.item.ValueText.{ValueText}
@@ -23,14 +24,15 @@ use Rattle.litmus_reader.specs.declared.item.Item.{Item}
 use Rattle.litmus_reader.specs.declared.item.Item.TheVariants.{Microop as microop, Relationship as relationship, Initial as initial, Final as final, Permitted as permitted, Forbidden as forbidden}
 use Rattle.litmus_reader.specs.declared.terminal.Terminal.{Terminal}
 use Rattle.litmus_reader.specs.declared.terminal.Terminal.TheVariants.{Microop, Relationship, Init, Final, Permitted, Forbidden, Pa, Entry, Data, Maps, Number, Open}
-use Rattle.litmus_reader.proofs.Bridge.{terminal, terminal-of_token}
+use Rattle.uspec_lexer.proofs.Words.{terminal-of_token}
+use Rattle.litmus_reader.proofs.Bridge.{terminal}
 use Rattle.litmus_reader.proofs.Places.{stands, place-stands, stands-first, begins-behind, begins-front, begins-within}
 
 -- the terminal of the token that stands there
 terminal-stands : {ts : List Token} {k : ℕ} {e : Expected} (t : Token) → slice_get ts k ≡ Some t → StandsAt ts k e → terminal_of t ≡ terminal e
 terminal-stands {e = e} t at s =
     let same : s.token ≡ t = let h = s.at in cc in
-    ap terminal_of (sym same) ∙ terminal-of_token e s.token s.is
+    ap terminal_of (sym same) ∙ terminal-of_token vocabulary e s.token s.is
 
 -- up to the first symbol after it
 up_to_symbol : {ts : List Token} {k : ℕ} (xs : List Expected) (s : List ℕ) (others : List Expected)
@@ -58,13 +60,12 @@ address-seen {ts} {k} a b word seen = let (t, at) = second a b in seen t at ∙ 
     second (PageAddress tag index) c = let s = stands (spelled_address (PageAddress tag index)) c 1 _ refl in (s.token, s.at)
     second (EntryAddress tag) c = let s = stands (spelled_address (EntryAddress tag)) c 1 _ refl in (s.token, s.at)
 
-pub address-within : {ts : List Token} {k : ℕ} (a : Address) → BeginsAt ts k (spelled_address a) → k + length (spelled_address a) ≤ length ts
-address-within (PageAddress tag index) b = begins-within (spelled_address (PageAddress tag index)) b (omega arith)
-address-within (EntryAddress tag) b = begins-within (spelled_address (EntryAddress tag)) b (omega arith)
-
 pub address-room : (a : Address) → 3 < length (spelled_address a)
 address-room (PageAddress tag index) = omega arith
 address-room (EntryAddress tag) = omega arith
+
+pub address-within : {ts : List Token} {k : ℕ} (a : Address) → BeginsAt ts k (spelled_address a) → k + length (spelled_address a) ≤ length ts
+address-within a b = begins-within (spelled_address a) b (omega (arith, address-room a))
 
 pub address_page : {ts : List Token} {k : ℕ} (a : Address) → BeginsAt ts k (spelled_address a) → terminal_of_address a ≡ Pa
     → (p : Page) × (a ≡ PageAddress p.tag p.index) × IsPageAt ts k p
@@ -101,13 +102,12 @@ value-seen {ts} {k} v b word seen = let (t, at) = second v b in seen t at ∙ va
     second (number_text n) c = let s = stands (spelled_value (number_text n)) c 1 _ refl in (s.token, s.at)
     second (entry_text t a d) c = let s = stands (spelled_entry t a d) c 1 _ refl in (s.token, s.at)
 
-pub value-within : {ts : List Token} {k : ℕ} (v : ValueText) → BeginsAt ts k (spelled_value v) → k + length (spelled_value v) ≤ length ts
-value-within (number_text n) b = begins-within (spelled_value (number_text n)) b (omega arith)
-value-within (entry_text tag accessed dirty) b = begins-within (spelled_value (entry_text tag accessed dirty)) b (omega arith)
-
 pub value-room : (v : ValueText) → 3 < length (spelled_value v)
 value-room (number_text n) = omega arith
 value-room (entry_text tag accessed dirty) = omega arith
+
+pub value-within : {ts : List Token} {k : ℕ} (v : ValueText) → BeginsAt ts k (spelled_value v) → k + length (spelled_value v) ≤ length ts
+value-within v b = begins-within (spelled_value v) b (omega (arith, value-room v))
 
 pub value_number : {ts : List Token} {k : ℕ} (v : ValueText) → BeginsAt ts k (spelled_value v) → terminal_of_value v ≡ Data
     → (n : ℕ) × (v ≡ number_text n) × StandsAt ts (k + 2) (a_number n)
@@ -152,10 +152,6 @@ stated-seen {ts} {k} v b word seen = let (t, at) = front v b in seen t at ∙ st
 pub stated-within : {ts : List Token} {k : ℕ} (v : ValueText) → BeginsAt ts k (spelled_stated v) → k + length (spelled_stated v) ≤ length ts
 stated-within (number_text n) b = begins-within (spelled_stated (number_text n)) b (omega arith)
 stated-within (entry_text tag accessed dirty) b = begins-within (spelled_stated (entry_text tag accessed dirty)) b (omega arith)
-
-pub stated-room : (v : ValueText) → 0 < length (spelled_stated v)
-stated-room (number_text n) = omega arith
-stated-room (entry_text tag accessed dirty) = omega arith
 
 pub stated_number : {ts : List Token} {k : ℕ} (v : ValueText) → BeginsAt ts k (spelled_stated v) → terminal_of_stated v ≡ Number
     → (n : ℕ) × (v ≡ number_text n) × StandsAt ts k (a_number n)

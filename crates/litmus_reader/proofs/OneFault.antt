@@ -1,8 +1,8 @@
 -- A text has one first fault at most.
-use Rattle.std.proofs.Common.{◌≡◌, ◌≢◌, ℕ, ◌+◌, ◌<◌, ◌≤◌, List, length, refl, sym, ap, subst, ◌∙◌, arith}
+use Rattle.std.proofs.Common.{◌≡◌, ◌≢◌, ℕ, List, refl, sym, ap, subst, ◌∙◌}
 use Rattle.pc_common.specs.declared.place.Place.{Place}
 use Rattle.ll_grammar.specs.FirstFault.{IsFaultAt}
-use Rattle.ll_grammar.proofs.Faults.{viable-take}
+use Rattle.ll_grammar.proofs.Faults.{one_place, no_place}
 use Rattle.uspec_lexer.specs.Token.{Token, token_place}
 use Rattle.uspec_lexer.proofs.SpellsLaws.{spells-unique, spells-no_fault, lexical_fault-unique}
 use Rattle.litmus_reader.specs.Syntax.{IsTestOf, IsTest}
@@ -11,21 +11,14 @@ use Rattle.litmus_reader.specs.Answer.{IsTextOf, IsSyntaxFault, IsCaseFault}
 use Rattle.litmus_reader.specs.declared.item.Item.{Item}
 use Rattle.litmus_reader.specs.declared.fault.CaseFault.{CaseFault}
 use Rattle.litmus_reader.specs.declared.fault.CaseFault.TheVariants.{Lexical, Syntax, Content, Memory}
-use Rattle.litmus_reader.proofs.Exclusive.{one_reading, no_syntax_fault}
+use Rattle.litmus_reader.proofs.Exclusive.{one_reading}
 use Rattle.litmus_reader.proofs.OneContentFault.{one_content_fault}
-
-later_syntax : (ts : List Token) (j k : ℕ) → IsFaultAt IsTest ts j → IsFaultAt IsTest ts k → j < k → ⊥
-later_syntax ts j k f g below =
-    let within : k ≤ length ts = g.within in
-    f.through (omega arith) (viable-take IsTest ts (j + 1) k (omega arith) g.before)
 
 one_syntax_fault : (bytes : List ℕ) (p q : Place) → IsSyntaxFault bytes p → IsSyntaxFault bytes q → p ≡ q
 one_syntax_fault bytes p q f g =
     let tokens = spells-unique g.spelled f.spelled in
     let there : IsFaultAt IsTest f.tokens g.k = subst (λ (ts : List Token). IsFaultAt IsTest ts g.k) tokens g.fault in
-    let below = later_syntax f.tokens f.k g.k f.fault there in
-    let above = later_syntax f.tokens g.k f.k there f.fault in
-    let one : f.k ≡ g.k = omega arith in
+    let one = one_place IsTest f.tokens f.k g.k f.fault there in
     let offset : p.offset ≡ q.offset =
     f.at ∙ ap (λ (k : ℕ). token_place bytes f.tokens k) one
     ∙ ap (λ (ts : List Token). token_place bytes ts g.k) (sym tokens) ∙ sym g.at in
@@ -33,7 +26,7 @@ one_syntax_fault bytes p q f g =
 
 test_or_syntax : (bytes : List ℕ) (place : Place) (items : List Item) → IsSyntaxFault bytes place → IsTextOf bytes items → ⊥
 test_or_syntax bytes place items f said =
-    no_syntax_fault f.tokens f.k (items, subst (IsTestOf items) (spells-unique said.spelled f.spelled) said.test) f.fault
+    no_place IsTest f.tokens f.k (items, subst (IsTestOf items) (spells-unique said.spelled f.spelled) said.test) f.fault
 
 -- a text has one first fault at most
 pub one_fault : (bytes : List ℕ) (e f : CaseFault) → e ≢ Memory → f ≢ Memory → IsCaseFault bytes e → IsCaseFault bytes f → e ≡ f

@@ -9,7 +9,7 @@ use Rattle.litmus_reader.specs.Answer.{IsTextOf, CaseOf, IsCaseFault}
 use Rattle.litmus_reader.specs.declared.item.Item.{Item}
 use Rattle.litmus_reader.specs.declared.fault.CaseFault.{CaseFault}
 use Rattle.litmus_reader.specs.declared.fault.CaseFault.TheVariants.{Lexical, Syntax, Content, Memory}
-use Rattle.litmus_reader.proofs.SyntaxTotality.{test_or_fault}
+use Rattle.litmus_reader.proofs.SyntaxFaults.{test_or_fault}
 use Rattle.litmus_reader.proofs.ContentTotality.{clean_or_fault}
 
 abbrev IsSettled : List ℕ → Type 0

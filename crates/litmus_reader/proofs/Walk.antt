@@ -4,7 +4,7 @@ use Rattle.std.proofs.lemmas.List.{append-nil, length-append, length-drop, drop_
 use Rattle.pc_common.specs.declared.place.Place.{Place}
 use Rattle.pc_common.specs.declared.fault.FaultKind.{FaultKind}
 use Rattle.uspec_lexer.specs.Token.{Token}
-use Rattle.litmus_reader.specs.Expected.{Expected, Spell}
+use Rattle.uspec_lexer.specs.Expected.{Expected, Spell}
 use Rattle.litmus_reader.specs.Syntax.{spelled_item, spelled_items, IsTestOf, IsTest}
 use Rattle.litmus_reader.specs.Content.{Never, IsFaultOf, IsClean, IsContentFault}
 use Rattle.litmus_reader.specs.Answer.{IsContentFaultIn}
@@ -15,7 +15,7 @@ use Rattle.litmus_reader.specs.declared.fault.CaseFault.TheVariants.{Lexical, Sy
 use Rattle.litmus_reader.specs.declared.item.Item.{Item}
 use Rattle.litmus_reader.specs.declared.item.Item.TheVariants.{Microop as microop, Relationship as relationship, Initial as initial, Final as final, Permitted as permitted, Forbidden as forbidden}
 use Rattle.litmus_reader.specs.declared.builder.CaseBuilder.{CaseBuilder}
-use Rattle.litmus_reader.proofs.Spelling.{spell-length}
+use Rattle.uspec_lexer.proofs.Spelling.{spell-length}
 use Rattle.litmus_reader.proofs.Places.{spell-behind, begins-front}
 use Rattle.litmus_reader.proofs.Lines.{item-within}
 use Rattle.litmus_reader.proofs.CleanFacts.{clean-none, clean-push}

@@ -5,7 +5,8 @@ use Rattle.pc_common.specs.declared.fault.FaultKind.{FaultKind}
 use Rattle.uspec_lexer.specs.Token.{Token, place_or, token_place}
 use Rattle.uspec_lexer.specs.Spells.{Spells}
 use Rattle.uspec_lexer.proofs.Order.{spells-get, token-within}
-use Rattle.litmus_reader.specs.Expected.{Expected, a_word, word_at, number_at, Is, Spell}
+use Rattle.uspec_lexer.specs.Expected.{Expected, a_word, Is, Spell}
+use Rattle.litmus_reader.specs.Expected.{word_at, number_at}
 use Rattle.litmus_reader.specs.Syntax.{spelled_page, spelled_address, spelled_entry, spelled_value, spelled_stated, spelled_touch, action_word, spelled_action, spelled_access, spelled_head, spelled_statement, spelled_item, spelled_items, open_, close_, dot, IsTestOf}
 use Rattle.litmus_reader.specs.Content.{First, OverMark, MarkFault, ActionFault, IsFaultOf}
 use Rattle.litmus_reader.specs.Answer.{IsCaseFault}

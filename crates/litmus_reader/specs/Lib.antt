@@ -6,7 +6,6 @@ pub mod Answer
 pub mod Lists
 pub mod Terminals
 pub mod Phrases
-pub mod Answers
 pub mod Reading
 pub mod Rows
 pub mod Values

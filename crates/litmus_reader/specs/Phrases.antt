@@ -1,11 +1,9 @@
 -- The grammar of tests as a table: what stands after a token where a phrase begins with it.
-use Rattle.std.specs.Prelude.{◌≡◌, ℕ, Bool, true, false, List, [], ◌∷◌, Option, Some, None, refl, slice_get, if◌then◌else◌}
+use Rattle.std.specs.Prelude.{◌≡◌, ℕ, Bool, true, false, List, [], ◌∷◌, Option, Some, None, refl, if◌then◌else◌}
 use Rattle.ll_grammar.specs.Rules.{Rules}
-use Rattle.ll_grammar.specs.Steps.{IsStep}
 use Rattle.ll_grammar.specs.Predictable.{IsPredictable, HasTexts}
-use Rattle.ll_grammar.specs.LawsOfTables.{predictable_by, texts_by, is_predictable_part, is_ranked_part}
+use Rattle.ll_grammar.specs.LawsOfTables.{AreListed, predictable_by, texts_by, is_predictable_part, is_ranked_part}
 use Rattle.ll_grammar.specs.declared.grammar.Symbol.{Symbol}
-use Rattle.ll_grammar.specs.declared.grammar.Step.{Step}
 use Rattle.ll_grammar.specs.declared.grammar.Symbol.TheVariants.{Terminal as a_terminal, Nonterminal as a_nonterminal}
 use Rattle.litmus_reader.specs.Terminals.{is_name}
 use Rattle.litmus_reader.specs.declared.terminal.Terminal.{Terminal}
@@ -58,10 +56,6 @@ is_nullable _ = false
 abbrev pub deep : Phrase → Terminal → Bool
 deep n c = false
 
--- what the phrase makes of the stack at a token of this class
-abbrev pub IsPush : Phrase → Terminal → List (Symbol Terminal Phrase) → List (Symbol Terminal Phrase) → Step → Type 0
-IsPush n c old new step = IsStep (production n c) (deep n c) old step new
-
 abbrev pub rules : Rules Terminal Phrase
 rules = record { production = production; is_nullable = is_nullable; deep = deep }
 
@@ -87,82 +81,32 @@ terminals =
     Litmus ∷ Microop ∷ Relationship ∷ Init ∷ Final ∷ Permitted ∷ Forbidden ∷ Read ∷ Write ∷ Fence ∷ Va ∷ Pa ∷ Data
     ∷ Name ∷ Number ∷ Text ∷ Open ∷ Close ∷ Dot ∷ Arrow ∷ Other ∷ Litmus2 ∷ Entry ∷ Maps ∷ []
 
-abbrev pub place : Terminal → ℕ
-place Litmus = 0
-place Microop = 1
-place Relationship = 2
-place Init = 3
-place Final = 4
-place Permitted = 5
-place Forbidden = 6
-place Read = 7
-place Write = 8
-place Fence = 9
-place Va = 10
-place Pa = 11
-place Data = 12
-place Name = 13
-place Number = 14
-place Text = 15
-place Open = 16
-place Close = 17
-place Dot = 18
-place Arrow = 19
-place Other = 20
-place Litmus2 = 21
-place Entry = 22
-place Maps = 23
-
-pub listed : (c : Terminal) → slice_get terminals (place c) ≡ Some c
-listed Litmus = refl
-listed Microop = refl
-listed Relationship = refl
-listed Init = refl
-listed Final = refl
-listed Permitted = refl
-listed Forbidden = refl
-listed Read = refl
-listed Write = refl
-listed Fence = refl
-listed Va = refl
-listed Pa = refl
-listed Data = refl
-listed Name = refl
-listed Number = refl
-listed Text = refl
-listed Open = refl
-listed Close = refl
-listed Dot = refl
-listed Arrow = refl
-listed Other = refl
-listed Litmus2 = refl
-listed Entry = refl
-listed Maps = refl
-
-predictable_part : (n : Phrase) → is_predictable_part rules follow terminals n ≡ true
-predictable_part Test = refl
-predictable_part (Items One) = refl
-predictable_part (Items Two) = refl
-predictable_part (Access One) = refl
-predictable_part (Access Two) = refl
-predictable_part Types = refl
-predictable_part AnyName = refl
-predictable_part VirtualPage = refl
-predictable_part (Address One) = refl
-predictable_part (Address Two) = refl
-predictable_part (AddressInside One) = refl
-predictable_part (AddressInside Two) = refl
-predictable_part (ReadValue One) = refl
-predictable_part (ReadValue Two) = refl
-predictable_part (WriteValue One) = refl
-predictable_part (WriteValue Two) = refl
-predictable_part (ValueInside One) = refl
-predictable_part (ValueInside Two) = refl
-predictable_part (StatedValue One) = refl
-predictable_part (StatedValue Two) = refl
-
-pub rules_predictable : IsPredictable rules follow
-rules_predictable = predictable_by rules follow terminals place listed predictable_part
+-- the place of a terminal among all
+abbrev pub listed : AreListed terminals
+listed Litmus = (0, refl)
+listed Microop = (1, refl)
+listed Relationship = (2, refl)
+listed Init = (3, refl)
+listed Final = (4, refl)
+listed Permitted = (5, refl)
+listed Forbidden = (6, refl)
+listed Read = (7, refl)
+listed Write = (8, refl)
+listed Fence = (9, refl)
+listed Va = (10, refl)
+listed Pa = (11, refl)
+listed Data = (12, refl)
+listed Name = (13, refl)
+listed Number = (14, refl)
+listed Text = (15, refl)
+listed Open = (16, refl)
+listed Close = (17, refl)
+listed Dot = (18, refl)
+listed Arrow = (19, refl)
+listed Other = (20, refl)
+listed Litmus2 = (21, refl)
+listed Entry = (22, refl)
+listed Maps = (23, refl)
 
 -- a terminal that leads to shorter phrases
 abbrev first : Phrase → Terminal
@@ -187,27 +131,31 @@ rank (ReadValue f) = 1
 rank (WriteValue f) = 1
 rank _ = 0
 
-ranked_part : (n : Phrase) → is_ranked_part rules first rank n ≡ true
-ranked_part Test = refl
-ranked_part (Items One) = refl
-ranked_part (Items Two) = refl
-ranked_part (Access One) = refl
-ranked_part (Access Two) = refl
-ranked_part Types = refl
-ranked_part AnyName = refl
-ranked_part VirtualPage = refl
-ranked_part (Address One) = refl
-ranked_part (Address Two) = refl
-ranked_part (AddressInside One) = refl
-ranked_part (AddressInside Two) = refl
-ranked_part (ReadValue One) = refl
-ranked_part (ReadValue Two) = refl
-ranked_part (WriteValue One) = refl
-ranked_part (WriteValue Two) = refl
-ranked_part (ValueInside One) = refl
-ranked_part (ValueInside Two) = refl
-ranked_part (StatedValue One) = refl
-ranked_part (StatedValue Two) = refl
+-- the two tests of each phrase
+tested : (n : Phrase) → (is_predictable_part rules follow terminals n ≡ true) × (is_ranked_part rules first rank n ≡ true)
+tested Test = (refl, refl)
+tested (Items One) = (refl, refl)
+tested (Items Two) = (refl, refl)
+tested (Access One) = (refl, refl)
+tested (Access Two) = (refl, refl)
+tested Types = (refl, refl)
+tested AnyName = (refl, refl)
+tested VirtualPage = (refl, refl)
+tested (Address One) = (refl, refl)
+tested (Address Two) = (refl, refl)
+tested (AddressInside One) = (refl, refl)
+tested (AddressInside Two) = (refl, refl)
+tested (ReadValue One) = (refl, refl)
+tested (ReadValue Two) = (refl, refl)
+tested (WriteValue One) = (refl, refl)
+tested (WriteValue Two) = (refl, refl)
+tested (ValueInside One) = (refl, refl)
+tested (ValueInside Two) = (refl, refl)
+tested (StatedValue One) = (refl, refl)
+tested (StatedValue Two) = (refl, refl)
+
+pub rules_predictable : IsPredictable rules follow
+rules_predictable = predictable_by rules follow terminals (λ c. (listed c).0) (λ c. (listed c).1) (λ n. (tested n).0)
 
 pub rules_texts : HasTexts rules
-rules_texts = texts_by rules first rank ranked_part
+rules_texts = texts_by rules first rank (λ n. (tested n).1)

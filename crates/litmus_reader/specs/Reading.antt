@@ -2,7 +2,8 @@
 use Rattle.std.specs.Prelude.{◌≡◌, ℕ, ◌+◌, List, [], ◌∷◌, ◌++◌, Some, length, map, drop, slice_get}
 use Rattle.uspec_lexer.specs.Token.{Token, name}
 use Rattle.pc_case.specs.declared.address.Page.{Page}
-use Rattle.litmus_reader.specs.Expected.{Expected, a_word, a_number, number_at, a_symbol, Is, Spell}
+use Rattle.uspec_lexer.specs.Expected.{Expected, a_word, a_number, a_symbol, Is, Spell}
+use Rattle.litmus_reader.specs.Expected.{number_at}
 use Rattle.litmus_reader.specs.Syntax.{spelled_item, spelled_access, spelled_action, spelled_entry, spelled_statement, close_}
 use Rattle.litmus_reader.specs.declared.terminal.Terminal.{Terminal}
 use Rattle.litmus_reader.specs.declared.terminal.Terminal.TheVariants.{Read as ReadWord, Write as WriteWord, Fence as FenceWord}

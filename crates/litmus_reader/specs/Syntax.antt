@@ -6,7 +6,8 @@ use Rattle.pc_case.specs.declared.address.Page.{Page}
 use Rattle.pc_case.specs.declared.address.Address.{Address}
 use Rattle.pc_case.specs.declared.address.Address.TheVariants.{Page as PageAddress, Entry as EntryAddress}
 use Rattle.uspec_lexer.specs.Token.{Token}
-use Rattle.litmus_reader.specs.Expected.{Expected, a_word, word_at, a_number, number_at, a_text, a_symbol, Spell}
+use Rattle.uspec_lexer.specs.Expected.{Expected, a_word, a_number, a_text, a_symbol, Spell}
+use Rattle.litmus_reader.specs.Expected.{word_at, number_at}
 use Rattle.litmus_reader.specs.declared.format.Format.{Format}
 use Rattle.litmus_reader.specs.declared.format.Format.TheVariants.{One, Two}
 use Rattle.litmus_reader.specs.declared.item.Numeral.{Numeral}

@@ -1,7 +1,7 @@
 -- The terminals of a test's grammar.
-use Rattle.std.specs.Prelude.{ℕ, Bool, true, false, List, [], ◌∷◌, codes, if◌then◌else◌}
-use Rattle.std.specs.Str.{bytes_eq}
-use Rattle.uspec_lexer.specs.Token.{Token, Kind, name, number, text, symbol}
+use Rattle.std.specs.Prelude.{ℕ, ◌==◌, Bool, List, [], ◌∷◌, codes}
+use Rattle.uspec_lexer.specs.Token.{Token}
+use Rattle.uspec_lexer.specs.Vocabulary.{Vocabulary, find_terminal, token_terminal}
 use Rattle.litmus_reader.specs.declared.terminal.Terminal.{Terminal}
 use Rattle.litmus_reader.specs.declared.terminal.Terminal.TheVariants.{Litmus, Litmus2, Microop, Relationship, Init, Final, Permitted, Forbidden, Read, Write, Fence, Va, Pa, Entry, Data, Maps, Name, Number, Text, Open, Close, Dot, Arrow, Other}
 
@@ -37,33 +37,35 @@ word_terminals =
 abbrev pub symbols : List Terminal
 symbols = Open ∷ Close ∷ Dot ∷ Arrow ∷ []
 
--- the terminal among these that is spelled so, or else another
-abbrev pub find_terminal : List ℕ → Terminal → List Terminal → Terminal
-find_terminal w other [] = other
-find_terminal w other (c ∷ cs) = if bytes_eq w (spelling c) then c else find_terminal w other cs
-
 unfoldable pub word_terminal : List ℕ → Terminal
-word_terminal w = find_terminal w Name word_terminals
+word_terminal w = find_terminal spelling w Name word_terminals
 
 unfoldable pub symbol_terminal : List ℕ → Terminal
-symbol_terminal w = find_terminal w Other symbols
+symbol_terminal w = find_terminal spelling w Other symbols
 
-abbrev pub kind_terminal : Kind → List ℕ → Terminal
-kind_terminal name piece = word_terminal piece
-kind_terminal (number n) piece = Number
-kind_terminal text piece = Text
-kind_terminal symbol piece = symbol_terminal piece
+-- which terminal a token is
+abbrev pub vocabulary : Vocabulary Terminal
+vocabulary = record {
+  word_terminal = word_terminal;
+  number_terminal = Number;
+  text_terminal = Text;
+  symbol_terminal = symbol_terminal;
+}
 
 abbrev pub terminal_of : Token → Terminal
-terminal_of t = kind_terminal t.kind t.piece
+terminal_of t = token_terminal vocabulary t
+
+-- the kind of a terminal's tokens: a name 0, a number 1, a text 2, a symbol 3
+abbrev pub sort_of : Terminal → ℕ
+sort_of Number = 1
+sort_of Text = 2
+sort_of Open = 3
+sort_of Close = 3
+sort_of Dot = 3
+sort_of Arrow = 3
+sort_of Other = 3
+sort_of _ = 0
 
 -- whether the terminal is a name's
 abbrev pub is_name : Terminal → Bool
-is_name Number = false
-is_name Text = false
-is_name Open = false
-is_name Close = false
-is_name Dot = false
-is_name Arrow = false
-is_name Other = false
-is_name _ = true
+is_name c = sort_of c == 0

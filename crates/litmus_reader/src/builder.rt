@@ -82,7 +82,7 @@ enum When {
 }
 
 /// What is wrong where such a value is stated again.
-fn stated_again(when: When, first: Value, again: Value) -> FaultKind
+fn again_kind(when: When, first: Value, again: Value) -> FaultKind
     ensures { result ≡ word_of when first again }
 {
     match when {
@@ -98,7 +98,7 @@ fn again_fault(when: When, values: &Values, line: ValueLine) -> Option<ContentFa
     match values.get(line.pa) {
         None => None,
         Some(first) => Some(ContentFault {
-            kind: stated_again(when, first, line.value.value()),
+            kind: again_kind(when, first, line.value.value()),
             place: line.at,
         }),
     }

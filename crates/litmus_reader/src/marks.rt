@@ -9,7 +9,7 @@ use pc_common::FaultKind;
 /// The greatest value of a mark.
 const MAX_MARK: u64 = 1;
 
-fn over_mark(mark: Numeral) -> Option<ContentFault>
+fn large_mark_fault(mark: Numeral) -> Option<ContentFault>
     ensures { Answers (OverMark mark) result }
 {
     if mark.value <= MAX_MARK {
@@ -24,10 +24,10 @@ fn over_mark(mark: Numeral) -> Option<ContentFault>
 fn marks_fault(accessed: Numeral, dirty: Numeral) -> Option<ContentFault>
     ensures { Answers (First (OverMark accessed) (OverMark dirty)) result }
 {
-    if let Some(fault) = over_mark(accessed) {
+    if let Some(fault) = large_mark_fault(accessed) {
         return Some(fault);
     }
-    over_mark(dirty)
+    large_mark_fault(dirty)
 }
 
 /// The fault of a value's marks: of the accessed one before the dirty one.

@@ -1,6 +1,7 @@
 ghost use Rattle.std.specs.Prelude.{◌≡◌, IfOk};
 ghost use Rattle.litmus_reader.specs.Terminals.{is_name as is_name_spec};
-ghost use Rattle.litmus_reader.specs.Phrases.{rules, follow, rules_predictable, rules_texts, IsPush};
+ghost use Rattle.ll_grammar.specs.Steps.{IsPush};
+ghost use Rattle.litmus_reader.specs.Phrases.{rules, follow, rules_predictable, rules_texts};
 
 use self::Phrase::*;
 use super::format::Format;
@@ -81,7 +82,7 @@ impl Grammar<Terminal> for Phrase {
 }
 
 fn push_test(class: Terminal, stack: &mut Vec<Waiting>) -> Result<Step, Memory>
-    ensures { IfOk result (IsPush Phrase.Test class stack.old.items stack.new.items) }
+    ensures { IfOk result (IsPush rules Phrase.Test class stack.old.items stack.new.items) }
 {
     match class {
         Litmus => push!(stack; Text Dot [Items(Format::One)]),
@@ -91,7 +92,7 @@ fn push_test(class: Terminal, stack: &mut Vec<Waiting>) -> Result<Step, Memory>
 }
 
 fn push_items(format: Format, class: Terminal, stack: &mut Vec<Waiting>) -> Result<Step, Memory>
-    ensures { IfOk result (IsPush (Phrase.Items format) class stack.old.items stack.new.items) }
+    ensures { IfOk result (IsPush rules (Phrase.Items format) class stack.old.items stack.new.items) }
 {
     match class {
         Microop =>
@@ -105,7 +106,7 @@ fn push_items(format: Format, class: Terminal, stack: &mut Vec<Waiting>) -> Resu
 }
 
 fn push_access(format: Format, class: Terminal, stack: &mut Vec<Waiting>) -> Result<Step, Memory>
-    ensures { IfOk result (IsPush (Phrase.Access format) class stack.old.items stack.new.items) }
+    ensures { IfOk result (IsPush rules (Phrase.Access format) class stack.old.items stack.new.items) }
 {
     match class {
         Read => push!(stack; [Types] [VirtualPage] [Address(format)] [ReadValue(format)]),
@@ -116,7 +117,7 @@ fn push_access(format: Format, class: Terminal, stack: &mut Vec<Waiting>) -> Res
 }
 
 fn push_types(class: Terminal, stack: &mut Vec<Waiting>) -> Result<Step, Memory>
-    ensures { IfOk result (IsPush Phrase.Types class stack.old.items stack.new.items) }
+    ensures { IfOk result (IsPush rules Phrase.Types class stack.old.items stack.new.items) }
 {
     match class {
         name if is_name(name) => push!(stack; [Types]),
@@ -125,7 +126,7 @@ fn push_types(class: Terminal, stack: &mut Vec<Waiting>) -> Result<Step, Memory>
 }
 
 fn push_any_name(class: Terminal, stack: &mut Vec<Waiting>) -> Result<Step, Memory>
-    ensures { IfOk result (IsPush Phrase.AnyName class stack.old.items stack.new.items) }
+    ensures { IfOk result (IsPush rules Phrase.AnyName class stack.old.items stack.new.items) }
 {
     match class {
         name if is_name(name) => push!(stack;),
@@ -134,7 +135,7 @@ fn push_any_name(class: Terminal, stack: &mut Vec<Waiting>) -> Result<Step, Memo
 }
 
 fn push_virtual_page(class: Terminal, stack: &mut Vec<Waiting>) -> Result<Step, Memory>
-    ensures { IfOk result (IsPush Phrase.VirtualPage class stack.old.items stack.new.items) }
+    ensures { IfOk result (IsPush rules Phrase.VirtualPage class stack.old.items stack.new.items) }
 {
     match class {
         Open => push!(stack; Va Number Number Close),
@@ -143,7 +144,7 @@ fn push_virtual_page(class: Terminal, stack: &mut Vec<Waiting>) -> Result<Step, 
 }
 
 fn push_address(format: Format, class: Terminal, stack: &mut Vec<Waiting>) -> Result<Step, Memory>
-    ensures { IfOk result (IsPush (Phrase.Address format) class stack.old.items stack.new.items) }
+    ensures { IfOk result (IsPush rules (Phrase.Address format) class stack.old.items stack.new.items) }
 {
     match class {
         Open => push!(stack; [AddressInside(format)]),
@@ -156,7 +157,7 @@ fn push_address_inside(
     class: Terminal,
     stack: &mut Vec<Waiting>,
 ) -> Result<Step, Memory>
-    ensures { IfOk result (IsPush (Phrase.AddressInside format) class stack.old.items stack.new.items) }
+    ensures { IfOk result (IsPush rules (Phrase.AddressInside format) class stack.old.items stack.new.items) }
 {
     match (format, class) {
         (_, Pa) => push!(stack; Number Number Close),
@@ -170,7 +171,7 @@ fn push_read_value(
     class: Terminal,
     stack: &mut Vec<Waiting>,
 ) -> Result<Step, Memory>
-    ensures { IfOk result (IsPush (Phrase.ReadValue format) class stack.old.items stack.new.items) }
+    ensures { IfOk result (IsPush rules (Phrase.ReadValue format) class stack.old.items stack.new.items) }
 {
     match class {
         Open => push!(stack; [ValueInside(format)]),
@@ -183,7 +184,7 @@ fn push_write_value(
     class: Terminal,
     stack: &mut Vec<Waiting>,
 ) -> Result<Step, Memory>
-    ensures { IfOk result (IsPush (Phrase.WriteValue format) class stack.old.items stack.new.items) }
+    ensures { IfOk result (IsPush rules (Phrase.WriteValue format) class stack.old.items stack.new.items) }
 {
     match class {
         Open => push!(stack; [ValueInside(format)]),
@@ -196,7 +197,7 @@ fn push_value_inside(
     class: Terminal,
     stack: &mut Vec<Waiting>,
 ) -> Result<Step, Memory>
-    ensures { IfOk result (IsPush (Phrase.ValueInside format) class stack.old.items stack.new.items) }
+    ensures { IfOk result (IsPush rules (Phrase.ValueInside format) class stack.old.items stack.new.items) }
 {
     match (format, class) {
         (_, Data) => push!(stack; Number Close),
@@ -210,7 +211,7 @@ fn push_stated_value(
     class: Terminal,
     stack: &mut Vec<Waiting>,
 ) -> Result<Step, Memory>
-    ensures { IfOk result (IsPush (Phrase.StatedValue format) class stack.old.items stack.new.items) }
+    ensures { IfOk result (IsPush rules (Phrase.StatedValue format) class stack.old.items stack.new.items) }
 {
     match (format, class) {
         (_, Number) => push!(stack;),

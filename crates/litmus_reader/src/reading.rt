@@ -2,7 +2,8 @@ ghost use Rattle.std.specs.Prelude.{◌≡◌, ℕ, ◌+◌, ◌<◌, ◌≤◌,
 ghost use Rattle.uspec_lexer.specs.Token.{Token as TokenText};
 ghost use Rattle.litmus_reader.specs.Terminals.{terminal_of};
 ghost use Rattle.pc_case.specs.declared.address.Page.{Page as PagePair};
-ghost use Rattle.litmus_reader.specs.Expected.{a_word, a_number, number_at as numeral_expected};
+ghost use Rattle.uspec_lexer.specs.Expected.{a_word, a_number};
+ghost use Rattle.litmus_reader.specs.Expected.{number_at as numeral_expected};
 ghost use Rattle.litmus_reader.specs.Syntax.{spelled_address, spelled_value, spelled_stated, spelled_touch, spelled_head, spelled_statement, spelled_item};
 ghost use Rattle.litmus_reader.specs.Reading.{StandsAt, IsNumberAt, IsPageAt, IsEndAt, IsNameAt, BeginsAt, NamesAt, SomeAt, IsReadAt, SomeEntryAt, IsEntryAt};
 ghost use Rattle.litmus_reader.specs.Reading.{SomeActionAt, IsActionAt, SomeAccessAt, IsAccessAt, IsValueLineAt, spelled_microop, spelled_relationship};

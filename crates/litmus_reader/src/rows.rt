@@ -68,7 +68,7 @@ fn split_instruction(before: &[Head], head: Head) -> Option<ContentFault>
 {
     // There are at most 64 micro-ops, so each is compared with all before it.
     for earlier in before {
-        if let Some(fault) = split_from(head, *earlier) {
+        if let Some(fault) = split_fault(head, *earlier) {
             return Some(fault);
         }
     }
@@ -76,7 +76,7 @@ fn split_instruction(before: &[Head], head: Head) -> Option<ContentFault>
 }
 
 /// The fault where the two are of one instruction and on other cores or threads.
-fn split_from(head: Head, earlier: Head) -> Option<ContentFault>
+fn split_fault(head: Head, earlier: Head) -> Option<ContentFault>
     ensures { Answers (SplitFrom head earlier) result }
 {
     if earlier.g.value != head.g.value {
@@ -107,7 +107,7 @@ fn duplicate_op(before: &[Head], head: Head) -> Option<ContentFault>
     ensures { Answers (SomeEarlier before.now (DuplicateOf head)) result }
 {
     for earlier in before {
-        if let Some(fault) = duplicate_of(head, *earlier) {
+        if let Some(fault) = duplicate_fault(head, *earlier) {
             return Some(fault);
         }
     }
@@ -115,7 +115,7 @@ fn duplicate_op(before: &[Head], head: Head) -> Option<ContentFault>
 }
 
 /// The fault where the two have one name.
-fn duplicate_of(head: Head, earlier: Head) -> Option<ContentFault>
+fn duplicate_fault(head: Head, earlier: Head) -> Option<ContentFault>
     ensures { Answers (DuplicateOf head earlier) result }
 {
     if earlier.g.value != head.g.value || earlier.n != head.n {
@@ -142,7 +142,7 @@ pub(crate) fn place_of(before: &[Head], end: End) -> usize
     before.len()
 }
 
-fn unknown(before: &[Head], end: End) -> Option<ContentFault>
+fn unknown_fault(before: &[Head], end: End) -> Option<ContentFault>
     ensures { Answers (Unknown before.now end) result }
 {
     if place_of(before, end) < before.len() {
@@ -161,8 +161,8 @@ fn unknown(before: &[Head], end: End) -> Option<ContentFault>
 pub(crate) fn relationship_fault(before: &[Head], source: End, target: End) -> Option<ContentFault>
     ensures { Answers (First (Unknown before.now source) (Unknown before.now target)) result }
 {
-    if let Some(fault) = unknown(before, source) {
+    if let Some(fault) = unknown_fault(before, source) {
         return Some(fault);
     }
-    unknown(before, target)
+    unknown_fault(before, target)
 }

@@ -1,8 +1,9 @@
-ghost use Rattle.std.specs.Prelude.{◌≡◌, IfOk};
-ghost use Rattle.litmus_reader.specs.Answers.{IsSyntaxAnswer, place_in as place_in_spec};
+ghost use Rattle.std.specs.Prelude.{IfOk};
+ghost use Rattle.ll_grammar.specs.FirstFault.{IsSyntaxAnswer};
+ghost use Rattle.litmus_reader.specs.Syntax.{IsTest};
 
 use super::phrase::Phrase;
-use ll_grammar::{Fault, first_fault};
+use ll_grammar::{fault_place, first_fault};
 use pc_common::Memory;
 use std::alloc::Global;
 use uspec_lexer::Tokens;
@@ -10,17 +11,8 @@ use uspec_lexer::Tokens;
 /// The place among the tokens where no test goes on, or `None` for a test. The end counts as one more
 /// token.
 pub(crate) fn syntax_fault(alloc: Global, tokens: &Tokens<'_>) -> Result<Option<usize>, Memory>
-    ensures { IfOk result (IsSyntaxAnswer tokens.now) }
+    ensures { IfOk result (IsSyntaxAnswer IsTest tokens.now) }
 {
     let terminals = tokens.terminals(alloc)?;
-    Ok(place_in(first_fault(alloc, Phrase::Test, &terminals)?))
-}
-
-/// The place of a fault. The grammar has no bound on depth, so it is one of syntax.
-fn place_in(fault: Option<Fault>) -> Option<usize>
-    ensures { result ≡ place_in_spec fault }
-{
-    match fault? {
-        Fault::Syntax(k) | Fault::Depth(k) => Some(k),
-    }
+    Ok(fault_place(first_fault(alloc, Phrase::Test, &terminals)?))
 }

@@ -4,16 +4,16 @@ use Rattle.std.proofs.lemmas.List.{append-nil}
 use Rattle.ll_grammar.specs.Rules.{Rules, Yields, Derives}
 use Rattle.ll_grammar.specs.Rules.Yields.{done, class as r_class, ends as r_ends, begins as r_begins}
 use Rattle.ll_grammar.specs.declared.grammar.Symbol.{Symbol}
-use Rattle.ll_grammar.specs.declared.grammar.Symbol.TheVariants.{Terminal as terminal, Nonterminal as nonterminal}
+use Rattle.ll_grammar.specs.declared.grammar.Symbol.TheVariants.{Terminal as a_terminal, Nonterminal as a_nonterminal}
 use Rattle.ll_grammar.specs.LawsOfTables.{yields-append}
 
 -- the tokens, with their marks, are those of the symbols in a row, where `M` says what are those of a part
 pub data Each {C N : Type 0} (M : N → List C → List Bool → Type 0) : List (Symbol C N) → List C → List Bool → Type 0 where
   none : Each M [] [] []
   class : {c : C} {rest : List (Symbol C N)} {cs : List C} {marks : List Bool}
-      → Each M rest cs marks → Each M (terminal c ∷ rest) (c ∷ cs) (false ∷ marks)
+      → Each M rest cs marks → Each M (a_terminal c ∷ rest) (c ∷ cs) (false ∷ marks)
   part : {n : N} {rest : List (Symbol C N)} {cs ds : List C} {marks others : List Bool}
-      → M n cs marks → Each M rest ds others → Each M (nonterminal n ∷ rest) (cs ++ ds) (marks ++ others)
+      → M n cs marks → Each M rest ds others → Each M (a_nonterminal n ∷ rest) (cs ++ ds) (marks ++ others)
 
 -- the meaning is closed under the rules
 pub record IsClosedUnder {C N : Type 0} (g : Rules C N) (M : N → List C → List Bool → Type 0) : Type 0 where
@@ -45,7 +45,7 @@ parted M [] back {cs} {marks} each = record {
   tokens = refl;
   all_marks = refl;
 }
-parted {C} M (terminal c ∷ front) back (class each) =
+parted {C} M (a_terminal c ∷ front) back (class each) =
     let p = parted M front back each in record {
       before = c ∷ p.before;
       before_marks = false ∷ p.before_marks;
@@ -56,7 +56,7 @@ parted {C} M (terminal c ∷ front) back (class each) =
       tokens = ap (λ (x : List C). c ∷ x) p.tokens;
       all_marks = ap (λ (x : List Bool). false ∷ x) p.all_marks;
     }
-parted {C} M (nonterminal n ∷ front) back (part {cs = first} {marks = first_marks} m each) =
+parted {C} M (a_nonterminal n ∷ front) back (part {cs = first} {marks = first_marks} m each) =
     let p = parted M front back each in record {
       before = first ++ p.before;
       before_marks = first_marks ++ p.before_marks;
@@ -79,9 +79,9 @@ each_of_yields {C} {N} g M closed (r_begins {n = n} {c = c} {rest = rest} {cs = 
     let Closed : Option (List (Symbol C N)) → Type 0 = λ found. MatchOption found (Unit {0})
     (λ body. (cs : List C) (marks : List Bool) → Each M body cs marks → M n (c ∷ cs) (g.deep n c ∷ marks)) in
     let front = (subst Closed e (closed.rule n c)) p.before p.before_marks p.front_each in
-    let all : Each M (nonterminal n ∷ rest) (c ∷ (p.before ++ p.after)) (g.deep n c ∷ (p.before_marks ++ p.after_marks)) = part front p.back_each in
-    subst (λ (x : List C). Each M (nonterminal n ∷ rest) (c ∷ x) (g.deep n c ∷ marks)) (sym p.tokens)
-    (subst (λ (x : List Bool). Each M (nonterminal n ∷ rest) (c ∷ (p.before ++ p.after)) (g.deep n c ∷ x)) (sym p.all_marks) all)
+    let all : Each M (a_nonterminal n ∷ rest) (c ∷ (p.before ++ p.after)) (g.deep n c ∷ (p.before_marks ++ p.after_marks)) = part front p.back_each in
+    subst (λ (x : List C). Each M (a_nonterminal n ∷ rest) (c ∷ x) (g.deep n c ∷ marks)) (sym p.tokens)
+    (subst (λ (x : List Bool). Each M (a_nonterminal n ∷ rest) (c ∷ (p.before ++ p.after)) (g.deep n c ∷ x)) (sym p.all_marks) all)
 
 -- so what a part reads has its meaning
 pub meaning : {C N : Type 0} (g : Rules C N) (M : N → List C → List Bool → Type 0) → IsClosedUnder g M
@@ -94,7 +94,7 @@ meaning {C} {N} g M closed n cs marks reads = alone (each_of_yields g M closed r
         subst (λ (x : List C). M n x (front_marks ++ [])) (sym (append-nil front))
         (subst (λ (x : List Bool). M n front x) (sym (append-nil front_marks)) m)
 
-    alone : {ds : List C} {others : List Bool} → Each M (nonterminal n ∷ []) ds others → M n ds others
+    alone : {ds : List C} {others : List Bool} → Each M (a_nonterminal n ∷ []) ds others → M n ds others
     alone (part m rest) = ended m rest
 
 -- and symbols in a row read what each reads

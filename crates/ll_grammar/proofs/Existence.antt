@@ -5,22 +5,35 @@ use Rattle.ll_grammar.specs.Rules.{Rules, Derives, is_nullable_symbol}
 use Rattle.ll_grammar.specs.FirstFault.{AreDecided, HasAnswer}
 use Rattle.ll_grammar.specs.Predictable.{IsPredictable, IsReady, HasTexts}
 use Rattle.ll_grammar.specs.Steps.{IsRead}
+use Rattle.ll_grammar.specs.LawsOfTables.{AreListed, all_at}
 use Rattle.ll_grammar.specs.declared.grammar.Symbol.{Symbol}
-use Rattle.ll_grammar.specs.declared.grammar.Symbol.TheVariants.{Terminal as terminal, Nonterminal as nonterminal}
+use Rattle.ll_grammar.specs.declared.grammar.Symbol.TheVariants.{Terminal as a_terminal, Nonterminal as a_nonterminal}
 use Rattle.ll_grammar.specs.declared.grammar.Step.{Step}
 use Rattle.ll_grammar.specs.declared.grammar.Step.TheVariants.{Absent, Pushed, Deep}
 use Rattle.ll_grammar.specs.declared.fault.Fault.TheVariants.{Syntax, Depth}
 use Rattle.ll_grammar.proofs.Symbols.{read-nothing, read-class, read-other_class, read-no_part, read-end, read-begins, read-deep}
 use Rattle.ll_grammar.proofs.Progress.{IsReading, begun, passed, refused, deepened, ended, unended}
 
--- two classes are one or are not, by their places in a list of all
-pub decided_by : {C : Type 0} (classes : List C) (place : C → ℕ) → ((c : C) → slice_get classes (place c) ≡ Some c) → AreDecided C
-decided_by {C} classes place listed a b = by (nat_eq (place a) (place b)) refl
+-- classes at one place in a list of all are one
+same_place : {C : Type 0} (classes : List C) (listed : AreListed classes) (a b : C) → nat_eq (listed a).0 (listed b).0 ≡ true → a ≡ b
+same_place {C} classes listed a b e =
+    ap (λ (o : Option C). unwrap_or o a)
+    (sym (listed a).1 ∙ ap (slice_get classes) (eqb-true (listed a).0 (listed b).0 e) ∙ (listed b).1)
+
+-- so two classes are one or are not
+pub decided_by : {C : Type 0} (classes : List C) → AreListed classes → AreDecided C
+decided_by {C} classes listed a b = by (nat_eq (listed a).0 (listed b).0) refl
   where
-    by : (t : Bool) → nat_eq (place a) (place b) ≡ t → (a ≡ b) ⊎ (a ≢ b)
-    by true e =
-        inl (ap (λ (o : Option C). unwrap_or o a) (sym (listed a) ∙ ap (slice_get classes) (eqb-true (place a) (place b) e) ∙ listed b))
-    by false e = inr (λ same. let yes = eq-eqb (place a) (place b) (ap place same) in cc)
+    by : (t : Bool) → nat_eq (listed a).0 (listed b).0 ≡ t → (a ≡ b) ⊎ (a ≢ b)
+    by true e = inl (same_place classes listed a b e)
+    by false e = inr (λ same. let yes = eq-eqb (listed a).0 (listed b).0 (ap (λ (c : C). (listed c).0) same) in cc)
+
+-- and what keeps each place keeps each class
+pub kept_by : {C : Type 0} (classes : List C) (listed : AreListed classes) (f : C → C)
+    → list_all (λ c. nat_eq (listed (f c)).0 (listed c).0) classes ≡ true → (c : C) → f c ≡ c
+kept_by classes listed f all c =
+    same_place classes listed (f c) c
+    (all_at (λ d. nat_eq (listed (f d)).0 (listed d).0) classes (listed c).0 c all (listed c).1)
 
 module _ {C N : Type 0} (g : Rules C N) (follow : N → C → Bool) (decided : AreDecided C)
     (predictable : IsPredictable g follow) (texts : HasTexts g) where
@@ -28,15 +41,15 @@ module _ {C N : Type 0} (g : Rules C N) (follow : N → C → Bool) (decided : A
   HasStep : List (Symbol C N) → C → Type 0
   HasStep symbols c = (step : Step) × (after : List (Symbol C N)) × IsRead g follow symbols c step after
 
-  class_step : (d c : C) (rest : List (Symbol C N)) → IsReady g follow rest → (d ≡ c) ⊎ (d ≡ c → ⊥) → HasStep (terminal d ∷ rest) c
+  class_step : (d c : C) (rest : List (Symbol C N)) → IsReady g follow rest → (d ≡ c) ⊎ (d ≡ c → ⊥) → HasStep (a_terminal d ∷ rest) c
   unfolding HasStep
   class_step d c rest ready (inl same) =
-      (Pushed, rest, subst (λ (x : C). IsRead g follow (terminal x ∷ rest) c Pushed rest) (sym same) (read-class g follow c rest ready))
+      (Pushed, rest, subst (λ (x : C). IsRead g follow (a_terminal x ∷ rest) c Pushed rest) (sym same) (read-class g follow c rest ready))
   class_step d c rest ready (inr other) = (Absent, [], read-other_class g follow d c rest [] other)
 
-  part_step : (n : N) (c : C) (rest : List (Symbol C N)) → IsReady g follow (nonterminal n ∷ rest) → HasStep rest c
+  part_step : (n : N) (c : C) (rest : List (Symbol C N)) → IsReady g follow (a_nonterminal n ∷ rest) → HasStep rest c
       → (found : Option (List (Symbol C N))) (deep may : Bool) → g.production n c ≡ found → g.deep n c ≡ deep → g.is_nullable n ≡ may
-      → HasStep (nonterminal n ∷ rest) c
+      → HasStep (a_nonterminal n ∷ rest) c
   unfolding HasStep
   part_step n c rest ready below (Some body) false may b d m = (Pushed, body ++ rest, read-begins g follow n c rest body predictable ready b d)
   part_step n c rest ready below (Some body) true may b d m = (Deep, [], read-deep g follow n c rest body [] texts b d)
@@ -47,8 +60,8 @@ module _ {C N : Type 0} (g : Rules C N) (follow : N → C → Bool) (decided : A
   some_step : (symbols : List (Symbol C N)) (c : C) → IsReady g follow symbols → HasStep symbols c
   unfolding HasStep
   some_step [] c ready = (Absent, [], read-nothing g follow c [])
-  some_step (terminal d ∷ rest) c ready = class_step d c rest ready (decided d c)
-  some_step (nonterminal n ∷ rest) c ready =
+  some_step (a_terminal d ∷ rest) c ready = class_step d c rest ready (decided d c)
+  some_step (a_nonterminal n ∷ rest) c ready =
       part_step n c rest ready (some_step rest c ready.1) (g.production n c) (g.deep n c) (g.is_nullable n) refl refl refl
 
   module _ (start : N) (cs : List C) where
@@ -83,4 +96,4 @@ module _ {C N : Type 0} (g : Rules C N) (follow : N → C → Bool) (decided : A
         after_step i symbols reading within c here step after read (λ later next. run left (i + 1) later (omega arith) next)
 
     pub some_answer : HasAnswer (Derives g start) cs
-    some_answer = run (length cs) 0 (nonterminal start ∷ []) (omega arith) (begun g follow start cs)
+    some_answer = run (length cs) 0 (a_nonterminal start ∷ []) (omega arith) (begun g follow start cs)

@@ -23,15 +23,29 @@ module _ {C : Type 0} (Text : List C → Type 0) (cs : List C) where
   pub viable-text : (k : ℕ) → Text cs → IsViable Text (take k cs)
   viable-text k text = (drop k cs, subst (λ (x : List C). Text x) (sym (take-append-drop k cs)) text)
 
+  later_fault : (j k : ℕ) → IsFaultAt Text cs j → IsFaultAt Text cs k → j < k → ⊥
+  later_fault j k first second below =
+      let within : k ≤ length cs = second.within in
+      first.through (omega arith) (viable-take (j + 1) k (omega arith) second.before)
+
+  -- tokens have one syntax fault at most
+  pub one_place : (j k : ℕ) → IsFaultAt Text cs j → IsFaultAt Text cs k → j ≡ k
+  one_place j k first second =
+      let below : j < k → ⊥ = later_fault j k first second in
+      let above : k < j → ⊥ = later_fault k j second first in
+      omega arith
+
+  -- and none where they are a text
+  pub no_place : (k : ℕ) → Text cs → IsFaultAt Text cs k → ⊥
+  no_place k text fault =
+      let within : k ≤ length cs = fault.within in
+      let not_end : k ≡ length cs → ⊥ = λ end. fault.at_end end text in
+      fault.through (omega arith) (viable-text (k + 1) text)
+
 module _ {C : Type 0} (Marked : List C → List Bool → Type 0) (cs : List C) where
   -- tokens through one that is too deep are viable
   deep_viable : (k : ℕ) → IsDeepAt Marked cs k → IsViable (IsText Marked) (take (k + 1) cs)
   deep_viable k (within, rest, marks, marked, at) = (rest, (marks, marked))
-
-  one_syntax : (j k : ℕ) → IsFaultAt (IsText Marked) cs j → IsFaultAt (IsText Marked) cs k → j < k → ⊥
-  one_syntax j k first second below =
-      let within : k ≤ length cs = second.within in
-      first.through (omega arith) (viable-take (IsText Marked) cs (j + 1) k (omega arith) second.before)
 
   apart : (j k : ℕ) → IsFaultAt (IsText Marked) cs j → NoneDeep Marked cs j → IsDeepAt Marked cs k → ⊥
   apart j k fault none deep =
@@ -42,11 +56,7 @@ module _ {C : Type 0} (Marked : List C → List Bool → Type 0) (cs : List C) w
 
   -- no tokens have two first faults
   pub one_fault : (first second : Fault) → IsFirstTokenFault Marked cs first → IsFirstTokenFault Marked cs second → first ≡ second
-  one_fault (Syntax j) (Syntax k) first second =
-      let below : j < k → ⊥ = one_syntax j k first.0 second.0 in
-      let above : k < j → ⊥ = one_syntax k j second.0 first.0 in
-      let same : j ≡ k = omega arith in
-      ap Syntax same
+  one_fault (Syntax j) (Syntax k) first second = ap Syntax (one_place (IsText Marked) cs j k first.0 second.0)
   one_fault (Syntax j) (Depth k) first second = absurd (apart j k first.0 first.1 second.0)
   one_fault (Depth j) (Syntax k) first second = absurd (apart k j second.0 second.1 first.0)
   one_fault (Depth j) (Depth k) first second =
@@ -57,10 +67,7 @@ module _ {C : Type 0} (Marked : List C → List Bool → Type 0) (cs : List C) w
 
   -- accepted tokens have none
   pub no_fault : (fault : Fault) → IsAccepted Marked cs → IsFirstTokenFault Marked cs fault → ⊥
-  no_fault (Syntax k) accepted fault =
-      let within : k ≤ length cs = fault.0.within in
-      let not_end : k ≡ length cs → ⊥ = λ end. fault.0.at_end end accepted.0 in
-      fault.0.through (omega arith) (viable-text (IsText Marked) cs (k + 1) accepted.0)
+  no_fault (Syntax k) accepted fault = no_place (IsText Marked) cs k accepted.0 fault.0
   no_fault (Depth k) accepted fault = accepted.1 k fault.0.0 fault.0
 
   -- so tokens have one answer

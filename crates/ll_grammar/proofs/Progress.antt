@@ -12,7 +12,7 @@ use Rattle.ll_grammar.specs.FirstFault.{IsAccepted, IsFirstTokenFault}
 use Rattle.ll_grammar.specs.Predictable.{IsReady, HasTexts}
 use Rattle.ll_grammar.specs.Steps.{IsRead}
 use Rattle.ll_grammar.specs.declared.grammar.Symbol.{Symbol}
-use Rattle.ll_grammar.specs.declared.grammar.Symbol.TheVariants.{Terminal as terminal, Nonterminal as nonterminal}
+use Rattle.ll_grammar.specs.declared.grammar.Symbol.TheVariants.{Terminal as a_terminal, Nonterminal as a_nonterminal}
 use Rattle.ll_grammar.specs.declared.grammar.Step.TheVariants.{Absent, Pushed, Deep}
 use Rattle.ll_grammar.specs.declared.fault.Fault.TheVariants.{Syntax, Depth}
 use Rattle.ll_grammar.proofs.ViablePrefixes.{some_text}
@@ -45,7 +45,7 @@ slice_get-replicate zero b others = refl
 slice_get-replicate (suc i) b others = slice_get-replicate i b others
 
 pub begun : {C N : Type 0} (g : Rules C N) (follow : N → C → Bool) (start : N) (cs : List C)
-    → IsReading g follow start cs 0 (nonterminal start ∷ [])
+    → IsReading g follow start cs 0 (a_nonterminal start ∷ [])
 begun g follow start cs = record {
   only = λ rest marks derives. (marks, refl, derives);
   each = λ rest others reads. reads;
@@ -57,8 +57,8 @@ begun g follow start cs = record {
 empty : {C N : Type 0} (g : Rules C N) (symbols : List (Symbol C N))
     → list_all (is_nullable_symbol g) symbols ≡ true → Yields g symbols [] []
 empty g [] all = done
-empty g (terminal c ∷ rest) all = absurd (cc)
-empty g (nonterminal n ∷ rest) all =
+empty g (a_terminal c ∷ rest) all = absurd (cc)
+empty g (a_nonterminal n ∷ rest) all =
     let (may, others) = both (g.is_nullable n) (list_all (is_nullable_symbol g) rest) all in
     r_ends may (empty g rest others)
   where

@@ -5,7 +5,7 @@ use Rattle.ll_grammar.specs.Rules.{Rules}
 use Rattle.ll_grammar.specs.Predictable.{IsPredictable, IsReady, HasTexts}
 use Rattle.ll_grammar.specs.Steps.{IsStep, IsRead}
 use Rattle.ll_grammar.specs.declared.grammar.Symbol.{Symbol}
-use Rattle.ll_grammar.specs.declared.grammar.Symbol.TheVariants.{Terminal as terminal, Nonterminal as nonterminal}
+use Rattle.ll_grammar.specs.declared.grammar.Symbol.TheVariants.{Terminal as a_terminal, Nonterminal as a_nonterminal}
 use Rattle.ll_grammar.specs.declared.grammar.Step.{Step}
 use Rattle.ll_grammar.specs.declared.grammar.Step.TheVariants.{Absent, Pushed, Deep}
 use Rattle.ll_grammar.proofs.Symbols.{read-nothing, read-class, read-other_class, read-no_part, read-end, read-begins, read-deep}
@@ -30,13 +30,13 @@ module _ {C N : Type 0} (g : Rules C N) (follow : N → C → Bool) (c : C) (ite
       subst (λ (s : List (Symbol C N)). IsRead g follow (reverse s) c Absent after) (sym e)
       (read-nothing g follow c after)
 
-  module _ (d : C) (top : IsTop items below (terminal d)) where
+  module _ (d : C) (top : IsTop items below (a_terminal d)) where
     pub at_class : d ≡ c → IsRead g follow (reverse items) c Pushed (reverse below)
     at_class same =
-        let ready' : IsReady g follow (terminal d ∷ reverse below) =
+        let ready' : IsReady g follow (a_terminal d ∷ reverse below) =
         subst (λ (s : List (Symbol C N)). IsReady g follow s) (popped top) ready in
         subst (λ (s : List (Symbol C N)). IsRead g follow s c Pushed (reverse below)) (sym (popped top))
-        (subst (λ (x : C). IsRead g follow (terminal x ∷ reverse below) c Pushed (reverse below)) (sym same)
+        (subst (λ (x : C). IsRead g follow (a_terminal x ∷ reverse below) c Pushed (reverse below)) (sym same)
         (read-class g follow c (reverse below) ready'))
 
     pub at_other_class : (d ≡ c → ⊥) → (after : List (Symbol C N)) → IsRead g follow (reverse items) c Absent after
@@ -44,8 +44,8 @@ module _ {C N : Type 0} (g : Rules C N) (follow : N → C → Bool) (c : C) (ite
         subst (λ (s : List (Symbol C N)). IsRead g follow s c Absent after) (sym (popped top))
         (read-other_class g follow d c (reverse below) after other)
 
-  module _ (n : N) (top : IsTop items below (nonterminal n)) (new : List (Symbol C N)) where
-    ready_part : IsReady g follow (nonterminal n ∷ reverse below)
+  module _ (n : N) (top : IsTop items below (a_nonterminal n)) (new : List (Symbol C N)) where
+    ready_part : IsReady g follow (a_nonterminal n ∷ reverse below)
     ready_part = subst (λ (s : List (Symbol C N)). IsReady g follow s) (popped top) ready
 
     -- a part that may not end
@@ -74,7 +74,7 @@ module _ {C N : Type 0} (g : Rules C N) (follow : N → C → Bool) (c : C) (ite
 
     begun : IsPredictable g follow → HasTexts g → (found : Option (List (Symbol C N))) (deep : Bool)
         → g.production n c ≡ found → g.deep n c ≡ deep → (step : Step) → IsStep found deep below step new → (step ≡ Absent → ⊥)
-        → IsRead g follow (nonterminal n ∷ reverse below) c step (reverse new)
+        → IsRead g follow (a_nonterminal n ∷ reverse below) c step (reverse new)
     begun predictable texts None deep e m Absent is present = absurd (present refl)
     begun predictable texts None deep e m Pushed is present = absurd is
     begun predictable texts None deep e m Deep is present = absurd is
@@ -83,7 +83,7 @@ module _ {C N : Type 0} (g : Rules C N) (follow : N → C → Bool) (c : C) (ite
         let after : reverse new ≡ body ++ reverse below =
         ap reverse is.1 ∙ reverse-append below (reverse body)
         ∙ ap (λ (b : List (Symbol C N)). b ++ reverse below) (reverse-reverse body) in
-        subst (λ (s : List (Symbol C N)). IsRead g follow (nonterminal n ∷ reverse below) c Pushed s) (sym after)
+        subst (λ (s : List (Symbol C N)). IsRead g follow (a_nonterminal n ∷ reverse below) c Pushed s) (sym after)
         (read-begins g follow n c (reverse below) body predictable ready_part e (m ∙ is.0))
     begun predictable texts (Some body) deep e m Deep is present =
         read-deep g follow n c (reverse below) body (reverse new) texts e (m ∙ is)

@@ -26,6 +26,17 @@ abbrev pub IsAnswer : {C : Type 0} → (List C → List Bool → Type 0) → Lis
 IsAnswer Marked cs None = IsAccepted Marked cs
 IsAnswer Marked cs (Some fault) = IsFirstTokenFault Marked cs fault
 
+-- The same where no token can be too deep: None for a text, else the place of its fault.
+abbrev pub IsSyntaxAnswer : {C : Type 0} → (List C → Type 0) → List C → Option ℕ → Type 0
+IsSyntaxAnswer Text cs None = Text cs
+IsSyntaxAnswer Text cs (Some k) = IsFaultAt Text cs k
+
+-- The place of a fault.
+abbrev pub fault_place : Option Fault → Option ℕ
+fault_place None = None
+fault_place (Some (Syntax k)) = Some k
+fault_place (Some (Depth k)) = Some k
+
 -- Each two are one or are not.
 abbrev pub AreDecided : Type 0 → Type 0
 AreDecided C = (a b : C) → (a ≡ b) ⊎ (a ≢ b)

@@ -8,7 +8,7 @@ use Rattle.ll_grammar.specs.Rules.{Rules, Yields}
 use Rattle.ll_grammar.specs.Rules.Yields.{done, class as r_class, ends as r_ends, begins as r_begins}
 use Rattle.ll_grammar.specs.Predictable.{MayFollow, IsFollowed, IsPredictable, HasTexts}
 use Rattle.ll_grammar.specs.declared.grammar.Symbol.{Symbol}
-use Rattle.ll_grammar.specs.declared.grammar.Symbol.TheVariants.{Terminal as terminal, Nonterminal as nonterminal}
+use Rattle.ll_grammar.specs.declared.grammar.Symbol.TheVariants.{Terminal as a_terminal, Nonterminal as a_nonterminal}
 
 -- two lists of symbols, one after the other, read their texts one after the other
 pub yields-append : {C N : Type 0} {g : Rules C N} {front back : List (Symbol C N)} {cs ds : List C} {ms ns : List Bool}
@@ -34,8 +34,12 @@ none_from : {X : Type 0} (o : Option X) → not (is_some o) ≡ true → o ≡ N
 none_from None e = refl
 none_from (Some x) e = absurd (cc)
 
+-- each class stands in the list, at a place
+abbrev pub AreListed : {C : Type 0} → List C → Type 0
+AreListed {C} classes = (c : C) → (k : ℕ) × (slice_get classes k ≡ Some c)
+
 -- a test of all elements holds of the one at a place
-all_at : {X : Type 0} (p : X → Bool) (xs : List X) (i : ℕ) (x : X) → list_all p xs ≡ true → slice_get xs i ≡ Some x
+pub all_at : {X : Type 0} (p : X → Bool) (xs : List X) (i : ℕ) (x : X) → list_all p xs ≡ true → slice_get xs i ≡ Some x
     → p x ≡ true
 all_at p [] i x all e = absurd (cc)
 all_at p (y ∷ xs) zero x all e =
@@ -49,14 +53,14 @@ module _ {C N : Type 0} (g : Rules C N) (follow : N → C → Bool) (classes : L
 
   abbrev pub may_follow : (n m : N) → List (Symbol C N) → Bool
   may_follow n m [] = implied (follow n) (follow m)
-  may_follow n m (terminal c ∷ rest) = follow m c
-  may_follow n m (nonterminal p ∷ rest) = implied (λ c. is_some (g.production p c)) (follow m)
+  may_follow n m (a_terminal c ∷ rest) = follow m c
+  may_follow n m (a_nonterminal p ∷ rest) = implied (λ c. is_some (g.production p c)) (follow m)
       && (not (g.is_nullable p) || may_follow n m rest)
 
   abbrev pub is_followed : N → List (Symbol C N) → Bool
   is_followed n [] = true
-  is_followed n (terminal c ∷ rest) = is_followed n rest
-  is_followed n (nonterminal m ∷ rest) = may_follow n m rest && is_followed n rest
+  is_followed n (a_terminal c ∷ rest) = is_followed n rest
+  is_followed n (a_nonterminal m ∷ rest) = may_follow n m rest && is_followed n rest
 
   abbrev pub is_closed : N → Option (List (Symbol C N)) → Bool
   is_closed n None = true
@@ -76,8 +80,8 @@ module _ {C N : Type 0} (g : Rules C N) (follow : N → C → Bool) (classes : L
     may_follow-true : (n m : N) (symbols : List (Symbol C N)) → may_follow n m symbols ≡ true
         → MayFollow g follow m symbols ((d : C) → IsTrue (follow n d) → IsTrue (follow m d))
     may_follow-true n m [] e = implied-true (follow n) (follow m) e
-    may_follow-true n m (terminal c ∷ rest) e = e
-    may_follow-true n m (nonterminal p ∷ rest) e =
+    may_follow-true n m (a_terminal c ∷ rest) e = e
+    may_follow-true n m (a_nonterminal p ∷ rest) e =
         let (first, later) = both (implied (λ c. is_some (g.production p c)) (follow m))
         (not (g.is_nullable p) || may_follow n m rest) e in (
           implied-true (λ c. is_some (g.production p c)) (follow m) first,
@@ -87,8 +91,8 @@ module _ {C N : Type 0} (g : Rules C N) (follow : N → C → Bool) (classes : L
     is_followed-true : (n : N) (symbols : List (Symbol C N)) → is_followed n symbols ≡ true
         → IsFollowed g follow (λ m. (d : C) → IsTrue (follow n d) → IsTrue (follow m d)) symbols
     is_followed-true n [] e = tt
-    is_followed-true n (terminal c ∷ rest) e = is_followed-true n rest e
-    is_followed-true n (nonterminal m ∷ rest) e =
+    is_followed-true n (a_terminal c ∷ rest) e = is_followed-true n rest e
+    is_followed-true n (a_nonterminal m ∷ rest) e =
         let (first, later) = both (may_follow n m rest) (is_followed n rest) e in
         (may_follow-true n m rest first, is_followed-true n rest later)
 
@@ -110,8 +114,8 @@ module _ {C N : Type 0} (g : Rules C N) (follow : N → C → Bool) (classes : L
 -- each part has a text: it may be empty, or a rule of it leads to parts of lower rank
 module _ {C N : Type 0} (g : Rules C N) (first : N → C) (rank : N → ℕ) where
   abbrev pub is_below : ℕ → Symbol C N → Bool
-  is_below k (terminal c) = true
-  is_below k (nonterminal m) = nat_lt (rank m) k
+  is_below k (a_terminal c) = true
+  is_below k (a_nonterminal m) = nat_lt (rank m) k
 
   abbrev pub is_ranked_body : ℕ → Option (List (Symbol C N)) → Bool
   is_ranked_body k None = false
@@ -121,16 +125,16 @@ module _ {C N : Type 0} (g : Rules C N) (first : N → C) (rank : N → ℕ) whe
   is_ranked_part n = g.is_nullable n || is_ranked_body (rank n) (g.production n (first n))
 
   HasText : N → Type 0
-  HasText n = (cs : List C) × (marks : List Bool) × Yields g (nonterminal n ∷ []) cs marks
+  HasText n = (cs : List C) × (marks : List Bool) × Yields g (a_nonterminal n ∷ []) cs marks
 
   text_of_body : (k : ℕ) → ((m : N) → rank m < k → HasText m) → (body : List (Symbol C N))
       → list_all (is_below k) body ≡ true
       → (cs : List C) × (marks : List Bool) × Yields g body cs marks
   unfolding HasText
   text_of_body k texts [] e = ([], [], done)
-  text_of_body k texts (terminal c ∷ rest) e =
+  text_of_body k texts (a_terminal c ∷ rest) e =
       let (cs, marks, reads) = text_of_body k texts rest e in (c ∷ cs, false ∷ marks, r_class reads)
-  text_of_body k texts (nonterminal m ∷ rest) e =
+  text_of_body k texts (a_nonterminal m ∷ rest) e =
       let (lower, others) = both (nat_lt (rank m) k) (list_all (is_below k) rest) e in
       let (cs, marks, front) = texts m (ltb-true (rank m) k lower) in
       let (ds, more, behind) = text_of_body k texts rest others in

@@ -16,6 +16,10 @@ IsStep (Some body) deep old Absent new = ⊥
 IsStep (Some body) deep old Pushed new = (deep ≡ false) × (new ≡ old ++ reverse body)
 IsStep (Some body) deep old Deep new = deep ≡ true
 
+-- The same of the rules for a part and a class: what the part makes of the stack.
+abbrev pub IsPush : {C N : Type 0} → Rules C N → N → C → List (Symbol C N) → List (Symbol C N) → Step → Type 0
+IsPush g n c old new step = IsStep (g.production n c) (g.deep n c) old step new
+
 -- What the symbols `before` read after a token that is not too deep, the symbols `after` read.
 pub record Passes {C N : Type 0} (g : Rules C N) (follow : N → C → Bool)
     (before : List (Symbol C N)) (c : C) (after : List (Symbol C N)) : Type 0 where

@@ -3,7 +3,7 @@ ghost use Rattle.std.specs.List.{list_all};
 ghost use Rattle.ll_grammar.specs.Rules.{is_nullable_symbol, Derives};
 ghost use Rattle.ll_grammar.specs.Predictable.{IsReady};
 ghost use Rattle.ll_grammar.specs.Steps.{IsRead};
-ghost use Rattle.ll_grammar.specs.FirstFault.{IsAnswer};
+ghost use Rattle.ll_grammar.specs.FirstFault.{IsAnswer, fault_place as fault_place_spec};
 
 use crate::grammar::{Grammar, Step, Symbol, TokenClass};
 use pc_common::Memory;
@@ -45,6 +45,15 @@ pub fn first_fault<C: TokenClass, N: Grammar<C>>(
     } else {
         Some(Fault::Syntax(classes.len()))
     })
+}
+
+/// The place that a fault names.
+pub fn fault_place(fault: Option<Fault>) -> Option<usize>
+    ensures { result ≡ fault_place_spec fault }
+{
+    match fault? {
+        Fault::Syntax(k) | Fault::Depth(k) => Some(k),
+    }
 }
 
 // The token against the top of the stack. A part that does not begin with it, but may end, is done

@@ -1,7 +1,7 @@
 ghost use Rattle.std.specs.Prelude.{◌≡◌, ◌↔◌, Bool, IsTrue, IfOk, OnOk, ◌++◌, reverse};
 ghost use Rattle.ll_grammar.specs.Rules.{Rules};
 ghost use Rattle.ll_grammar.specs.Predictable.{IsPredictable, HasTexts};
-ghost use Rattle.ll_grammar.specs.Steps.{IsStep};
+ghost use Rattle.ll_grammar.specs.Steps.{IsPush};
 
 use pc_common::Memory;
 
@@ -45,8 +45,7 @@ pub trait Grammar<C: TokenClass>: Copy + 'static {
     /// Where it does not, leaves the stack as it was. `Deep` is for a token with which the part
     /// begins: any other is `Absent` at every depth. `Err` is for want of memory alone.
     fn push(self, class: C, stack: &mut Vec<Symbol<C, Self>>) -> Result<Step, Memory>
-        ensures { IfOk result (λ step.
-            IsStep (rules.production self class) (rules.deep self class) stack.old.items step stack.new.items) };
+        ensures { IfOk result (IsPush rules self class stack.old.items stack.new.items) };
 
     /// Whether the part may have no token at all.
     fn is_nullable(self) -> bool

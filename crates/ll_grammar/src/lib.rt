@@ -18,7 +18,8 @@
 //! Analysis, 1971). Such a recogniser has the viable-prefix property (Aho, Sethi and Ullman,
 //! Compilers, 1986): it reads on exactly as long as some text begins with the tokens read.
 //! The contract of [`first_fault`] is that property, both ways, over the grammar's own texts;
-//! `proofs/` carries it to any other statement of the same texts (`DerivesLaws`, `Faults`). That each list
+//! `proofs/` carries it to any other statement of the same texts (`DerivesLaws`, `Faults`), and from classes to tokens
+//! (`Shallow`, where no token can be too deep). That each list
 //! of tokens has such an answer, and one, are laws in `laws.rt`.
 #![tactic(auto)]
 
@@ -26,6 +27,6 @@ mod fault;
 mod grammar;
 mod laws;
 
-pub use fault::{Fault, first_fault};
+pub use fault::{Fault, fault_place, first_fault};
 pub use grammar::{Grammar, Step, Symbol, TokenClass, push_body};
 pub use laws::{one_answer, some_answer, viable_prefixes};

@@ -7,7 +7,7 @@ use Rattle.std.proofs.lemmas.List.Elements.{All-nil, All-cons}
 use Rattle.pc_syntax.specs.declared.model.ModelFile.{ModelFile}
 use Rattle.pc_syntax.specs.declared.model.Item.{Item}
 use Rattle.pc_syntax.specs.declared.expanded.Expanded.{Expanded}
-use Rattle.pc_syntax.specs.Written.{Written, written, MacroAt, WrittenItem, axiom_, macro_, written_item, WrittenModel, written_model}
+use Rattle.pc_syntax.specs.Written.{Written, MacroAt, WrittenItem, axiom_, macro_, written_item, WrittenModel, written_model}
 use Rattle.pc_syntax.specs.Observable.{axiom_of, macro_of, macros_in_order, macros_of, axioms_of, setting}
 use Rattle.pc_syntax.specs.Truth.{Setting, are_true}
 use Rattle.pc_syntax.specs.Expansion.{expansion_of, parameter_names, IsExpanded}
@@ -19,7 +19,7 @@ use Rattle.pc_syntax.proofs.ExpansionLaws.{expansion_true}
 use Rattle.macro_expand.specs.declared.macros.Macro.{Macro}
 use Rattle.macro_expand.specs.Faults.{AreExpansions}
 use Rattle.macro_expand.specs.Laws.{ExpansionKeepsTruth, ExpansionsSatisfy}
-use Rattle.macro_expand.specs.Tables.{before, macro_at, plain_macros, OfAxiom}
+use Rattle.macro_expand.specs.Tables.{before, macro_at, plain_macros, OfAxiom, expansion_by_all, AreAxiomsExpanded}
 
 -- the names of the parameters of the macro at k
 pub parameter_names_at : (ms : List MacroAt) (names : List (List (List ℕ))) (k : ℕ) (m : MacroAt) (other : List (List ℕ))
@@ -65,7 +65,7 @@ module _ (model : ModelFile) (items : List Item) (value : items ≡ model.items)
   sees_all : before (plain_macros table) (length table) ≡ macros_of (written_model model)
   sees_all = latest_first table ∙ ap reverse (all ∙ ap (λ xs. flat_map macro_of (map written_item xs)) value)
 
-  pub ready : All (OfAxiom (λ w. IsExpanded (expansion_of (before (plain_macros table) (length table)) w))) (map written_item items)
+  pub ready : All (OfAxiom (λ w. IsExpanded (expansion_by_all table w))) (map written_item items)
   ready =
       subst (λ ms. All (OfAxiom (λ w. IsExpanded (expansion_of ms w))) (map written_item items)) (sym sees_all)
       (subst (λ xs. All (OfAxiom (λ w. IsExpanded (expansion_of (macros_of (written_model model)) w))) (map written_item xs)) (sym value)
@@ -76,9 +76,7 @@ module _ (model : ModelFile) (items : List Item) (value : items ≡ model.items)
       ap (λ ms. sizes_fault ms 0 (map written_item items)) sees_all
       ∙ ap (λ xs. sizes_fault (macros_of (written_model model)) 0 (map written_item xs)) value
 
-  pub all_expansions : (es : List Expanded)
-      → map (λ e. written e.body) es ≡ map (expansion_of (before (plain_macros table) (length table))) (flat_map axiom_of (map written_item items))
-      → AreExpansions (written_model model) es
+  pub all_expansions : (es : List Expanded) → AreAxiomsExpanded table items es → AreExpansions (written_model model) es
   all_expansions es are =
       are
       ∙ ap (λ ms. map (expansion_of ms) (flat_map axiom_of (map written_item items))) sees_all

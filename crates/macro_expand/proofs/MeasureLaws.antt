@@ -15,40 +15,31 @@ use Rattle.macro_expand.specs.Tables.{callee_of, before}
 use Rattle.macro_expand.specs.Measures.{capped_measure, measure_of, AreMeasures}
 
 module _ (at : Place) (name : Word) (args : List Arg) where
-  pub size_called : (ms : List MacroAt) → expanded_size ms (expand_ at name args)
-      ≡ elim (callee_of ms name.name) [ None ↦ 1 | Some p ↦ 1 + expanded_size p.1 p.0.body ]
-  size_called [] = refl
-  size_called (m ∷ ms) = by (same_name m.name.name name.name) (size_called ms)
+  -- what goes down the macros as the look-up of the one called does
+  called : {A : Type 0} (of : List MacroAt → A) (none : A) (some : MacroAt × List MacroAt → A) → of [] ≡ none
+      → ((m : MacroAt) (ms : List MacroAt) → of (m ∷ ms) ≡ cond (same_name m.name.name name.name) (some (m, ms)) (of ms)) → (ms : List MacroAt)
+      → of ms ≡ elim (callee_of ms name.name) [ None ↦ none | Some p ↦ some p ]
+  called of none some end more [] = end
+  called of none some end more (m ∷ ms) = more m ms ∙ by (same_name m.name.name name.name) (called of none some end more ms)
     where
-      by : (b : Bool) → expanded_size ms (expand_ at name args) ≡ elim (callee_of ms name.name) [ None ↦ 1 | Some p ↦ 1 + expanded_size p.1 p.0.body ]
-          → cond b (1 + expanded_size ms m.body) (expanded_size ms (expand_ at name args))
-          ≡ elim (cond b (Some (m, ms)) (callee_of ms name.name)) [ None ↦ 1 | Some p ↦ 1 + expanded_size p.1 p.0.body ]
+      by : (b : Bool) → of ms ≡ elim (callee_of ms name.name) [ None ↦ none | Some p ↦ some p ]
+          → cond b (some (m, ms)) (of ms) ≡ elim (cond b (Some (m, ms)) (callee_of ms name.name)) [ None ↦ none | Some p ↦ some p ]
       by true rest = refl
       by false rest = rest
+
+  pub size_called : (ms : List MacroAt) → expanded_size ms (expand_ at name args)
+      ≡ elim (callee_of ms name.name) [ None ↦ 1 | Some p ↦ 1 + expanded_size p.1 p.0.body ]
+  size_called ms = called (λ ns. expanded_size ns (expand_ at name args)) 1 (λ p. 1 + expanded_size p.1 p.0.body) refl (λ m ns. refl) ms
 
   pub height_called : (ms : List MacroAt) → expanded_height ms (expand_ at name args)
       ≡ elim (callee_of ms name.name) [ None ↦ 0 | Some p ↦ 1 + expanded_height p.1 p.0.body ]
-  height_called [] = refl
-  height_called (m ∷ ms) = by (same_name m.name.name name.name) (height_called ms)
-    where
-      by : (b : Bool) → expanded_height ms (expand_ at name args) ≡ elim (callee_of ms name.name) [ None ↦ 0 | Some p ↦ 1 + expanded_height p.1 p.0.body ]
-          → cond b (1 + expanded_height ms m.body) (expanded_height ms (expand_ at name args))
-          ≡ elim (cond b (Some (m, ms)) (callee_of ms name.name)) [ None ↦ 0 | Some p ↦ 1 + expanded_height p.1 p.0.body ]
-      by true rest = refl
-      by false rest = rest
+  height_called ms = called (λ ns. expanded_height ns (expand_ at name args)) 0 (λ p. 1 + expanded_height p.1 p.0.body) refl (λ m ns. refl) ms
 
   pub expansion_called : (ms : List MacroAt) → expansion_of ms (expand_ at name args)
       ≡ elim (callee_of ms name.name) [ None ↦ expand_ at name args | Some p ↦ bind_ at (parameter_names p.0) args (expansion_of p.1 p.0.body) ]
-  expansion_called [] = refl
-  expansion_called (m ∷ ms) = by (same_name m.name.name name.name) (expansion_called ms)
-    where
-      by : (b : Bool) → expansion_of ms (expand_ at name args)
-          ≡ elim (callee_of ms name.name) [ None ↦ expand_ at name args | Some p ↦ bind_ at (parameter_names p.0) args (expansion_of p.1 p.0.body) ]
-          → cond b (bind_ at (parameter_names m) args (expansion_of ms m.body)) (expansion_of ms (expand_ at name args))
-          ≡ elim (cond b (Some (m, ms)) (callee_of ms name.name))
-          [ None ↦ expand_ at name args | Some p ↦ bind_ at (parameter_names p.0) args (expansion_of p.1 p.0.body) ]
-      by true rest = refl
-      by false rest = rest
+  expansion_called ms =
+      called (λ ns. expansion_of ns (expand_ at name args)) (expand_ at name args)
+      (λ p. bind_ at (parameter_names p.0) args (expansion_of p.1 p.0.body)) refl (λ m ns. refl) ms
 
   -- the measure of an expansion is that of its macro's body, and one more
   pub measure_found : (ms : List MacroAt) (p : MacroAt × List MacroAt) (m : Measure) → callee_of ms name.name ≡ Some p → m ≡ measure_of p.1 p.0.body

@@ -1,13 +1,18 @@
 -- Macros in the text's order, of which each may name the earlier ones.
-use Rattle.std.specs.Prelude.{◌≡◌, ℕ, suc, List, [], ◌∷◌, ◌++◌, Option, Some, None, length, map, take, reverse, if◌then◌else◌}
-use Rattle.std.specs.List.{fold}
+use Rattle.std.specs.Prelude.{◌≡◌, ℕ, suc, List, [], ◌∷◌, ◌++◌, Option, Some, None, length, map, take, reverse, option_map, if◌then◌else◌}
+use Rattle.std.specs.List.{fold, flat_map}
 use Rattle.std.specs.Borrow.{Bor}
 use Rattle.pc_common.specs.declared.place.Place.{Place}
 use Rattle.pc_syntax.specs.declared.term.Word.{Word}
+use Rattle.pc_syntax.specs.declared.formula.Formula.{Formula}
+use Rattle.pc_syntax.specs.declared.model.Item.{Item}
+use Rattle.pc_syntax.specs.declared.expanded.Expanded.{Expanded}
 use Rattle.pc_common.specs.Names.{same_name}
-use Rattle.pc_syntax.specs.Written.{Written, written, MacroAt, WrittenItem, axiom_, macro_}
+use Rattle.pc_syntax.specs.Written.{Written, written, written_item, MacroAt, WrittenItem, axiom_, macro_}
+use Rattle.pc_syntax.specs.Observable.{axiom_of}
+use Rattle.pc_syntax.specs.Expansion.{expansion_of}
 use Rattle.pc_syntax.specs.Fault.{Fault}
-use Rattle.pc_syntax.specs.MacroFaults.{macro_with_name, body_fault, macro_fault}
+use Rattle.pc_syntax.specs.MacroFaults.{macro_with_name, word_with_name, body_fault, macro_fault}
 use Rattle.macro_expand.specs.declared.macros.Macro.{Macro}
 
 -- the macro that a name calls, with those that its body may name; macros are listed latest first
@@ -32,11 +37,28 @@ abbrev pub AreNew : List MacroAt → Type 0
 AreNew [] = Unit {0}
 AreNew (m ∷ ms) = (macro_with_name ms m.name.name ≡ None) × AreNew ms
 
+-- the macro of these parts
+abbrev pub macro_from : Word → List Word → Formula → MacroAt
+macro_from name parameters body = record { name = name; parameters = parameters; body = written body }
+
 abbrev pub macro_at : Macro → MacroAt
-macro_at m = record { name = m.name.now; parameters = m.parameters.now; body = written m.body.now }
+macro_at m = macro_from m.name.now m.parameters.now m.body.now
 
 abbrev pub plain_macros : List Macro → List MacroAt
 plain_macros ms = map macro_at ms
+
+-- the expansion of a formula that may name the first n macros of a table
+abbrev pub expansion_by : List Macro → ℕ → Written → Written
+expansion_by table n w = expansion_of (before (plain_macros table) n) w
+
+-- of one that may name all of them
+abbrev pub expansion_by_all : List Macro → Written → Written
+expansion_by_all table w = expansion_by table (length table) w
+
+-- these are the expansions of the axioms among the items, in order
+abbrev pub AreAxiomsExpanded : List Macro → List Item → List Expanded → Type 0
+AreAxiomsExpanded table items es =
+    map (λ e. written e.body) es ≡ map (expansion_by_all table) (flat_map axiom_of (map written_item items))
 
 -- the entries from the n-th on: each is kept under its own name and with its own number
 abbrev pub AreNumbered : ℕ → List (Bor (List ℕ) × Macro) → Type 0
@@ -46,6 +68,14 @@ AreNumbered n (e ∷ es) = (e.0.now ≡ e.1.name.now.name) × (e.1.number ≡ n)
 -- a name with its place
 abbrev pub word_at : Bor (List ℕ) × Place → Word
 word_at e = record { name = e.0.now; at = e.1 }
+
+-- no word had this one's name, and it is the last one now
+abbrev pub IsNewWord : (old : List Word) → Word → (new : List Word) → Type 0
+IsNewWord old word new = (word_with_name old word.name ≡ None) × (new ≡ old ++ word ∷ [])
+
+-- the word that had its name stands here
+abbrev pub IsSeenAt : List Word → Word → Place → Type 0
+IsSeenAt words word at = option_map (λ w. w.at) (word_with_name words word.name) ≡ Some at
 
 -- the macro fault of an item, where `ms` are the file's macros and the first n are before it
 abbrev pub item_fault : List MacroAt → ℕ → WrittenItem → Option Fault

@@ -1,6 +1,6 @@
-ghost use Rattle.std.specs.Prelude.{◌≡◌, ◌+◌, ◌<◌, ◌^◌, ◌∷◌, [], Ok, map, length};
-ghost use Rattle.pc_syntax.specs.Written.{written, written_item};
-ghost use Rattle.pc_syntax.specs.MacroFaults.{count_fault, call_fault, body_fault, macro_fault, items_fault};
+ghost use Rattle.std.specs.Prelude.{◌<◌, Ok};
+ghost use Rattle.pc_syntax.specs.Written.{written};
+ghost use Rattle.pc_syntax.specs.MacroFaults.{count_fault, call_fault, body_fault, macro_fault};
 ghost use Rattle.macro_expand.specs.Tables.{before, plain_macros, macro_at};
 ghost use Rattle.macro_expand.specs.Faults.{Judges};
 

@@ -1,9 +1,7 @@
-ghost use Rattle.std.specs.Prelude.{◌≡◌, All, IfOk, map, length};
-ghost use Rattle.std.specs.List.{flat_map};
+ghost use Rattle.std.specs.Prelude.{◌≡◌, All, IfOk, map};
 ghost use Rattle.pc_syntax.specs.Written.{written, written_item, bind_};
-ghost use Rattle.pc_syntax.specs.Observable.{axiom_of};
-ghost use Rattle.pc_syntax.specs.Expansion.{expansion_of, parameter_names, IsExpanded};
-ghost use Rattle.macro_expand.specs.Tables.{before, plain_macros, OfAxiom};
+ghost use Rattle.pc_syntax.specs.Expansion.{parameter_names, IsExpanded};
+ghost use Rattle.macro_expand.specs.Tables.{plain_macros, expansion_by, expansion_by_all, AreAxiomsExpanded, OfAxiom};
 
 use super::macros::Macros;
 use super::parameter_names::names_of_macros;
@@ -28,8 +26,7 @@ impl<'a> Expander<'a> {
     #[cycle(walk)]
     fn expansion(&self, earlier: usize, formula: &Formula) -> Result<Formula, Memory>
         requires { self.now.names.now ≡ map parameter_names (plain_macros self.now.macros.now) }
-        ensures { let ms = before (plain_macros self.now.macros.now) earlier in
-            IfOk result (λ f. written f ≡ expansion_of ms (written formula.now)) }
+        ensures { IfOk result (λ f. written f ≡ expansion_by self.now.macros.now earlier (written formula.now)) }
     {
         match formula {
             Formula::Not(body) => { Formula::negation(self.alloc, self.expansion(earlier, body)?) }
@@ -95,9 +92,10 @@ impl<'a> Expander<'a> {
         right: &Formula,
     ) -> Result<(Formula, Formula), Memory>
         requires { self.now.names.now ≡ map parameter_names (plain_macros self.now.macros.now) }
-        ensures { let ms = before (plain_macros self.now.macros.now) earlier in
-            IfOk result (λ both. (written both.0 ≡ expansion_of ms (written left.now))
-            × (written both.1 ≡ expansion_of ms (written right.now))) }
+        ensures first { IfOk result
+            (λ both. written both.0 ≡ expansion_by self.now.macros.now earlier (written left.now)) }
+        ensures second { IfOk result
+            (λ both. written both.1 ≡ expansion_by self.now.macros.now earlier (written right.now)) }
     {
         let left = self.expansion(earlier, left)?;
         let right = self.expansion(earlier, right)?;
@@ -115,8 +113,8 @@ impl<'a> Expander<'a> {
         body: &Formula,
     ) -> Result<Formula, Memory>
         requires { self.now.names.now ≡ map parameter_names (plain_macros self.now.macros.now) }
-        ensures { let ms = before (plain_macros self.now.macros.now) earlier in
-            IfOk result (λ f. written f ≡ bind_ at names.now args.now (expansion_of ms (written body.now))) }
+        ensures { IfOk result (λ f. written f
+            ≡ bind_ at names.now args.now (expansion_by self.now.macros.now earlier (written body.now))) }
     {
         let names = names.share()?;
         let args = args.share()?;
@@ -125,12 +123,10 @@ impl<'a> Expander<'a> {
     }
 
     /// An axiom's body, which may name any macro, with its macros expanded.
-    fn expanded(&self, body: &Formula) -> Result<Expanded, Memory>
+    fn expand_body(&self, body: &Formula) -> Result<Expanded, Memory>
         requires names { self.now.names.now ≡ map parameter_names (plain_macros self.now.macros.now) }
-        requires expanded { let ms = before (plain_macros self.now.macros.now) (length self.now.macros.now) in
-            IsExpanded (expansion_of ms (written body.now)) }
-        ensures { let ms = before (plain_macros self.now.macros.now) (length self.now.macros.now) in
-            IfOk result (λ e. written e.body ≡ expansion_of ms (written body.now)) }
+        requires expanded { IsExpanded (expansion_by_all self.now.macros.now (written body.now)) }
+        ensures { IfOk result (λ e. written e.body ≡ expansion_by_all self.now.macros.now (written body.now)) }
     {
         let body = self.expansion(self.macros.len(), body)?;
         Ok(Expanded { body })
@@ -139,16 +135,14 @@ impl<'a> Expander<'a> {
     /// The axioms among the items, in order, with their macros expanded.
     fn axioms(&self, items: &[Item]) -> Result<Vec<Expanded>, Memory>
         requires names { self.now.names.now ≡ map parameter_names (plain_macros self.now.macros.now) }
-        requires expanded { let ms = before (plain_macros self.now.macros.now) (length self.now.macros.now) in
-            All (OfAxiom (λ w. IsExpanded (expansion_of ms w))) (map written_item items.now) }
-        ensures { let ms = before (plain_macros self.now.macros.now) (length self.now.macros.now) in
-            IfOk result (λ axioms. map (λ e. written e.body) axioms.items
-            ≡ map (expansion_of ms) (flat_map axiom_of (map written_item items.now))) }
+        requires expanded { All (OfAxiom (λ w. IsExpanded (expansion_by_all self.now.macros.now w)))
+            (map written_item items.now) }
+        ensures { IfOk result (λ axioms. AreAxiomsExpanded self.now.macros.now items.now axioms.items) }
     {
         let mut axioms = Vec::new(self.alloc);
         for item in items {
             if let Item::Axiom { body, .. } = item {
-                axioms.push(self.expanded(body)?)?;
+                axioms.push(self.expand_body(body)?)?;
             }
         }
         Ok(axioms)
@@ -161,11 +155,8 @@ pub(crate) fn expand_axioms(
     macros: &Macros<'_>,
     items: &[Item],
 ) -> Result<Vec<Expanded>, Memory>
-    requires { let ms = before (plain_macros macros.now) (length macros.now) in
-        All (OfAxiom (λ w. IsExpanded (expansion_of ms w))) (map written_item items.now) }
-    ensures { let ms = before (plain_macros macros.now) (length macros.now) in
-        IfOk result (λ axioms. map (λ e. written e.body) axioms.items
-        ≡ map (expansion_of ms) (flat_map axiom_of (map written_item items.now))) }
+    requires { All (OfAxiom (λ w. IsExpanded (expansion_by_all macros.now w))) (map written_item items.now) }
+    ensures { IfOk result (λ axioms. AreAxiomsExpanded macros.now items.now axioms.items) }
 {
     let names = names_of_macros(alloc, macros)?;
     let expander = Expander {

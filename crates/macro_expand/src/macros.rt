@@ -1,8 +1,8 @@
 ghost use Rattle.std.specs.Prelude.{◌≡◌, ◌<◌, ◌^◌, length, slice_get, Some, None, IfOk, OnOk, MatchOption, map, []};
 ghost use Rattle.std.specs.List.{flat_map};
-ghost use Rattle.pc_syntax.specs.Written.{written, written_item};
+ghost use Rattle.pc_syntax.specs.Written.{written_item};
 ghost use Rattle.pc_syntax.specs.Observable.{macro_of};
-ghost use Rattle.macro_expand.specs.Tables.{callee_of, before, with_macro, first_of_names, macro_at, plain_macros};
+ghost use Rattle.macro_expand.specs.Tables.{callee_of, before, with_macro, first_of_names, macro_from, macro_at, plain_macros};
 
 use indexmap::IndexMap;
 use pc_common::Memory;
@@ -60,7 +60,7 @@ impl<'a> Macros<'a> {
     }
 
     /// The macros of these items.
-    pub(crate) fn of(alloc: Global, items: &'a [Item]) -> Result<Macros<'a>, Memory>
+    pub(crate) fn collect(alloc: Global, items: &'a [Item]) -> Result<Macros<'a>, Memory>
         ensures { let all = flat_map macro_of (map written_item items.now) in
             IfOk result (λ ms. plain_macros ms ≡ first_of_names all) }
     {
@@ -86,7 +86,7 @@ impl<'a> Macros<'a> {
         body: &'a Formula,
     ) -> Result<(), Memory>
         ensures { OnOk result (plain_macros self.new ≡ with_macro (plain_macros self.old)
-            (record { name = name.now; parameters = parameters.now; body = written body.now })) }
+            (macro_from name.now parameters.now body.now)) }
     {
         let key = name.name.as_slice();
         if self.by_name.get(key).is_none() {

@@ -12,7 +12,7 @@ pub(crate) struct Measure {
 }
 
 impl Measure {
-    fn capped(size: u64, height: u64) -> Measure
+    fn cap(size: u64, height: u64) -> Measure
         ensures { result ≡ capped_measure size height }
     {
         Measure {
@@ -25,22 +25,22 @@ impl Measure {
     pub(crate) fn atoms(count: usize) -> Measure
         ensures { result ≡ capped_measure (1 + count) 0 }
     {
-        Measure::capped((count as u64).saturating_add(1), 0)
+        Measure::cap((count as u64).saturating_add(1), 0)
     }
 
     /// A formula of one part.
-    pub(crate) fn above(self) -> Measure
+    pub(crate) fn raise(self) -> Measure
         ensures { result ≡ capped_measure (1 + self.size) (1 + self.height) }
     {
-        Measure::capped(self.size.saturating_add(1), self.height.saturating_add(1))
+        Measure::cap(self.size.saturating_add(1), self.height.saturating_add(1))
     }
 
     /// A formula of two parts.
-    pub(crate) fn joined(self, other: Measure) -> Measure
+    pub(crate) fn join(self, other: Measure) -> Measure
         ensures { result ≡ capped_measure (1 + (self.size + other.size)) (1 + max self.height other.height) }
     {
         let size = self.size.saturating_add(other.size);
         let height = self.height.max(other.height);
-        Measure::capped(size.saturating_add(1), height.saturating_add(1))
+        Measure::cap(size.saturating_add(1), height.saturating_add(1))
     }
 }

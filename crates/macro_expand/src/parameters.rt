@@ -1,5 +1,6 @@
-ghost use Rattle.std.specs.Prelude.{◌≡◌, ◌++◌, [], ◌∷◌, Some, None, IfOk, OnOk, MatchOption, option_map};
-ghost use Rattle.pc_syntax.specs.MacroFaults.{word_with_name, parameters_fault};
+ghost use Rattle.std.specs.Prelude.{◌≡◌, [], IfOk, MatchOption};
+ghost use Rattle.pc_syntax.specs.MacroFaults.{parameters_fault};
+ghost use Rattle.macro_expand.specs.Tables.{IsNewWord, IsSeenAt};
 ghost use Rattle.macro_expand.specs.Faults.{Judges};
 
 use super::fault::MacroFault;
@@ -43,9 +44,8 @@ impl<'a> Seen<'a> {
 
     /// Puts a name last, or gives the place that it was seen at before.
     fn enter(&mut self, word: &'a Word) -> Result<Option<Place>, Memory>
-        ensures { IfOk result (λ before. MatchOption before
-            ((word_with_name self.old word.now.name ≡ None) × (self.new ≡ self.old ++ word.now ∷ []))
-            (λ at. option_map (λ w. w.at) (word_with_name self.old word.now.name) ≡ Some at)) }
+        ensures { IfOk result (λ before.
+            MatchOption before (IsNewWord self.old word.now self.new) (IsSeenAt self.old word.now)) }
     {
         let name = word.name.as_slice();
         if let Some(place) = self.places.get(name) {

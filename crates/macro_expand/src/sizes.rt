@@ -6,7 +6,7 @@ ghost use Rattle.pc_syntax.specs.Written.{written, written_item, expand_};
 ghost use Rattle.pc_syntax.specs.Sizes.{depth_fault, total_fault, sizes_fault};
 ghost use Rattle.std.specs.Option.{option_or};
 ghost use Rattle.macro_expand.specs.Tables.{before, plain_macros};
-ghost use Rattle.macro_expand.specs.Measures.{capped_measure, measure_of, AreMeasures, item_size_fault, total_after};
+ghost use Rattle.macro_expand.specs.Measures.{measure_of, AreMeasures, item_size_fault, total_after};
 ghost use Rattle.macro_expand.specs.Faults.{Judges};
 
 use super::fault::MacroFault;
@@ -23,7 +23,7 @@ fn measure_call(macros: &Macros<'_>, measures: &[Measure], name: &Word) -> Measu
         result ≡ measure_of (before (plain_macros macros.now) (length measures.now)) (expand_ at name.now args) }
 {
     match macros.callee(name.name.as_slice(), measures.len()) {
-        Some(callee) => measures[callee.number].above(),
+        Some(callee) => measures[callee.number].raise(),
         None => Measure::atoms(0),
     }
 }
@@ -40,9 +40,9 @@ fn measure(macros: &Macros<'_>, measures: &[Measure], formula: &Formula) -> Meas
         Formula::Not(body)
         | Formula::Forall { body, .. }
         | Formula::Exists { body, .. }
-        | Formula::Bind { body, .. } => { measure(macros, measures, body).above() }
+        | Formula::Bind { body, .. } => { measure(macros, measures, body).raise() }
         Formula::And(left, right) | Formula::Or(left, right) | Formula::Implies(left, right) => {
-            measure(macros, measures, left).joined(measure(macros, measures, right))
+            measure(macros, measures, left).join(measure(macros, measures, right))
         }
         Formula::Static { .. } => Measure::atoms(0),
         Formula::Nodes(nodes) => Measure::atoms(nodes.len()),

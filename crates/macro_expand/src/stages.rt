@@ -32,13 +32,13 @@ fn fault_after(earlier: &[StageItem], stage: &StageItem) -> Option<(FaultKind, P
         return Some((FaultKind::StageNumber { number }, stage.number_at));
     }
     if let Some(first) = with_number(earlier, stage.number) {
-        return Some(again(first.number_at, stage.number_at));
+        return Some(fault_again(first.number_at, stage.number_at));
     }
     let first = with_name(earlier, stage.name.name.as_slice())?;
-    Some(again(first.name.at, stage.name.at))
+    Some(fault_again(first.name.at, stage.name.at))
 }
 
-fn again(first: Place, again: Place) -> (FaultKind, Place)
+fn fault_again(first: Place, again: Place) -> (FaultKind, Place)
     ensures { result ≡ (FaultKind.StageAgain first again, again) }
 {
     (FaultKind::StageAgain { first, again }, again)

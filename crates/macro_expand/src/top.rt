@@ -26,7 +26,7 @@ pub fn expand(alloc: Global, model: &ModelFile) -> Result<Vec<Expanded>, MacroFa
         IfOk result (λ axioms. IsExpandable m × AreExpansions m axioms.items) }
     ensures err { IfErr result (λ fault. IsFirstMacroFault (written_model model.now) fault) }
 {
-    let macros = Macros::of(alloc, model.items.as_slice())?;
+    let macros = Macros::collect(alloc, model.items.as_slice())?;
     expand_with(alloc, &macros, model)
 }
 

@@ -1,5 +1,5 @@
 -- What a clash tells of a list of literals that can't stand together.
-use Rattle.std.specs.Prelude.{ℕ, Bool, List, [], ◌∷◌, ◌++◌, Contains, MatchBool}
+use Rattle.std.specs.Prelude.{ℕ, Bool, List, [], ◌∷◌, ◌++◌, Option, Contains, MatchBool, MatchOption}
 use Rattle.pc_common.specs.Chain.{Reach}
 use Rattle.pc_common.specs.Steps.{Leaf, cycle, path, absent}
 use Rattle.pc_ground.specs.declared.literal.Literal.{Literal}
@@ -25,7 +25,19 @@ leaf_of (Absent a) = absent a
 abbrev pub IsClash : List (Literal ℕ) → Clash → Type 0
 IsClash ls k = IsContradiction ls (leaf_of k)
 
+-- the literals and this one are consistent
+abbrev pub IsConsistentWith : List (Literal ℕ) → Literal ℕ → Type 0
+IsConsistentWith ls l = IsConsistent (ls ++ l ∷ [])
+
+-- they are not
+abbrev pub ClashesWith : List (Literal ℕ) → Literal ℕ → Type 0
+ClashesWith ls l = IsConsistentWith ls l → ⊥
+
+-- it is a clash of the literals and this one, or there is none
+abbrev pub IsClashWith : List (Literal ℕ) → Literal ℕ → Option Clash → Type 0
+IsClashWith ls l found = MatchOption found (IsConsistentWith ls l) (IsClash (ls ++ l ∷ []))
+
 -- the answer tells whether the literal clashes with those that the table represents, whichever they are
 abbrev pub TellsClash : ℕ → BitTable → Literal ℕ → Bool → Type 0
 TellsClash n v l answer = (ls : List (Literal ℕ)) → Represents n v.words ls v.now
-    → MatchBool answer (IsConsistent (ls ++ l ∷ []) → ⊥) (IsConsistent (ls ++ l ∷ []))
+    → MatchBool answer (ClashesWith ls l) (IsConsistentWith ls l)

@@ -5,7 +5,7 @@ use Rattle.pc_common.specs.Chain.{Chain}
 use Rattle.pc_common.specs.declared.limits.TheConstants.{MAX_NODES}
 use Rattle.pc_ground.specs.declared.literal.Literal.{Literal}
 use Rattle.pc_ground.specs.declared.literal.Literal.TheVariants.{Node, Edge, NoNode, NoEdge}
-use Rattle.pc_ground.specs.Literals.{Joins, IsPresent, IsConsistent}
+use Rattle.pc_ground.specs.Literals.{Joins, IsPresent, IsConsistent, Holds}
 use Rattle.undo_trail.specs.Bits.{has}
 use Rattle.undo_trail.specs.BitTable.{BitTable, bit_now}
 use Rattle.order_graph.specs.Ways.{IsBelow}
@@ -33,6 +33,12 @@ pub record Represents (n words : ℕ) (ls : List (Literal ℕ)) (t : List ℕ) :
   pub denying : (x y : ℕ) → x < n → Contains ls (NoEdge x y) → has words t (denier_row n) x ≡ true
   pub below : All (IsBelow n) ls
   pub consistent : IsConsistent ls
+
+-- the answer tells whether the literal is true of those that the table represents, whichever they are: where just the
+-- nodes that they assert are there, in the order of the chains of their edges
+abbrev pub TellsTruth : ℕ → BitTable → Literal ℕ → Bool → Type 0
+TellsTruth n v l answer = (ls : List (Literal ℕ)) → Represents n v.words ls v.now
+    → (answer ≡ true) ↔ Holds (IsPresent ls) (Chain (Joins ls)) l
 
 -- b is a, or the table has a chain from a to b
 abbrev pub leads_to : BitTable → ℕ → ℕ → Bool

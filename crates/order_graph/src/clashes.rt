@@ -1,11 +1,11 @@
 ghost use Rattle.std.specs.Prelude.{◌≡◌, ◌<◌, ◌≤◌, ◌+◌, ◌*◌, ◌++◌, [], ◌∷◌, ℕ, List, true, false, All, Contains, IfOk, MatchOption, MatchBool};
 ghost use Rattle.pc_common.specs.declared.limits.TheConstants.{MAX_NODES};
 ghost use Rattle.undo_trail.specs.BitTable.{bit_now};
-ghost use Rattle.pc_ground.specs.Literals.{Joins, IsConsistent};
+ghost use Rattle.pc_ground.specs.Literals.{Joins};
 ghost use Rattle.pc_ground.specs.declared.literal.Literal.{Literal as AnyLiteral};
 ghost use Rattle.order_graph.specs.Ways.{IsBelow};
 ghost use Rattle.order_graph.specs.Rows.{IsSized, IsOver, IsDeniedPast, IsDeniedNowherePast, JoinsDenied, JoinsNoneFrom, Represents};
-ghost use Rattle.order_graph.specs.Clashes.{IsClash, JoinsNone, TellsClash};
+ghost use Rattle.order_graph.specs.Clashes.{IsClash, IsClashWith, JoinsNone, TellsClash};
 
 use super::chain::way;
 use super::clash::{Clash, Numbers};
@@ -131,7 +131,7 @@ fn joined_pair(
 
 /// The first denied pair, in order of assertion, that the edge from `a` to `b` would join. Asked only where the bit
 /// rows say that some pair would be joined.
-fn first_joined(
+fn first_joined_pair(
     table: &UndoTable,
     nodes: u32,
     literals: &[Literal<u32>],
@@ -169,7 +169,7 @@ fn path_clash(
     ensures { IfOk result (λ found. MatchOption found (JoinsNone literals.now a b)
         (IsClash (literals.now ++ Literal.Edge a b ∷ []))) }
 {
-    let Some((x, y)) = first_joined(table, nodes, literals, a, b) else {
+    let Some((x, y)) = first_joined_pair(table, nodes, literals, a, b) else {
         return Ok(None);
     };
     let mut path = way(alloc, nodes, literals, x, a)?;
@@ -191,8 +191,7 @@ fn edge_clash(
     requires represents { Represents nodes table.now.words literals.now table.now.now }
     requires a_in { a < nodes }
     requires b_in { b < nodes }
-    ensures { IfOk result (λ found. MatchOption found (IsConsistent (literals.now ++ Literal.Edge a b ∷ []))
-        (IsClash (literals.now ++ Literal.Edge a b ∷ []))) }
+    ensures { IfOk result (IsClashWith literals.now (Literal.Edge a b)) }
 {
     if reaches(table, a, b) {
         return Ok(None);
@@ -226,8 +225,7 @@ fn no_edge_clash(
     requires represents { Represents nodes table.now.words literals.now table.now.now }
     requires a_in { a < nodes }
     requires b_in { b < nodes }
-    ensures { IfOk result (λ found. MatchOption found (IsConsistent (literals.now ++ Literal.NoEdge a b ∷ []))
-        (IsClash (literals.now ++ Literal.NoEdge a b ∷ []))) }
+    ensures { IfOk result (IsClashWith literals.now (Literal.NoEdge a b)) }
 {
     if !reaches(table, a, b) {
         return Ok(None);
@@ -258,8 +256,7 @@ pub fn clash_of(
     requires sized { IsSized nodes table.now }
     requires represents { Represents nodes table.now.words literals.now table.now.now }
     requires below { IsBelow nodes literal }
-    ensures { IfOk result (λ found. MatchOption found (IsConsistent (literals.now ++ literal ∷ []))
-        (IsClash (literals.now ++ literal ∷ []))) }
+    ensures { IfOk result (IsClashWith literals.now literal) }
 {
     match literal {
         Literal::Node(a) => Ok(absence(is_missing(table, nodes, a), a)),

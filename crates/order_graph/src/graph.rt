@@ -1,12 +1,13 @@
 ghost use Rattle.std.specs.Prelude.{◌≡◌, ◌↔◌, ◌<◌, ◌≤◌, ◌+◌, ◌-◌, ◌*◌, ◌++◌, [], ◌∷◌, ℕ, true, length, take, slice_get, slice_index, Some, IsTrue, IfOk, OnOk, OnErr, MatchBool};
 ghost use Rattle.pc_common.specs.Chain.{Chain};
 ghost use Rattle.pc_common.specs.declared.limits.TheConstants.{MAX_NODES};
-ghost use Rattle.pc_ground.specs.Literals.{Joins, IsPresent, IsConsistent, Holds};
+ghost use Rattle.pc_ground.specs.Literals.{Joins, IsPresent, Holds};
 ghost use Rattle.undo_trail.specs.Bits.{column};
 ghost use Rattle.undo_trail.specs.BitTable.{Extends};
 ghost use Rattle.order_graph.specs.Ways.{IsBelow};
 ghost use Rattle.order_graph.specs.State.{words_for, most_words, recorded_since, IsCut, IsGraph};
 ghost use Rattle.order_graph.specs.Adding.{IsAdded};
+ghost use Rattle.order_graph.specs.Clashes.{IsConsistentWith, ClashesWith};
 ghost use Rattle.order_graph.specs.Rows.{Enters, IsSized, Takes};
 
 use super::clash::Added;
@@ -172,8 +173,8 @@ impl OrderGraph {
     /// Whether the literal would clash: whether the literals with it are not consistent. Takes no memory.
     pub fn would_clash(&self, literal: Literal<u32>) -> bool
         requires { IsBelow self.now.nodes literal }
-        ensures { MatchBool result (IsConsistent (self.now.literals ++ literal ∷ []) → ⊥)
-            (IsConsistent (self.now.literals ++ literal ∷ [])) }
+        ensures { MatchBool result (ClashesWith self.now.literals literal)
+            (IsConsistentWith self.now.literals literal) }
     {
         would_clash(&self.table, self.nodes, literal)
     }
@@ -223,7 +224,7 @@ impl OrderGraph {
         let last = self.counts.len() - 1;
         self.counts[last] += 1;
         self.live += 1;
-        Mark::at(place)
+        Mark::from_place(place)
     }
 
     /// Goes back to the literals at `mark`, which and the earlier marks stay. Each word put back is one step.

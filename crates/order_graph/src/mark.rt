@@ -19,7 +19,7 @@ impl Model for Mark {
 }
 
 impl Mark {
-    pub(super) fn at(place: u64) -> Mark
+    pub(super) fn from_place(place: u64) -> Mark
         ensures { result ≡ place }
     {
         Mark { place }

@@ -1,11 +1,8 @@
-ghost use Rattle.std.specs.Prelude.{◌≡◌, ◌<◌, ◌≤◌, ◌+◌, ◌*◌, ◌^◌, ◌||◌, ◌==◌, ◌↔◌, ℕ, List, true, false, OnOk, OnErr, if◌then◌else◌};
+ghost use Rattle.std.specs.Prelude.{◌≡◌, ◌<◌, ◌≤◌, ◌+◌, ◌*◌, ◌^◌, ◌||◌, ◌==◌, ℕ, false, OnOk, OnErr, if◌then◌else◌};
 ghost use Rattle.std.specs.Bool.{OnTrue};
 ghost use Rattle.undo_trail.specs.BitTable.{bit_now, Extends, HasSet, IsSameTable};
-ghost use Rattle.pc_common.specs.Chain.{Chain};
-ghost use Rattle.pc_ground.specs.Literals.{Joins, IsPresent, Holds};
-ghost use Rattle.pc_ground.specs.declared.literal.Literal.{Literal as AnyLiteral};
 ghost use Rattle.order_graph.specs.Ways.{IsBelow};
-ghost use Rattle.order_graph.specs.Rows.{present_row, missing_row, denier_row, leads_to, with_edge, gains, words_gained, row_words, Enters, IsSized, Takes, TakesEdge, Represents};
+ghost use Rattle.order_graph.specs.Rows.{present_row, missing_row, denier_row, leads_to, with_edge, gains, words_gained, row_words, Enters, IsSized, Takes, TakesEdge, TellsTruth};
 
 use pc_common::Memory;
 use pc_ground::Literal;
@@ -295,8 +292,7 @@ pub fn enter<L: Ledger>(
 pub fn is_true(table: &UndoTable, nodes: u32, literal: Literal<u32>) -> bool
     requires sized { IsSized nodes table.now }
     requires below { IsBelow nodes literal }
-    ensures { (ls : List (AnyLiteral ℕ)) → Represents nodes table.now.words ls table.now.now
-        → (result ≡ true) ↔ Holds (IsPresent ls) (Chain (Joins ls)) literal }
+    ensures { TellsTruth nodes table.now literal result }
 {
     match literal {
         Literal::Node(a) => is_present(table, nodes, a),

@@ -35,10 +35,6 @@ same_core : (v : Option Value) (o : MicroOp) → (reading v o).core ≡ o.core
 same_core None o = refl
 same_core (Some v) o = refl
 
-same_kind : (v : Option Value) (o : MicroOp) → (reading v o).kind ≡ o.kind
-same_kind None o = refl
-same_kind (Some v) o = refl
-
 none_in : (v : Value) (t : Option Touch) → IsNone (option_map (touch_reading v) t) → IsNone t
 none_in v None h = h
 none_in v (Some t) h = h

@@ -1,14 +1,13 @@
 ghost use Rattle.std.specs.Prelude.{◌≡◌, ◌<◌, ◌≤◌, ◌^◌, ◌+◌, ◌++◌, length, map, slice_get, IfOk, OnOk};
-ghost use Rattle.std.specs.Str.{bytes_eq};
 ghost use Rattle.uspec_lexer.specs.Token.{place_or};
 ghost use Rattle.pattern_reader.specs.Opens.{stands as stands_spec, opens_access as opens_access_spec, opens_any as opens_any_spec};
 ghost use Rattle.pattern_reader.specs.Opens.{AreSeen, open_at, opens_in as opens_in_spec, plain_open};
 
 use pc_common::{Memory, Place};
 use std::alloc::Global;
-use uspec_lexer::Tokens;
+use uspec_lexer::{Tokens, is_spelled};
 
-/// An open value: where its `Any` stands, and its micro-op, by place in test order.
+/// An open value: where its `Any` is_spelled_at, and its micro-op, by place in test order.
 #[derive(Clone, Copy)]
 pub(crate) struct Open {
     pub(crate) at: Place,
@@ -22,18 +21,12 @@ pub(crate) struct Accesses {
     pub(crate) reading: bool,
 }
 
-fn is(piece: &[u8], bytes: &[u8]) -> bool
-    ensures { result ≡ bytes_eq piece.now bytes.now }
-{
-    piece == bytes
-}
-
 /// Whether the token at `k` is spelled so. Past the last token none is.
-fn stands(tokens: &Tokens<'_>, k: usize, word: &[u8]) -> bool
+fn is_spelled_at(tokens: &Tokens<'_>, k: usize, word: &[u8]) -> bool
     ensures { result ≡ stands_spec tokens.now k word.now }
 {
     if k < tokens.len() {
-        is(tokens.get(k).piece, word)
+        is_spelled(tokens.get(k).piece, word)
     } else {
         false
     }
@@ -46,10 +39,10 @@ fn opens_access(tokens: &Tokens<'_>, k: usize) -> bool
     requires few { length tokens.now < 2 ^ 63 }
     ensures { result ≡ opens_access_spec tokens.now k }
 {
-    stands(tokens, k, b"(")
-        && (stands(tokens, k + 1, b"Read")
-            || stands(tokens, k + 1, b"Write")
-            || stands(tokens, k + 1, b"Fence"))
+    is_spelled_at(tokens, k, b"(")
+        && (is_spelled_at(tokens, k + 1, b"Read")
+            || is_spelled_at(tokens, k + 1, b"Write")
+            || is_spelled_at(tokens, k + 1, b"Fence"))
 }
 
 /// Whether the bracket of an open value opens at `k`.
@@ -59,12 +52,14 @@ fn opens_any(tokens: &Tokens<'_>, k: usize) -> bool
     requires few { length tokens.now < 2 ^ 63 }
     ensures { result ≡ opens_any_spec tokens.now k }
 {
-    stands(tokens, k, b"(") && stands(tokens, k + 1, b"Data") && stands(tokens, k + 2, b"Any")
+    is_spelled_at(tokens, k, b"(")
+        && is_spelled_at(tokens, k + 1, b"Data")
+        && is_spelled_at(tokens, k + 2, b"Any")
 }
 
 /// What was seen of one token more.
 #[tactic(auto, using(crate::proofs::Scanning::seen_open, crate::proofs::Scanning::seen_same))]
-fn seen_more(tokens: &Tokens<'_>, k: usize, seen: Accesses) -> Accesses
+fn see_more(tokens: &Tokens<'_>, k: usize, seen: Accesses) -> Accesses
     requires within { k < length tokens.now }
     requires few { length tokens.now < 2 ^ 63 }
     requires seen { AreSeen tokens.now k seen }
@@ -73,7 +68,7 @@ fn seen_more(tokens: &Tokens<'_>, k: usize, seen: Accesses) -> Accesses
     if opens_access(tokens, k) {
         Accesses {
             count: seen.count + 1,
-            reading: stands(tokens, k + 1, b"Read"),
+            reading: is_spelled_at(tokens, k + 1, b"Read"),
         }
     } else {
         seen
@@ -126,7 +121,7 @@ pub(crate) fn opens_in(alloc: Global, tokens: &Tokens<'_>) -> Result<Vec<Open>, 
     };
     for k in 0..tokens.len() {
         note_open(tokens, k, seen, &mut opens)?;
-        seen = seen_more(tokens, k, seen);
+        seen = see_more(tokens, k, seen);
     }
     Ok(opens)
 }

@@ -93,18 +93,18 @@ fn initial_value(lists: &CaseLists, pa: Address) -> Value
 }
 
 /// The value that the micro-op writes at this address, if it does.
-fn written_at(op: &Op, pa: Address) -> Option<Value>
+fn written_value(op: &Op, pa: Address) -> Option<Value>
     ensures { option_map plain_value result
         ≡ written_at_spec (address_at pa) (micro_op op.now).kind (micro_op op.now).touch }
 {
     match op.access {
-        Access::Write => touched_at(op.memop, pa),
+        Access::Write => touched_value(op.memop, pa),
         Access::Read | Access::Fence => None,
     }
 }
 
 /// The value of what is touched, if it is at this address.
-fn touched_at(memop: Option<Memop>, pa: Address) -> Option<Value>
+fn touched_value(memop: Option<Memop>, pa: Address) -> Option<Value>
     ensures { option_map plain_value result ≡ written_at_spec (address_at pa) write (touch_of memop) }
 {
     match memop {
@@ -154,7 +154,7 @@ fn values_at(alloc: Global, lists: &CaseLists, pa: Address) -> Result<Values, Me
     let mut values = Listed::new(alloc);
     values.push(initial_value(lists, pa))?;
     for op in lists.ops.as_slice() {
-        add_once(&mut values, written_at(op, pa))?;
+        add_once(&mut values, written_value(op, pa))?;
     }
     Ok(values)
 }

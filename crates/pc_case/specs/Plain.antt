@@ -1,6 +1,6 @@
 -- What the code's micro-ops, dependencies, stated values and expectations are as plain data.
-use Rattle.std.specs.Prelude.{Option, Some, None}
-use Rattle.pc_common.specs.Case.{PageAt, Address as PlainAddress, page, entry_of, Value as PlainValue, number, entry, Touch, Kind, read, write, fence, MicroOp, Dependency as PlainDependency, Expectation, permitted, forbidden, unstated}
+use Rattle.std.specs.Prelude.{List, map, Option, Some, None}
+use Rattle.pc_common.specs.Case.{Case, PageAt, Address as PlainAddress, page, entry_of, Value as PlainValue, number, entry, Touch, Kind, read, write, fence, MicroOp, Dependency as PlainDependency, Expectation, permitted, forbidden, unstated}
 use Rattle.pc_common.specs.declared.value.Value.{Value}
 use Rattle.pc_common.specs.declared.value.Value.TheVariants.{Number, Entry as EntryValue}
 use Rattle.pc_case.specs.declared.address.Page.{Page}
@@ -60,3 +60,14 @@ abbrev pub expectation : Expect → Expectation
 expectation Permitted = permitted
 expectation Forbidden = forbidden
 expectation Unstated = unstated
+
+-- the case that says this, each list in test order
+abbrev pub case_of_parts : List Op → List Dependency → List Stated → List Stated → Expect → Case
+case_of_parts ops dependencies initial final expect =
+    record {
+      ops = map micro_op ops;
+      dependencies = map dependency dependencies;
+      initial = map stated_value initial;
+      final = map stated_value final;
+      expectation = expectation expect;
+    }

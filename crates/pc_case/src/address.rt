@@ -19,8 +19,8 @@ pub enum Address {
 }
 
 impl Address {
-    /// What this address holds where no test states it: 0 at a page, at the entry of a tag that very tag
-    /// with neither mark.
+    /// What this address holds where no test states it: 0 at a page, at the entry of a tag that very tag,
+    /// neither accessed nor dirty.
     pub fn default_value(self) -> Value
         ensures { plain_value result ≡ default_at (address_at self) }
     {

@@ -1,7 +1,7 @@
 ghost use Rattle.std.specs.Prelude.{◌≡◌, ◌<◌, ◌≤◌, [], ℕ, length, map, slice_get, IfOk, MatchOption};
 ghost use Rattle.std.specs.Option.{option_map};
 ghost use Rattle.pc_common.specs.Case.{Case as PlainCase, cores_of};
-ghost use Rattle.pc_case.specs.Plain.{micro_op, dependency, stated_value, address_at, plain_value, expectation};
+ghost use Rattle.pc_case.specs.Plain.{micro_op, dependency, stated_value, address_at, plain_value, expectation, case_of_parts};
 ghost use Rattle.pc_case.specs.MicroOps.{AreMicroOps, IsNamed};
 ghost use Rattle.pc_common.specs.Addresses.{stated_at, initial_at};
 ghost use Rattle.pc_common.specs.Dependencies.{depends_by};
@@ -96,13 +96,7 @@ impl Case {
     /// Takes no memory.
     pub fn new(ops: Ops, expect: Expect) -> Case
         requires { AreMicroOps (map micro_op ops) }
-        ensures { result ≡ record {
-          ops = map micro_op ops;
-          dependencies = [];
-          initial = [];
-          final = [];
-          expectation = expectation expect;
-        } }
+        ensures { result ≡ case_of_parts ops [] [] [] expect }
     {
         let cores = core_count(&ops);
         let ops = ops.into_vec();
@@ -131,21 +125,15 @@ impl Case {
         requires within { AreWithin (length ops) (map dependency dependencies) }
         requires initial_once { IsStatedOnce (map stated_value initial) }
         requires final_once { IsStatedOnce (map stated_value final_values) }
-        ensures { IfOk result (λ c. c ≡ record {
-          ops = map micro_op ops;
-          dependencies = map dependency dependencies;
-          initial = map stated_value initial;
-          final = map stated_value final_values;
-          expectation = expectation expect;
-        }) }
+        ensures { IfOk result (λ c. c ≡ case_of_parts ops dependencies initial final_values expect) }
     {
         let cores = core_count(&ops);
         Ok(Case {
             ops,
             cores,
-            dependencies: DependencyTable::of(alloc, dependencies)?,
-            initial: ValueTable::of(alloc, initial)?,
-            final_values: ValueTable::of(alloc, final_values)?,
+            dependencies: DependencyTable::from_list(alloc, dependencies)?,
+            initial: ValueTable::from_list(alloc, initial)?,
+            final_values: ValueTable::from_list(alloc, final_values)?,
             expect,
         })
     }
@@ -200,7 +188,7 @@ impl Case {
     }
 
     /// The value at this physical address at the start: where no line states one, 0 at a page, and at the
-    /// entry of a tag that very tag with neither mark. One look-up; takes no memory.
+    /// entry of a tag that very tag, neither accessed nor dirty. One look-up; takes no memory.
     pub fn initial(&self, pa: Address) -> Value
         ensures value { plain_value result ≡ initial_at self.now (address_at pa) }
         ensures once { IsStatedOnce self.now.initial }

@@ -124,7 +124,7 @@ impl DependencyTable {
     }
 
     /// The table of these dependencies.
-    pub(crate) fn of(alloc: Global, listed: Dependencies) -> Result<DependencyTable, Memory>
+    pub(crate) fn from_list(alloc: Global, listed: Dependencies) -> Result<DependencyTable, Memory>
         ensures { IfOk result (λ t. t ≡ map dependency listed) }
     {
         let mut kinds = HashMap::new(alloc);
@@ -156,6 +156,6 @@ impl DependencyTable {
     pub(crate) fn copy(&self, alloc: Global) -> Result<DependencyTable, Memory>
         ensures { IfOk result (λ c. c ≡ self.now) }
     {
-        DependencyTable::of(alloc, copy_listed(alloc, &self.listed)?)
+        DependencyTable::from_list(alloc, copy_listed(alloc, &self.listed)?)
     }
 }

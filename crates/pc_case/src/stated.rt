@@ -61,7 +61,7 @@ impl ValueTable {
     }
 
     /// The table of these values.
-    pub(crate) fn of(alloc: Global, listed: StatedValues) -> Result<ValueTable, Memory>
+    pub(crate) fn from_list(alloc: Global, listed: StatedValues) -> Result<ValueTable, Memory>
         requires { IsStatedOnce (map stated_value listed) }
         ensures { IfOk result (λ t. t ≡ map stated_value listed) }
     {

@@ -25,7 +25,8 @@ abbrev pub stated_at : List (Address × Value) → Address → Option Value
 stated_at [] a = None
 stated_at (s ∷ ss) a = if same_address s.0 a then Some s.1 else stated_at ss a
 
--- what an address holds where no line states it: a page 0, the entry of a tag that very tag with neither mark
+-- what an address holds where no line states it: a page 0, the entry of a tag that very tag, neither accessed nor
+-- dirty
 abbrev pub default_at : Address → Value
 default_at (page p) = number 0
 default_at (entry_of t) = entry (record { tag = t; accessed = 0; dirty = 0 })

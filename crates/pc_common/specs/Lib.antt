@@ -10,6 +10,7 @@ pub mod Lines
 pub mod Faults
 pub mod Held
 pub mod Shelf
+pub mod MemSink
 pub mod Outside
 pub mod Pieces
 pub mod Writes

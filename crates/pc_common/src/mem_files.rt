@@ -80,8 +80,8 @@ impl Files for MemFiles {
     ghost failing_modelled = { λ files failing. refl };
 
     fn start(&mut self, name: &str) -> Result<(), Failed>
-        ensures exact { let holds = is_some (held_bytes self.old.shelf.held name.now) in
-            is_ok result ≡ (not (is_next_listed self.old.schedule) && holds) }
+        ensures exact { is_ok result
+            ≡ (not (is_next_listed self.old.schedule) && is_some (held_bytes self.old.shelf.held name.now)) }
         ensures counted { self.new.schedule ≡ after_call self.old.schedule (is_ok result) }
         ensures count { self.old.schedule.faults ≤ self.new.schedule.faults }
         ensures same_held { self.new.shelf.held ≡ self.old.shelf.held }

@@ -1,4 +1,4 @@
-ghost use Rattle.std.specs.Prelude.{◌≡◌, ◌≤◌, ◌<◌, ◌++◌, [], true, length, take, min, ◌-◌, ◌==◌, ◌&&◌, ◌||◌, not, nat_lt, is_ok, IfOk, OnErr, vec_len};
+ghost use Rattle.std.specs.Prelude.{◌≡◌, ◌≤◌, ◌<◌, ◌++◌, [], true, length, take, min, ◌&&◌, not, is_ok, IfOk, OnErr, vec_len};
 ghost use Rattle.pc_common.specs.Schedule.{after_call, is_next_listed};
 
 use super::failed::Failed;
@@ -33,6 +33,8 @@ impl Drop for MemSink {
 }
 
 impl MemSink {
+    ghost use Rattle.pc_common.specs.MemSink.{room_left};
+
     /// An empty sink with room for so many bytes, which is taken here; the calls of these numbers
     /// fail.
     pub fn new(alloc: Global, room: usize, fails: Calls) -> Result<MemSink, Memory>
@@ -77,8 +79,7 @@ impl MemSink {
 
     // Takes as many bytes of the piece as go in.
     fn keep(&mut self, piece: &[u8]) -> usize
-        ensures moved { let spare = vec_len self.old.room - self.old.used in
-            result ≡ min self.old.step (min (length piece.now) spare) }
+        ensures moved { result ≡ min self.old.step (min (length piece.now) (room_left self.old)) }
         ensures bytes { take self.new.used self.new.room.items
             ≡ take self.old.used self.old.room.items ++ take result piece.now }
         ensures schedule { self.new.schedule ≡ self.old.schedule }
@@ -94,6 +95,8 @@ impl MemSink {
 }
 
 impl Sink for MemSink {
+    ghost use Rattle.pc_common.specs.MemSink.{has_room_for, room_left};
+
     ghost view = { λ sink. record {
       modelled = true;
       taken = take sink.used sink.room.items;
@@ -101,11 +104,8 @@ impl Sink for MemSink {
     } };
 
     fn write(&mut self, piece: &[u8]) -> Result<usize, Failed>
-        ensures exact { let room_left = nat_lt self.old.used (vec_len self.old.room) in
-            let takes = length piece.now == 0 || room_left in
-            is_ok result ≡ (not (is_next_listed self.old.schedule) && takes) }
-        ensures moved { let spare = vec_len self.old.room - self.old.used in
-            IfOk result (λ n. n ≡ min self.old.step (min (length piece.now) spare)) }
+        ensures exact { is_ok result ≡ (not (is_next_listed self.old.schedule) && has_room_for self.old piece.now) }
+        ensures moved { IfOk result (λ n. n ≡ min self.old.step (min (length piece.now) (room_left self.old))) }
         ensures counted { self.new.schedule ≡ after_call self.old.schedule (is_ok result) }
         ensures count { self.old.schedule.faults ≤ self.new.schedule.faults }
         ensures same_room { vec_len self.new.room ≡ vec_len self.old.room }

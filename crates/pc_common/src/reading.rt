@@ -1,7 +1,7 @@
 ghost use Rattle.std.specs.Prelude.{◌≡◌, ◌≢◌, ◌≤◌, ◌<◌, ◌+◌, ◌++◌, ◌↔◌, List, ℕ, Err, None, Some, length, vec_len, IsTrue, IfOk, OnOk};
 ghost use Rattle.pc_common.specs.declared.reading.ReadEnd.TheVariants.{ReadFault, TooLarge};
 ghost use Rattle.pc_common.specs.Faults.{Rose};
-ghost use Rattle.pc_common.specs.Reads.{Reads};
+ghost use Rattle.pc_common.specs.Reads.{Reads, HoldsMore, StopsPast};
 
 use super::failed::Failed;
 use super::files::Files;
@@ -58,12 +58,8 @@ pub fn read_all<F: Files>(
     ensures within { IfOk result (λ bytes. vec_len bytes ≤ limit) }
     ensures whole { IfOk result (λ bytes. IsTrue (F.view files.old).modelled →
         (F.view files.old).holds name.now ≡ Some bytes.items) }
-    ensures too_large { result ≡ Err TooLarge → IsTrue (F.view files.old).modelled →
-        (bytes : List ℕ) × ((F.view files.old).holds name.now ≡ Some bytes) × (limit < length bytes) }
-    // exactly one byte past the limit was read
-    ensures stops { result ≡ Err TooLarge → IsTrue (F.view files.old).modelled →
-        (read : List ℕ) × (length read ≡ limit + 1)
-        × ((F.view files.old).holds name.now ≡ Some (read ++ (F.view files.new).left)) }
+    ensures too_large { result ≡ Err TooLarge → HoldsMore (F.view files.old) name.now limit }
+    ensures stops { result ≡ Err TooLarge → StopsPast (F.view files.old) (F.view files.new) name.now limit }
     ensures cause { result ≡ Err ReadFault → Rose (F.view files.old).faults (F.view files.new).faults }
     ensures sure { IsTrue (F.view files.old).only_missing_fail →
         (result ≡ Err ReadFault) ↔ ((F.view files.old).holds name.now ≡ None) }

@@ -1,5 +1,5 @@
-ghost use Rattle.std.specs.Prelude.{◌≡◌, ◌≤◌, ◌<◌, ◌+◌, ◌^◌, ◌++◌, None, Some, length, take, drop, min, is_some, true, MatchOption};
-ghost use Rattle.pc_common.specs.Held.{held_bytes, sure_bytes, bytes_at};
+ghost use Rattle.std.specs.Prelude.{◌≡◌, ◌≤◌, ◌<◌, ◌+◌, ◌^◌, ◌++◌, None, Some, length, take, drop, min, is_some, true};
+ghost use Rattle.pc_common.specs.Held.{sure_bytes, bytes_at, HoldsAt};
 ghost use Rattle.pc_common.specs.Shelf.{left_of};
 
 use super::held::Held;
@@ -39,8 +39,7 @@ impl Shelf {
 
     /// The place of the first file of this name.
     pub fn place_of(&self, name: &str) -> Option<usize>
-        ensures { let bytes = held_bytes self.now.held name.now in
-            MatchOption result (bytes ≡ None) (λ k. bytes ≡ Some (bytes_at self.now.held k)) }
+        ensures { HoldsAt self.now.held name.now result }
     {
         for (k, file) in self.held.as_slice().iter().enumerate() {
             if file.name.as_slice() == name.as_bytes() {

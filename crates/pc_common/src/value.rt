@@ -3,6 +3,6 @@
 pub enum Value {
     Number(u64),
     /// The physical tag that the entry maps to, its accessed mark and its dirty mark. In a test without a
-    /// fault the marks are 0 or 1.
+    /// fault both are 0 or 1.
     Entry { tag: u64, accessed: u64, dirty: u64 },
 }

@@ -27,7 +27,7 @@ impl From<LexFault> for FrontEnd {
 
     fn from(fault: LexFault) -> FrontEnd {
         match fault {
-            LexFault::Lexical(place) => in_model(FaultKind::Lexical, place),
+            LexFault::Lexical(place) => model_refusal(FaultKind::Lexical, place),
             LexFault::Memory => FrontEnd::Memory,
         }
     }
@@ -39,17 +39,17 @@ impl From<MacroFault> for FrontEnd {
     fn from(fault: MacroFault) -> FrontEnd {
         match fault {
             MacroFault::Again { at, first, again } => {
-                in_model(FaultKind::MacroAgain { first, again }, at)
+                model_refusal(FaultKind::MacroAgain { first, again }, at)
             }
             MacroFault::ParameterAgain { at, first, again } => {
-                in_model(FaultKind::ParameterAgain { first, again }, at)
+                model_refusal(FaultKind::ParameterAgain { first, again }, at)
             }
-            MacroFault::Unknown { at } => in_model(FaultKind::MacroUnknown, at),
+            MacroFault::Unknown { at } => model_refusal(FaultKind::MacroUnknown, at),
             MacroFault::Arguments { at, found, wanted } => {
-                in_model(FaultKind::MacroArguments { found, wanted }, at)
+                model_refusal(FaultKind::MacroArguments { found, wanted }, at)
             }
-            MacroFault::TooDeep { at, limit } => in_model(FaultKind::TooDeep { limit }, at),
-            MacroFault::TooBig { at, limit } => in_model(FaultKind::TooBig { limit }, at),
+            MacroFault::TooDeep { at, limit } => model_refusal(FaultKind::TooDeep { limit }, at),
+            MacroFault::TooBig { at, limit } => model_refusal(FaultKind::TooBig { limit }, at),
             MacroFault::Memory => FrontEnd::Memory,
         }
     }
@@ -60,16 +60,19 @@ impl From<NameFault> for FrontEnd {
 
     fn from(fault: NameFault) -> FrontEnd {
         match fault {
-            NameFault::Unbound { at } => in_model(FaultKind::Unbound, at),
-            NameFault::WrongSort { at } => in_model(FaultKind::WrongSort, at),
-            NameFault::UnknownPredicate { at } => in_model(FaultKind::PredicateUnknown, at),
+            NameFault::Unbound { at } => model_refusal(FaultKind::Unbound, at),
+            NameFault::WrongSort { at } => model_refusal(FaultKind::WrongSort, at),
+            NameFault::UnknownPredicate { at } => model_refusal(FaultKind::PredicateUnknown, at),
             NameFault::Arity { at, found, wanted } => {
-                in_model(FaultKind::Arity { found, wanted }, at)
+                model_refusal(FaultKind::Arity { found, wanted }, at)
             }
-            NameFault::UnknownStage { at } => in_model(FaultKind::StageUnknown, at),
-            NameFault::CoreNumber { at, number } => in_model(FaultKind::CoreNumber { number }, at),
+            NameFault::UnknownStage { at } => model_refusal(FaultKind::StageUnknown, at),
+            NameFault::CoreNumber { at, number } => model_refusal(
+                FaultKind::CoreNumber { number },
+                at,
+            ),
             NameFault::TooManyVariables { at, limit } => {
-                in_model(FaultKind::TooManyVariables { limit }, at)
+                model_refusal(FaultKind::TooManyVariables { limit }, at)
             }
             NameFault::Memory => FrontEnd::Memory,
         }
@@ -81,9 +84,9 @@ impl From<CaseFault> for FrontEnd {
 
     fn from(fault: CaseFault) -> FrontEnd {
         match fault {
-            CaseFault::Lexical(place) => in_test(FaultKind::Lexical, place),
-            CaseFault::Syntax(place) => in_test(FaultKind::Syntax, place),
-            CaseFault::Content(kind, place) => in_test(kind, place),
+            CaseFault::Lexical(place) => test_refusal(FaultKind::Lexical, place),
+            CaseFault::Syntax(place) => test_refusal(FaultKind::Syntax, place),
+            CaseFault::Content(kind, place) => test_refusal(kind, place),
             CaseFault::Memory => FrontEnd::Memory,
         }
     }
@@ -91,22 +94,22 @@ impl From<CaseFault> for FrontEnd {
 
 /// The first fault of a model whose tokens have no tree. The parser tells the number of a token, and the
 /// token's place is found here.
-pub(crate) fn no_tree(bytes: &[u8], tokens: &Tokens<'_>, fault: ParseFault) -> FrontEnd
+pub(crate) fn parse_refusal(bytes: &[u8], tokens: &Tokens<'_>, fault: ParseFault) -> FrontEnd
     requires { length bytes.now < 2 ^ 32 }
     ensures { result ≡ parse_end bytes.now tokens.now fault }
 {
     match fault {
-        ParseFault::Syntax(k) => in_model(FaultKind::Syntax, tokens.place(bytes, k)),
+        ParseFault::Syntax(k) => model_refusal(FaultKind::Syntax, tokens.place(bytes, k)),
         ParseFault::Depth(k) => {
             let limit = u64::from(MAX_OPENERS);
-            in_model(FaultKind::Depth { limit }, tokens.place(bytes, k))
+            model_refusal(FaultKind::Depth { limit }, tokens.place(bytes, k))
         }
         ParseFault::Memory => FrontEnd::Memory,
     }
 }
 
 /// The first fault of a model.
-pub(crate) fn in_model(kind: FaultKind, place: Place) -> FrontEnd
+pub(crate) fn model_refusal(kind: FaultKind, place: Place) -> FrontEnd
     ensures { result ≡ Refused (fault_at Model kind place) }
 {
     FrontEnd::Refused(InputFault {
@@ -117,7 +120,7 @@ pub(crate) fn in_model(kind: FaultKind, place: Place) -> FrontEnd
 }
 
 /// The first fault of a test.
-fn in_test(kind: FaultKind, place: Place) -> FrontEnd
+fn test_refusal(kind: FaultKind, place: Place) -> FrontEnd
     ensures { result ≡ Refused (fault_at Test kind place) }
 {
     FrontEnd::Refused(InputFault {

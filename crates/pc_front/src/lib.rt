@@ -26,4 +26,4 @@ pub use laws::{limits_are, model_or_fault, no_model_fault, one_model, one_model_
 pub use limits::MAX_FILE;
 pub use model_front::{FrontEnd, ModelFront};
 pub use reading::{judged, parsed, read_model};
-pub use two_files::{front, read_parts};
+pub use two_files::{front, parts_of, read_parts};

@@ -12,7 +12,7 @@ ghost use Rattle.pc_front.specs.ModelFront.{ModelOf, IsModelFront, IsModelFrontO
 ghost use Rattle.pc_front.specs.ModelSteps.{axiom_fault, AreClosings, IsFirstEnd};
 ghost use Rattle.pc_front.specs.Ends.{end_of};
 
-use super::faults::{in_model, no_tree};
+use super::faults::{model_refusal, parse_refusal};
 use super::model_front::{FrontEnd, ModelFront};
 use macro_expand::{expand, stage_faults};
 use pc_common::{Listed, Memory};
@@ -107,7 +107,7 @@ fn model_of(alloc: Global, bytes: &[u8], tokens: &Tokens<'_>) -> Result<ModelFil
 {
     match parse_model(alloc, tokens) {
         Ok(model) => Ok(model),
-        Err(fault) => Err(no_tree(bytes, tokens, fault)),
+        Err(fault) => Err(parse_refusal(bytes, tokens, fault)),
     }
 }
 
@@ -119,7 +119,7 @@ fn check_stages(model: &ModelFile) -> Result<(), FrontEnd>
 {
     match stage_faults(model) {
         None => Ok(()),
-        Some((kind, place)) => Err(in_model(kind, place)),
+        Some((kind, place)) => Err(model_refusal(kind, place)),
     }
 }
 

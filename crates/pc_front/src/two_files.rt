@@ -26,8 +26,8 @@ pub fn read_parts(alloc: Global, model_bytes: &[u8], test_bytes: &[u8]) -> Resul
     Ok(parts_of(case, model))
 }
 
-/// The parts of a case and a model.
-fn parts_of(case: Case, model: ModelFront) -> Parts
+/// The parts of a case and a model. Takes no memory.
+pub fn parts_of(case: Case, model: ModelFront) -> Parts
     requires named { AreStages (map plain_stage model.stages) }
     requires within { AxiomsWithin (numbers_of (map plain_stage model.stages)) (plain_axioms model.axioms) }
     ensures { (result.case ≡ case) × (result.stages ≡ model.stages) × (result.axioms ≡ model.axioms) }

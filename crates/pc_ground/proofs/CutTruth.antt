@@ -78,11 +78,6 @@ cut_edge nodes w a b i j =
 pub cut_keeps : (t : Tree Node) (w : World Node) → tree_true w t ≡ tree_true (cut_to (nodes_of_tree t) w) t
 cut_keeps t w = agrees t w (cut_to (nodes_of_tree t) w) (cut_node (nodes_of_tree t) w, cut_edge (nodes_of_tree t) w)
 
-kept_first : {X : Type 0} (q : X → Bool) (x y : X) (ys zs : List X) → q y ≡ true → (In x zs → In x ys × (q x ≡ true)) → In x (y ∷ zs)
-    → In x (y ∷ ys) × (q x ≡ true)
-kept_first q x y ys zs k rest (inl e) = (inl e, ap q (sym e) ∙ k)
-kept_first q x y ys zs k rest (inr j) = (let r = rest j in (inr r.0, r.1))
-
 -- whether both ends are among the nodes
 abbrev both_among : List Node → Edge → Bool
 both_among nodes e = is_among nodes e.0 && is_among nodes e.1

@@ -1,10 +1,11 @@
 -- The parts that a node's text is cut into.
-use Rattle.std.specs.Prelude.{ℕ, ◌≡◌, ◌≤◌, ◌++◌, ◌==◌, false, List, ◌∷◌, Some, codes, slice_get}
+use Rattle.std.specs.Prelude.{ℕ, ◌≡◌, ◌≤◌, ◌<◌, ◌+◌, ◌++◌, ◌==◌, false, List, ◌∷◌, Some, codes, slice_get}
 use Rattle.std.specs.List.{list_any}
 use Rattle.std.specs.Fmt.{decimal}
 use Rattle.pc_common.specs.Case.{MicroOp}
 use Rattle.pc_common.specs.World.{Node}
 use Rattle.pc_common.specs.Lines.{StageName, Names}
+use Rattle.pc_common.specs.declared.limits.TheConstants.{MAX_CORE}
 use Rattle.pc_case.specs.MicroOps.{AreMicroOps, IsNamed}
 use Rattle.pc_ground.specs.Stages.{AreStages}
 use Rattle.pc_ground.specs.declared.node_words.NodeWords.{NodeWords}
@@ -37,6 +38,10 @@ pub record NamesNode (names : Names) (w : NodeWords) (a : Node) : Type 0 where
   pub op : IsNamed names.ops w.g w.n a.op
   pub core : a.core ≡ w.core
   pub stage : IsStage names.stages a.stage w.stage.now
+
+-- they name no node of a core 0 to 63
+abbrev pub NamesNoNode : Names → NodeWords → Type 0
+NamesNoNode names w = (a : Node) → a.core < MAX_CORE + 1 → NamesNode names w a → ⊥
 
 -- what the type of a node text keeps of its names
 pub record AreKept (names : Names) : Type 0 where

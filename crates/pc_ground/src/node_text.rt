@@ -9,7 +9,7 @@ ghost use Rattle.pc_ground.specs.Keys.{key_node};
 ghost use Rattle.pc_ground.specs.Stages.{plain_stage, AreStages};
 ghost use Rattle.pc_ground.specs.LawsOfStages.{AreStages-prop};
 ghost use Rattle.pc_ground.specs.NodeForm.{names_by, names_of, names_of_parts, IsNodeIn, ReadsNode, Answers, AreReadable};
-ghost use Rattle.pc_ground.specs.NodeWords.{IsStage, AreSmall, AreKept, NamesNode};
+ghost use Rattle.pc_ground.specs.NodeWords.{IsStage, AreSmall, AreKept, NamesNode, NamesNoNode};
 
 use super::front::Front;
 use super::line_fault::LineFault;
@@ -60,7 +60,7 @@ fn stage_name(stages: &Stages, number: u8) -> &[u8]
 }
 
 /// The number of the stage of this name, None where there is none. A walk over at most 64 stages.
-fn stage_named(stages: &Stages, name: &[u8]) -> Option<u8>
+fn find_stage(stages: &Stages, name: &[u8]) -> Option<u8>
     ensures { MatchOption result ((n : ℕ) → IsStage (map plain_stage stages.now) n name.now → ⊥)
         (λ n. IsStage (map plain_stage stages.now) n name.now) }
 {
@@ -157,7 +157,7 @@ impl<'a> NodeText<'a> {
         let Some(words) = node_words(word) else {
             return Err(LineFault::Malformed);
         };
-        match self.named(&words) {
+        match self.find_node(&words) {
             Some(key) => Ok(key),
             None if is_name(words.stage) => Err(LineFault::Foreign),
             None => Err(LineFault::Malformed),
@@ -179,8 +179,8 @@ impl<'a> NodeText<'a> {
     }
 
     /// The node that these words name, None where they name none.
-    fn named(&self, words: &NodeWords<'_>) -> Option<NodeKey>
-        ensures { MatchOption result ((a : Node) → a.core < MAX_CORE + 1 → NamesNode self.now words.now a → ⊥)
+    fn find_node(&self, words: &NodeWords<'_>) -> Option<NodeKey>
+        ensures { MatchOption result (NamesNoNode self.now words.now)
             (λ key. NamesNode self.now words.now (key_node key)) }
     {
         let id = OpId {
@@ -188,7 +188,7 @@ impl<'a> NodeText<'a> {
             n: words.n,
         };
         let op = self.case.find(id)?;
-        let stage = stage_named(self.stages, words.stage)?;
+        let stage = find_stage(self.stages, words.stage)?;
         if words.core > MAX_CORE {
             return None;
         }

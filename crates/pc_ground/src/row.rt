@@ -25,7 +25,7 @@ pub struct Row<N> {
 
 impl<N> RowKind<N> {
     /// What stands there in the tree's negation.
-    fn negated(self) -> RowKind<N>
+    fn negation(self) -> RowKind<N>
         ensures { result ≡ turned_kind true self }
     {
         match self {
@@ -44,7 +44,7 @@ impl<N> Row<N> {
         ensures { result ≡ turned_row negated self }
     {
         let Row { kind, skip } = self;
-        let kind = if negated { kind.negated() } else { kind };
+        let kind = if negated { kind.negation() } else { kind };
         Row { kind, skip }
     }
 

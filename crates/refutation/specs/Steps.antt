@@ -7,6 +7,10 @@ use Rattle.pc_ground.specs.NodeForm.{IsNodeIn}
 use Rattle.pc_ground.specs.Keys.{key_node}
 use Rattle.refutation.specs.declared.step.Step.{Step}
 use Rattle.refutation.specs.declared.step.Step.TheVariants.{Split, Cycle, Path, Absent, False}
+use Rattle.refutation.specs.declared.kind.Leaf.{Leaf as AnyLeaf}
+use Rattle.refutation.specs.declared.kind.Leaf.TheVariants.{Cycle as a_cycle, Path as a_path, Absent as an_absence, False as a_falsity}
+use Rattle.refutation.specs.declared.kind.Kind.{Kind}
+use Rattle.refutation.specs.declared.kind.Kind.TheVariants.{Split as a_split, Close}
 
 abbrev pub plain_step : Step → PlainStep Node
 plain_step (Split negated p) = split negated p
@@ -14,6 +18,18 @@ plain_step (Cycle nodes) = close (cycle (map key_node nodes))
 plain_step (Path nodes) = close (path (map key_node nodes))
 plain_step (Absent a) = close (absent (key_node a))
 plain_step False = close false_step
+
+-- a leaf of the code, with its keys as plain nodes
+abbrev pub plain_leaf : AnyLeaf → Leaf Node
+plain_leaf (a_cycle nodes) = cycle (map key_node nodes.now)
+plain_leaf (a_path nodes) = path (map key_node nodes.now)
+plain_leaf (an_absence node) = absent (key_node node)
+plain_leaf a_falsity = false_step
+
+-- what a step does, as a plain step
+abbrev pub plain_kind : Kind → PlainStep Node
+plain_kind (a_split negated p) = split negated p
+plain_kind (Close leaf) = close (plain_leaf leaf)
 
 -- the leaf has as many nodes as its line asks for: a cycle one at least, a path two at least
 abbrev pub HasItsNodes : Leaf Node → Type 0

@@ -18,6 +18,7 @@
 //! docs/certificates.md.
 #![tactic(auto)]
 
+mod kind;
 mod list;
 mod node_row;
 mod nodes;
@@ -27,6 +28,7 @@ mod step_head;
 mod words;
 mod writing;
 
+pub use kind::{Kind, Leaf};
 pub use list::Refutation;
 pub use node_row::NodeRow;
 pub use reading::read_line;

@@ -1,10 +1,12 @@
-ghost use Rattle.std.specs.Prelude.{◌≡◌, ◌<◌, ◌+◌, ◌^◌, ◌++◌, [], ◌∷◌, List, length, map, slice_get, Some, is_ok, if◌then◌else◌};
+ghost use Rattle.std.specs.Prelude.{◌≡◌, ◌<◌, ◌+◌, ◌^◌, ◌++◌, [], ◌∷◌, List, length, map, slice_get, Some, is_ok, IfOk, if◌then◌else◌};
 ghost use Rattle.pc_common.specs.World.{Node as PlainNode};
-ghost use Rattle.pc_common.specs.Steps.{Step as PlainStep, split};
-ghost use Rattle.refutation.specs.Steps.{plain_step, IsLeaf, open_branches};
+ghost use Rattle.pc_common.specs.Steps.{Step as PlainStep, split, close};
+ghost use Rattle.refutation.specs.Steps.{plain_step, plain_leaf, plain_kind, IsLeaf, HasLine, open_branches};
 
-use super::step::Step;
+use super::kind::{Kind, Leaf};
+use super::step::{Nodes, Step};
 use pc_common::{Listed, Memory};
+use pc_ground::NodeKey;
 use std::alloc::Global;
 use std::marker::Model;
 
@@ -24,6 +26,29 @@ impl Model for Refutation {
     ghost Value = { List (PlainStep PlainNode) };
 
     ghost view = { λ s. map plain_step s.steps };
+}
+
+/// A list of these nodes.
+fn list_of(alloc: Global, nodes: &[NodeKey]) -> Result<Nodes, Memory>
+    ensures { IfOk result (λ list. list ≡ nodes.now) }
+{
+    let mut list = Nodes::new(alloc);
+    for node in nodes {
+        list.push(*node)?;
+    }
+    Ok(list)
+}
+
+/// The step that is a copy of a leaf.
+fn step_of(alloc: Global, leaf: Leaf<'_>) -> Result<Step, Memory>
+    ensures { IfOk result (λ step. plain_step step ≡ close (plain_leaf leaf.entry)) }
+{
+    match leaf {
+        Leaf::Cycle(nodes) => Ok(Step::Cycle(list_of(alloc, nodes)?)),
+        Leaf::Path(nodes) => Ok(Step::Path(list_of(alloc, nodes)?)),
+        Leaf::Absent(node) => Ok(Step::Absent(node)),
+        Leaf::False => Ok(Step::False),
+    }
 }
 
 impl Refutation {
@@ -52,6 +77,18 @@ impl Refutation {
         ensures { self.new ≡ (if is_ok result then self.old ++ plain_step leaf ∷ [] else self.old) }
     {
         self.steps.push(leaf)
+    }
+
+    /// Puts a copy of a step last. Where memory is refused, nothing changes.
+    pub fn push(&mut self, alloc: Global, step: Kind<'_>) -> Result<(), Memory>
+        requires open { 0 < open_branches self.old }
+        requires line { HasLine (plain_kind step) }
+        ensures { self.new ≡ (if is_ok result then self.old ++ plain_kind step.entry ∷ [] else self.old) }
+    {
+        match step {
+            Kind::Split { negated, position } => self.push_split(negated, position),
+            Kind::Close(leaf) => self.close_leaf(step_of(alloc, leaf)?),
+        }
     }
 
     /// How many steps there are. Takes no memory.

@@ -127,7 +127,9 @@ fn read_words(names: &NodeText<'_>, line: &[u8], row: &mut NodeRow) -> Result<St
 /// Reads a step line, without its LF, and leaves its nodes in the row, which it empties first. Takes no memory.
 ///
 /// `Malformed` where the line has no form of a step line, whatever its nodes name; `Foreign` where it has, and a node
-/// of it is not of these names. After either the row is empty.
+/// of it is not of these names. After either the row is empty, and no step has this line.
+///
+/// What was written is read again as it was; a split of a position over 64 bits has no line of the format.
 pub fn read_line(
     names: &NodeText<'_>,
     line: &[u8],
@@ -135,11 +137,9 @@ pub fn read_line(
 ) -> Result<StepHead, LineFault>
     requires room { spaces line.now ≤ row.old.spare }
     ensures read { ReadsStep names.now line.now row.new.nodes result }
-    // what was written is read again as it was; a split of a position over 64 bits has no line of the format
     ensures again { (s : PlainStep Node) → IsLineOf names.now line.now s
         → (result ≡ Ok (head_of s)) × (row.new.nodes ≡ nodes_of s) }
     ensures spare { row.new.spare ≡ row.old.spare }
-    // no step has this line
     ensures none { OnErr result ((s : PlainStep Node) → IsLineOf names.now line.now s → ⊥) }
 {
     names.show_readable();

@@ -1,3 +1,7 @@
+ghost use Rattle.std.specs.Prelude.{◌≡◌};
+ghost use Rattle.refutation.specs.Steps.{plain_step, plain_kind};
+
+use super::kind::{Kind, Leaf};
 use pc_common::Listed;
 use pc_ground::NodeKey;
 
@@ -31,6 +35,24 @@ impl Drop for Step {
             Step::Path(_) => {}
             Step::Absent(_) => {}
             Step::False => {}
+        }
+    }
+}
+
+impl Step {
+    /// Whether the step is a split, or which leaf it is. Takes no memory.
+    pub fn kind(&self) -> Kind<'_>
+        ensures { plain_kind result ≡ plain_step self.now }
+    {
+        match self {
+            Step::Split { negated, position } => Kind::Split {
+                negated: *negated,
+                position: *position,
+            },
+            Step::Cycle(nodes) => Kind::Close(Leaf::Cycle(nodes.as_slice())),
+            Step::Path(nodes) => Kind::Close(Leaf::Path(nodes.as_slice())),
+            Step::Absent(node) => Kind::Close(Leaf::Absent(*node)),
+            Step::False => Kind::Close(Leaf::False),
         }
     }
 }

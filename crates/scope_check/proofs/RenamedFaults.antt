@@ -1,8 +1,9 @@
 -- A formula with other names has the fault that it had.
-use Rattle.std.proofs.Common.{◌≡◌, ℕ, suc, ◌==◌, List, [], ◌∷◌, Option, Some, None, length, map, cond, option_map, nat_lt, refl, ap, ◌∙◌}
+use Rattle.std.proofs.Common.{◌≡◌, ℕ, suc, ◌==◌, List, [], ◌∷◌, Option, Some, None, length, map, cond, option_map, nat_lt, refl, sym, ap, ◌∙◌}
 use Rattle.std.proofs.lemmas.List.{length-map}
 use Rattle.std.specs.Option.{option_or}
 use Rattle.pc_common.specs.declared.place.Place.{Place}
+use Rattle.pc_common.specs.declared.fault.Which.{Which}
 use Rattle.pc_common.specs.declared.fault.Which.TheVariants.{Model, Query}
 use Rattle.pc_common.specs.declared.fault.FaultKind.TheVariants.{PredicateUnknown, Arity, Unbound, StageUnknown, TooManyVariables}
 use Rattle.pc_syntax.specs.declared.limits.TheConstants.{MAX_VARIABLES}
@@ -25,10 +26,11 @@ use Rattle.pc_syntax.specs.Scope.{Binding, Scope, binding_of, quantified_in, bou
 use Rattle.pc_syntax.specs.Fault.{Fault, first_fault}
 use Rattle.pc_syntax.specs.NameFaults.{sort_fault, variable_fault, argument_fault, arguments_fault, arity_fault, static_fault, stage_name_fault, location_fault, node_fault, edge_fault, value_fault, scope_fault, binding_fault, name_fault, first_name_fault}
 use Rattle.pc_syntax.specs.Renaming.{Renaming, KeepsApart, renamed_word, renamed_arg, renamed_taken, renamed_args, renamed_static, renamed_node, renamed_edge, renamed, renamed_macro, renamed_model}
-use Rattle.scope_check.specs.QueryFaults.{filed, query_fault}
+use Rattle.scope_check.specs.QueryFaults.{filed, fault_within, query_fault, unfiled}
 use Rattle.scope_check.specs.Renaming.{renamed_binding}
 use Rattle.scope_check.specs.Laws.{RenamingKeepsNameFaults, RenamingKeepsFirstNameFaults, RenamingKeepsQueryFaults, RenamingKeepsAsked}
 use Rattle.pc_syntax.proofs.RenamedItems.{names_renamed, axioms_renamed, macros_renamed}
+use Rattle.scope_check.proofs.FiledFaults.{query_faults}
 use Rattle.scope_check.proofs.RenamedScopes.{new_scope, new_args, new_stages, new_macros, binding_renamed, stage_number_renamed, quantified_renamed, bound_renamed}
 
 -- the first fault among changed members, each of which has the fault that it had
@@ -202,89 +204,61 @@ module _ (ρ : Renaming) (apart : KeepsApart ρ) where
       ∙ bound_renamed ρ apart scope (parameter_names m) args
 
   module _ (stages : List StageItem) where
-    -- the first name fault of a formula with other names
-    pub name_fault_renamed : (ms : List MacroAt) (scope : Scope) (w : Written)
-        → name_fault (new_stages ρ stages) (new_macros ρ ms) (new_scope ρ scope) (renamed ρ w)
-        ≡ name_fault stages ms scope w
-    name_fault_renamed ms scope (not_ p) = name_fault_renamed ms scope p
-    name_fault_renamed ms scope (and_ p q) =
-        λ i. option_or (name_fault_renamed ms scope p i) (name_fault_renamed ms scope q i)
-    name_fault_renamed ms scope (or_ p q) =
-        λ i. option_or (name_fault_renamed ms scope p i) (name_fault_renamed ms scope q i)
-    name_fault_renamed ms scope (implies_ p q) =
-        λ i. option_or (name_fault_renamed ms scope p i) (name_fault_renamed ms scope q i)
-    name_fault_renamed ms scope (forall_ at sort name p) =
+    -- the first fault of a formula with other names, with its file
+    fault_within_renamed : (file : Which) (ms : List MacroAt) (scope : Scope) (w : Written)
+        → fault_within file (new_stages ρ stages) (new_macros ρ ms) (new_scope ρ scope) (renamed ρ w)
+        ≡ fault_within file stages ms scope w
+    fault_within_renamed file ms scope (not_ p) = fault_within_renamed file ms scope p
+    fault_within_renamed file ms scope (and_ p q) =
+        λ i. option_or (fault_within_renamed file ms scope p i) (fault_within_renamed file ms scope q i)
+    fault_within_renamed file ms scope (or_ p q) =
+        λ i. option_or (fault_within_renamed file ms scope p i) (fault_within_renamed file ms scope q i)
+    fault_within_renamed file ms scope (implies_ p q) =
+        λ i. option_or (fault_within_renamed file ms scope p i) (fault_within_renamed file ms scope q i)
+    fault_within_renamed file ms scope (forall_ at sort name p) =
         let within =
-        ap (λ (inside : Scope). name_fault (new_stages ρ stages) (new_macros ρ ms) inside (renamed ρ p))
+        ap (λ (inside : Scope). fault_within file (new_stages ρ stages) (new_macros ρ ms) inside (renamed ρ p))
         (quantified_renamed ρ scope name sort)
-        ∙ name_fault_renamed ms (quantified_in scope name sort) p in
-        λ i. option_or (quantified_fault ρ at scope name sort i) (within i)
-    name_fault_renamed ms scope (exists_ at sort name p) =
+        ∙ fault_within_renamed file ms (quantified_in scope name sort) p in
+        λ i. option_or (filed file (quantified_fault ρ at scope name sort i)) (within i)
+    fault_within_renamed file ms scope (exists_ at sort name p) =
         let within =
-        ap (λ (inside : Scope). name_fault (new_stages ρ stages) (new_macros ρ ms) inside (renamed ρ p))
+        ap (λ (inside : Scope). fault_within file (new_stages ρ stages) (new_macros ρ ms) inside (renamed ρ p))
         (quantified_renamed ρ scope name sort)
-        ∙ name_fault_renamed ms (quantified_in scope name sort) p in
-        λ i. option_or (quantified_fault ρ at scope name sort i) (within i)
-    name_fault_renamed ms scope (static_ pred args) = static_fault_kept scope pred args
-    name_fault_renamed ms scope (nodes_ ts) = nodes_fault_kept stages scope ts
-    name_fault_renamed ms scope (edges_ ts) = edges_fault_kept stages scope ts
-    name_fault_renamed ms scope (bind_ at names args p) =
+        ∙ fault_within_renamed file ms (quantified_in scope name sort) p in
+        λ i. option_or (filed file (quantified_fault ρ at scope name sort i)) (within i)
+    fault_within_renamed file ms scope (static_ pred args) = ap (filed file) (static_fault_kept scope pred args)
+    fault_within_renamed file ms scope (nodes_ ts) = ap (filed file) (nodes_fault_kept stages scope ts)
+    fault_within_renamed file ms scope (edges_ ts) = ap (filed file) (edges_fault_kept stages scope ts)
+    fault_within_renamed file ms scope (bind_ at names args p) =
         let within =
-        ap (λ (inside : Scope). name_fault (new_stages ρ stages) (new_macros ρ ms) inside (renamed ρ p))
+        ap (λ (inside : Scope). fault_within Model (new_stages ρ stages) (new_macros ρ ms) inside (renamed ρ p))
         (bound_renamed ρ apart scope names args)
-        ∙ name_fault_renamed ms (bound_in scope names args) p in
-        λ i. option_or (binding_fault_kept scope at names args i) (within i)
-    name_fault_renamed [] scope (expand_ at name args) = refl
-    name_fault_renamed (m ∷ ms) scope (expand_ at name args) =
+        ∙ fault_within_renamed Model ms (bound_in scope names args) p in
+        λ i. option_or (filed file (binding_fault_kept scope at names args i)) (within i)
+    fault_within_renamed file [] scope (expand_ at name args) = refl
+    fault_within_renamed file (m ∷ ms) scope (expand_ at name args) =
         let within =
-        ap (λ (inside : Scope). name_fault (new_stages ρ stages) (new_macros ρ ms) inside (renamed ρ m.body))
+        ap (λ (inside : Scope). fault_within Model (new_stages ρ stages) (new_macros ρ ms) inside (renamed ρ m.body))
         (parameters_bound scope m args)
-        ∙ name_fault_renamed ms (bound_in scope (parameter_names m) args) m.body in
+        ∙ fault_within_renamed Model ms (bound_in scope (parameter_names m) args) m.body in
         λ i. cond (apart m.name.name name.name i)
-        (option_or (parameters_fault_kept scope at m args i) (within i))
-        (name_fault_renamed ms scope (expand_ at name args) i)
+        (option_or (filed file (parameters_fault_kept scope at m args i)) (within i))
+        (fault_within_renamed file ms scope (expand_ at name args) i)
 
-    -- that of a formula which is asked of a model, with its file
+    -- that of a formula which is asked of a model
     pub query_fault_renamed : (ms : List MacroAt) (scope : Scope) (w : Written)
         → query_fault (new_stages ρ stages) (new_macros ρ ms) (new_scope ρ scope) (renamed ρ w)
         ≡ query_fault stages ms scope w
-    query_fault_renamed ms scope (not_ p) = query_fault_renamed ms scope p
-    query_fault_renamed ms scope (and_ p q) =
-        λ i. option_or (query_fault_renamed ms scope p i) (query_fault_renamed ms scope q i)
-    query_fault_renamed ms scope (or_ p q) =
-        λ i. option_or (query_fault_renamed ms scope p i) (query_fault_renamed ms scope q i)
-    query_fault_renamed ms scope (implies_ p q) =
-        λ i. option_or (query_fault_renamed ms scope p i) (query_fault_renamed ms scope q i)
-    query_fault_renamed ms scope (forall_ at sort name p) =
-        let within =
-        ap (λ (inside : Scope). query_fault (new_stages ρ stages) (new_macros ρ ms) inside (renamed ρ p))
-        (quantified_renamed ρ scope name sort)
-        ∙ query_fault_renamed ms (quantified_in scope name sort) p in
-        λ i. option_or (filed Query (quantified_fault ρ at scope name sort i)) (within i)
-    query_fault_renamed ms scope (exists_ at sort name p) =
-        let within =
-        ap (λ (inside : Scope). query_fault (new_stages ρ stages) (new_macros ρ ms) inside (renamed ρ p))
-        (quantified_renamed ρ scope name sort)
-        ∙ query_fault_renamed ms (quantified_in scope name sort) p in
-        λ i. option_or (filed Query (quantified_fault ρ at scope name sort i)) (within i)
-    query_fault_renamed ms scope (static_ pred args) = ap (filed Query) (static_fault_kept scope pred args)
-    query_fault_renamed ms scope (nodes_ ts) = ap (filed Query) (nodes_fault_kept stages scope ts)
-    query_fault_renamed ms scope (edges_ ts) = ap (filed Query) (edges_fault_kept stages scope ts)
-    query_fault_renamed ms scope (bind_ at names args p) =
-        let within =
-        ap (λ (inside : Scope). name_fault (new_stages ρ stages) (new_macros ρ ms) inside (renamed ρ p))
-        (bound_renamed ρ apart scope names args)
-        ∙ name_fault_renamed ms (bound_in scope names args) p in
-        λ i. option_or (filed Query (binding_fault_kept scope at names args i)) (filed Model (within i))
-    query_fault_renamed [] scope (expand_ at name args) = refl
-    query_fault_renamed (m ∷ ms) scope (expand_ at name args) =
-        let within =
-        ap (λ (inside : Scope). name_fault (new_stages ρ stages) (new_macros ρ ms) inside (renamed ρ m.body))
-        (parameters_bound scope m args)
-        ∙ name_fault_renamed ms (bound_in scope (parameter_names m) args) m.body in
-        λ i. cond (apart m.name.name name.name i)
-        (option_or (filed Query (parameters_fault_kept scope at m args i)) (filed Model (within i)))
-        (query_fault_renamed ms scope (expand_ at name args) i)
+    query_fault_renamed ms scope w = fault_within_renamed Query ms scope w
+
+    -- and without its file
+    name_fault_renamed : (ms : List MacroAt) (scope : Scope) (w : Written)
+        → name_fault (new_stages ρ stages) (new_macros ρ ms) (new_scope ρ scope) (renamed ρ w)
+        ≡ name_fault stages ms scope w
+    name_fault_renamed ms scope w =
+        sym (query_faults (new_stages ρ stages) (new_macros ρ ms) (new_scope ρ scope) (renamed ρ w))
+        ∙ ap unfiled (query_fault_renamed ms scope w) ∙ query_faults stages ms scope w
 
   -- the first name fault of a model with other names
   pub first_fault_renamed : (m : WrittenModel) → first_name_fault (renamed_model ρ m) ≡ first_name_fault m

@@ -24,57 +24,40 @@ abbrev pub filed : Which → Option Fault → Option FiledFault
 filed file None = None
 filed file (Some f) = Some (file, f)
 
--- the first name fault of a formula as `name_fault` has it. What the formula itself says stands in the query; the body
--- of a macro stands in the model, and what is in it too
-abbrev pub query_fault : List StageItem → List MacroAt → Scope → Written → Option FiledFault
-query_fault stages ms scope (not_ p) = query_fault stages ms scope p
-query_fault stages ms scope (and_ p q) = option_or (query_fault stages ms scope p) (query_fault stages ms scope q)
-query_fault stages ms scope (or_ p q) = option_or (query_fault stages ms scope p) (query_fault stages ms scope q)
-query_fault stages ms scope (implies_ p q) = option_or (query_fault stages ms scope p) (query_fault stages ms scope q)
-query_fault stages ms scope (forall_ at sort name p) =
+-- the first name fault of a formula that stands in this file, as `name_fault` has it. What the formula itself says
+-- stands in this file; the body of a macro stands in the model, and what is in it too
+abbrev pub fault_within : Which → List StageItem → List MacroAt → Scope → Written → Option FiledFault
+fault_within file stages ms scope (not_ p) = fault_within file stages ms scope p
+fault_within file stages ms scope (and_ p q) =
+    option_or (fault_within file stages ms scope p) (fault_within file stages ms scope q)
+fault_within file stages ms scope (or_ p q) =
+    option_or (fault_within file stages ms scope p) (fault_within file stages ms scope q)
+fault_within file stages ms scope (implies_ p q) =
+    option_or (fault_within file stages ms scope p) (fault_within file stages ms scope q)
+fault_within file stages ms scope (forall_ at sort name p) =
     let inside = quantified_in scope name sort in
-    option_or (filed Query (scope_fault at inside)) (query_fault stages ms inside p)
-query_fault stages ms scope (exists_ at sort name p) =
+    option_or (filed file (scope_fault at inside)) (fault_within file stages ms inside p)
+fault_within file stages ms scope (exists_ at sort name p) =
     let inside = quantified_in scope name sort in
-    option_or (filed Query (scope_fault at inside)) (query_fault stages ms inside p)
-query_fault stages ms scope (static_ pred args) = filed Query (static_fault scope pred args)
-query_fault stages ms scope (nodes_ ts) = filed Query (first_fault (node_fault stages scope) ts)
-query_fault stages ms scope (edges_ ts) = filed Query (first_fault (edge_fault stages scope) ts)
-query_fault stages ms scope (bind_ at names args p) =
-    option_or
-    (filed Query (binding_fault scope at names args))
-    (filed Model (name_fault stages ms (bound_in scope names args) p))
-query_fault stages [] scope (expand_ at name args) = None
-query_fault stages (m ∷ ms) scope (expand_ at name args) =
-    if same_name m.name.name name.name
-    then option_or
-    (filed Query (binding_fault scope at (parameter_names m) args))
-    (filed Model (name_fault stages ms (bound_in scope (parameter_names m) args) m.body))
-    else query_fault stages ms scope (expand_ at name args)
-
--- the first name fault of an expanded formula that stands in this file; the body of a macro stands in the model
-abbrev pub fault_within : Which → List StageItem → Scope → Written → Option FiledFault
-fault_within file stages scope (not_ p) = fault_within file stages scope p
-fault_within file stages scope (and_ p q) =
-    option_or (fault_within file stages scope p) (fault_within file stages scope q)
-fault_within file stages scope (or_ p q) =
-    option_or (fault_within file stages scope p) (fault_within file stages scope q)
-fault_within file stages scope (implies_ p q) =
-    option_or (fault_within file stages scope p) (fault_within file stages scope q)
-fault_within file stages scope (forall_ at sort name p) =
-    let inside = quantified_in scope name sort in
-    option_or (filed file (scope_fault at inside)) (fault_within file stages inside p)
-fault_within file stages scope (exists_ at sort name p) =
-    let inside = quantified_in scope name sort in
-    option_or (filed file (scope_fault at inside)) (fault_within file stages inside p)
-fault_within file stages scope (static_ pred args) = filed file (static_fault scope pred args)
-fault_within file stages scope (nodes_ ts) = filed file (first_fault (node_fault stages scope) ts)
-fault_within file stages scope (edges_ ts) = filed file (first_fault (edge_fault stages scope) ts)
-fault_within file stages scope (bind_ at names args p) =
+    option_or (filed file (scope_fault at inside)) (fault_within file stages ms inside p)
+fault_within file stages ms scope (static_ pred args) = filed file (static_fault scope pred args)
+fault_within file stages ms scope (nodes_ ts) = filed file (first_fault (node_fault stages scope) ts)
+fault_within file stages ms scope (edges_ ts) = filed file (first_fault (edge_fault stages scope) ts)
+fault_within file stages ms scope (bind_ at names args p) =
     option_or
     (filed file (binding_fault scope at names args))
-    (fault_within Model stages (bound_in scope names args) p)
-fault_within file stages scope (expand_ at name args) = None
+    (fault_within Model stages ms (bound_in scope names args) p)
+fault_within file stages [] scope (expand_ at name args) = None
+fault_within file stages (m ∷ ms) scope (expand_ at name args) =
+    if same_name m.name.name name.name
+    then option_or
+    (filed file (binding_fault scope at (parameter_names m) args))
+    (fault_within Model stages ms (bound_in scope (parameter_names m) args) m.body)
+    else fault_within file stages ms scope (expand_ at name args)
+
+-- that of a formula that is asked of a model
+abbrev pub query_fault : List StageItem → List MacroAt → Scope → Written → Option FiledFault
+query_fault stages ms scope w = fault_within Query stages ms scope w
 
 -- the file of a fault of what stands in this file; want of memory stands in no file, and is told of the query
 abbrev pub file_of_fault : Which → Option Fault → Which
@@ -92,7 +75,7 @@ AnswersIn first file f = IsFiledOr first file (name_fault_of f)
 
 -- c is what closing makes of the expanded formula e of this file, which has no name fault in the scope
 pub record IsClosingWithin (file : Which) (stages : List StageItem) (scope : Scope) (e : Written) (c : PlainClosed) : Type 0 where
-  pub no_fault : fault_within file stages scope e ≡ None
+  pub no_fault : fault_within file stages [] scope e ≡ None
   pub closing : c ≡ closing_of stages scope e
 
 -- what a denial denies; of another formula itself
@@ -119,7 +102,7 @@ abbrev pub unfiled : Option FiledFault → Option Fault
 unfiled None = None
 unfiled (Some (file, f)) = Some f
 
--- the file is all that `query_fault` adds
+-- the file is all that `fault_within` adds
 abbrev pub QueryFaultsAreNameFaults : Type 0
 QueryFaultsAreNameFaults =
     (stages : List StageItem) (ms : List MacroAt) (scope : Scope) (w : Written)

@@ -1,11 +1,12 @@
 ghost use Rattle.std.specs.Prelude.{◌≡◌, [], IfOk, IfErr, None};
+ghost use Rattle.pc_common.specs.declared.fault.Which.TheVariants.{Query};
 ghost use Rattle.pc_syntax.specs.Written.{written, stage_numbers, written_model};
 ghost use Rattle.pc_syntax.specs.Expansion.{IsExpanded};
 ghost use Rattle.pc_syntax.specs.StageFaults.{stages_fault, first_stage_fault};
 ghost use Rattle.pc_syntax.specs.Closed.{plain_closed};
 ghost use Rattle.pc_syntax.specs.StagesWithin.{StagesWithin};
 ghost use Rattle.scope_check.specs.Closings.{Closes};
-ghost use Rattle.scope_check.specs.QueryFaults.{query_fault, AnswersIn, asked, IsDenial};
+ghost use Rattle.scope_check.specs.QueryFaults.{fault_within, AnswersIn, asked, IsDenial};
 
 use super::fault::NameFault;
 use super::filed::Filed;
@@ -29,7 +30,8 @@ pub fn close_query(
     requires denial { IsDenial (written denied.now.body) }
     ensures ok { IfOk result (Closes model.now.stages (asked (written denied.now.body))) }
     ensures stages { IfOk result (λ closed. StagesWithin (stage_numbers model.now.stages) (plain_closed closed.body)) }
-    ensures err { IfErr result (λ e. AnswersIn (query_fault model.now.stages [] [] (written denied.now.body)) e.0 e.1) }
+    ensures err { IfErr result
+        (λ e. AnswersIn (fault_within Query model.now.stages [] [] (written denied.now.body)) e.0 e.1) }
 {
     match &denied.body {
         Formula::Not(formula) => close_asked(alloc, &model.stages, formula),
@@ -56,7 +58,7 @@ fn close_asked(
     requires expanded { IsExpanded (written formula.now) }
     ensures ok { IfOk result (Closes stages.now (written formula.now)) }
     ensures stages { IfOk result (λ closed. StagesWithin (stage_numbers stages.now) (plain_closed closed.body)) }
-    ensures err { IfErr result (λ e. AnswersIn (query_fault stages.now [] [] (written formula.now)) e.0 e.1) }
+    ensures err { IfErr result (λ e. AnswersIn (fault_within Query stages.now [] [] (written formula.now)) e.0 e.1) }
 {
     match close_outermost(alloc, stages, Which::Query, formula) {
         Ok(body) => Ok(Closed { body }),

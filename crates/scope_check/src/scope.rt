@@ -144,7 +144,7 @@ impl<'a> Scope<'a> {
     /// The scope inside a quantifier at `at`, whose variable takes the next slot. An `Err` is that there are too many
     /// variables, unless memory was refused.
     #[inline(never)]
-    pub(crate) fn quantified(
+    pub(crate) fn enter_quantifier(
         &self,
         alloc: Global,
         at: Place,
@@ -168,7 +168,7 @@ impl<'a> Scope<'a> {
     /// the shorter one goes. The names take the next slots in their order, and have the sorts that their
     /// arguments have out here. An `Err` is that there are too many variables, unless memory was refused.
     #[inline(never)]
-    pub(crate) fn bound(
+    pub(crate) fn enter_binding(
         &self,
         alloc: Global,
         at: Place,

@@ -29,8 +29,10 @@ pub(crate) fn close_outermost(
 ) -> Result<ClosedFormula, Filed>
     requires stages { stages_fault [] stages.now ≡ None }
     requires expanded { IsExpanded (written formula.now) }
-    ensures ok { IfOk result (λ closed. IsClosingWithin file stages.now [] (written formula.now) (plain_closed closed)) }
-    ensures err { IfErr result (λ e. AnswersIn (fault_within file stages.now [] (written formula.now)) e.file e.fault) }
+    ensures ok { IfOk result
+        (λ closed. IsClosingWithin file stages.now [] (written formula.now) (plain_closed closed)) }
+    ensures err { IfErr result
+        (λ e. AnswersIn (fault_within file stages.now [] [] (written formula.now)) e.file e.fault) }
 {
     let scope = in_file(file, Scope::new(alloc))?;
     close_formula(alloc, stages, file, &scope, formula)
@@ -47,25 +49,27 @@ fn close_formula<'a>(
 ) -> Result<ClosedFormula, Filed>
     requires stages { stages_fault [] stages.now ≡ None }
     requires expanded { IsExpanded (written formula.now) }
-    ensures ok { IfOk result (λ closed. IsClosingWithin file stages.now scope.now (written formula.now) (plain_closed closed)) }
-    ensures err { IfErr result (λ e. AnswersIn (fault_within file stages.now scope.now (written formula.now)) e.file e.fault) }
+    ensures ok { IfOk result
+        (λ closed. IsClosingWithin file stages.now scope.now (written formula.now) (plain_closed closed)) }
+    ensures err { IfErr result
+        (λ e. AnswersIn (fault_within file stages.now [] scope.now (written formula.now)) e.file e.fault) }
 {
     match formula {
         Formula::Not(body) => {
             let body = close_formula(alloc, stages, file, scope, body)?;
-            made(ClosedFormula::negation(alloc, body))
+            new_formula(ClosedFormula::negation(alloc, body))
         }
         Formula::And(left, right) => {
             let (left, right) = close_both(alloc, stages, file, scope, left, right)?;
-            made(ClosedFormula::conjunction(alloc, left, right))
+            new_formula(ClosedFormula::conjunction(alloc, left, right))
         }
         Formula::Or(left, right) => {
             let (left, right) = close_both(alloc, stages, file, scope, left, right)?;
-            made(ClosedFormula::disjunction(alloc, left, right))
+            new_formula(ClosedFormula::disjunction(alloc, left, right))
         }
         Formula::Implies(left, right) => {
             let (left, right) = close_both(alloc, stages, file, scope, left, right)?;
-            made(ClosedFormula::implication(alloc, left, right))
+            new_formula(ClosedFormula::implication(alloc, left, right))
         }
         Formula::Forall {
             at,
@@ -74,7 +78,7 @@ fn close_formula<'a>(
             body,
         } => {
             let body = close_quantified(alloc, stages, file, scope, *at, *sort, name, body)?;
-            made(ClosedFormula::forall(alloc, *sort, body))
+            new_formula(ClosedFormula::forall(alloc, *sort, body))
         }
         Formula::Exists {
             at,
@@ -83,7 +87,7 @@ fn close_formula<'a>(
             body,
         } => {
             let body = close_quantified(alloc, stages, file, scope, *at, *sort, name, body)?;
-            made(ClosedFormula::exists(alloc, *sort, body))
+            new_formula(ClosedFormula::exists(alloc, *sort, body))
         }
         Formula::Static { pred, args } => in_file(file, close_static(alloc, scope, pred, args)),
         Formula::Nodes(nodes) => {
@@ -103,7 +107,7 @@ fn close_formula<'a>(
 }
 
 /// A formula that was made, unless memory was refused.
-fn made(formula: Result<ClosedFormula, Memory>) -> Result<ClosedFormula, Filed>
+fn new_formula(formula: Result<ClosedFormula, Memory>) -> Result<ClosedFormula, Filed>
     ensures ok { IfOk result (λ closed. formula ≡ Ok closed) }
     ensures err { IfErr result (λ e. (e.file ≡ Query) × (name_fault_of e.fault ≡ None)) }
 {
@@ -124,8 +128,8 @@ fn close_both<'a>(
     requires expanded { IsExpanded (written left.now) × IsExpanded (written right.now) }
     ensures ok { IfOk result (λ both. IsClosingWithin file stages.now scope.now (written left.now) (plain_closed both.0)
         × IsClosingWithin file stages.now scope.now (written right.now) (plain_closed both.1)) }
-    ensures err { IfErr result (λ e. AnswersIn (option_or (fault_within file stages.now scope.now (written left.now))
-        (fault_within file stages.now scope.now (written right.now))) e.file e.fault) }
+    ensures err { IfErr result (λ e. AnswersIn (option_or (fault_within file stages.now [] scope.now (written left.now))
+        (fault_within file stages.now [] scope.now (written right.now))) e.file e.fault) }
 {
     let left = close_formula(alloc, stages, file, scope, left)?;
     let right = close_formula(alloc, stages, file, scope, right)?;
@@ -151,9 +155,9 @@ fn close_quantified<'a>(
         × IsClosingWithin file stages.now inside (written body.now) (plain_closed closed)) }
     ensures err { let inside = quantified_in scope.now name.now sort in
         IfErr result (λ e. AnswersIn (option_or (filed file (scope_fault at inside))
-        (fault_within file stages.now inside (written body.now))) e.file e.fault) }
+        (fault_within file stages.now [] inside (written body.now))) e.file e.fault) }
 {
-    let inside = in_file(file, scope.quantified(alloc, at, sort, name))?;
+    let inside = in_file(file, scope.enter_quantifier(alloc, at, sort, name))?;
     close_formula(alloc, stages, file, &inside, body)
 }
 
@@ -176,11 +180,11 @@ fn close_binding<'a>(
         (λ closed. IsClosingWithin file stages.now scope.now (bind_ at names.now args.now (written body.now))
         (plain_closed closed)) }
     ensures err { IfErr result
-        (λ e. AnswersIn (fault_within file stages.now scope.now (bind_ at names.now args.now (written body.now)))
+        (λ e. AnswersIn (fault_within file stages.now [] scope.now (bind_ at names.now args.now (written body.now)))
         e.file e.fault) }
 {
     let values = in_file(file, close_values(alloc, scope, names, args))?;
-    let inside = in_file(file, scope.bound(alloc, at, names, args))?;
+    let inside = in_file(file, scope.enter_binding(alloc, at, names, args))?;
     let body = close_formula(alloc, stages, Which::Model, &inside, body)?;
-    made(ClosedFormula::bind(alloc, values, body))
+    new_formula(ClosedFormula::bind(alloc, values, body))
 }

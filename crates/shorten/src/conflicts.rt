@@ -3,7 +3,7 @@ ghost use Rattle.std.specs.Prelude.{◌<◌, length};
 use super::assertion::Assertion;
 use super::cuts::Cuts;
 use super::levels::Levels;
-use super::named::{named, named_count};
+use super::named::{assertion_at, assertion_count};
 use super::part::Part;
 use super::sides::{Sides, note_part};
 use pc_common::Memory;
@@ -55,13 +55,7 @@ impl Drop for Conflicts {
 
 /// Whether the step is a split.
 fn is_split(step: &Step) -> bool {
-    matches!(
-        step,
-        Step::Split {
-            negated: _,
-            position: _,
-        }
-    )
+    matches!(step, Step::Split { .. })
 }
 
 /// Where the steps end that close the first open branch, the first of them standing at `from`.
@@ -91,8 +85,8 @@ fn levels_of(alloc: Global, refutation: &Refutation) -> Result<Levels, Memory> {
 
 /// The step names what it names.
 fn name_all(step: &Step, levels: &mut Levels) -> Result<(), Memory> {
-    for k in 0..named_count(step) {
-        if let Some(what) = named(step, k) {
+    for k in 0..assertion_count(step) {
+        if let Some(what) = assertion_at(step, k) {
             levels.name(what)?;
         }
     }
@@ -126,8 +120,8 @@ impl Conflicts {
     /// The levels of what the leaf names take part.
     fn take(&mut self, leaf: &Step) -> Result<(), Memory> {
         self.part.clear();
-        for k in 0..named_count(leaf) {
-            if let Some(what) = named(leaf, k) {
+        for k in 0..assertion_count(leaf) {
+            if let Some(what) = assertion_at(leaf, k) {
                 let level = self.levels.level(what);
                 self.part.add(level)?;
             }
@@ -143,7 +137,7 @@ impl Conflicts {
         negated: bool,
         position: usize,
     ) -> Result<(), Memory> {
-        let sides = Sides::of(tree, negated, position);
+        let sides = Sides::new(tree, negated, position);
         self.splits.push(OpenSplit {
             step,
             asserted_at: self.levels.level(Assertion::Or(negated, position)),

@@ -1,23 +1,22 @@
-ghost use Rattle.std.specs.Prelude.{◌≡◌, ◌<◌, ◌≤◌, ◌⊎◌, ◌++◌, ◌∷◌, [], IfOk, OnOk};
-ghost use Rattle.pc_common.specs.Steps.{split};
-ghost use Rattle.refutation.specs.Steps.{plain_step, IsLeaf, open_branches};
+ghost use Rattle.std.specs.Prelude.{◌≡◌, ◌<◌, ◌≤◌, ◌⊎◌, ◌++◌, ◌∷◌, [], IsTrue, IfOk, OnOk};
+ghost use Rattle.pc_common.specs.Steps.{split, close};
+ghost use Rattle.refutation.specs.Steps.{plain_step, plain_leaf, HasItsNodes, open_branches};
 ghost use Rattle.shorten.specs.Subsequences.{IsSubsequence};
 
 use super::cuts::Cuts;
 use pc_common::Memory;
-use pc_ground::NodeKey;
-use refutation::{Nodes, Refutation, Step};
+use refutation::{Kind, Leaf, Refutation, Step};
 use std::alloc::Global;
 
-/// A list of these nodes.
-fn copy_nodes(alloc: Global, nodes: &[NodeKey]) -> Result<Nodes, Memory>
-    ensures { IfOk result (λ copy. copy ≡ nodes.now) }
+/// Whether the leaf has as many nodes as its line asks for.
+fn has_its_nodes(leaf: Leaf<'_>) -> bool
+    ensures { IsTrue result → HasItsNodes (plain_leaf leaf.entry) }
 {
-    let mut copy = Nodes::new(alloc);
-    for node in nodes {
-        copy.push(*node)?;
+    match leaf {
+        Leaf::Cycle(nodes) => nodes.len() > 0,
+        Leaf::Path(nodes) => nodes.len() > 1,
+        _ => true,
     }
-    Ok(copy)
 }
 
 /// Puts a copy of a split last, and returns how many branches are open at least.
@@ -36,15 +35,20 @@ fn copy_split(
     Ok(branches.saturating_add(1))
 }
 
-/// Puts a leaf last, and returns how many branches are open at least.
-fn put_leaf(short: &mut Refutation, leaf: Step, branches: usize) -> Result<usize, Memory>
+/// Puts a copy of a leaf last, and returns how many branches are open at least.
+fn copy_leaf(
+    alloc: Global,
+    short: &mut Refutation,
+    leaf: Leaf<'_>,
+    branches: usize,
+) -> Result<usize, Memory>
     requires some { 0 < branches }
     requires open { branches ≤ open_branches short.old }
-    requires leaf { IsLeaf (plain_step leaf) }
+    requires nodes { HasItsNodes (plain_leaf leaf) }
     ensures open { IfOk result (λ less. less ≤ open_branches short.new) }
-    ensures copied { OnOk result (short.new ≡ short.old ++ plain_step leaf ∷ []) }
+    ensures copied { OnOk result (short.new ≡ short.old ++ close (plain_leaf leaf.entry) ∷ []) }
 {
-    short.close_leaf(leaf)?;
+    short.push(alloc, Kind::Close(leaf))?;
     Ok(branches - 1)
 }
 
@@ -64,25 +68,10 @@ fn put_copy(
     if branches == 0 {
         return Ok(branches);
     }
-    match step {
-        Step::Split { negated, position } => copy_split(short, *negated, *position, branches),
-        Step::Cycle(nodes) if nodes.len() > 0 => {
-            put_leaf(
-                short,
-                Step::Cycle(copy_nodes(alloc, nodes.as_slice())?),
-                branches,
-            )
-        }
-        Step::Path(nodes) if nodes.len() > 1 => {
-            put_leaf(
-                short,
-                Step::Path(copy_nodes(alloc, nodes.as_slice())?),
-                branches,
-            )
-        }
-        Step::Absent(node) => put_leaf(short, Step::Absent(*node), branches),
-        Step::False => put_leaf(short, Step::False, branches),
-        _ => Ok(branches),
+    match step.kind() {
+        Kind::Split { negated, position } => copy_split(short, negated, position, branches),
+        Kind::Close(leaf) if has_its_nodes(leaf) => copy_leaf(alloc, short, leaf, branches),
+        Kind::Close(_) => Ok(branches),
     }
 }
 

@@ -1,7 +1,7 @@
 //! Refutations without the splits that they do not need.
 //!
 //! Clause: `shorten` returns a refutation of the same tree and version: the given one without some of its steps
-//! (`refutes`, `steps`).
+//! (`refutes`, `steps`, `count`).
 //!
 //! ```rust
 //! // `refutation` is one of the tree, of version 1

@@ -3,12 +3,9 @@ use pc_ground::NodeKey;
 use refutation::Step;
 
 /// How many assertions of its branch a step names at most.
-pub(crate) fn named_count(step: &Step) -> usize {
+pub(crate) fn assertion_count(step: &Step) -> usize {
     match step {
-        Step::Split {
-            negated: _,
-            position: _,
-        } => 1,
+        Step::Split { .. } => 1,
         Step::Cycle(nodes) => nodes.len(),
         Step::Path(nodes) => nodes.len(),
         Step::Absent(_) => 2,
@@ -38,7 +35,7 @@ fn edge_of_path(nodes: &[NodeKey], k: usize) -> Option<Assertion> {
 }
 
 /// The assertion of number `k`, from 0, among those that a step names: the Or that is split, or those that clash.
-pub(crate) fn named(step: &Step, k: usize) -> Option<Assertion> {
+pub(crate) fn assertion_at(step: &Step, k: usize) -> Option<Assertion> {
     match step {
         Step::Split { negated, position } => Some(Assertion::Or(*negated, *position as usize)),
         Step::Cycle(nodes) => edge_of_cycle(nodes.as_slice(), k),

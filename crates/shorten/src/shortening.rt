@@ -17,7 +17,7 @@ use std::alloc::Global;
 const ONE_SPLIT: usize = 3;
 
 /// The refutation of the steps that stay, where some are left out and a judge finds that the others are one.
-fn shorter(
+fn find_shorter(
     alloc: Global,
     tree: &Flat,
     version: Version,
@@ -57,7 +57,7 @@ pub fn shorten(
     ensures steps { IfOk result (λ short. IsSubsequence short refutation) }
     ensures count { IfOk result (λ short. length short ≤ length refutation) }
 {
-    match shorter(alloc, tree, version, &refutation)? {
+    match find_shorter(alloc, tree, version, &refutation)? {
         Some(short) => Ok(short),
         None => Ok(refutation),
     }

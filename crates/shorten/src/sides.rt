@@ -15,7 +15,7 @@ pub(crate) struct Sides {
 
 impl Sides {
     /// Those of the Or at this position.
-    pub(crate) fn of(tree: &Flat, negated: bool, position: usize) -> Sides {
+    pub(crate) fn new(tree: &Flat, negated: bool, position: usize) -> Sides {
         let left = position.saturating_add(1);
         let right = left.saturating_add(skip_at(tree, left));
         Sides {

@@ -1,8 +1,7 @@
 -- Flags for the truth of subtrees and for the positions of a branch, and the sides of an Or by its rows.
-use Rattle.std.proofs.Common.{◌≡◌, ◌<◌, inl, inr, ℕ, ◌+◌, Bool, true, false, ◌&&◌, ◌||◌, List, [], Some, None, length, refl, sym, ap, ◌∙◌, subst, arith, set}
-use Rattle.std.specs.Prelude.{slice_get, ◌↔◌, IsTrue, replicate, All, Contains}
-use Rattle.std.proofs.lemmas.List.{get_or-set_same, get_or-set_other, get_or-replicate, get_or_past, length-replicate}
-use Rattle.std.proofs.lemmas.Bool.{cases_lt, or_left, or_right}
+use Rattle.std.proofs.Common.{◌≡◌, ◌<◌, inl, inr, ℕ, ◌+◌, Bool, true, false, ◌&&◌, ◌||◌, List, Some, None, length, refl, sym, ap, ◌∙◌, subst, arith}
+use Rattle.std.specs.Prelude.{slice_get, ◌↔◌, IsTrue}
+use Rattle.std.proofs.lemmas.Bool.{or_left, or_right}
 use Rattle.pc_ground.specs.declared.literal.Literal.{Literal}
 use Rattle.pc_ground.specs.declared.row.Row.{Row}
 use Rattle.pc_ground.specs.declared.row.RowKind.{RowKind}
@@ -20,14 +19,9 @@ use Rattle.pc_ground.proofs.FlatRows.{length_rows, size_pos, subtree_size, subtr
 use Rattle.pc_ground.proofs.StageWalks.{some_same}
 use Rattle.solver.specs.Spelled.{spelled, IsSpelled}
 use Rattle.solver.specs.Met.{IsMet}
-use Rattle.solver.specs.Flags.{flag, AreTruths, HasChildren, of_both, of_either, SomeChildren, AreChildFlags}
+use Rattle.solver.specs.Flags.{AreTruths, HasChildren, of_both, of_either, SomeChildren, AreChildFlags}
 use Rattle.solver.specs.Places.{left_side, denied_left, right_side, IsOr, IsDeniedIn, AreSides}
 use Rattle.solver.specs.declared.side.Side.{Side}
-use Rattle.solver.specs.Below.{IsKindBelow, IsRowBelow}
-use Rattle.order_graph.specs.Ways.{IsBelow}
-use Rattle.std.proofs.lemmas.Option.{slice_get_within, get_or_from_slice_get}
-use Rattle.std.proofs.lemmas.List.Elements.{All-contains}
-use Rattle.solver.specs.Weights.{is_on}
 use Rattle.solver.proofs.HasAsserted.{row_root, length_spelled}
 
 pub children_inside : (rows : List (Row ℕ)) (p right : ℕ) → IsSpelled rows → HasChildren (spelled rows) p right → (p + 1 < length rows) × (right < length rows)
@@ -179,29 +173,6 @@ truths_none rows ls from flags flat e = λ p s past at.
     no_some : (s : Tree ℕ) → None ≡ Some s → ⊥
     no_some s e = cc
 
--- one position more, before those that are told
-pub truths_more : (t : Tree ℕ) (ls : List (Literal ℕ)) (from p : ℕ) (old new : List Bool) (b : Bool) → from ≡ p + 1 → p < length old → new ≡ set old p b
-    → ((s : Tree ℕ) → subtree_at t p ≡ Some s → IsTrue b ↔ IsMet ls s) → AreTruths t ls from old → AreTruths t ls p new
-truths_more t ls from p old new b e inside f here truths = λ q s past at.
-    elim (cases_lt p q) [
-      | inl later ↦
-          let same : flag new q ≡ flag old q = ap (λ xs. flag xs q) f ∙ get_or-set_other old p q b false (omega arith) in
-          let k = truths q s (omega arith) at in
-          ((λ h. k.0 (sym same ∙ h)), (λ h. same ∙ k.1 h))
-      | inr not_later ↦
-          let equal : q ≡ p = omega arith in
-          let same : flag new q ≡ b = ap (flag new) equal ∙ ap (λ xs. flag xs p) f ∙ get_or-set_same old p b false inside in
-          let k = here s (ap (subtree_at t) (sym equal) ∙ at) in
-          ((λ h. k.0 (sym same ∙ h)), (λ h. same ∙ k.1 h))
-    ]
-
-pub flags_none : (n : ℕ) (p : ℕ) → flag (replicate n false) p ≡ is_on [] p
-flags_none n p =
-    elim (cases_lt p n) [
-      | inl inside ↦ get_or-replicate n p false false inside
-      | inr past ↦ get_or_past (replicate n false) p false (omega (arith, length-replicate {A = Bool} n false))
-    ]
-
 -- an Or of the tree or of its negation has the children of the tree's And or Or there
 pub signed_children : (t : Tree ℕ) (n : Bool) (p : ℕ) (a b : Tree ℕ) → subtree_at (turned n t) p ≡ Some (either a b) → HasChildren t p (p + 1 + size_of a)
 signed_children t false p a b e = of_either a b e
@@ -235,13 +206,3 @@ or_right_inside rows q r flat (a, b, e) at =
 pub denied_in : (v : Version) (t : Tree ℕ) (left : ℕ) → left < size_of t → IsDeniedIn t (denied_left v left)
 denied_in One t left inside = tt
 denied_in Two t left inside = inside
-
--- the literal of a row is over numbers below n
-pub literal_at : (n : ℕ) (rows : List (Row ℕ)) (p : ℕ) (r : Row ℕ) (l : Literal ℕ) → All (IsRowBelow n) rows
-    → slice_get rows p ≡ Some r → r.kind ≡ Lit l → IsBelow n l
-literal_at n rows p r l all at kind =
-    let P : RowKind ℕ → Type 0 = IsKindBelow n in
-    subst P kind (All-contains (IsRowBelow n) rows r all (contains_at rows p r at))
-  where
-    contains_at : {X : Type 0} (xs : List X) (k : ℕ) (x : X) → slice_get xs k ≡ Some x → Contains xs x
-    contains_at xs k x e = (k, slice_get_within xs k x e, get_or_from_slice_get xs k x x e)

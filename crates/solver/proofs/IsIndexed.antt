@@ -1,10 +1,10 @@
--- A list of places with its index: what it finds, one place more, and a first part.
-use Rattle.std.proofs.Common.{◌≡◌, ◌≤◌, ◌<◌, inl, inr, ℕ, zero, suc, Bool, true, false, List, [], ◌∷◌, ◌++◌, Some, None, take, length, refl, sym, ap, ◌∙◌, subst, arith, length-append}
-use Rattle.std.specs.Prelude.{slice_get, slice_index, Contains}
+-- A list of places with its index: what it finds, and one place more.
+use Rattle.std.proofs.Common.{◌≡◌, ◌≤◌, ◌<◌, inl, inr, ℕ, zero, suc, Bool, List, [], ◌∷◌, ◌++◌, Some, None, length, refl, sym, ap, ◌∙◌, subst, arith, length-append}
+use Rattle.std.specs.Prelude.{slice_get, Contains}
 use Rattle.std.proofs.lemmas.Bool.{cases_lt}
 use Rattle.std.proofs.lemmas.Option.{slice_get_within, slice_get-get_or, get_or_from_slice_get}
 use Rattle.solver.specs.declared.place.Place.{Place}
-use Rattle.solver.specs.Indexed.{index_of, IsIndexed, IsPut, IsPlacePut}
+use Rattle.solver.specs.Indexed.{index_of, IsIndexed, IsPlacePut}
 
 some_is : {X : Type 0} (x y : X) → Some x ≡ Some y → x ≡ y
 some_is x y e = cc
@@ -27,18 +27,6 @@ get_last : {X : Type 0} (xs : List X) (x : X) → slice_get (xs ++ x ∷ []) (le
 get_last [] x = refl
 get_last (y ∷ ys) x = get_last ys x
 
-get_taken : {X : Type 0} (n : ℕ) (xs : List X) (k : ℕ) → k < n → slice_get (take n xs) k ≡ slice_get xs k
-get_taken zero xs k h = absurd (omega arith)
-get_taken (suc n) [] k h = refl
-get_taken (suc n) (x ∷ xs) zero h = refl
-get_taken (suc n) (x ∷ xs) (suc k) h = get_taken n xs k (omega arith)
-
-taken_get : {X : Type 0} (n : ℕ) (xs : List X) (k : ℕ) (x : X) → slice_get (take n xs) k ≡ Some x → k < n
-taken_get zero xs k x e = absurd (none_some x e)
-taken_get (suc n) [] k x e = absurd (none_some x e)
-taken_get (suc n) (y ∷ ys) zero x e = omega arith
-taken_get (suc n) (y ∷ ys) (suc k) x e = (let h = taken_get n ys k x e in omega (arith, h))
-
 pub has_at : {X : Type 0} (xs : List X) (k : ℕ) (x : X) → slice_get xs k ≡ Some x → Contains xs x
 has_at xs k x e = (k, slice_get_within xs k x e, get_or_from_slice_get xs k x x e)
 
@@ -49,9 +37,6 @@ at_has xs x (k, inside, e) = (k, slice_get-get_or xs k x inside ∙ ap Some e)
 pub found_at : (items : List Place) (plain negated : List ℕ) (q : Place) → IsIndexed items plain negated → Contains items q
     → slice_get items (index_of plain negated q) ≡ Some q
 found_at items plain negated q indexed has = (let there = at_has items q has in (indexed there.0 q there.1).1)
-
-pub no_place : (plain negated : List ℕ) → IsIndexed [] plain negated
-no_place plain negated = λ k q e. absurd (none_some q e)
 
 -- one that is there once more
 pub pushed_known : (items new : List Place) (plain negated : List ℕ) (q : Place) → IsIndexed items plain negated → Contains items q → new ≡ items ++ q ∷ []
@@ -65,8 +50,8 @@ pushed_known items new plain negated q indexed has pushed =
       | inr past ↦
           let at : k ≡ length items = (let size = slice_get_within (items ++ q ∷ []) k x e in omega (arith, size, past, length-append items (q ∷ []))) in
           let same : x ≡ q = some_is x q (sym e ∙ ap (slice_get (items ++ q ∷ [])) at ∙ get_last items q) in
-          let found : slice_get items (index_of plain negated x) ≡ Some x =
-          (let P : Place → Type 0 = λ y. slice_get items (index_of plain negated y) ≡ Some y in subst P (sym same) (found_at items plain negated q indexed has)) in
+          let P : Place → Type 0 = λ y. slice_get items (index_of plain negated y) ≡ Some y in
+          let found : P x = subst P (sym same) (found_at items plain negated q indexed has) in
           let inside = slice_get_within items (index_of plain negated x) x found in
           (omega (arith, inside, at), get_front items (q ∷ []) (index_of plain negated x) inside ∙ found)
     ])
@@ -95,37 +80,3 @@ pushed_new items new plain negated q indexed put pushed =
           let place : index_of plain negated x ≡ length items = ap (index_of plain negated) same ∙ put in
           (omega (arith, place, at), ap (slice_get (items ++ q ∷ [])) place ∙ get_last items q ∙ ap Some (sym same))
     ])
-
-pub cut_indexed : (items new : List Place) (plain negated : List ℕ) (n : ℕ) → IsIndexed items plain negated → new ≡ take n items → IsIndexed new plain negated
-cut_indexed items new plain negated n indexed cut =
-    let P : List Place → Type 0 = λ xs. IsIndexed xs plain negated in
-    let front : IsIndexed (take n items) plain negated = λ k x e.
-    let before = taken_get n items k x e in
-    let old = indexed k x (sym (get_taken n items k before) ∙ e) in
-    (old.0, get_taken n items (index_of plain negated x) (omega (arith, before, old.0)) ∙ old.1) in
-    subst P (sym cut) front
-
--- the index of a place, by that of its position
-pub put_plain : (plain negated plains : List ℕ) (q : Place) (n : ℕ) → q.negated ≡ false → IsPut plain q.position n plains
-    → IsPlacePut plain negated q n plains negated
-put_plain plain negated plains q n sign put = (at q sign put.0, λ x apart. other x.negated x.position (λ e f. apart (place_is x q (e ∙ sym sign) f)))
-  where
-    at : (q : Place) → q.negated ≡ false → slice_index plains q.position ≡ n → index_of plains negated q ≡ n
-    at q sign e = rw sign e
-
-    other : (m : Bool) (p : ℕ) → (m ≡ false → p ≡ q.position → ⊥)
-        → index_of plains negated (record { negated = m; position = p }) ≡ index_of plain negated (record { negated = m; position = p })
-    other false p apart = put.1 p (λ e. apart refl e)
-    other true p apart = refl
-
-pub put_negated : (plain negated negateds : List ℕ) (q : Place) (n : ℕ) → q.negated ≡ true → IsPut negated q.position n negateds
-    → IsPlacePut plain negated q n plain negateds
-put_negated plain negated negateds q n sign put = (at q sign put.0, λ x apart. other x.negated x.position (λ e f. apart (place_is x q (e ∙ sym sign) f)))
-  where
-    at : (q : Place) → q.negated ≡ true → slice_index negateds q.position ≡ n → index_of plain negateds q ≡ n
-    at q sign e = rw sign e
-
-    other : (m : Bool) (p : ℕ) → (m ≡ true → p ≡ q.position → ⊥)
-        → index_of plain negateds (record { negated = m; position = p }) ≡ index_of plain negated (record { negated = m; position = p })
-    other true p apart = put.1 p (λ e. apart refl e)
-    other false p apart = refl

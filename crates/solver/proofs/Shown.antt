@@ -21,9 +21,6 @@ pub all_by_in : {X : Type 0} (P : X → Type 0) (xs : List X) → ((x : X) → I
 all_by_in P [] f = All-nil P
 all_by_in P (x ∷ xs) f = All-cons P x xs (f x (inl refl)) (all_by_in P xs (λ y i. f y (inr i)))
 
-pub present_none : (nodes : List Node) (ls : List (Literal ℕ)) (n : ℕ) → n ≡ 0 → ArePresent nodes ls n []
-present_none nodes ls n e = λ a. ((λ h. absurd (in_from_contains a [] h)), (λ h. absurd (omega (arith, h.1, e))))
-
 pub present_more : (nodes : List Node) (ls : List (Literal ℕ)) (k : ℕ) (old new : List Node) → IsPresentNoted nodes ls k old new → ArePresent nodes ls k old
     → ArePresent nodes ls (k + 1) new
 present_more nodes ls k old new (inl (is, e)) are = λ a. (from a, to a)
@@ -151,13 +148,6 @@ edges_more ls n l old new at before noted j k =
     last : In (an_edge j k) (l ∷ []) → l ≡ an_edge j k
     last (inl h) = h
     last (inr h) = absurd h
-
-pub edges_none : (ls : List (Literal ℕ)) (pairs : List (ℕ × ℕ)) (n : ℕ) → pairs ≡ [] → n ≡ 0 → (j k : ℕ)
-    → Contains pairs (j, k) ↔ Contains (take n ls) (an_edge j k)
-edges_none ls pairs n e f j k =
-    let P : List (ℕ × ℕ) → Type 0 = λ xs. Contains xs (j, k) in
-    let Q : ℕ → Type 0 = λ m. Contains (take m ls) (an_edge j k) in
-    ((λ h. absurd (in_from_contains (j, k) [] (subst P e h))), (λ h. absurd (in_from_contains (an_edge j k) [] (subst Q f h))))
 
 pub edges_shown : (nodes : List Node) (ls : List (Literal ℕ)) (pairs : List (ℕ × ℕ)) (es : List Edge) → es ≡ map (edge_over nodes) pairs
     → ((j k : ℕ) → Contains pairs (j, k) ↔ Joins ls j k) → AreEdges nodes ls es

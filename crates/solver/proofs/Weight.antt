@@ -29,10 +29,6 @@ in_from_on ps p e = let a = any_holds (λ q. q == p) ps e in let P : ℕ → Typ
 on_more : (ps qs : List ℕ) (p : ℕ) → IsWithin ps qs → is_on ps p ≡ true → is_on qs p ≡ true
 on_more ps qs p w e = on_from_in qs p (w p (in_from_on ps p e))
 
--- one that is decided counts nothing
-one_count : Bool → ℕ
-one_count c = if c then 0 else 1
-
 count_more : (c d : Bool) → (c ≡ true → d ≡ true) → (if d then 0 else 1) ≤ (if c then 0 else 1)
 count_more true true f = omega arith
 count_more true false f = cc (f refl)

@@ -50,6 +50,8 @@ pub(crate) struct Agenda {
     /// Which splits took part in what failed so far.
     failures: Failures,
     gains: Gains,
+    /// Whether memory was refused to the trail or the marks.
+    is_refused: bool,
 }
 
 // By hand: docs/DECISIONS.md, "Drops are written by hand".
@@ -70,30 +72,50 @@ impl Drop for Agenda {
             seen: _,
             failures: _,
             gains: _,
+            is_refused: _,
         } = self;
     }
 }
 
 impl Agenda {
     /// That of a search over these rows and so many nodes, before the tree is asserted.
-    pub(crate) fn new(alloc: Global, rows: &[Row<u32>], nodes: u32) -> Result<Agenda, Memory> {
+    pub(crate) fn new(alloc: Global, rows: &[Row<u32>], nodes: u32) -> Agenda {
         let count = end_of_ors(rows);
-        Ok(Agenda {
+        let mut agenda = Agenda {
             watch: Watch::empty(alloc),
-            standings: vec![in alloc; Standing::none(); count]?,
-            stamps: vec![in alloc; 0; count]?,
+            standings: Vec::new(alloc),
+            stamps: Vec::new(alloc),
             moment: 0,
-            known_truths: Bits::new(alloc, count)?,
-            known_sides: Bits::new(alloc, count)?,
-            open: Bits::new(alloc, count)?,
-            ready: Bits::new(alloc, count)?,
-            truths: vec![in alloc; false; count]?,
+            known_truths: Bits::new(alloc),
+            known_sides: Bits::new(alloc),
+            open: Bits::new(alloc),
+            ready: Bits::new(alloc),
+            truths: Vec::new(alloc),
             trail: Vec::new(alloc),
             marks: Vec::new(alloc),
             seen: 0,
-            failures: Failures::new(alloc, nodes, count)?,
-            gains: Gains::empty(alloc),
-        })
+            failures: Failures::new(alloc, nodes, count),
+            gains: Gains::new(alloc),
+            is_refused: false,
+        };
+        agenda.make_room(count);
+        agenda
+    }
+
+    /// Makes room for so many positions.
+    fn make_room(&mut self, count: usize) {
+        self.is_refused |= self.standings.resize(count, Standing::none()).is_err();
+        self.is_refused |= self.stamps.resize(count, 0).is_err();
+        self.is_refused |= self.known_truths.make_room(count);
+        self.is_refused |= self.known_sides.make_room(count);
+        self.is_refused |= self.open.make_room(count);
+        self.is_refused |= self.ready.make_room(count);
+        self.is_refused |= self.truths.resize(count, false).is_err();
+    }
+
+    /// Whether memory was refused to any hint. Then that hint went without what it was to keep.
+    fn is_refused(&self) -> bool {
+        self.is_refused | self.watch.is_refused | self.gains.is_refused | self.failures.is_refused()
     }
 
     /// What is known of the position.
@@ -128,27 +150,24 @@ impl Agenda {
 
     /// Puts the standing of the position on the trail, if a split waits. Once at each moment is enough, since one
     /// moment is undone together.
-    fn record(&mut self, position: usize) -> Result<(), Memory> {
+    fn record(&mut self, position: usize) {
         if self.marks.is_empty() || position >= self.stamps.len() {
-            return Ok(());
+            return;
         }
         if self.stamps[position] == self.moment {
-            return Ok(());
+            return;
         }
         self.stamps[position] = self.moment;
         let standing = self.standing(position);
-        self.trail.push(Change { position, standing })?;
-        Ok(())
+        self.is_refused |= self.trail.push(Change { position, standing }).is_err();
     }
 
     /// Changes the standing of the position. The change can be undone.
-    pub(crate) fn change(&mut self, position: usize, standing: Standing) -> Result<(), Memory> {
-        if self.standing(position).is_same(standing) {
-            return Ok(());
+    pub(crate) fn change(&mut self, position: usize, standing: Standing) {
+        if !self.standing(position).is_same(standing) {
+            self.record(position);
+            self.set(position, standing);
         }
-        self.record(position)?;
-        self.set(position, standing);
-        Ok(())
     }
 
     /// Makes the lists of what a literal changes, at the first split: before it no standing is known that a literal
@@ -159,15 +178,15 @@ impl Agenda {
         tree: &NumberedTree,
         version: Version,
         graph: &OrderGraph,
-    ) -> Result<(), Memory> {
+    ) {
         if self.watch.is_empty() {
-            self.watch = Watch::new(alloc, tree.rows(), tree.count(), version)?;
-            self.gains = Gains::new(alloc, tree.count(), graph)?;
+            self.watch = Watch::new(alloc, tree.rows(), tree.count(), version);
+            self.gains.begin(tree.count(), graph);
         }
-        Ok(())
     }
 
-    /// The Or is split, and its right side waits.
+    /// The Or is split, and its right side waits. Returns `Memory` where memory was refused to a hint: so what is split
+    /// is never chosen by a hint that lacks something.
     pub(crate) fn split(
         &mut self,
         alloc: Global,
@@ -176,10 +195,13 @@ impl Agenda {
         place: Place,
         graph: &OrderGraph,
     ) -> Result<(), Memory> {
-        self.begin_watch(alloc, tree, version, graph)?;
-        self.change(place.position, Standing::none())?;
-        self.failures.split(place, graph)?;
-        self.marks.push(self.trail.len())?;
+        if self.is_refused() {
+            return Err(Memory);
+        }
+        self.begin_watch(alloc, tree, version, graph);
+        self.change(place.position, Standing::none());
+        self.failures.split(place, graph);
+        self.is_refused |= self.marks.push(self.trail.len()).is_err();
         self.moment = self.moment.wrapping_add(1);
         Ok(())
     }
@@ -199,56 +221,44 @@ impl Agenda {
     }
 
     /// Looks at the positions that were asserted since the last call: each Or is a choice.
-    fn take(&mut self, tree: &NumberedTree, asserted: &[Place]) -> Result<(), Memory> {
+    fn take(&mut self, tree: &NumberedTree, asserted: &[Place]) {
         for k in self.seen..asserted.len() {
             let place = asserted[k];
             if is_or(tree, place) {
-                self.failures.note_or(place.position)?;
-                self.change(place.position, Standing::fresh(place.negated))?;
+                self.failures.note_or(place.position);
+                self.change(place.position, Standing::fresh(place.negated));
             }
         }
         self.seen = asserted.len();
-        Ok(())
     }
 
     /// Looks at what is asserted on this branch since the side was to be entered.
-    pub(crate) fn note(
-        &mut self,
-        tree: &NumberedTree,
-        graph: &OrderGraph,
-        asserted: &[Place],
-    ) -> Result<(), Memory>
+    pub(crate) fn note(&mut self, tree: &NumberedTree, graph: &OrderGraph, asserted: &[Place])
         requires { graph.now.nodes ≡ length tree.now.nodes }
     {
-        self.touch_all(tree, graph)?;
-        self.take(tree, asserted)
+        self.touch_all(tree, graph);
+        self.take(tree, asserted);
     }
 
     /// Makes stale what the literals of the side at hand may have changed.
-    fn touch_all(&mut self, tree: &NumberedTree, graph: &OrderGraph) -> Result<(), Memory>
+    fn touch_all(&mut self, tree: &NumberedTree, graph: &OrderGraph)
         requires { graph.now.nodes ≡ length tree.now.nodes }
     {
         if self.watch.is_empty() {
-            return Ok(());
+            return;
         }
         let (from, end) = self.gains.asserted(graph);
         for k in from..end {
-            self.gains.note(tree, graph, k)?;
-            self.touch_gained(tree.rows())?;
+            self.gains.note(tree, graph, k);
+            self.touch_gained(tree.rows());
         }
-        Ok(())
     }
 
     /// Looks at what the side would change, before it is entered.
-    pub(crate) fn foresee(
-        &mut self,
-        tree: &NumberedTree,
-        side: Side,
-        graph: &OrderGraph,
-    ) -> Result<(), Memory>
+    pub(crate) fn foresee(&mut self, tree: &NumberedTree, side: Side, graph: &OrderGraph)
         requires { graph.now.nodes ≡ length tree.now.nodes }
     {
-        self.gains.foresee(tree, side, graph)
+        self.gains.foresee(tree, side, graph);
     }
 
     /// The pending Ors with a standing that a literal may change.
@@ -262,24 +272,19 @@ impl Agenda {
 
     /// Makes the pending Or that this is within stale: its closed sides, and with `in_truth` its truth. Returns the
     /// position from which on the next such Or may stand: past the last row if there is none.
-    fn touch(
-        &mut self,
-        rows: &[Row<u32>],
-        watched: Watched,
-        in_truth: bool,
-    ) -> Result<usize, Memory> {
+    fn touch(&mut self, rows: &[Row<u32>], watched: Watched, in_truth: bool) -> usize {
         let position = watched.position;
         if let Some(p) = self.touchable(in_truth).last_up_to(position, watched.outer) {
             let end = p.saturating_add(skip_at(rows, p));
             if position < end {
                 let standing = self.standing(p).stale(in_truth);
-                self.change(p, standing)?;
-                return Ok(end);
+                self.change(p, standing);
+                return end;
             }
         }
         match self.touchable(in_truth).first_from(position) {
-            Some(next) => Ok(next),
-            None => Ok(rows.len()),
+            Some(next) => next,
+            None => rows.len(),
         }
     }
 
@@ -290,43 +295,41 @@ impl Agenda {
         rows: &[Row<u32>],
         watched: Watched,
         gained: Gained,
-    ) -> Result<(u32, usize), Memory> {
+    ) -> (u32, usize) {
         let Some(other) = self.gains.first_other(gained.others, watched.other) else {
-            return Ok((u32::MAX, usize::MAX));
+            return (u32::MAX, usize::MAX);
         };
         if other > watched.other {
-            return Ok((other, 0));
+            return (other, 0);
         }
-        let position = self.touch(rows, watched, gained.in_truth)?;
-        Ok((other, position))
+        let position = self.touch(rows, watched, gained.in_truth);
+        (other, position)
     }
 
     /// The same for all pairs on the list. Pairs with other nodes are passed over, and so are those within no Or that a
     /// literal may change.
-    fn touch_list(&mut self, rows: &[Row<u32>], gained: Gained) -> Result<(), Memory> {
+    fn touch_list(&mut self, rows: &[Row<u32>], gained: Gained) {
         let (from, end) = self.watch.places(gained.list);
         let mut at = from;
         for _ in from..end {
             if at >= end {
-                return Ok(());
+                return;
             }
             let Some(watched) = self.watch.watched(at) else {
-                return Ok(());
+                return;
             };
-            let (other, position) = self.touch_watched(rows, watched, gained)?;
+            let (other, position) = self.touch_watched(rows, watched, gained);
             let next = at.saturating_add(1);
             at = self.watch.first_place(next, end, other, position);
         }
-        Ok(())
     }
 
-    fn touch_gained(&mut self, rows: &[Row<u32>]) -> Result<(), Memory> {
+    fn touch_gained(&mut self, rows: &[Row<u32>]) {
         for k in 0..self.gains.len() {
             if let Some(gained) = self.gains.gained(k) {
-                self.touch_list(rows, gained)?;
+                self.touch_list(rows, gained);
             }
         }
-        Ok(())
     }
 
     /// The standing of the Or with its truth as it is now: it is asked again where it is stale.
@@ -345,21 +348,12 @@ impl Agenda {
     }
 
     /// The same, and keeps it.
-    pub(crate) fn refresh(
-        &mut self,
-        rows: &[Row<u32>],
-        graph: &OrderGraph,
-        p: usize,
-    ) -> Result<Standing, Memory>
+    fn refresh(&mut self, rows: &[Row<u32>], graph: &OrderGraph, p: usize) -> Standing
         requires { All (IsRowBelow graph.now.nodes) rows.now }
     {
-        let before = self.standing(p);
-        if !before.is_truth_stale() {
-            return Ok(before);
-        }
         let standing = self.look(rows, graph, p);
-        self.change(p, standing)?;
-        Ok(standing)
+        self.change(p, standing);
+        standing
     }
 
     /// The first position from `from` on that may be a choice with a side that is closed at once.
@@ -368,33 +362,27 @@ impl Agenda {
     }
 
     /// The first choice.
-    pub(crate) fn first_open(
-        &mut self,
-        rows: &[Row<u32>],
-        graph: &OrderGraph,
-    ) -> Result<Option<Place>, Memory>
+    pub(crate) fn first_open(&mut self, rows: &[Row<u32>], graph: &OrderGraph) -> Option<Place>
         requires { All (IsRowBelow graph.now.nodes) rows.now }
     {
         let mut from = 0;
         for _ in 0..rows.len() {
-            let Some(position) = self.open.first_from(from) else {
-                return Ok(None);
-            };
-            let standing = self.refresh(rows, graph, position)?;
+            let position = self.open.first_from(from)?;
+            let standing = self.refresh(rows, graph, position);
             if standing.is_open() {
-                return Ok(Some(Place {
+                return Some(Place {
                     negated: standing.is_negated(),
                     position,
-                }));
+                });
             }
             from = position.saturating_add(1);
         }
-        Ok(None)
+        None
     }
 
     /// A leaf closes the side that was entered last by this clash.
-    pub(crate) fn learn(&mut self, clash: &Clash, graph: &OrderGraph) -> Result<(), Memory> {
-        self.failures.learn(clash, graph)
+    pub(crate) fn learn(&mut self, clash: &Clash, graph: &OrderGraph) {
+        self.failures.learn(clash, graph);
     }
 
     /// The Or to split next where a failure is replayed, if one is.
@@ -404,27 +392,22 @@ impl Agenda {
 
     /// The choice with the newest record: the newest failures, of several the most, of several the first by position.
     /// Without any record it is `first`, the first choice.
-    pub(crate) fn newest(
-        &mut self,
-        rows: &[Row<u32>],
-        graph: &OrderGraph,
-        first: Place,
-    ) -> Result<Place, Memory>
+    pub(crate) fn newest(&mut self, rows: &[Row<u32>], graph: &OrderGraph, first: Place) -> Place
         requires { All (IsRowBelow graph.now.nodes) rows.now }
     {
         if self.failures.is_empty() {
-            return Ok(first);
+            return first;
         }
         let mut chosen = first;
         let mut newest = self.failures.record(first.position);
         let mut from = first.position.saturating_add(1);
         for _ in 0..rows.len() {
             let Some(position) = self.open.first_common(self.failures.recorded(), from) else {
-                return Ok(chosen);
+                return chosen;
             };
             let record = self.failures.record(position);
             if record.is_newer(newest) {
-                let standing = self.refresh(rows, graph, position)?;
+                let standing = self.refresh(rows, graph, position);
                 if standing.is_open() {
                     newest = record;
                     chosen = Place {
@@ -435,6 +418,6 @@ impl Agenda {
             }
             from = position.saturating_add(1);
         }
-        Ok(chosen)
+        chosen
     }
 }

@@ -1,4 +1,3 @@
-use pc_common::Memory;
 use std::alloc::Global;
 
 /// A set of numbers below a bound, as bits. It is asked for hints alone, and so no clause speaks of it.
@@ -21,17 +20,16 @@ fn highest(word: u64, at: usize) -> usize {
 }
 
 impl Bits {
-    /// None of the numbers below `count`.
-    pub(crate) fn new(alloc: Global, count: usize) -> Result<Bits, Memory> {
-        let words = vec![in alloc; 0; count / 64 + 1]?;
-        Ok(Bits { words })
-    }
-
     /// None, and room for none.
-    pub(crate) fn empty(alloc: Global) -> Bits {
+    pub(crate) fn new(alloc: Global) -> Bits {
         Bits {
             words: Vec::new(alloc),
         }
+    }
+
+    /// Makes room for the numbers below `count`. Returns whether memory is refused.
+    pub(crate) fn make_room(&mut self, count: usize) -> bool {
+        self.words.resize(count / 64 + 1, 0).is_err()
     }
 
     /// Puts `k` in, or takes it out.

@@ -185,7 +185,7 @@ fn ask<L: Ledger>(
 {
     let standing = agenda.look(tree.rows(), graph, position);
     if !standing.needs_asking() {
-        agenda.change(position, standing)?;
+        agenda.change(position, standing);
         return Ok(standing);
     }
     let place = Place {
@@ -193,7 +193,7 @@ fn ask<L: Ledger>(
         position,
     };
     let asked = with_sides(tree, version, place, standing, mark, graph, steps)?;
-    agenda.change(position, asked)?;
+    agenda.change(position, asked);
     Ok(asked)
 }
 
@@ -251,7 +251,7 @@ fn propose<L: Ledger>(
     if let Some(place) = first_closed(tree, version, mark, graph, agenda, steps)? {
         return Ok(place);
     }
-    agenda.newest(tree.rows(), graph, first)
+    Ok(agenda.newest(tree.rows(), graph, first))
 }
 
 /// The candidate to split. In a replay it is the Or that was split on the left. Otherwise version 1 takes the first

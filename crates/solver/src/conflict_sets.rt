@@ -1,4 +1,3 @@
-use pc_common::Memory;
 use std::alloc::Global;
 
 /// Sets of levels: of a part of the search that failed the *conflict set*, which are the levels whose splits took
@@ -13,6 +12,8 @@ pub(crate) struct ConflictSets {
     number: u64,
     /// The levels of the sets that wait.
     waiting: Vec<usize>,
+    /// Whether memory was refused to a set.
+    pub(crate) is_refused: bool,
 }
 
 // By hand: docs/DECISIONS.md, "Drops are written by hand".
@@ -23,6 +24,7 @@ impl Drop for ConflictSets {
             stamps: _,
             number: _,
             waiting: _,
+            is_refused: _,
         } = self;
     }
 }
@@ -35,6 +37,7 @@ impl ConflictSets {
             stamps: Vec::new(alloc),
             number: 1,
             waiting: Vec::new(alloc),
+            is_refused: false,
         }
     }
 
@@ -50,18 +53,17 @@ impl ConflictSets {
     }
 
     /// Puts the level into the set at hand.
-    pub(crate) fn put(&mut self, level: usize) -> Result<(), Memory> {
+    pub(crate) fn put(&mut self, level: usize) {
         if self.has(level) {
-            return Ok(());
+            return;
         }
         if level >= self.stamps.len() {
-            self.stamps.resize(level.saturating_add(1), 0)?;
+            self.is_refused |= self.stamps.resize(level.saturating_add(1), 0).is_err();
         }
         if level < self.stamps.len() {
             self.stamps[level] = self.number;
         }
-        self.levels.push(level)?;
-        Ok(())
+        self.is_refused |= self.levels.push(level).is_err();
     }
 
     /// How many levels were put into the set at hand.
@@ -79,25 +81,24 @@ impl ConflictSets {
     }
 
     /// Lets the levels of the set at hand wait that are below `end`. Returns how many levels waited before.
-    pub(crate) fn set_aside(&mut self, end: usize) -> Result<usize, Memory> {
+    pub(crate) fn set_aside(&mut self, end: usize) -> usize {
         let waited = self.waiting.len();
         for k in 0..self.levels.len() {
             let level = self.level(k);
             if level < end {
-                self.waiting.push(level)?;
+                self.is_refused |= self.waiting.push(level).is_err();
             }
         }
-        Ok(waited)
+        waited
     }
 
     /// Puts the last set that waits into the set at hand, where so many levels waited before it.
-    pub(crate) fn unite(&mut self, waited: usize) -> Result<(), Memory> {
+    pub(crate) fn unite(&mut self, waited: usize) {
         for _ in waited..self.waiting.len() {
             if let Some(level) = self.waiting.pop() {
-                self.put(level)?;
+                self.put(level);
             }
         }
-        Ok(())
     }
 
     /// Lets the last set that waits go, where so many levels waited before it.

@@ -156,7 +156,7 @@ pub(crate) fn enter_next<L: Ledger>(
         branch.old.asserted branch.new.graph branch.new.asserted found) }
     ensures rest { HasSameRest branch.old branch.new }
 {
-    branch.agenda.foresee(tree, side, &branch.graph)?;
+    branch.agenda.foresee(tree, side, &branch.graph);
     enter_side(tree, side, &mut branch.graph, &mut branch.asserted, steps)
 }
 

@@ -5,7 +5,6 @@ use super::place::Place;
 use super::records::{Record, Records};
 use super::scripts::{Script, Scripts};
 use order_graph::{Clash, OrderGraph};
-use pc_common::Memory;
 use pc_ground::Literal;
 use std::alloc::Global;
 
@@ -60,6 +59,8 @@ pub(crate) struct Failures {
     /// The script of the failure at hand, and the one that the next split is to follow.
     found: Option<usize>,
     guide: Option<usize>,
+    /// Whether memory was refused to the forks or the levels.
+    is_refused: bool,
 }
 
 // By hand: docs/DECISIONS.md, "Drops are written by hand".
@@ -75,25 +76,35 @@ impl Drop for Failures {
             scripts: _,
             found: _,
             guide: _,
+            is_refused: _,
         } = self;
     }
 }
 
 impl Failures {
     /// Those of a search over so many nodes and positions, before its first turn.
-    pub(crate) fn new(alloc: Global, nodes: u32, positions: usize) -> Result<Failures, Memory> {
-        let records = Records::new(alloc, positions)?;
-        Ok(Failures {
+    pub(crate) fn new(alloc: Global, nodes: u32, positions: usize) -> Failures {
+        Failures {
             forks: Vec::new(alloc),
             literals: FirstLiterals::new(alloc, nodes),
             positions,
             levels: Vec::new(alloc),
             conflicts: ConflictSets::new(alloc),
-            records,
+            records: Records::new(alloc, positions),
             scripts: Scripts::new(alloc),
             found: None,
             guide: None,
-        })
+            is_refused: false,
+        }
+    }
+
+    /// Whether memory was refused to any of them.
+    pub(crate) fn is_refused(&self) -> bool {
+        self.is_refused
+            | self.literals.is_refused
+            | self.conflicts.is_refused
+            | self.records.is_refused
+            | self.scripts.is_refused
     }
 
     /// Whether nothing failed so far.
@@ -112,18 +123,17 @@ impl Failures {
     }
 
     /// The Or is asserted on the side at hand.
-    pub(crate) fn note_or(&mut self, position: usize) -> Result<(), Memory> {
+    pub(crate) fn note_or(&mut self, position: usize) {
         let level = self.forks.len();
         if level == 0 {
-            return Ok(());
+            return;
         }
         if self.levels.is_empty() {
-            self.levels.resize(self.positions, 0)?;
+            self.is_refused |= self.levels.resize(self.positions, 0).is_err();
         }
         if position < self.levels.len() {
             self.levels[position] = level;
         }
-        Ok(())
     }
 
     /// The level at which the Or was asserted.
@@ -166,8 +176,8 @@ impl Failures {
 
     /// The Or is split, and its left side is searched next. Where it is another Or than the replay has here, the replay
     /// ends.
-    pub(crate) fn split(&mut self, place: Place, graph: &OrderGraph) -> Result<(), Memory> {
-        self.literals.add(graph)?;
+    pub(crate) fn split(&mut self, place: Place, graph: &OrderGraph) {
+        self.literals.add(graph);
         let mut script = self.guide;
         self.guide = None;
         match self.scripts.script(script) {
@@ -179,127 +189,122 @@ impl Failures {
         let origin = self.level_of_or(place.position);
         let literals = self.literals.len();
         let scripts = self.scripts.len();
-        self.forks.push(Fork {
+        let fork = Fork {
             place,
             origin,
             literals,
             scripts,
             script,
             left: None,
-        })?;
-        Ok(())
+        };
+        self.is_refused |= self.forks.push(fork).is_err();
     }
 
     /// A leaf closes the side at hand by this clash. The graph has the literals that clash.
-    pub(crate) fn learn(&mut self, clash: &Clash, graph: &OrderGraph) -> Result<(), Memory> {
+    pub(crate) fn learn(&mut self, clash: &Clash, graph: &OrderGraph) {
         self.conflicts.clear();
-        self.add_clash(clash, graph)?;
+        self.add_clash(clash, graph);
         let level = self.forks.len();
-        self.add(level)?;
-        self.record_conflict()?;
+        self.add(level);
+        self.record_conflict();
         self.found = None;
         for _ in 0..self.forks.len() {
-            if self.go_up(graph)? {
-                return Ok(());
+            if self.go_up(graph) {
+                return;
             }
         }
-        Ok(())
     }
 
     /// Puts the level into the conflict set at hand. Level 0, the whole tree, is in each and is not put there.
-    fn add(&mut self, level: usize) -> Result<(), Memory> {
-        if level == 0 {
-            return Ok(());
+    fn add(&mut self, level: usize) {
+        if level > 0 {
+            self.conflicts.put(level);
         }
-        self.conflicts.put(level)
     }
 
     /// Puts the level of the literal at this place into the conflict set. A literal after the last split is of the side
     /// at hand.
-    fn add_place(&mut self, place: usize) -> Result<(), Memory> {
-        if place == 0 {
-            return Ok(());
+    fn add_place(&mut self, place: usize) {
+        if place > 0 {
+            let level = self.level_of_literal(place);
+            self.add(level);
         }
-        let level = self.level_of_literal(place);
-        self.add(level)
     }
 
     /// Puts the levels of the literals that clash into the conflict set.
-    fn add_clash(&mut self, clash: &Clash, graph: &OrderGraph) -> Result<(), Memory> {
+    fn add_clash(&mut self, clash: &Clash, graph: &OrderGraph) {
         match clash {
             Clash::Cycle(nodes) => self.add_cycle(nodes.as_slice(), graph),
             Clash::Path(nodes) => self.add_path(nodes.as_slice(), graph),
             Clash::Absent(node) => {
                 let place = self.literals.of_node(*node);
-                self.add_place(place)
+                self.add_place(place);
             }
         }
     }
 
-    fn add_literal(&mut self, literal: Literal<u32>, graph: &OrderGraph) -> Result<(), Memory> {
+    fn add_literal(&mut self, literal: Literal<u32>, graph: &OrderGraph) {
         let place = self.literals.of_literal(graph, literal);
-        self.add_place(place)
+        self.add_place(place);
     }
 
     /// Puts the levels of the edges from each node to the next into it.
-    fn add_edges(&mut self, nodes: &[u32], graph: &OrderGraph) -> Result<(), Memory> {
+    fn add_edges(&mut self, nodes: &[u32], graph: &OrderGraph) {
         for k in 1..nodes.len() {
-            self.add_literal(Literal::Edge(nodes[k - 1], nodes[k]), graph)?;
+            self.add_literal(Literal::Edge(nodes[k - 1], nodes[k]), graph);
         }
-        Ok(())
     }
 
     /// The same, with the edge from the last node to the first.
-    fn add_cycle(&mut self, nodes: &[u32], graph: &OrderGraph) -> Result<(), Memory> {
+    fn add_cycle(&mut self, nodes: &[u32], graph: &OrderGraph) {
         if nodes.is_empty() {
-            return Ok(());
+            return;
         }
-        self.add_edges(nodes, graph)?;
-        self.add_literal(Literal::Edge(nodes[nodes.len() - 1], nodes[0]), graph)
+        self.add_edges(nodes, graph);
+        self.add_literal(Literal::Edge(nodes[nodes.len() - 1], nodes[0]), graph);
     }
 
     /// The same, with the denied edge from the first node to the last.
-    fn add_path(&mut self, nodes: &[u32], graph: &OrderGraph) -> Result<(), Memory> {
+    fn add_path(&mut self, nodes: &[u32], graph: &OrderGraph) {
         if nodes.is_empty() {
-            return Ok(());
+            return;
         }
-        self.add_edges(nodes, graph)?;
-        self.add_literal(Literal::NoEdge(nodes[0], nodes[nodes.len() - 1]), graph)
+        self.add_edges(nodes, graph);
+        self.add_literal(Literal::NoEdge(nodes[0], nodes[nodes.len() - 1]), graph);
     }
 
     /// Each Or whose split is in the conflict set at hand gets a record of it.
-    fn record_conflict(&mut self) -> Result<(), Memory> {
+    fn record_conflict(&mut self) {
         self.records.count_failure();
         for k in 0..self.conflicts.len() {
             let level = self.conflicts.level(k);
             if 0 < level && level <= self.forks.len() {
                 let position = self.forks[level - 1].place.position;
-                self.records.put(position)?;
+                self.records.put(position);
             }
         }
-        Ok(())
     }
 
     /// The side of the last fork that is searched has failed. Returns whether a right side is searched next.
-    fn go_up(&mut self, graph: &OrderGraph) -> Result<bool, Memory> {
+    fn go_up(&mut self, graph: &OrderGraph) -> bool {
         let Some(fork) = self.forks.pop() else {
-            return Ok(true);
+            return true;
         };
         self.literals.cut(graph, fork.literals);
         match fork.left {
             None => {
-                self.turn_right(fork)?;
-                Ok(true)
+                self.turn_right(fork);
+                true
             }
             Some(left) => {
-                self.close(fork, left)?;
-                Ok(false)
+                self.close(fork, left);
+                false
             }
         }
     }
 
     /// The left side of the fork, which was the last, has failed: its right side is searched next.
-    fn turn_right(&mut self, fork: Fork) -> Result<(), Memory> {
+    fn turn_right(&mut self, fork: Fork) {
         let level = self.forks.len().saturating_add(1);
         let is_independent = !self.conflicts.has(level);
         self.guide = if is_independent {
@@ -307,18 +312,18 @@ impl Failures {
         } else {
             self.right_of(fork.script)
         };
-        let waited = self.conflicts.set_aside(level)?;
+        let waited = self.conflicts.set_aside(level);
         let left = LeftFailure {
             is_independent,
             script: self.found,
             scripts: self.scripts.len(),
             waited,
         };
-        self.forks.push(Fork {
+        let fork = Fork {
             left: Some(left),
             ..fork
-        })?;
-        Ok(())
+        };
+        self.is_refused |= self.forks.push(fork).is_err();
     }
 
     /// The script of the right side.
@@ -327,24 +332,23 @@ impl Failures {
     }
 
     /// Both sides of the fork, which was the last, have failed.
-    fn close(&mut self, fork: Fork, left: LeftFailure) -> Result<(), Memory> {
+    fn close(&mut self, fork: Fork, left: LeftFailure) {
         let level = self.forks.len().saturating_add(1);
         if left.is_independent {
-            return self.take_left(left);
+            self.take_left(left);
+        } else if self.conflicts.has(level) {
+            self.join(fork, left);
+        } else {
+            self.take_right(fork, left);
         }
-        if self.conflicts.has(level) {
-            return self.join(fork, left);
-        }
-        self.take_right(fork, left);
-        Ok(())
     }
 
     /// The fork took no part in the failure of its left side: that conflict set and script stand for both sides.
-    fn take_left(&mut self, left: LeftFailure) -> Result<(), Memory> {
+    fn take_left(&mut self, left: LeftFailure) {
         self.scripts.truncate(left.scripts);
         self.found = left.script;
         self.conflicts.clear();
-        self.conflicts.unite(left.waited)
+        self.conflicts.unite(left.waited);
     }
 
     /// The fork took no part in the failure of its right side: that conflict set and script stand for both sides.
@@ -354,16 +358,16 @@ impl Failures {
     }
 
     /// The fork took part in the failures of both sides: their conflict sets and scripts are joined.
-    fn join(&mut self, fork: Fork, left: LeftFailure) -> Result<(), Memory> {
-        self.conflicts.unite(left.waited)?;
-        self.record_conflict()?;
-        self.records.put(fork.place.position)?;
+    fn join(&mut self, fork: Fork, left: LeftFailure) {
+        self.conflicts.unite(left.waited);
+        self.record_conflict();
+        self.records.put(fork.place.position);
         let script = Script {
             place: fork.place,
             left: left.script,
             right: self.found,
         };
-        self.found = Some(self.scripts.push(script)?);
-        self.add(fork.origin)
+        self.found = self.scripts.push(script);
+        self.add(fork.origin);
     }
 }

@@ -52,8 +52,8 @@ fn next_place(
         IsCandidate (spelled tree.now.rows) (positions asserted.now) (place_signed q))) }
     ensures small { IfOk result (λ found. IfSome found (λ q. q.position < 2 ^ 63)) }
 {
-    agenda.note(tree, graph, asserted.as_slice())?;
-    let Some(place) = agenda.first_open(tree.rows(), graph)? else {
+    agenda.note(tree, graph, asserted.as_slice());
+    let Some(place) = agenda.first_open(tree.rows(), graph) else {
         return Ok(None);
     };
     if is_candidate_now(alloc, tree, graph, asserted, place)? {

@@ -1,6 +1,5 @@
 use super::gains::literal_of;
 use order_graph::OrderGraph;
-use pc_common::Memory;
 use pc_ground::Literal;
 use std::alloc::Global;
 
@@ -15,6 +14,8 @@ pub(crate) struct FirstLiterals {
     heads: Vec<usize>,
     /// The first literal that says whether the node is there.
     tellers: Vec<usize>,
+    /// Whether memory was refused to a list.
+    pub(crate) is_refused: bool,
 }
 
 // By hand: docs/DECISIONS.md, "Drops are written by hand".
@@ -25,6 +26,7 @@ impl Drop for FirstLiterals {
             nodes: _,
             heads: _,
             tellers: _,
+            is_refused: _,
         } = self;
     }
 }
@@ -64,6 +66,7 @@ impl FirstLiterals {
             nodes: nodes as usize,
             heads: Vec::new(alloc),
             tellers: Vec::new(alloc),
+            is_refused: false,
         }
     }
 
@@ -73,21 +76,20 @@ impl FirstLiterals {
     }
 
     /// Adds the literals of the graph that are not here yet.
-    pub(crate) fn add(&mut self, graph: &OrderGraph) -> Result<(), Memory> {
+    pub(crate) fn add(&mut self, graph: &OrderGraph) {
         if self.heads.is_empty() {
-            self.heads.resize(self.nodes, 0)?;
-            self.tellers.resize(self.nodes, 0)?;
+            self.is_refused |= self.heads.resize(self.nodes, 0).is_err();
+            self.is_refused |= self.tellers.resize(self.nodes, 0).is_err();
         }
         for k in self.befores.len()..graph.len() {
             let literal = literal_of(graph, k);
             let node = first_node(literal);
             let before = place_of(&self.heads, node);
-            self.befores.push(before)?;
+            self.is_refused |= self.befores.push(before).is_err();
             let place = self.befores.len();
             set_place(&mut self.heads, node, place);
             self.replace_tellers(literal, 0, place);
         }
-        Ok(())
     }
 
     /// Makes `new` the first literal that says whether a node is there, of the nodes of which this one says so, where it

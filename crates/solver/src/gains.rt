@@ -9,7 +9,6 @@ use super::rows::{row_at, skip_at};
 use super::side::Side;
 use super::watch::{coarse_of, ends_of, joins_of, node_of, starts_of};
 use order_graph::OrderGraph;
-use pc_common::Memory;
 use pc_ground::{Literal, Row, RowKind};
 use std::alloc::Global;
 
@@ -74,6 +73,8 @@ pub(crate) struct Gains {
     foreseen: bool,
     /// Whether each literal of the side was implied before it.
     implied: Vec<bool>,
+    /// Whether memory was refused to a list.
+    pub(crate) is_refused: bool,
 }
 
 // By hand: docs/DECISIONS.md, "Drops are written by hand".
@@ -91,6 +92,7 @@ impl Drop for Gains {
             known: _,
             foreseen: _,
             implied: _,
+            is_refused: _,
         } = self;
     }
 }
@@ -138,50 +140,41 @@ fn is_implied(graph: &OrderGraph, literal: Literal<u32>) -> bool
 
 impl Gains {
     /// That of no nodes, which finds nothing.
-    pub(crate) fn empty(alloc: Global) -> Gains {
+    pub(crate) fn new(alloc: Global) -> Gains {
         Gains {
             nodes: 0,
             denials: Vec::new(alloc),
             lists: Vec::new(alloc),
             gaining: Vec::new(alloc),
-            reached: Bits::empty(alloc),
-            closing: Bits::empty(alloc),
-            joined: Bits::empty(alloc),
-            some: Bits::empty(alloc),
+            reached: Bits::new(alloc),
+            closing: Bits::new(alloc),
+            joined: Bits::new(alloc),
+            some: Bits::new(alloc),
             known: 0,
             foreseen: false,
             implied: Vec::new(alloc),
+            is_refused: false,
         }
     }
 
-    /// That of a search over so many nodes, whose graph has these literals.
-    pub(crate) fn new(alloc: Global, nodes: u32, graph: &OrderGraph) -> Result<Gains, Memory> {
+    /// Begins to look at a search over so many nodes, whose graph has these literals.
+    pub(crate) fn begin(&mut self, nodes: u32, graph: &OrderGraph) {
         let count = nodes as usize;
-        let mut gains = Gains {
-            nodes,
-            denials: Vec::new(alloc),
-            lists: Vec::new(alloc),
-            gaining: Vec::new(alloc),
-            reached: Bits::new(alloc, count)?,
-            closing: Bits::new(alloc, count)?,
-            joined: Bits::new(alloc, count)?,
-            some: Bits::new(alloc, count)?,
-            known: 0,
-            foreseen: false,
-            implied: Vec::new(alloc),
-        };
+        self.nodes = nodes;
+        self.is_refused |= self.reached.make_room(count);
+        self.is_refused |= self.closing.make_room(count);
+        self.is_refused |= self.joined.make_room(count);
+        self.is_refused |= self.some.make_room(count);
         for k in 0..graph.len() {
-            gains.note_denial(literal_of(graph, k), k)?;
+            self.note_denial(literal_of(graph, k), k);
         }
-        Ok(gains)
     }
 
     /// Keeps the edge that the literal denies, if it denies one.
-    fn note_denial(&mut self, literal: Literal<u32>, literals: usize) -> Result<(), Memory> {
+    fn note_denial(&mut self, literal: Literal<u32>, literals: usize) {
         if let Literal::NoEdge(from, to) = literal {
-            self.denials.push(Denial { from, to, literals })?;
+            self.is_refused |= self.denials.push(Denial { from, to, literals }).is_err();
         }
-        Ok(())
     }
 
     fn denial(&self, k: usize) -> Option<Denial> {
@@ -233,31 +226,24 @@ impl Gains {
         }
     }
 
-    fn put(&mut self, list: u32, in_truth: bool, others: Others) -> Result<(), Memory> {
-        self.lists.push(Gained {
+    fn put(&mut self, list: u32, in_truth: bool, others: Others) {
+        let gained = Gained {
             list,
             in_truth,
             others,
-        })?;
-        Ok(())
+        };
+        self.is_refused |= self.lists.push(gained).is_err();
     }
 
     /// Pairs that begin in the node may clash from now on: those whose other node is a joined one.
-    fn put_joined(&mut self, node: u32) -> Result<(), Memory> {
-        self.put(starts_of(node), false, Others::Joined)?;
-        self.put(joins_of(node), false, Others::Joined)?;
-        self.put(coarse_of(node), false, Others::All)
+    fn put_joined(&mut self, node: u32) {
+        self.put(starts_of(node), false, Others::Joined);
+        self.put(joins_of(node), false, Others::Joined);
+        self.put(coarse_of(node), false, Others::All);
     }
 
     /// Finds the nodes that gain by the edge from `a` to `b`.
-    fn find_gaining(
-        &mut self,
-        graph: &OrderGraph,
-        nodes: u32,
-        a: u32,
-        b: u32,
-        is_asserted: bool,
-    ) -> Result<(), Memory>
+    fn find_gaining(&mut self, graph: &OrderGraph, nodes: u32, a: u32, b: u32, is_asserted: bool)
         requires all { nodes ≡ graph.now.nodes }
         requires a_in { a < graph.now.nodes }
         requires b_in { b < graph.now.nodes }
@@ -265,10 +251,9 @@ impl Gains {
         self.gaining.clear();
         for x in 0..nodes {
             if may_gain(graph, x, a, b, is_asserted) {
-                self.gaining.push(x)?;
+                self.is_refused |= self.gaining.push(x).is_err();
             }
         }
-        Ok(())
     }
 
     fn gaining_node(&self, k: usize) -> Option<u32> {
@@ -348,57 +333,47 @@ impl Gains {
         }
     }
 
-    fn put_present(&mut self, graph: &OrderGraph, a: u32, is_asserted: bool) -> Result<(), Memory>
+    fn put_present(&mut self, graph: &OrderGraph, a: u32, is_asserted: bool)
         requires { a < graph.now.nodes }
     {
         if is_asserted || !graph.present(a) {
-            self.put(node_of(a), true, Others::All)?;
+            self.put(node_of(a), true, Others::All);
         }
-        Ok(())
     }
 
-    fn put_gaining(&mut self) -> Result<(), Memory> {
+    fn put_gaining(&mut self) {
         for k in 0..self.gaining.len() {
             if let Some(x) = self.gaining_node(k) {
-                self.put(starts_of(x), true, Others::Reached)?;
-                self.put(ends_of(x), false, Others::Closing)?;
-                self.put(coarse_of(x), false, Others::All)?;
+                self.put(starts_of(x), true, Others::Reached);
+                self.put(ends_of(x), false, Others::Closing);
+                self.put(coarse_of(x), false, Others::All);
             }
         }
-        Ok(())
     }
 
-    fn add_edge(
-        &mut self,
-        graph: &OrderGraph,
-        nodes: u32,
-        a: u32,
-        b: u32,
-        is_asserted: bool,
-    ) -> Result<(), Memory>
+    fn add_edge(&mut self, graph: &OrderGraph, nodes: u32, a: u32, b: u32, is_asserted: bool)
         requires all { nodes ≡ graph.now.nodes }
         requires a_in { a < graph.now.nodes }
         requires b_in { b < graph.now.nodes }
     {
-        self.put_present(graph, a, is_asserted)?;
-        self.put_present(graph, b, is_asserted)?;
-        self.find_gaining(graph, nodes, a, b, is_asserted)?;
+        self.put_present(graph, a, is_asserted);
+        self.put_present(graph, b, is_asserted);
+        self.find_gaining(graph, nodes, a, b, is_asserted);
         self.find_reached(graph, b);
         self.find_closing(graph, nodes);
-        self.put_gaining()?;
+        self.put_gaining();
         if !self.find_ends() {
-            return Ok(());
+            return;
         }
         self.find_joined(graph, nodes);
         for x in 0..nodes {
             if self.reached.has(x as usize) {
-                self.put_joined(x)?;
+                self.put_joined(x);
             }
         }
-        Ok(())
     }
 
-    fn add_denial(&mut self, graph: &OrderGraph, nodes: u32, a: u32, b: u32) -> Result<(), Memory>
+    fn add_denial(&mut self, graph: &OrderGraph, nodes: u32, a: u32, b: u32)
         requires all { nodes ≡ graph.now.nodes }
         requires a_in { a < graph.now.nodes }
         requires b_in { b < graph.now.nodes }
@@ -408,73 +383,64 @@ impl Gains {
         self.find_joined(graph, nodes);
         for x in 0..nodes {
             if comes_to(graph, a, x) {
-                self.put_joined(x)?;
+                self.put_joined(x);
             }
         }
-        Ok(())
     }
 
-    fn add(&mut self, graph: &OrderGraph, nodes: u32, literal: Literal<u32>) -> Result<(), Memory>
+    fn add(&mut self, graph: &OrderGraph, nodes: u32, literal: Literal<u32>)
         requires all { nodes ≡ graph.now.nodes }
         requires below { IsBelow graph.now.nodes literal }
     {
         match literal {
             Literal::Node(a) => self.put(node_of(a), true, Others::All),
             Literal::NoNode(a) => {
-                self.put(node_of(a), false, Others::All)?;
-                self.put(starts_of(a), false, Others::All)?;
-                self.put(ends_of(a), false, Others::All)
+                self.put(node_of(a), false, Others::All);
+                self.put(starts_of(a), false, Others::All);
+                self.put(ends_of(a), false, Others::All);
             }
             Literal::Edge(a, b) => self.add_edge(graph, nodes, a, b, true),
             Literal::NoEdge(a, b) => self.add_denial(graph, nodes, a, b),
         }
     }
 
+    /// Notes whether the literal is implied.
+    fn note_implied(&mut self, graph: &OrderGraph, literal: Literal<u32>)
+        requires { IsBelow graph.now.nodes literal }
+    {
+        self.is_refused |= self.implied.push(is_implied(graph, literal)).is_err();
+    }
+
     /// Notes of each literal that the part asserts whether it is implied.
-    fn ask_part(
-        &mut self,
-        rows: &[Row<u32>],
-        negated: bool,
-        root: usize,
-        graph: &OrderGraph,
-    ) -> Result<(), Memory>
+    fn ask_part(&mut self, rows: &[Row<u32>], negated: bool, root: usize, graph: &OrderGraph)
         requires { All (IsRowBelow graph.now.nodes) rows.now }
     {
         let end = root.saturating_add(skip_at(rows, root));
         let mut next = root;
         for at in root..end {
             if at >= rows.len() {
-                return Ok(());
+                return;
             }
             if at < next {
                 continue;
             }
             if let Some(literal) = literal_at(rows, negated, at) {
-                self.implied.push(is_implied(graph, literal))?;
+                self.note_implied(graph, literal);
             }
             next = at.saturating_add(row_at(rows, at).turned(negated).stride());
         }
-        Ok(())
     }
 
-    fn foresee_literal(
-        &mut self,
-        graph: &OrderGraph,
-        nodes: u32,
-        literal: Literal<u32>,
-    ) -> Result<(), Memory>
+    fn foresee_literal(&mut self, graph: &OrderGraph, nodes: u32, literal: Literal<u32>)
         requires all { nodes ≡ graph.now.nodes }
         requires below { IsBelow graph.now.nodes literal }
     {
         match literal {
             Literal::Edge(a, b) => {
                 self.foreseen = true;
-                self.add_edge(graph, nodes, a, b, false)
+                self.add_edge(graph, nodes, a, b, false);
             }
-            _ => {
-                self.implied.push(is_implied(graph, literal))?;
-                Ok(())
-            }
+            _ => self.note_implied(graph, literal),
         }
     }
 
@@ -486,7 +452,7 @@ impl Gains {
         root: usize,
         graph: &OrderGraph,
         nodes: u32,
-    ) -> Result<(), Memory>
+    )
         requires all { nodes ≡ graph.now.nodes }
         requires below { All (IsRowBelow graph.now.nodes) rows.now }
     {
@@ -497,12 +463,7 @@ impl Gains {
     }
 
     /// Looks at the side before it is entered.
-    pub(crate) fn foresee(
-        &mut self,
-        tree: &NumberedTree,
-        side: Side,
-        graph: &OrderGraph,
-    ) -> Result<(), Memory>
+    pub(crate) fn foresee(&mut self, tree: &NumberedTree, side: Side, graph: &OrderGraph)
         requires { graph.now.nodes ≡ length tree.now.nodes }
     {
         self.lists.clear();
@@ -512,13 +473,15 @@ impl Gains {
         self.forget_denials(graph.len());
         let nodes = self.nodes;
         if nodes != tree.count() {
-            return Ok(());
+            return;
         }
-        let Some(left) = side.denied else {
-            return self.foresee_part(tree.rows(), side.negated, side.root, graph, nodes);
-        };
-        self.ask_part(tree.rows(), !side.negated, left, graph)?;
-        self.ask_part(tree.rows(), side.negated, side.root, graph)
+        match side.denied {
+            None => self.foresee_part(tree.rows(), side.negated, side.root, graph, nodes),
+            Some(left) => {
+                self.ask_part(tree.rows(), !side.negated, left, graph);
+                self.ask_part(tree.rows(), side.negated, side.root, graph);
+            }
+        }
     }
 
     /// Which literals of the graph the side asserted that are to be looked at: none where its lists were found before.
@@ -532,24 +495,19 @@ impl Gains {
     }
 
     /// Looks at the literal at `k`, which the side asserted.
-    pub(crate) fn note(
-        &mut self,
-        tree: &NumberedTree,
-        graph: &OrderGraph,
-        k: usize,
-    ) -> Result<(), Memory>
+    pub(crate) fn note(&mut self, tree: &NumberedTree, graph: &OrderGraph, k: usize)
         requires { graph.now.nodes ≡ length tree.now.nodes }
     {
         let nodes = self.nodes;
         if nodes != tree.count() || k >= graph.len() || self.foreseen {
-            return Ok(());
+            return;
         }
         self.lists.clear();
         if self.was_implied(k) {
-            return Ok(());
+            return;
         }
         let literal = literal_of(graph, k);
-        self.note_denial(literal, k)?;
-        self.add(graph, nodes, literal)
+        self.note_denial(literal, k);
+        self.add(graph, nodes, literal);
     }
 }

@@ -1,7 +1,6 @@
 use super::bits::Bits;
 use super::ors::denied_left;
 use super::rows::{row_at, skip_at};
-use pc_common::Memory;
 use pc_ground::{Literal, Row, RowKind, Version};
 use std::alloc::Global;
 
@@ -14,6 +13,8 @@ pub(crate) struct JointPairs {
     pairs: Vec<(u32, u32)>,
     /// The positions of sides so far.
     sides: Bits,
+    /// Whether memory was refused to a list.
+    pub(crate) is_refused: bool,
 }
 
 // By hand: docs/DECISIONS.md, "Drops are written by hand".
@@ -23,19 +24,22 @@ impl Drop for JointPairs {
             side: _,
             pairs: _,
             sides: _,
+            is_refused: _,
         } = self;
     }
 }
 
 impl JointPairs {
     /// None, of so many positions.
-    pub(crate) fn new(alloc: Global, positions: usize) -> Result<JointPairs, Memory> {
-        let sides = Bits::new(alloc, positions)?;
-        Ok(JointPairs {
+    pub(crate) fn new(alloc: Global, positions: usize) -> JointPairs {
+        let mut sides = Bits::new(alloc);
+        let is_refused = sides.make_room(positions);
+        JointPairs {
             side: Vec::new(alloc),
             pairs: Vec::new(alloc),
             sides,
-        })
+            is_refused,
+        }
     }
 
     /// How many pairs the Or at hand has.
@@ -72,63 +76,51 @@ impl JointPairs {
     }
 
     /// Finds the pairs of the Or at `p`: of the tree, or in version 2 of its negation.
-    pub(crate) fn find(
-        &mut self,
-        rows: &[Row<u32>],
-        p: usize,
-        version: Version,
-    ) -> Result<(), Memory> {
+    pub(crate) fn find(&mut self, rows: &[Row<u32>], p: usize, version: Version) {
         self.pairs.clear();
         if p >= rows.len() {
-            return Ok(());
+            return;
         }
         match (rows[p].kind, version) {
             // each side is one leaf, as most are, and denies no other
-            (RowKind::Or, Version::One) if rows[p].skip == 3 => Ok(()),
+            (RowKind::Or, Version::One) if rows[p].skip == 3 => {}
             (RowKind::Or, _) => self.find_under(rows, false, p, version),
             (RowKind::And, Version::Two) => self.find_under(rows, true, p, version),
-            _ => Ok(()),
+            _ => {}
         }
     }
 
-    fn find_under(
-        &mut self,
-        rows: &[Row<u32>],
-        negated: bool,
-        p: usize,
-        version: Version,
-    ) -> Result<(), Memory> {
+    fn find_under(&mut self, rows: &[Row<u32>], negated: bool, p: usize, version: Version) {
         let left = p.saturating_add(1);
         let right = left.saturating_add(skip_at(rows, left));
         self.side.clear();
-        self.gather(rows, negated, left)?;
-        self.join_all()?;
+        self.gather(rows, negated, left);
+        self.join_all();
         self.side.clear();
         if let Some(denied) = denied_left(version, left) {
-            self.gather(rows, !negated, denied)?;
+            self.gather(rows, !negated, denied);
         }
-        self.gather(rows, negated, right)?;
-        self.join_all()
+        self.gather(rows, negated, right);
+        self.join_all();
     }
 
     /// Puts the literals that the part at `root` asserts under this sign to those of the side.
-    fn gather(&mut self, rows: &[Row<u32>], negated: bool, root: usize) -> Result<(), Memory> {
+    fn gather(&mut self, rows: &[Row<u32>], negated: bool, root: usize) {
         let end = root.saturating_add(skip_at(rows, root));
         let mut next = root;
         for at in root..end {
             if at >= rows.len() {
-                return Ok(());
+                return;
             }
             if at < next {
                 continue;
             }
             let row = row_at(rows, at).turned(negated);
             if let RowKind::Lit(literal) = row.kind {
-                self.side.push(literal)?;
+                self.is_refused |= self.side.push(literal).is_err();
             }
             next = at.saturating_add(row.stride());
         }
-        Ok(())
     }
 
     fn literal(&self, k: usize) -> Option<Literal<u32>> {
@@ -140,35 +132,33 @@ impl JointPairs {
     }
 
     /// The pairs of each two literals of the side.
-    fn join_all(&mut self) -> Result<(), Memory> {
+    fn join_all(&mut self) {
         for j in 0..self.side.len() {
             for k in 0..self.side.len() {
                 if j != k {
                     if let (Some(first), Some(second)) = (self.literal(j), self.literal(k)) {
-                        self.join(first, second)?;
+                        self.join(first, second);
                     }
                 }
             }
         }
-        Ok(())
     }
 
-    fn put(&mut self, a: u32, b: u32) -> Result<(), Memory> {
+    fn put(&mut self, a: u32, b: u32) {
         if a != b {
-            self.pairs.push((a, b))?;
+            self.is_refused |= self.pairs.push((a, b)).is_err();
         }
-        Ok(())
     }
 
     /// The pairs by which an edge and another literal clash. A node that is both ends of a pair joins nothing new.
-    fn join(&mut self, first: Literal<u32>, second: Literal<u32>) -> Result<(), Memory> {
+    fn join(&mut self, first: Literal<u32>, second: Literal<u32>) {
         match (first, second) {
             (Literal::Edge(a, _), Literal::Edge(_, d)) => self.put(a, d),
             (Literal::Edge(a, b), Literal::NoEdge(c, d)) => {
-                self.put(a, c)?;
-                self.put(d, b)
+                self.put(a, c);
+                self.put(d, b);
             }
-            _ => Ok(()),
+            _ => {}
         }
     }
 }

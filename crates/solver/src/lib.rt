@@ -42,7 +42,8 @@
 //! Which Or a turn splits is proposed by hints that no clause speaks of, and what they propose is tested. The `agenda`
 //! keeps which Ors are pending and which of their sides are closed at once. `failures` keeps the conflict sets: the
 //! splits of the newest ones come first. Where a left side failed without its split, the right side is refuted by the
-//! same splits again.
+//! same splits again. A hint that memory is refused to goes on without what it was to keep; it notes that, and the next
+//! split returns `Memory`.
 //!
 //! `solve` runs a `Search` from its first turn to its last. Between two turns the steps so far with the open branches
 //! are a partial refutation, and the graph's literals are those of the first open branch.

@@ -1,5 +1,4 @@
 use super::bits::Bits;
-use pc_common::Memory;
 use std::alloc::Global;
 
 /// How many failures count as one time. Where each had a time of its own, a search of questions without structure
@@ -33,13 +32,16 @@ impl Record {
 /// The records of all Ors. To split what took part in the last conflict comes from Lecoutre and others (2009), to
 /// count the conflicts and to let the older ones weigh less from Moskewicz and others (2001).
 pub(crate) struct Records {
-    /// How many positions there are: the list below, of one record a position, is made with the first failure.
+    /// How many positions there are: the list below, of one record a position, is made with the first failure, and so is
+    /// the set.
     positions: usize,
     records: Vec<Record>,
     /// The Ors that have a record.
     recorded: Bits,
     /// How many failures there were.
     failures: u64,
+    /// Whether memory was refused to one of both.
+    pub(crate) is_refused: bool,
 }
 
 // By hand: docs/DECISIONS.md, "Drops are written by hand".
@@ -50,19 +52,21 @@ impl Drop for Records {
             records: _,
             recorded: _,
             failures: _,
+            is_refused: _,
         } = self;
     }
 }
 
 impl Records {
     /// None, of so many positions.
-    pub(crate) fn new(alloc: Global, positions: usize) -> Result<Records, Memory> {
-        Ok(Records {
+    pub(crate) fn new(alloc: Global, positions: usize) -> Records {
+        Records {
             positions,
             records: Vec::new(alloc),
-            recorded: Bits::new(alloc, positions)?,
+            recorded: Bits::new(alloc),
             failures: 0,
-        })
+            is_refused: false,
+        }
     }
 
     /// Whether nothing failed so far.
@@ -76,9 +80,13 @@ impl Records {
     }
 
     /// A split of the Or took part in the last failure.
-    pub(crate) fn put(&mut self, position: usize) -> Result<(), Memory> {
+    pub(crate) fn put(&mut self, position: usize) {
         if self.records.is_empty() {
-            self.records.resize(self.positions, Record::empty())?;
+            self.is_refused |= self
+                .records
+                .resize(self.positions, Record::empty())
+                .is_err();
+            self.is_refused |= self.recorded.make_room(self.positions);
         }
         if position < self.records.len() {
             let time = (self.failures / PERIOD).saturating_add(1);
@@ -86,7 +94,6 @@ impl Records {
             self.records[position] = Record { time, count };
             self.recorded.put(position, true);
         }
-        Ok(())
     }
 
     /// The record of the Or.

@@ -1,5 +1,4 @@
 use super::place::Place;
-use pc_common::Memory;
 use std::alloc::Global;
 
 /// How a part of the search failed: by a split of this Or, and then on each side by what its script says. Where a side
@@ -14,12 +13,17 @@ pub(crate) struct Script {
 /// The scripts of what failed, by number, with the splits alone that took part. Each names only scripts before it.
 pub(crate) struct Scripts {
     scripts: Vec<Script>,
+    /// Whether memory was refused to one.
+    pub(crate) is_refused: bool,
 }
 
 // By hand: docs/DECISIONS.md, "Drops are written by hand".
 impl Drop for Scripts {
     fn drop(self) {
-        let Scripts { scripts: _ } = self;
+        let Scripts {
+            scripts: _,
+            is_refused: _,
+        } = self;
     }
 }
 
@@ -36,6 +40,7 @@ impl Scripts {
     pub(crate) fn new(alloc: Global) -> Scripts {
         Scripts {
             scripts: Vec::new(alloc),
+            is_refused: false,
         }
     }
 
@@ -54,11 +59,14 @@ impl Scripts {
         }
     }
 
-    /// Puts the script last. Returns its number.
-    pub(crate) fn push(&mut self, script: Script) -> Result<usize, Memory> {
+    /// Puts the script last. Returns its number, unless memory is refused.
+    pub(crate) fn push(&mut self, script: Script) -> Option<usize> {
         let number = self.scripts.len();
-        self.scripts.push(script)?;
-        Ok(number)
+        if self.scripts.push(script).is_err() {
+            self.is_refused = true;
+            return None;
+        }
+        Some(number)
     }
 
     /// Keeps the first `count`.

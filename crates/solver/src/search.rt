@@ -178,7 +178,7 @@ impl Search {
         &self.branch.refutation
     }
 
-    /// Splits one Or, and closes branches until one is open or none is left. Where memory is refused,
+    /// Splits one Or, and closes branches until one is open or none is left. Where it returns `Memory`,
     /// nothing is left of the search.
     pub fn turn<L: Ledger>(self, steps: &mut Steps<L>) -> Result<Turn, Memory>
         ensures turn { IfOk result (IsTurnOfRows self.version self.nodes self.rows) }

@@ -17,7 +17,8 @@ use undo_trail::Steps;
 /// Whether some world satisfies the tree: a graph that generates one, or a refutation of this version.
 ///
 /// The numbering lists the tree's nodes, and a constant stands in the tree only where it is the whole tree.
-/// Returns `Memory` where memory is refused. How many turns the search takes has no bound but the tree's.
+/// Returns `Memory` where memory is refused that the answer needs. How many turns the search takes has no bound but the
+/// tree's.
 pub fn solve<L: Ledger>(
     alloc: Global,
     tree: &Flat,

@@ -1,5 +1,4 @@
 use super::joint_pairs::JointPairs;
-use pc_common::Memory;
 use pc_ground::{Literal, Row, RowKind, Version};
 use std::alloc::Global;
 
@@ -26,6 +25,8 @@ pub(crate) struct Watch {
     /// Where each list begins. After the last list there is one place more, where it ends.
     starts: Vec<usize>,
     items: Vec<Watched>,
+    /// Whether memory was refused to what is to be watched.
+    pub(crate) is_refused: bool,
 }
 
 // By hand: docs/DECISIONS.md, "Drops are written by hand".
@@ -34,6 +35,7 @@ impl Drop for Watch {
         let Watch {
             starts: _,
             items: _,
+            is_refused: _,
         } = self;
     }
 }
@@ -98,6 +100,8 @@ struct Watching {
     outer: usize,
     end: usize,
     is_small: bool,
+    /// Whether memory was refused to what is to be watched.
+    is_refused: bool,
 }
 
 // By hand: docs/DECISIONS.md, "Drops are written by hand".
@@ -110,6 +114,7 @@ impl Drop for Watching {
             outer: _,
             end: _,
             is_small: _,
+            is_refused: _,
         } = self;
     }
 }
@@ -124,52 +129,51 @@ impl Watching {
             outer: _,
             end: _,
             is_small: _,
+            is_refused: _,
         } = self;
         items
     }
 
-    fn put(&mut self, list: u32, other: u32, position: usize) -> Result<(), Memory> {
-        let outer = self.outer;
-        self.items.push(Watched {
+    fn put(&mut self, list: u32, other: u32, position: usize) {
+        let watched = Watched {
             list,
             other,
             position,
-            outer,
-        })?;
-        Ok(())
+            outer: self.outer,
+        };
+        self.is_refused |= self.items.push(watched).is_err();
     }
 
     /// Watches an edge or a denied edge: on the lists of its pair, and where others are asserted with it on those of
     /// both nodes.
-    fn put_pair(&mut self, a: u32, b: u32, position: usize) -> Result<(), Memory> {
-        self.put(starts_of(a), b, position)?;
-        self.put(ends_of(b), a, position)?;
+    fn put_pair(&mut self, a: u32, b: u32, position: usize) {
+        self.put(starts_of(a), b, position);
+        self.put(ends_of(b), a, position);
         if self.is_small || self.pairs.is_alone(position, self.version) {
-            return Ok(());
+            return;
         }
-        self.put(coarse_of(a), 0, position)?;
-        self.put(coarse_of(b), 0, position)
+        self.put(coarse_of(a), 0, position);
+        self.put(coarse_of(b), 0, position);
     }
 
     /// The pairs that the sides of the Or at this position join, of the tree or of its negation.
-    fn put_joined(&mut self, rows: &[Row<u32>], position: usize) -> Result<(), Memory> {
+    fn put_joined(&mut self, rows: &[Row<u32>], position: usize) {
         if !self.is_small {
             self.pairs.note_sides(rows, position);
-            return Ok(());
+            return;
         }
-        self.pairs.find(rows, position, self.version)?;
+        self.pairs.find(rows, position, self.version);
         for k in 0..self.pairs.len() {
             if let Some((a, b)) = self.pairs.pair(k) {
-                self.put(joins_of(a), b, position)?;
-                self.put(ends_of(b), a, position)?;
+                self.put(joins_of(a), b, position);
+                self.put(ends_of(b), a, position);
             }
         }
-        Ok(())
     }
 
-    fn put_row(&mut self, rows: &[Row<u32>], position: usize) -> Result<(), Memory> {
+    fn put_row(&mut self, rows: &[Row<u32>], position: usize) {
         if position >= rows.len() {
-            return Ok(());
+            return;
         }
         match rows[position].kind {
             RowKind::Lit(Literal::Node(a)) => self.put(node_of(a), a, position),
@@ -177,12 +181,12 @@ impl Watching {
             RowKind::Lit(Literal::Edge(a, b)) => self.put_pair(a, b, position),
             RowKind::Lit(Literal::NoEdge(a, b)) => self.put_pair(a, b, position),
             RowKind::And | RowKind::Or => self.put_joined(rows, position),
-            RowKind::True | RowKind::False => Ok(()),
+            RowKind::True | RowKind::False => {}
         }
     }
 
     /// Puts what the row is watched for, where it is within an Or.
-    fn look_at(&mut self, rows: &[Row<u32>], position: usize) -> Result<(), Memory> {
+    fn look_at(&mut self, rows: &[Row<u32>], position: usize) {
         if position >= self.end && position < rows.len() {
             let row = rows[position];
             self.outer = position;
@@ -190,9 +194,8 @@ impl Watching {
             self.is_small = row.skip <= SMALL;
         }
         if position < self.end {
-            return self.put_row(rows, position);
+            self.put_row(rows, position);
         }
-        Ok(())
     }
 }
 
@@ -201,18 +204,22 @@ fn key_of(watched: &Watched) -> (u32, u32) {
     (watched.list, watched.other)
 }
 
-/// Where each of so many lists begins among these, which are in order of their lists, with one place more for the end.
-fn starts_among(alloc: Global, items: &[Watched], lists: usize) -> Result<Vec<usize>, Memory> {
-    let mut starts = Vec::new(alloc);
+/// Puts where each of so many lists begins among these, which are in order of their lists, with one place more for the
+/// end. Returns whether memory is refused.
+fn put_starts(items: &[Watched], lists: usize, starts: &mut Vec<usize>) -> bool {
     for k in 0..items.len() {
         for _ in starts.len()..(items[k].list as usize).saturating_add(1).min(lists) {
-            starts.push(k)?;
+            if starts.push(k).is_err() {
+                return true;
+            }
         }
     }
     for _ in starts.len()..lists.saturating_add(1) {
-        starts.push(items.len())?;
+        if starts.push(items.len()).is_err() {
+            return true;
+        }
     }
-    Ok(starts)
+    false
 }
 
 impl Watch {
@@ -221,6 +228,7 @@ impl Watch {
         Watch {
             starts: Vec::new(alloc),
             items: Vec::new(alloc),
+            is_refused: false,
         }
     }
 
@@ -229,27 +237,29 @@ impl Watch {
     }
 
     /// What the Ors of these rows depend on in this version, over so many nodes.
-    pub(crate) fn new(
-        alloc: Global,
-        rows: &[Row<u32>],
-        nodes: u32,
-        version: Version,
-    ) -> Result<Watch, Memory> {
+    pub(crate) fn new(alloc: Global, rows: &[Row<u32>], nodes: u32, version: Version) -> Watch {
         let mut watching = Watching {
             version,
-            pairs: JointPairs::new(alloc, rows.len())?,
+            pairs: JointPairs::new(alloc, rows.len()),
             items: Vec::new(alloc),
             outer: 0,
             end: 0,
             is_small: false,
+            is_refused: false,
         };
         for p in 0..rows.len() {
-            watching.look_at(rows, p)?;
+            watching.look_at(rows, p);
         }
+        let mut is_refused = watching.is_refused | watching.pairs.is_refused;
         let mut items = watching.into_items();
-        items.sort_by_key(key_of)?;
-        let starts = starts_among(alloc, &items, LISTS as usize * nodes as usize)?;
-        Ok(Watch { starts, items })
+        is_refused |= items.sort_by_key(key_of).is_err();
+        let mut starts = Vec::new(alloc);
+        is_refused |= put_starts(&items, LISTS as usize * nodes as usize, &mut starts);
+        Watch {
+            starts,
+            items,
+            is_refused,
+        }
     }
 
     /// The places of the list.

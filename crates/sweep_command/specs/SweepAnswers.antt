@@ -1,5 +1,5 @@
 -- The answer of `sweep` to two files, and the status that is due.
-use Rattle.std.specs.Prelude.{◌≡◌, ℕ, Bool, true, false, List, Some, length, slice_get, IsTrue}
+use Rattle.std.specs.Prelude.{◌≡◌, ℕ, Bool, true, false, List, Some, Result, length, slice_get, IsTrue}
 use Rattle.pc_common.specs.Outside.{FilesView}
 use Rattle.pc_common.specs.Case.{Case}
 use Rattle.pc_common.specs.declared.fault.InputFault.{InputFault}
@@ -8,10 +8,14 @@ use Rattle.pc_common.specs.declared.status.Status.TheVariants.{Done, Refused}
 use Rattle.pc_syntax.specs.Written.{WrittenModel}
 use Rattle.pc_syntax.specs.Observable.{Observable}
 use Rattle.pattern_reader.specs.Rows.{Pattern, rows_of, row_case}
-use Rattle.command_base.specs.Inputs.{Inputs, Contents, LacksInput, IsFirstInputFault as IsFirstFaultOf}
+use Rattle.command_base.specs.declared.inputs.Inputs.{Inputs as CodeInputs}
+use Rattle.command_base.specs.declared.ending.Ending.{Ending}
+use Rattle.command_base.specs.Inputs.{Inputs, Contents, LacksInput, IsFirstInputFault as IsFirstFaultOf, plain_inputs}
+use Rattle.command_base.specs.Endings.{HasOutcome}
 use Rattle.command_base.specs.Refusals.{IsInputRefusal}
 use Rattle.command_base.specs.Outcomes.{IsOutcome}
-use Rattle.sweep_command.specs.Texts.{sweep_text}
+use Rattle.sweep_command.specs.declared.command.Swept.{Swept}
+use Rattle.sweep_command.specs.Texts.{sweep_text, swept_text}
 use Rattle.sweep_command.specs.Patterns.{IsFirstSweepFault, SaysPattern}
 
 -- observable exactly where some choice of nodes with some strict order makes every axiom true of the case
@@ -38,8 +42,13 @@ pub record IsSweepDue (holds : Contents) (i : Inputs) (status : Status) : Type 0
   pub found : (m : WrittenModel) (p : Pattern) → SaysPattern holds i m p → status ≡ Done
   pub fault : (f : InputFault) → IsFirstFaultOf IsFirstSweepFault holds i f → status ≡ Refused
 
--- what `sweep` returns
+-- the outcome of `sweep`
 abbrev pub IsSweepOutcome : {F : Type 0} → (F → FilesView) → Inputs → F → F → Status → List ℕ → Type 0
 IsSweepOutcome view i old new status text =
     IsOutcome view ⊥ (IsTrue (view old).modelled) (LacksInput (view old).holds i)
     (AnswersSweep (view old).holds i) old new status text
+
+-- what `sweep` returns: the sweep, or the ending
+abbrev pub ReturnsSweep : {F : Type 0} → (F → FilesView) → CodeInputs → F → F → Result Swept Ending → Type 0
+ReturnsSweep view i old new result =
+    HasOutcome result (λ s. Done) swept_text (IsSweepOutcome view (plain_inputs i) old new)

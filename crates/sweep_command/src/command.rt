@@ -1,10 +1,6 @@
 ghost use Rattle.std.specs.Prelude.{◌≡◌, length, IfOk};
-ghost use Rattle.pc_common.specs.declared.status.Status.TheVariants.{Done};
-ghost use Rattle.command_base.specs.Inputs.{plain_inputs};
-ghost use Rattle.command_base.specs.Endings.{returned_status, returned_text};
 ghost use Rattle.pattern_reader.specs.Rows.{rows_of};
-ghost use Rattle.sweep_command.specs.Texts.{swept_text};
-ghost use Rattle.sweep_command.specs.SweepAnswers.{IsSweepOutcome};
+ghost use Rattle.sweep_command.specs.SweepAnswers.{ReturnsSweep};
 
 use super::inputs::{Task, read_task};
 use super::sweeping::sweep;
@@ -26,8 +22,7 @@ pub fn sweep_files<F: Files>(
     inputs: Inputs<'_>,
     files: &mut F,
 ) -> Result<Swept, Ending>
-    ensures outcome { IsSweepOutcome F.view (plain_inputs inputs.entry) files.old files.new
-        (returned_status (λ s. Done) result) (returned_text swept_text result) }
+    ensures outcome { ReturnsSweep F.view inputs.entry files.old files.new result }
     ensures rows { IfOk result (λ s. length s.answers.items ≡ rows_of s.pattern) }
 {
     let Task { model, pattern } = match read_task(alloc, inputs, files) {

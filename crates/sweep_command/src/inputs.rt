@@ -6,7 +6,7 @@ ghost use Rattle.command_base.specs.Endings.{IsBytesEnding};
 ghost use Rattle.command_base.specs.Outcomes.{IsInputsEnding};
 ghost use Rattle.sweep_command.specs.Patterns.{ClosedCase, IsFirstSweepFault, SaysTask, HasTask};
 
-use command_base::{Ending, Inputs, bytes_of, placed, two_files};
+use command_base::{Ending, Inputs, bytes_of, place_fault, two_files};
 use pattern_reader::{Pattern, read_pattern};
 use pc_common::Files;
 use pc_front::{FrontEnd, MAX_FILE, ModelFront, read_model};
@@ -41,7 +41,7 @@ fn task_of(alloc: Global, model: &[u8], second: &[u8]) -> Result<Task, Ending>
     match make_task(alloc, model, second) {
         Ok(task) => Ok(task),
         Err(FrontEnd::Refused(fault)) => {
-            Err(Ending::Refused(placed(fault, bytes_of(fault.file, model, second))))
+            Err(Ending::Refused(place_fault(fault, bytes_of(fault.file, model, second))))
         }
         Err(FrontEnd::Memory) => Err(Ending::Memory),
     }

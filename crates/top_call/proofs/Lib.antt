@@ -2,4 +2,3 @@ pub mod WordsOutcomes
 pub mod WrittenStatus
 pub mod Headline
 pub mod OneVerdict
-pub mod WrittenOut

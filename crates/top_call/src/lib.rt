@@ -22,5 +22,5 @@ mod laws;
 mod top;
 
 pub use command_line::one_command;
-pub use laws::{runs_are_written_out, written_is_verified};
+pub use laws::written_is_verified;
 pub use top::run;

@@ -1,19 +1,8 @@
--- A leaf of the code, and what the facts of a branch say of each kind of leaf.
-use Rattle.std.specs.Prelude.{◌≡◌, List, [], ◌∷◌, ◌++◌, Contains, map}
+-- What the facts of a branch say of each kind of leaf.
+use Rattle.std.specs.Prelude.{◌≡◌, List, [], ◌∷◌, ◌++◌, Contains}
 use Rattle.pc_common.specs.World.{Node}
 use Rattle.pc_common.specs.Chain.{Leads}
-use Rattle.pc_common.specs.Steps.{Leaf as PlainLeaf, cycle, path, absent, false_step}
-use Rattle.pc_ground.specs.Keys.{key_node}
 use Rattle.tree_check.specs.Facts.{PlainFact, no_edge, no_node, present, HasEdge}
-use Rattle.tree_check.specs.declared.leaf.Leaf.{Leaf}
-use Rattle.tree_check.specs.declared.leaf.Leaf.TheVariants.{Cycle, Path, Absent, False}
-
--- a leaf of the code, with its keys as plain nodes
-abbrev pub plain_leaf : Leaf → PlainLeaf Node
-plain_leaf (Cycle nodes) = cycle (map key_node nodes.now)
-plain_leaf (Path nodes) = path (map key_node nodes.now)
-plain_leaf (Absent node) = absent (key_node node)
-plain_leaf False = false_step
 
 -- each node has an edge to the next one, and the last to the first
 abbrev pub IsCycle : List PlainFact → List Node → Type 0

@@ -6,7 +6,7 @@ use Rattle.pc_ground.specs.declared.row.Row.{Row}
 use Rattle.pc_ground.specs.declared.version.Version.{Version}
 use Rattle.pc_ground.specs.Tree.{Tree, turned, size_of}
 use Rattle.pc_ground.specs.Rows.{rows_of}
-use Rattle.pc_ground.specs.Refutes.{signed, Branch, subtree_at, asserted, IsSplit, Runs}
+use Rattle.pc_ground.specs.Refutes.{signed, all_signed, Branch, subtree_at, asserted, IsSplit, Runs}
 use Rattle.tree_check.specs.Facts.{PlainFact, HasFacts}
 use Rattle.tree_check.specs.Sides.{with_all}
 use Rattle.tree_check.specs.declared.later.Later.{Later}
@@ -66,6 +66,10 @@ pub record Stands (o : OpenBranches) (v : Version) (t : Tree Node) (opens : List
   pub rows : o.rows ≡ rows_of t
   pub are_open : AreOpen t o.is_open o.facts (reverse o.later) opens
 
+-- the checker is one of this version and of each tree with these rows, whose root's branch is the one that is open
+abbrev pub StandsAtRoot : Version → List (Row Node) → OpenBranches → Type 0
+StandsAtRoot v rows o = (t : Tree Node) → rows ≡ rows_of t → Stands o v t (all_signed false (asserted t 0) ∷ [])
+
 -- an Or is asserted at the signed position, whose children stand at left and right
 pub record AreSides (t : Tree Node) (ps : Branch) (negated : Bool) (p left right : ℕ) : Type 0 where
   pub first : Tree Node
@@ -78,3 +82,8 @@ pub record AreSides (t : Tree Node) (ps : Branch) (negated : Bool) (p left right
 abbrev pub HasStepped : Version → Tree Node → Step Node → List Branch → OpenBranches → Bool → Type 0
 HasStepped v t s opens new true = (next : List Branch) × Runs v t (s ∷ []) opens next × Stands new v t next
 HasStepped v t s opens new false = (next : List Branch) → Runs v t (s ∷ []) opens next → ⊥
+
+-- that came of the step, from whichever branches the old checker stands for
+abbrev pub HasTakenStep : OpenBranches → Step Node → OpenBranches → Bool → Type 0
+HasTakenStep old s new good =
+    (v : Version) (t : Tree Node) (opens : List Branch) → Stands old v t opens → HasStepped v t s opens new good

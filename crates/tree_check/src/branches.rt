@@ -1,24 +1,23 @@
-ghost use Rattle.std.specs.Prelude.{◌≡◌, false, ◌↔◌, ◌∷◌, [], List, IsTrue, IfOk, OnOk};
+ghost use Rattle.std.specs.Prelude.{◌≡◌, ◌↔◌, ◌∷◌, [], List, IsTrue, IfOk, OnOk};
 ghost use Rattle.pc_common.specs.World.{Node};
 ghost use Rattle.pc_common.specs.Steps.{split as split_step, close as close_step};
 ghost use Rattle.pc_ground.specs.Tree.{Tree};
-ghost use Rattle.pc_ground.specs.Rows.{rows_of};
 ghost use Rattle.pc_ground.specs.declared.version.Version.{Version as AnyVersion};
 ghost use Rattle.pc_ground.specs.declared.version.Version.TheVariants.{One, Two};
-ghost use Rattle.pc_ground.specs.Refutes.{Branch, all_signed, asserted};
-ghost use Rattle.tree_check.specs.Leaves.{plain_leaf};
-ghost use Rattle.tree_check.specs.OpenBranches.{Stands, HasStepped};
+ghost use Rattle.pc_ground.specs.Refutes.{Branch};
+ghost use Rattle.refutation.specs.Steps.{plain_leaf, plain_kind};
+ghost use Rattle.tree_check.specs.OpenBranches.{Stands, StandsAtRoot, HasTakenStep};
 
 use super::children::children;
 use super::closing::closes;
 use super::entering::enter_side;
 use super::facts::Facts;
 use super::later::Later;
-use super::leaf::Leaf;
 use super::root::show_size;
 use super::side::Side;
 use pc_common::Memory;
 use pc_ground::{Flat, Version};
+use refutation::{Kind, Leaf};
 use std::alloc::Global;
 use std::marker::Model;
 
@@ -61,8 +60,7 @@ impl<'a> Model for Branches<'a> {
 impl<'a> Branches<'a> {
     /// The one branch of no step: what the root of the tree asserts. Steps are read as those of version 1.
     pub fn new(alloc: Global, tree: &'a Flat) -> Result<Branches<'a>, Memory>
-        ensures { IfOk result (λ branches. (t : Tree Node) → tree.now ≡ rows_of t
-            → Stands branches One t (all_signed false (asserted t 0) ∷ [])) }
+        ensures { IfOk result (StandsAtRoot One tree.now) }
     {
         show_size(tree);
         let mut facts = Facts::new(alloc);
@@ -84,13 +82,30 @@ impl<'a> Branches<'a> {
         self.version = Version::Two;
     }
 
+    /// Takes a step at the first open branch. False where no branch is open, or where the step's condition does not
+    /// hold. After false, or where memory is refused, nothing is said of the branches.
+    pub fn take(&mut self, step: Kind<'_>) -> Result<bool, Memory>
+        ensures { IfOk result (HasTakenStep self.old (plain_kind step.entry) self.new) }
+    {
+        match step {
+            Kind::Split { negated, position } => self.split(negated, position),
+            Kind::Close(leaf) => self.close(leaf),
+        }
+    }
+
+    /// Whether no branch is open. Takes no memory.
+    pub fn is_closed(&self) -> bool
+        ensures { (v : AnyVersion) (t : Tree Node) (opens : List Branch) → Stands self.now v t opens
+            → IsTrue result ↔ (opens ≡ []) }
+    {
+        !self.is_open
+    }
+
     /// Puts the two sides of the Or at `position` in the first branch's place, the left one first. With `negated`
     /// the position is one under the sign `~`, and an And of the tree is meant. False where no branch is open, or
-    /// no Or is asserted there on the first one. After false, or where memory is refused, nothing is said of the
-    /// branches.
-    pub fn split(&mut self, negated: bool, position: u64) -> Result<bool, Memory>
-        ensures { IfOk result (λ good. (v : AnyVersion) (t : Tree Node) (opens : List Branch)
-            → Stands self.old v t opens → HasStepped v t (split_step negated position) opens self.new good) }
+    /// no Or is asserted there on the first one.
+    fn split(&mut self, negated: bool, position: u64) -> Result<bool, Memory>
+        ensures { IfOk result (HasTakenStep self.old (split_step negated position) self.new) }
     {
         if !self.is_open {
             return Ok(false);
@@ -108,11 +123,9 @@ impl<'a> Branches<'a> {
     }
 
     /// Closes the first branch by a leaf, so that the next one that waits is first. False where no branch
-    /// is open, or the leaf does not close the first one. After false, or where memory is refused, nothing
-    /// is said of the branches.
-    pub fn close(&mut self, leaf: Leaf<'_>) -> Result<bool, Memory>
-        ensures { IfOk result (λ good. (v : AnyVersion) (t : Tree Node) (opens : List Branch)
-            → Stands self.old v t opens → HasStepped v t (close_step (plain_leaf leaf.entry)) opens self.new good) }
+    /// is open, or the leaf does not close the first one.
+    fn close(&mut self, leaf: Leaf<'_>) -> Result<bool, Memory>
+        ensures { IfOk result (HasTakenStep self.old (close_step (plain_leaf leaf.entry)) self.new) }
     {
         if !self.is_open {
             return Ok(false);
@@ -122,14 +135,6 @@ impl<'a> Branches<'a> {
         }
         self.open_next()?;
         Ok(true)
-    }
-
-    /// Whether no branch is open. Takes no memory.
-    pub fn is_closed(&self) -> bool
-        ensures { (v : AnyVersion) (t : Tree Node) (opens : List Branch) → Stands self.now v t opens
-            → IsTrue result ↔ (opens ≡ []) }
-    {
-        !self.is_open
     }
 
     /// Leaves the first branch, and enters the next one that waits.

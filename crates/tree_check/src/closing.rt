@@ -6,13 +6,14 @@ ghost use Rattle.pc_ground.specs.Tree.{Tree};
 ghost use Rattle.pc_ground.specs.Rows.{rows_of};
 ghost use Rattle.pc_ground.specs.Refutes.{Branch, Closes, literals_of};
 ghost use Rattle.tree_check.specs.Facts.{HasEdge, HasFacts};
-ghost use Rattle.tree_check.specs.Leaves.{plain_leaf, IsCycle, IsPath, IsAbsent};
+ghost use Rattle.refutation.specs.Steps.{plain_leaf};
+ghost use Rattle.tree_check.specs.Leaves.{IsCycle, IsPath, IsAbsent};
 
 use super::fact::Fact;
 use super::facts::Facts;
-use super::leaf::Leaf;
 use super::root::is_false;
 use pc_ground::{Flat, NodeKey};
+use refutation::Leaf;
 
 /// Whether edges lead from a node over the listed ones to another. A look-up for each edge.
 fn are_joined(facts: &Facts, from: NodeKey, via: &[NodeKey], to: NodeKey) -> bool

@@ -12,6 +12,11 @@ pub record BitTable : Type 0 where
   -- how many words can be recorded before the trail takes memory
   pub room : ℕ
 
+-- no bit is set, and no table came before
+abbrev pub clear_table : ℕ → ℕ → ℕ → BitTable
+clear_table rows words room =
+    record { rows = rows; words = words; past = []; now = replicate (rows * words) 0; room = room }
+
 -- all tables; a mark is a place in this list
 abbrev pub tables : BitTable → List (List ℕ)
 tables v = v.past ++ v.now ∷ []

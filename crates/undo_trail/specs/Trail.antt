@@ -1,5 +1,5 @@
 -- A trail of changes: what each changed word held before, oldest first.
-use Rattle.std.specs.Prelude.{ℕ, List, [], ◌∷◌, ◌≡◌, ◌≢◌, ◌<◌, length, replicate, slice_set, slice_index, All}
+use Rattle.std.specs.Prelude.{ℕ, List, [], ◌∷◌, ◌≡◌, ◌≢◌, ◌<◌, ◌+◌, length, replicate, slice_set, slice_index, bit_or, All}
 use Rattle.undo_trail.specs.declared.trail.Change.{Change}
 use Rattle.undo_trail.specs.BitTable.{BitTable, Extends}
 
@@ -20,6 +20,11 @@ IsChanging (c ∷ cs) t = (c.old ≢ slice_index (back cs t) c.place) × IsChang
 
 abbrev pub table_of : ℕ → ℕ → ℕ → List Change → List ℕ → BitTable
 table_of rows words room trail t = record { rows = rows; words = words; past = past trail t; now = t; room = room }
+
+-- so many words at `to` have their bits and those of the words at `from`, one by one
+abbrev pub JoinsWords : List ℕ → List ℕ → ℕ → ℕ → ℕ → Type 0
+JoinsWords old new to from words = (k : ℕ) → k < words
+    → slice_index new (to + k) ≡ bit_or (slice_index old (to + k)) (slice_index old (from + k))
 
 -- what the trail of a table of so many words keeps
 pub record IsTrail (size : ℕ) (trail : List Change) (t : List ℕ) : Type 0 where

@@ -1,5 +1,5 @@
-ghost use Rattle.std.specs.Prelude.{◌≡◌, ◌≢◌, ◌<◌, ◌*◌, ℕ, true, false, length, slice_index, bit_or, bit_and, EachIndex, SomeIndex, MatchBool};
-ghost use Rattle.undo_trail.specs.Bits.{column};
+ghost use Rattle.std.specs.Prelude.{◌≡◌, length, slice_index, bit_or, EachIndex, MatchBool};
+ghost use Rattle.undo_trail.specs.Bits.{ShareBit, ShareNoBit, ShareColumn, ShareNoColumn};
 
 /// Puts the bits of `src` into `dst`, which has as many words. Takes no memory.
 ///
@@ -18,12 +18,8 @@ pub fn or_words(dst: &mut [u64], src: &[u64])
 /// The loop has no early exit, so that it can go by several words at once.
 pub fn meets_words(a: &[u64], b: &[u64]) -> bool
     requires { length a.now ≡ length b.now }
-    // some word has a bit in common with the word at the same place
-    ensures words { MatchBool result (SomeIndex a.now (λ k. bit_and (slice_index a.now k) (slice_index b.now k) ≢ 0))
-        (EachIndex a.now (λ k. bit_and (slice_index a.now k) (slice_index b.now k) ≡ 0)) }
-    ensures columns { MatchBool result
-        ((c : ℕ) × (c < 64 * length a.now) × (column a.now c ≡ true) × (column b.now c ≡ true))
-        ((c : ℕ) → c < 64 * length a.now → column a.now c ≡ true → column b.now c ≡ false) }
+    ensures words { MatchBool result (ShareBit a.now b.now) (ShareNoBit a.now b.now) }
+    ensures columns { MatchBool result (ShareColumn a.now b.now) (ShareNoColumn a.now b.now) }
 {
     let mut met = 0;
     for k in 0..a.len() {

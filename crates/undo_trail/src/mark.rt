@@ -19,7 +19,7 @@ impl Model for Mark {
 }
 
 impl Mark {
-    pub(super) fn at(changes: usize) -> Mark
+    pub(super) fn from_changes(changes: usize) -> Mark
         ensures { result ≡ changes }
     {
         Mark { at: changes }

@@ -1,6 +1,6 @@
-ghost use Rattle.std.specs.Prelude.{◌≡◌, ◌≢◌, ◌<◌, ◌≤◌, ◌+◌, ◌-◌, ◌*◌, ◌^◌, ◌++◌, ℕ, false, [], ◌∷◌, length, take, replicate, slice_range, IfOk, OnOk, OnErr, MatchBool};
+ghost use Rattle.std.specs.Prelude.{◌≡◌, ◌≢◌, ◌<◌, ◌≤◌, ◌+◌, ◌-◌, ◌*◌, ◌^◌, ◌++◌, ℕ, false, ◌∷◌, length, take, slice_range, IfOk, OnOk, OnErr, MatchBool};
 ghost use Rattle.undo_trail.specs.Bits.{column};
-ghost use Rattle.undo_trail.specs.BitTable.{tables, bit_now, IsSameTable, Extends, HasSet, HasJoined, IsBitTable};
+ghost use Rattle.undo_trail.specs.BitTable.{clear_table, tables, bit_now, IsSameTable, Extends, HasSet, HasJoined, IsBitTable};
 
 use super::mark::Mark;
 use super::steps::Steps;
@@ -47,13 +47,7 @@ impl UndoTable {
     /// are fewer than 2^32.
     pub fn new(alloc: Global, rows: usize, words: usize) -> Result<UndoTable, Memory>
         requires { rows * words < 2 ^ 32 }
-        ensures value { IfOk result (λ t. t ≡ record {
-          rows = rows;
-          words = words;
-          past = [];
-          now = replicate (rows * words) 0;
-          room = t.room;
-        }) }
+        ensures value { IfOk result (λ t. t ≡ clear_table rows words t.room) }
         ensures clear { IfOk result (λ t. (r c : ℕ) → bit_now t r c ≡ false) }
     {
         Ok(UndoTable {
@@ -169,7 +163,7 @@ impl UndoTable {
         ensures last { result ≡ length self.now.past }
         ensures table { IsBitTable self.now }
     {
-        Mark::at(self.trail.len())
+        Mark::from_changes(self.trail.len())
     }
 
     /// Gives back the words as they were at `mark`, which and the earlier marks stay. Each word put back is

@@ -1,5 +1,5 @@
-ghost use Rattle.std.specs.Prelude.{◌≡◌, ◌≢◌, ◌<◌, ◌≤◌, ◌+◌, ◌-◌, ◌⊎◌, ℕ, length, drop, vec_len, vec_capacity, slice_index, slice_set, bit_or, All, MatchBool};
-ghost use Rattle.undo_trail.specs.Trail.{back, Grows};
+ghost use Rattle.std.specs.Prelude.{◌≡◌, ◌≢◌, ◌<◌, ◌≤◌, ◌+◌, ◌-◌, ◌⊎◌, ℕ, length, drop, vec_len, vec_capacity, slice_index, slice_set, All, MatchBool};
+ghost use Rattle.undo_trail.specs.Trail.{back, JoinsWords, Grows};
 
 use super::steps::Steps;
 use std::sync::ledger::Ledger;
@@ -45,8 +45,7 @@ pub fn or_into(
     requires from_in { from + words ≤ length table.old }
     requires apart { (from ≡ to) ⊎ ((from + words ≤ to) ⊎ (to + words ≤ from)) }
     requires room { words ≤ vec_capacity trail.old - vec_len trail.old }
-    ensures joined { (k : ℕ) → k < words → slice_index table.new (to + k)
-        ≡ bit_or (slice_index table.old (to + k)) (slice_index table.old (from + k)) }
+    ensures joined { JoinsWords table.old table.new to from words }
     ensures others { (p : ℕ) → (p < to) ⊎ (to + words ≤ p) → slice_index table.new p ≡ slice_index table.old p }
     ensures grows { Grows trail.old.items table.old trail.new.items table.new words }
     ensures changed { MatchBool result (table.new ≢ table.old)

@@ -6,3 +6,5 @@ pub mod Order
 pub mod Totality
 mod Spans
 mod Seen
+pub mod Spelling
+pub mod Words

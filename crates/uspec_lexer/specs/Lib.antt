@@ -1,4 +1,6 @@
 pub mod Token
+pub mod Expected
+pub mod Vocabulary
 pub mod Bytes
 pub mod Table
 pub mod Models

@@ -43,7 +43,7 @@ pub fn tokens_from<'a, L: LexicalGrammar>(
         keep(&mut spans, at, piece)?;
         at = piece.end;
     }
-    Ok(Tokens::over(bytes, spans))
+    Ok(Tokens::from_spans(bytes, spans))
 }
 
 /// Puts the token that the piece at `at` is after the earlier ones, if it is one.

@@ -50,4 +50,4 @@ pub use lex::{tokens, tokens_from};
 pub use list::Tokens;
 pub use models::{Models, is_name};
 pub use scan::byte_or_nul;
-pub use token::{FromToken, Token, TokenKind};
+pub use token::{FromToken, Token, TokenKind, is_spelled};

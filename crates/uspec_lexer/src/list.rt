@@ -40,7 +40,7 @@ impl<'a> Model for Tokens<'a> {
 
 impl<'a> Tokens<'a> {
     /// The tokens that stand at these spans of `bytes`. Takes no memory.
-    pub(crate) fn over(bytes: &'a [u8], spans: Vec<Span>) -> Self
+    pub(crate) fn from_spans(bytes: &'a [u8], spans: Vec<Span>) -> Self
         requires within { All (IsWithin bytes.now) spans.items }
         requires few { vec_len spans < 2 ^ 63 }
         ensures { result ≡ map (token_at bytes.now) spans.items }

@@ -1,4 +1,5 @@
 ghost use Rattle.std.specs.Prelude.{◌≡◌};
+ghost use Rattle.std.specs.Str.{bytes_eq};
 ghost use Rattle.uspec_lexer.specs.Token.{Token as PlainToken};
 ghost use Rattle.uspec_lexer.specs.View.{plain};
 
@@ -23,6 +24,22 @@ pub struct Token<'a> {
     pub kind: TokenKind,
     pub at: Place,
     pub piece: &'a [u8],
+}
+
+/// Whether a token's bytes are these.
+pub fn is_spelled(piece: &[u8], bytes: &[u8]) -> bool
+    ensures { result ≡ bytes_eq piece.now bytes.now }
+{
+    piece == bytes
+}
+
+/// What stands beside the bytes of a piece, or the last where none are its bytes, as in
+/// `by_spelling!(piece; b"(" => Open, b")" => Close; Other)`.
+#[macro_export]
+macro_rules! by_spelling {
+    ($piece:expr; $($bytes:literal => $terminal:expr),+; $other:expr) => {
+        $(if $crate::is_spelled($piece, $bytes) { $terminal } else)+ { $other }
+    };
 }
 
 /// What a grammar sees of a token: one of its terminals.

@@ -16,7 +16,7 @@ use Rattle.uspec_parser.specs.Terminals.{Lexeme, plain, name_, quoted, terminal}
 use Rattle.uspec_parser.specs.declared.operands.Connective.{Connective}
 use Rattle.uspec_parser.specs.declared.operands.Connective.TheVariants.{And as conjoins, Or as disjoins, Implies as implies}
 use Rattle.uspec_parser.specs.Syntax.{spelled_arg, spelled_location, spelled_node, Label, named, other, spelled_label, Labels, unlabelled, labelled, coloured, spelled_labels, Edge as EdgeText, spelled_edge, empty, some, spelled_others, spelled_elements, Atom, one_edge, one_node, edge_list, node_list, expand, predicate, spelled_atom, spelled_sort, spelled_connective, Formula, last, last_wide, more, atom, bracketed, negated, binding, negated_wide, spelled_formula, Item, stage, axiom_item, macro, spelled_model}
-use Rattle.uspec_parser.specs.Levels.{is_deep, level_of, behind_and, behind_or, behind_implies}
+use Rattle.uspec_parser.specs.Levels.{is_deep, level_of, level_after_and, level_after_or, level_after_implies}
 use Rattle.uspec_parser.specs.Marks.{shallow, open_at, level_behind, marks_formula, marks_outer, marks_model, IsMarkedFormula, IsMarkedModel}
 use Rattle.uspec_parser.specs.Phrases.{production, is_nullable, deep, rules}
 use Rattle.uspec_parser.specs.declared.level.Level.{Level}
@@ -195,13 +195,13 @@ operand_exists l n at _ _ (part (s, e, f) (class w (class _ (part (b, g, h) none
   simp (f, h, append-nil),
 )
 
-more_and : (l : Level) → Keeps (More l) And (a_nonterminal (Operand (behind_and l) (l.at_and + 1)) ∷ [])
+more_and : (l : Level) → Keeps (More l) And (a_nonterminal (Operand (level_after_and l) (l.at_and + 1)) ∷ [])
 more_and l _ _ _ (part (b, e, f) none) = (Some (conjoins, b), simp (e, append-nil), simp (f, append-nil))
 
-more_or : (l : Level) → Keeps (More l) Or (a_nonterminal (Operand (behind_or l) (l.at_or + 1)) ∷ [])
+more_or : (l : Level) → Keeps (More l) Or (a_nonterminal (Operand (level_after_or l) (l.at_or + 1)) ∷ [])
 more_or l _ _ _ (part (b, e, f) none) = (Some (disjoins, b), simp (e, append-nil), simp (f, append-nil))
 
-more_implies : (l : Level) → Keeps (More l) Implies (a_nonterminal (Operand (behind_implies l) (l.at_implies + 1)) ∷ [])
+more_implies : (l : Level) → Keeps (More l) Implies (a_nonterminal (Operand (level_after_implies l) (l.at_implies + 1)) ∷ [])
 more_implies l _ _ _ (part (b, e, f) none) = (Some (implies, b), simp (e, append-nil), simp (f, append-nil))
 
 arguments_name : Keeps Arguments Name (a_nonterminal Arguments ∷ [])

@@ -6,7 +6,7 @@ use Rattle.ll_grammar.proofs.Existence.{decided_by, some_answer}
 use Rattle.ll_grammar.proofs.Faults.{answer-along}
 use Rattle.uspec_parser.specs.Marks.{IsMarkedModel, IsMarkedFormula}
 use Rattle.uspec_parser.specs.Levels.{level_of}
-use Rattle.uspec_parser.specs.Phrases.{rules, follow, terminals, place, terminal_at, is_predictable, has_texts}
+use Rattle.uspec_parser.specs.Phrases.{rules, follow, terminals, listed, is_predictable, has_texts}
 use Rattle.uspec_parser.specs.declared.terminal.Terminal.{Terminal}
 use Rattle.uspec_parser.specs.declared.phrase.Phrase.TheVariants.{Items, Operand}
 use Rattle.uspec_parser.proofs.DerivedIsMarked.{marked_model_of, marked_formula_of}
@@ -14,7 +14,7 @@ use Rattle.uspec_parser.proofs.MarkedIsDerived.{model_derived, formula_derived}
 
 -- two terminals are one or are not
 decided : AreDecided Terminal
-decided = decided_by terminals place terminal_at
+decided = decided_by terminals listed
 
 pub model_answer : (cs : List Terminal) → HasAnswer IsMarkedModel cs
 model_answer cs =

@@ -15,7 +15,7 @@ use Rattle.uspec_parser.specs.Terminals.{Lexeme, plain, name_, quoted, terminal}
 use Rattle.uspec_parser.specs.declared.operands.Connective.{Connective}
 use Rattle.uspec_parser.specs.declared.operands.Connective.TheVariants.{And as conjoins, Or as disjoins, Implies as implies}
 use Rattle.uspec_parser.specs.Syntax.{spelled_arg, spelled_location, spelled_node, Label, named, other, spelled_label, Labels, unlabelled, labelled, coloured, spelled_labels, Edge as EdgeText, spelled_edge, Listing, empty, some, spelled_others, spelled_elements, Atom, one_edge, one_node, edge_list, node_list, expand, predicate, spelled_atom, spelled_sort, spelled_quantifier_word, spelled_connective, Formula, last, last_wide, more, Operand as OperandText, atom, bracketed, negated, Wide, binding, negated_wide, spelled_formula, spelled_operand, spelled_wide, Item, stage, axiom_item, macro, spelled_model}
-use Rattle.uspec_parser.specs.Levels.{is_deep, level_of, behind_and, behind_or, behind_implies}
+use Rattle.uspec_parser.specs.Levels.{is_deep, level_of, level_after_and, level_after_or, level_after_implies}
 use Rattle.uspec_parser.specs.Marks.{shallow, open_at, level_behind, marks_formula, marks_operand, marks_wide, marks_model, IsMarkedFormula, IsMarkedModel}
 use Rattle.uspec_parser.specs.Phrases.{rules}
 use Rattle.uspec_parser.specs.declared.level.Level.{Level}
@@ -170,11 +170,11 @@ read_connective : (l : Level) (op : Connective) {cs : List Terminal} {marks : Li
     → Derives rules (Operand (level_behind op l) (open_at op l + 1)) cs marks
     → ReadMore l (spelled_connective op ∷ cs) (is_deep (open_at op l) ∷ marks)
 read_connective l conjoins reads =
-    derives-begin (More l) And (a_nonterminal (Operand (behind_and l) (l.at_and + 1)) ∷ []) refl (part reads none) (simp append-nil) (simp append-nil)
+    derives-begin (More l) And (a_nonterminal (Operand (level_after_and l) (l.at_and + 1)) ∷ []) refl (part reads none) (simp append-nil) (simp append-nil)
 read_connective l disjoins reads =
-    derives-begin (More l) Or (a_nonterminal (Operand (behind_or l) (l.at_or + 1)) ∷ []) refl (part reads none) (simp append-nil) (simp append-nil)
+    derives-begin (More l) Or (a_nonterminal (Operand (level_after_or l) (l.at_or + 1)) ∷ []) refl (part reads none) (simp append-nil) (simp append-nil)
 read_connective l implies reads =
-    derives-begin (More l) Implies (a_nonterminal (Operand (behind_implies l) (l.at_implies + 1)) ∷ []) refl (part reads none)
+    derives-begin (More l) Implies (a_nonterminal (Operand (level_after_implies l) (l.at_implies + 1)) ∷ []) refl (part reads none)
     (simp append-nil) (simp append-nil)
 
 read_binding : (l : Level) (n : ℕ) (u : Bool) (s : Sort) {cs : List Terminal} {marks : List Bool}

@@ -1,5 +1,5 @@
 -- Each step of the descent leaves fewer lexemes.
-use Rattle.std.proofs.Common.{◌≡◌, ◌≢◌, ◌<◌, ◌≤◌, true, List, [], ◌∷◌, Some, length, ap, sym, arith}
+use Rattle.std.proofs.Common.{◌≡◌, ◌<◌, ◌≤◌, true, List, [], ◌∷◌, Some, length, ap, arith}
 use Rattle.pc_syntax.specs.declared.term.Arg.{Arg}
 use Rattle.pc_syntax.specs.declared.term.Word.{Word}
 use Rattle.pc_syntax.specs.declared.model.StageItem.{StageItem}
@@ -7,7 +7,7 @@ use Rattle.pc_syntax.specs.Written.{Written, WrittenItem}
 use Rattle.uspec_parser.specs.declared.operands.Connective.{Connective}
 use Rattle.uspec_parser.specs.Operands.{Operands}
 use Rattle.uspec_parser.specs.Terminals.{Lexeme}
-use Rattle.uspec_parser.specs.Descent.{next, behind, begins_argument, behind_location_by, behind_node, behind_label_by, behind_label, behind_edge, behind_semicolon_by, behind_semicolon, Arguments, Elements, node, edge, Atom, Start, no_opener, start, connective, Operand, Row, Tail, is_quoted, Parameters, begins_item, Item}
+use Rattle.uspec_parser.specs.Descent.{next, behind, behind_location_by, behind_node, behind_label_by, behind_label, behind_edge, behind_semicolon_by, behind_semicolon, Arguments, Elements, node, edge, Atom, connective, Operand, Row, Tail, Parameters, begins_item, Item}
 use Rattle.uspec_parser.specs.declared.terminal.Terminal.{Terminal}
 use Rattle.uspec_parser.specs.declared.terminal.Terminal.TheVariants.{Open, Comma, Semicolon, OneEdge, OneNode, EdgeList, NodeList, ExpandMacro}
 
@@ -18,10 +18,6 @@ behind_no_longer (x ∷ xs) = omega arith
 pub behind_open : (xs : List Lexeme) → next xs ≡ Open → length (behind xs) < length xs
 behind_open [] e = absurd (cc)
 behind_open (x ∷ xs) e = omega arith
-
-pub behind_argument : (xs : List Lexeme) → begins_argument (next xs) ≡ true → length (behind xs) < length xs
-behind_argument [] e = absurd (cc)
-behind_argument (x ∷ xs) e = omega arith
 
 location_no_longer : (t : Terminal) (xs : List Lexeme) → length (behind_location_by t xs) ≤ length xs
 location_no_longer Open xs =
@@ -119,17 +115,9 @@ mutual
   tail_no_longer (Tail.ends e) = omega arith
   tail_no_longer {xs} (Tail.goes_on op e u t) = omega (arith, operand_no_longer u, tail_no_longer t, behind_no_longer xs)
 
-pub behind_start : (xs : List Lexeme) (s : Start) → s ≢ no_opener → start (next xs) ≡ s → length (behind xs) < length xs
-behind_start [] s not e = absurd (not (sym e))
-behind_start (x ∷ xs) s not e = omega arith
-
 pub behind_connective : (xs : List Lexeme) (op : Connective) → connective (next xs) ≡ Some op → length (behind xs) < length xs
 behind_connective [] op e = absurd (cc)
 behind_connective (x ∷ xs) op e = omega arith
-
-pub behind_parameter : (xs : List Lexeme) → is_quoted (next xs) ≡ true → length (behind xs) < length xs
-behind_parameter [] e = absurd (cc)
-behind_parameter (x ∷ xs) e = omega arith
 
 pub parameters_no_longer : {xs rest : List Lexeme} {ws : List Word} → Parameters xs ws rest → length rest ≤ length xs
 parameters_no_longer (Parameters.ends e) = omega arith

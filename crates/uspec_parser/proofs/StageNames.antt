@@ -1,14 +1,15 @@
 -- Each stage of a model that tokens derive has a name: a letter, and then letters, digits, `_` and `'`.
-use Rattle.std.proofs.Common.{◌≡◌, ℕ, zero, suc, Bool, true, false, ◌&&◌, ◌||◌, cond, List, [], ◌∷◌, ◌++◌, Some, map, slice_get, refl, sym, ◌∙◌, ap, subst}
-use Rattle.std.specs.Prelude.{IsTrue, unwrap_or, codes}
+use Rattle.std.proofs.Common.{◌≡◌, ℕ, zero, suc, Bool, true, false, not, ◌&&◌, cond, if◌then◌else◌, List, [], ◌∷◌, ◌++◌, Some, map, slice_get, refl, sym, ◌∙◌, ap, subst}
+use Rattle.std.specs.Prelude.{IsTrue, unwrap_or}
+use Rattle.std.specs.List.{list_all}
 use Rattle.std.specs.Str.{bytes_eq}
 use Rattle.pc_syntax.specs.declared.model.StageItem.{StageItem}
 use Rattle.pc_syntax.specs.Written.{WrittenModel}
 use Rattle.uspec_lexer.specs.Token.{Token, Kind, name, number, text, symbol}
-use Rattle.uspec_parser.specs.Terminals.{Lexeme, plain, placed, name_, quoted, number_, word_terminal, symbol_terminal, text_terminal, terminal_of_kind, terminal_of, content, is_name, lexeme_by, lexeme}
+use Rattle.uspec_parser.specs.Terminals.{Lexeme, plain, placed, name_, quoted, number_, find_spelling, words, symbols, word_terminal, symbol_terminal, text_terminal, terminal_of_kind, terminal_of, content, is_name, lexeme_by, lexeme}
 use Rattle.uspec_lexer.specs.Bytes.{is_name as is_spelled_as_name}
 use Rattle.uspec_parser.specs.declared.terminal.Terminal.{Terminal}
-use Rattle.uspec_parser.specs.declared.terminal.Terminal.TheVariants.{StageName, Axiom, DefineMacro, ExpandMacro, Forall, Exists, Microop, Core, OneEdge, EdgeList, OneNode, NodeList, Name, Number, Quoted, Text, Open, Close, OpenBracket, CloseBracket, Comma, Semicolon, Colon, Dot, Not, And, Or, Implies, Arrow}
+use Rattle.uspec_parser.specs.declared.terminal.Terminal.TheVariants.{Name, Number, Quoted, Text, Arrow}
 use Rattle.uspec_parser.specs.Syntax.{Item, stage, axiom_item, macro, spelled_item, spelled_model, stages_of, DerivesModel}
 
 abbrev Each : {X : Type 0} → (X → Type 0) → List X → Type 0
@@ -40,54 +41,35 @@ abbrev is_number : Terminal → Bool
 is_number Number = true
 is_number _ = false
 
-record IsOther (t : Terminal) : Type 0 where
-  pub is : is_quoted t ≡ false
-  pub no_number : is_number t ≡ false
+both : (a b : Bool) → (a && b) ≡ true → (a ≡ true) × (b ≡ true)
+both true b h = (refl, h)
+both false b h = absurd (cc)
 
-other : (t : Terminal) → is_quoted t ≡ false → is_number t ≡ false → IsOther t
-other t h n = record { is = h; no_number = n }
+untrue : (b : Bool) → not b ≡ true → b ≡ false
+untrue true h = absurd (cc)
+untrue false h = refl
 
-pick : (b : Bool) (t u : Terminal) → IsOther t → IsOther u → IsOther (cond b t u)
-pick true t u h k = h
-pick false t u h k = k
+-- what is found in a table passes a test that all in it pass, and the other terminal
+found : (p : Terminal → Bool) (w : List ℕ) (es : List (List ℕ × Terminal)) (other : Terminal)
+    → list_all (λ (e : List ℕ × Terminal). p e.1) es ≡ true → p other ≡ true → p (find_spelling w es other) ≡ true
+found p w [] other all last = last
+found p w (e ∷ es) other all last =
+    let parts = both (p e.1) (list_all (λ (d : List ℕ × Terminal). p d.1) es) all in
+    by (bytes_eq w e.0) parts.0 (found p w es other parts.1 last)
+  where
+    by : (b : Bool) → p e.1 ≡ true → p (find_spelling w es other) ≡ true → p (if b then e.1 else find_spelling w es other) ≡ true
+    by true here later = here
+    by false here later = later
 
-word_never : (w : List ℕ) → IsOther (word_terminal w)
+word_passes : (p : Terminal → Bool) → list_all (λ (e : List ℕ × Terminal). p e.1) words ≡ true → p Name ≡ true
+    → (w : List ℕ) → p (word_terminal w) ≡ true
 unfolding word_terminal
-word_never w =
-    pick (bytes_eq w (codes "StageName")) StageName _ (other StageName refl refl) (
-    pick (bytes_eq w (codes "Axiom")) Axiom _ (other Axiom refl refl) (
-    pick (bytes_eq w (codes "DefineMacro")) DefineMacro _ (other DefineMacro refl refl) (
-    pick (bytes_eq w (codes "ExpandMacro")) ExpandMacro _ (other ExpandMacro refl refl) (
-    pick (bytes_eq w (codes "forall")) Forall _ (other Forall refl refl) (
-    pick (bytes_eq w (codes "exists")) Exists _ (other Exists refl refl) (
-    pick (bytes_eq w (codes "microop") || bytes_eq w (codes "microops")) Microop _ (other Microop refl refl) (
-    pick (bytes_eq w (codes "core") || bytes_eq w (codes "cores")) Core _ (other Core refl refl) (
-    pick (bytes_eq w (codes "AddEdge") || bytes_eq w (codes "EdgeExists")) OneEdge _ (other OneEdge refl refl) (
-    pick (bytes_eq w (codes "AddEdges") || bytes_eq w (codes "EdgesExist")) EdgeList _ (other EdgeList refl refl) (
-    pick (bytes_eq w (codes "NodeExists")) OneNode _ (other OneNode refl refl) (
-    pick (bytes_eq w (codes "NodesExist")) NodeList _ (other NodeList refl refl) (
-    other Name refl refl))))))))))))
+word_passes p all last w = found p w words Name all last
 
-symbol_never : (p : List ℕ) → IsOther (symbol_terminal p)
+symbol_passes : (p : Terminal → Bool) → list_all (λ (e : List ℕ × Terminal). p e.1) symbols ≡ true → p Arrow ≡ true
+    → (w : List ℕ) → p (symbol_terminal w) ≡ true
 unfolding symbol_terminal
-symbol_never p =
-    pick (bytes_eq p (codes "(")) Open _ (other Open refl refl) (
-    pick (bytes_eq p (codes ")")) Close _ (other Close refl refl) (
-    pick (bytes_eq p (codes "[")) OpenBracket _ (other OpenBracket refl refl) (
-    pick (bytes_eq p (codes "]")) CloseBracket _ (other CloseBracket refl refl) (
-    pick (bytes_eq p (codes ",")) Comma _ (other Comma refl refl) (
-    pick (bytes_eq p (codes ";")) Semicolon _ (other Semicolon refl refl) (
-    pick (bytes_eq p (codes ":")) Colon _ (other Colon refl refl) (
-    pick (bytes_eq p (codes ".")) Dot _ (other Dot refl refl) (
-    pick (bytes_eq p (codes "~")) Not _ (other Not refl refl) (
-    pick (bytes_eq p (codes "/\\")) And _ (other And refl refl) (
-    pick (bytes_eq p (codes "\\/")) Or _ (other Or refl refl) (
-    pick (bytes_eq p (codes "=>")) Implies _ (other Implies refl refl) (
-    other Arrow refl refl))))))))))))
-
-first : (a b : Bool) → (a && b) ≡ true → a ≡ true
-first true b h = refl
-first false b h = cc
+symbol_passes p all last w = found p w symbols Arrow all last
 
 chosen : (a b : Bool) → is_quoted (cond (a && b) Quoted Text) ≡ true → a ≡ true
 chosen true b h = refl
@@ -98,10 +80,12 @@ unfolding text_terminal
 text_only p h = chosen (is_spelled_as_name (content p)) (is_name (word_terminal (content p))) h
 
 quoted_only : (k : Kind) (p : List ℕ) → is_quoted (terminal_of_kind k p) ≡ true → IsTrue (is_spelled_as_name (content p))
-quoted_only name p h = let n = (word_never p).is in cc
+quoted_only name p h =
+    let n = untrue (is_quoted (word_terminal p)) (word_passes (λ t. not (is_quoted t)) refl refl p) in cc
 quoted_only (number n) p h = cc
 quoted_only text p h = text_only p h
-quoted_only symbol p h = let n = (symbol_never p).is in cc
+quoted_only symbol p h =
+    let n = untrue (is_quoted (symbol_terminal p)) (symbol_passes (λ t. not (is_quoted t)) refl refl p) in cc
 
 text_numberless : (p : List ℕ) → is_number (text_terminal p) ≡ false
 unfolding text_terminal
@@ -113,41 +97,18 @@ text_numberless p = by (is_spelled_as_name (content p) && is_name (word_terminal
 
 -- only a number is the terminal of numbers
 pub number_only : (k : Kind) (p : List ℕ) → terminal_of_kind k p ≡ Number → (n : ℕ) × (k ≡ number n)
-number_only name p h = let n = (word_never p).no_number in let yes = ap is_number h in absurd (cc)
+number_only name p h =
+    let n = untrue (is_number (word_terminal p)) (word_passes (λ t. not (is_number t)) refl refl p) in
+    let yes = ap is_number h in absurd (cc)
 number_only (number n) p h = (n, refl)
 number_only text p h = let n = text_numberless p in let yes = ap is_number h in absurd (cc)
-number_only symbol p h = let n = (symbol_never p).no_number in let yes = ap is_number h in absurd (cc)
+number_only symbol p h =
+    let n = untrue (is_number (symbol_terminal p)) (symbol_passes (λ t. not (is_number t)) refl refl p) in
+    let yes = ap is_number h in absurd (cc)
 
 fine_lexeme : (t : Terminal) (x : Token) → (is_quoted t ≡ true → IsTrue (is_spelled_as_name (content x.piece))) → IsFine (lexeme_by t x)
 fine_lexeme Quoted x h = h refl
-fine_lexeme Name x h = tt
-fine_lexeme Number x h = tt
-fine_lexeme Forall x h = tt
-fine_lexeme Exists x h = tt
-fine_lexeme ExpandMacro x h = tt
-fine_lexeme Axiom x h = tt
-fine_lexeme StageName x h = tt
-fine_lexeme DefineMacro x h = tt
-fine_lexeme Microop x h = tt
-fine_lexeme Core x h = tt
-fine_lexeme OneEdge x h = tt
-fine_lexeme EdgeList x h = tt
-fine_lexeme OneNode x h = tt
-fine_lexeme NodeList x h = tt
-fine_lexeme Text x h = tt
-fine_lexeme Open x h = tt
-fine_lexeme Close x h = tt
-fine_lexeme OpenBracket x h = tt
-fine_lexeme CloseBracket x h = tt
-fine_lexeme Comma x h = tt
-fine_lexeme Semicolon x h = tt
-fine_lexeme Colon x h = tt
-fine_lexeme Dot x h = tt
-fine_lexeme Not x h = tt
-fine_lexeme And x h = tt
-fine_lexeme Or x h = tt
-fine_lexeme Implies x h = tt
-fine_lexeme Arrow x h = tt
+fine_lexeme t x h = tt
 
 fine_tokens : (ts : List Token) → Each IsFine (map lexeme ts)
 fine_tokens [] = tt

@@ -1,6 +1,6 @@
 -- What the descent that builds the tree makes of lexemes, of which the first is read next. It looks for no fault: of
 -- lexemes that are no text it makes something too. Only private functions are described by it.
-use Rattle.std.specs.Prelude.{◌≡◌, ◌≢◌, ℕ, Bool, true, false, List, [], ◌∷◌, ◌++◌, Option, Some, None}
+use Rattle.std.specs.Prelude.{◌≡◌, ◌≢◌, ℕ, zero, suc, Bool, true, false, List, [], ◌∷◌, ◌++◌, Option, Some, None}
 use Rattle.pc_common.specs.declared.place.Place.{Place}
 use Rattle.pc_syntax.specs.declared.term.Sort.{Sort}
 use Rattle.pc_syntax.specs.declared.term.Sort.TheVariants.{Microop as microop, Core as core}
@@ -27,6 +27,11 @@ next (x ∷ xs) = terminal x
 abbrev pub behind : List Lexeme → List Lexeme
 behind [] = []
 behind (x ∷ xs) = xs
+
+-- what stands behind this many
+abbrev pub after_tokens : ℕ → List Lexeme → List Lexeme
+after_tokens zero xs = xs
+after_tokens (suc k) xs = after_tokens k (behind xs)
 
 abbrev pub nowhere : Place
 nowhere = record { offset = 0 }

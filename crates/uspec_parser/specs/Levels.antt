@@ -13,11 +13,11 @@ level_of opened = record { at_implies = opened; at_or = opened; at_and = opened 
 
 -- an operator is open until its list ends or a looser one of the list stands: so `=>` ends `\/` and `/\`, and `\/` ends
 -- `/\`
-abbrev pub behind_implies : Level → Level
-behind_implies l = level_of (l.at_implies + 1)
+abbrev pub level_after_implies : Level → Level
+level_after_implies l = level_of (l.at_implies + 1)
 
-abbrev pub behind_or : Level → Level
-behind_or l = record { at_implies = l.at_implies; at_or = l.at_or + 1; at_and = l.at_or + 1 }
+abbrev pub level_after_or : Level → Level
+level_after_or l = record { at_implies = l.at_implies; at_or = l.at_or + 1; at_and = l.at_or + 1 }
 
-abbrev pub behind_and : Level → Level
-behind_and l = record { at_implies = l.at_implies; at_or = l.at_or; at_and = l.at_and + 1 }
+abbrev pub level_after_and : Level → Level
+level_after_and l = record { at_implies = l.at_implies; at_or = l.at_or; at_and = l.at_and + 1 }

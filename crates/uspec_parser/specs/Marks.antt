@@ -4,7 +4,7 @@ use Rattle.uspec_parser.specs.Terminals.{quoted, terminal}
 use Rattle.uspec_parser.specs.declared.operands.Connective.{Connective}
 use Rattle.uspec_parser.specs.declared.operands.Connective.TheVariants.{And as conjoins, Or as disjoins, Implies as implies}
 use Rattle.uspec_parser.specs.Syntax.{Formula, last, last_wide, more, Operand, atom, bracketed, negated, Wide, binding, negated_wide, Item, stage, axiom_item, macro, spelled_atom, spelled_formula, spelled_item, spelled_model}
-use Rattle.uspec_parser.specs.Levels.{is_deep, level_of, behind_and, behind_or, behind_implies}
+use Rattle.uspec_parser.specs.Levels.{is_deep, level_of, level_after_and, level_after_or, level_after_implies}
 use Rattle.uspec_parser.specs.declared.level.Level.{Level}
 use Rattle.uspec_parser.specs.declared.terminal.Terminal.{Terminal}
 
@@ -18,9 +18,9 @@ open_at disjoins l = l.at_or
 open_at implies l = l.at_implies
 
 abbrev pub level_behind : Connective → Level → Level
-level_behind conjoins l = behind_and l
-level_behind disjoins l = behind_or l
-level_behind implies l = behind_implies l
+level_behind conjoins l = level_after_and l
+level_behind disjoins l = level_after_or l
+level_behind implies l = level_after_implies l
 
 -- A mark for each token. n openers are open at the first token, and the list of operands is at the level l. A `~` is
 -- open until its operand ends, a `(` until its `)`, a quantifier until its body ends.

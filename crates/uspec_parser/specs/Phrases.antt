@@ -1,17 +1,15 @@
 -- The grammar of models as a table: what stands after a token where a phrase begins with it.
-use Rattle.std.specs.Prelude.{◌≡◌, ℕ, ◌+◌, Bool, true, false, List, [], ◌∷◌, Option, Some, None, refl, slice_get}
+use Rattle.std.specs.Prelude.{◌≡◌, ℕ, ◌+◌, Bool, true, false, List, [], ◌∷◌, Option, Some, None, refl}
 use Rattle.ll_grammar.specs.Rules.{Rules}
-use Rattle.ll_grammar.specs.Steps.{IsStep}
 use Rattle.ll_grammar.specs.Predictable.{IsPredictable, HasTexts}
-use Rattle.ll_grammar.specs.LawsOfTables.{predictable_by, texts_by, is_predictable_part, is_ranked_part}
+use Rattle.ll_grammar.specs.LawsOfTables.{AreListed, predictable_by, texts_by, is_predictable_part, is_ranked_part}
 use Rattle.ll_grammar.specs.declared.grammar.Symbol.{Symbol}
-use Rattle.ll_grammar.specs.declared.grammar.Step.{Step}
 use Rattle.ll_grammar.specs.declared.grammar.Symbol.TheVariants.{Terminal as a_terminal, Nonterminal as a_nonterminal}
 use Rattle.uspec_parser.specs.declared.terminal.Terminal.{Terminal}
 use Rattle.uspec_parser.specs.declared.terminal.Terminal.TheVariants.{StageName, Axiom, DefineMacro, ExpandMacro, Forall, Exists, Microop, Core, OneEdge, EdgeList, OneNode, NodeList, Name, Number, Quoted, Text, Open, Close, OpenBracket, CloseBracket, Comma, Semicolon, Colon, Dot, Not, And, Or, Implies, Arrow}
 use Rattle.uspec_parser.specs.declared.phrase.Phrase.{Phrase}
 use Rattle.uspec_parser.specs.declared.phrase.Phrase.TheVariants.{Items, Parameters, Label, Operand, More, Arguments, Argument, Node, Location, Edge, Labels, SecondLabel, SortWord, Nodes, MoreNodes, Edges, MoreEdges}
-use Rattle.uspec_parser.specs.Levels.{is_deep, level_of, behind_implies, behind_or, behind_and}
+use Rattle.uspec_parser.specs.Levels.{is_deep, level_of, level_after_implies, level_after_or, level_after_and}
 
 -- An `Operand` has the level of its list and how many openers are open at its next token: more than the level says
 -- where `~` stand before it. `More` is what follows an operand of the list.
@@ -35,9 +33,9 @@ production (Operand l n) Forall =
     Some (a_nonterminal SortWord ∷ a_terminal Quoted ∷ a_terminal Comma ∷ a_nonterminal (Operand (level_of (n + 1)) (n + 1)) ∷ [])
 production (Operand l n) Exists =
     Some (a_nonterminal SortWord ∷ a_terminal Quoted ∷ a_terminal Comma ∷ a_nonterminal (Operand (level_of (n + 1)) (n + 1)) ∷ [])
-production (More l) And = Some (a_nonterminal (Operand (behind_and l) (l.at_and + 1)) ∷ [])
-production (More l) Or = Some (a_nonterminal (Operand (behind_or l) (l.at_or + 1)) ∷ [])
-production (More l) Implies = Some (a_nonterminal (Operand (behind_implies l) (l.at_implies + 1)) ∷ [])
+production (More l) And = Some (a_nonterminal (Operand (level_after_and l) (l.at_and + 1)) ∷ [])
+production (More l) Or = Some (a_nonterminal (Operand (level_after_or l) (l.at_or + 1)) ∷ [])
+production (More l) Implies = Some (a_nonterminal (Operand (level_after_implies l) (l.at_implies + 1)) ∷ [])
 production Arguments Name = Some (a_nonterminal Arguments ∷ [])
 production Arguments Number = Some (a_nonterminal Arguments ∷ [])
 production Argument Name = Some []
@@ -80,10 +78,6 @@ deep (More l) Or = is_deep l.at_or
 deep (More l) Implies = is_deep l.at_implies
 deep _ _ = false
 
--- what the phrase makes of the stack at a token of this class
-abbrev pub IsPush : Phrase → Terminal → List (Symbol Terminal Phrase) → List (Symbol Terminal Phrase) → Step → Type 0
-IsPush n c old new step = IsStep (production n c) (deep n c) old step new
-
 abbrev pub rules : Rules Terminal Phrase
 rules = record { production = production; is_nullable = is_nullable; deep = deep }
 
@@ -110,8 +104,7 @@ follow Arguments Dot = true
 follow Arguments _ = false
 follow _ _ = true
 
--- All terminals. A new one goes last, here and in the table of places below, so that no place moves;
--- `terminal_at` then asks for its row.
+-- All terminals. A new one goes last, here and in `listed`, which then asks for its row, so that no place moves.
 abbrev pub terminals : List Terminal
 terminals =
     StageName ∷ Axiom ∷ DefineMacro ∷ ExpandMacro ∷ Forall ∷ Exists ∷ Microop ∷ Core ∷ OneEdge ∷ EdgeList ∷ OneNode
@@ -120,89 +113,36 @@ terminals =
     ∷ Dot ∷ Not ∷ And ∷ Or ∷ Implies ∷ Arrow ∷ []
 
 -- the place of a terminal among all
-abbrev pub place : Terminal → ℕ
-place StageName = 0
-place Axiom = 1
-place DefineMacro = 2
-place ExpandMacro = 3
-place Forall = 4
-place Exists = 5
-place Microop = 6
-place Core = 7
-place OneEdge = 8
-place EdgeList = 9
-place OneNode = 10
-place NodeList = 11
-place Name = 12
-place Number = 13
-place Quoted = 14
-place Text = 15
-place Open = 16
-place Close = 17
-place OpenBracket = 18
-place CloseBracket = 19
-place Comma = 20
-place Semicolon = 21
-place Colon = 22
-place Dot = 23
-place Not = 24
-place And = 25
-place Or = 26
-place Implies = 27
-place Arrow = 28
-
-pub terminal_at : (t : Terminal) → slice_get terminals (place t) ≡ Some t
-terminal_at StageName = refl
-terminal_at Axiom = refl
-terminal_at DefineMacro = refl
-terminal_at ExpandMacro = refl
-terminal_at Forall = refl
-terminal_at Exists = refl
-terminal_at Microop = refl
-terminal_at Core = refl
-terminal_at OneEdge = refl
-terminal_at EdgeList = refl
-terminal_at OneNode = refl
-terminal_at NodeList = refl
-terminal_at Name = refl
-terminal_at Number = refl
-terminal_at Quoted = refl
-terminal_at Text = refl
-terminal_at Open = refl
-terminal_at Close = refl
-terminal_at OpenBracket = refl
-terminal_at CloseBracket = refl
-terminal_at Comma = refl
-terminal_at Semicolon = refl
-terminal_at Colon = refl
-terminal_at Dot = refl
-terminal_at Not = refl
-terminal_at And = refl
-terminal_at Or = refl
-terminal_at Implies = refl
-terminal_at Arrow = refl
-
-predictable_phrase : (n : Phrase) → is_predictable_part rules follow terminals n ≡ true
-predictable_phrase Items = refl
-predictable_phrase Parameters = refl
-predictable_phrase Label = refl
-predictable_phrase (Operand l n) = refl
-predictable_phrase (More l) = refl
-predictable_phrase Arguments = refl
-predictable_phrase Argument = refl
-predictable_phrase Node = refl
-predictable_phrase Location = refl
-predictable_phrase Edge = refl
-predictable_phrase Labels = refl
-predictable_phrase SecondLabel = refl
-predictable_phrase SortWord = refl
-predictable_phrase Nodes = refl
-predictable_phrase MoreNodes = refl
-predictable_phrase Edges = refl
-predictable_phrase MoreEdges = refl
-
-pub is_predictable : IsPredictable rules follow
-is_predictable = predictable_by rules follow terminals place terminal_at predictable_phrase
+abbrev pub listed : AreListed terminals
+listed StageName = (0, refl)
+listed Axiom = (1, refl)
+listed DefineMacro = (2, refl)
+listed ExpandMacro = (3, refl)
+listed Forall = (4, refl)
+listed Exists = (5, refl)
+listed Microop = (6, refl)
+listed Core = (7, refl)
+listed OneEdge = (8, refl)
+listed EdgeList = (9, refl)
+listed OneNode = (10, refl)
+listed NodeList = (11, refl)
+listed Name = (12, refl)
+listed Number = (13, refl)
+listed Quoted = (14, refl)
+listed Text = (15, refl)
+listed Open = (16, refl)
+listed Close = (17, refl)
+listed OpenBracket = (18, refl)
+listed CloseBracket = (19, refl)
+listed Comma = (20, refl)
+listed Semicolon = (21, refl)
+listed Colon = (22, refl)
+listed Dot = (23, refl)
+listed Not = (24, refl)
+listed And = (25, refl)
+listed Or = (26, refl)
+listed Implies = (27, refl)
+listed Arrow = (28, refl)
 
 -- a terminal with which a text of the phrase begins, and a rank above those of the phrases after it
 abbrev first : Phrase → Terminal
@@ -230,24 +170,28 @@ rank Node = 1
 rank Edge = 2
 rank _ = 0
 
-ranked_phrase : (n : Phrase) → is_ranked_part rules first rank n ≡ true
-ranked_phrase Items = refl
-ranked_phrase Parameters = refl
-ranked_phrase Label = refl
-ranked_phrase (Operand l n) = refl
-ranked_phrase (More l) = refl
-ranked_phrase Arguments = refl
-ranked_phrase Argument = refl
-ranked_phrase Node = refl
-ranked_phrase Location = refl
-ranked_phrase Edge = refl
-ranked_phrase Labels = refl
-ranked_phrase SecondLabel = refl
-ranked_phrase SortWord = refl
-ranked_phrase Nodes = refl
-ranked_phrase MoreNodes = refl
-ranked_phrase Edges = refl
-ranked_phrase MoreEdges = refl
+-- the two tests of each phrase
+tested : (n : Phrase) → (is_predictable_part rules follow terminals n ≡ true) × (is_ranked_part rules first rank n ≡ true)
+tested Items = (refl, refl)
+tested Parameters = (refl, refl)
+tested Label = (refl, refl)
+tested (Operand l n) = (refl, refl)
+tested (More l) = (refl, refl)
+tested Arguments = (refl, refl)
+tested Argument = (refl, refl)
+tested Node = (refl, refl)
+tested Location = (refl, refl)
+tested Edge = (refl, refl)
+tested Labels = (refl, refl)
+tested SecondLabel = (refl, refl)
+tested SortWord = (refl, refl)
+tested Nodes = (refl, refl)
+tested MoreNodes = (refl, refl)
+tested Edges = (refl, refl)
+tested MoreEdges = (refl, refl)
+
+pub is_predictable : IsPredictable rules follow
+is_predictable = predictable_by rules follow terminals (λ c. (listed c).0) (λ c. (listed c).1) (λ n. (tested n).0)
 
 pub has_texts : HasTexts rules
-has_texts = texts_by rules first rank ranked_phrase
+has_texts = texts_by rules first rank (λ n. (tested n).1)

@@ -1,5 +1,5 @@
 -- The terminals of a model's grammar, and what the tree keeps of a token.
-use Rattle.std.specs.Prelude.{ℕ, ◌-◌, Bool, true, false, ◌&&◌, ◌||◌, List, length, slice_range, codes, if◌then◌else◌}
+use Rattle.std.specs.Prelude.{ℕ, ◌-◌, Bool, true, false, ◌&&◌, List, [], ◌∷◌, length, slice_range, codes, if◌then◌else◌}
 use Rattle.std.specs.Str.{bytes_eq}
 use Rattle.pc_common.specs.declared.place.Place.{Place}
 use Rattle.pc_syntax.specs.declared.term.Word.{Word}
@@ -8,42 +8,31 @@ use Rattle.uspec_lexer.specs.Bytes.{is_name as is_spelled_as_name}
 use Rattle.uspec_parser.specs.declared.terminal.Terminal.{Terminal}
 use Rattle.uspec_parser.specs.declared.terminal.Terminal.TheVariants.{StageName, Axiom, DefineMacro, ExpandMacro, Forall, Exists, Microop, Core, OneEdge, EdgeList, OneNode, NodeList, Name, Number, Quoted, Text, Open, Close, OpenBracket, CloseBracket, Comma, Semicolon, Colon, Dot, Not, And, Or, Implies, Arrow}
 
--- the word is one of the two
-abbrev either : List ℕ → List ℕ → List ℕ → Bool
-either word one other = bytes_eq word one || bytes_eq word other
+-- the terminal beside this spelling in a table, or else another
+abbrev pub find_spelling : List ℕ → List (List ℕ × Terminal) → Terminal → Terminal
+find_spelling word [] other = other
+find_spelling word (e ∷ es) other = if bytes_eq word e.0 then e.1 else find_spelling word es other
+
+abbrev pub words : List (List ℕ × Terminal)
+words =
+    (codes "StageName", StageName) ∷ (codes "Axiom", Axiom) ∷ (codes "DefineMacro", DefineMacro)
+    ∷ (codes "ExpandMacro", ExpandMacro) ∷ (codes "forall", Forall) ∷ (codes "exists", Exists)
+    ∷ (codes "microop", Microop) ∷ (codes "microops", Microop) ∷ (codes "core", Core) ∷ (codes "cores", Core)
+    ∷ (codes "AddEdge", OneEdge) ∷ (codes "EdgeExists", OneEdge) ∷ (codes "AddEdges", EdgeList)
+    ∷ (codes "EdgesExist", EdgeList) ∷ (codes "NodeExists", OneNode) ∷ (codes "NodesExist", NodeList) ∷ []
+
+abbrev pub symbols : List (List ℕ × Terminal)
+symbols =
+    (codes "(", Open) ∷ (codes ")", Close) ∷ (codes "[", OpenBracket) ∷ (codes "]", CloseBracket) ∷ (codes ",", Comma)
+    ∷ (codes ";", Semicolon) ∷ (codes ":", Colon) ∷ (codes ".", Dot) ∷ (codes "~", Not) ∷ (codes "/\\", And)
+    ∷ (codes "\\/", Or) ∷ (codes "=>", Implies) ∷ []
 
 -- a word is its own terminal if it is reserved, else a name
 unfoldable pub word_terminal : List ℕ → Terminal
-word_terminal word =
-    if bytes_eq word (codes "StageName") then StageName
-    else (if bytes_eq word (codes "Axiom") then Axiom
-    else (if bytes_eq word (codes "DefineMacro") then DefineMacro
-    else (if bytes_eq word (codes "ExpandMacro") then ExpandMacro
-    else (if bytes_eq word (codes "forall") then Forall
-    else (if bytes_eq word (codes "exists") then Exists
-    else (if either word (codes "microop") (codes "microops") then Microop
-    else (if either word (codes "core") (codes "cores") then Core
-    else (if either word (codes "AddEdge") (codes "EdgeExists") then OneEdge
-    else (if either word (codes "AddEdges") (codes "EdgesExist") then EdgeList
-    else (if bytes_eq word (codes "NodeExists") then OneNode
-    else (if bytes_eq word (codes "NodesExist") then NodeList
-    else Name)))))))))))
+word_terminal word = find_spelling word words Name
 
 unfoldable pub symbol_terminal : List ℕ → Terminal
-symbol_terminal piece =
-    if bytes_eq piece (codes "(") then Open
-    else (if bytes_eq piece (codes ")") then Close
-    else (if bytes_eq piece (codes "[") then OpenBracket
-    else (if bytes_eq piece (codes "]") then CloseBracket
-    else (if bytes_eq piece (codes ",") then Comma
-    else (if bytes_eq piece (codes ";") then Semicolon
-    else (if bytes_eq piece (codes ":") then Colon
-    else (if bytes_eq piece (codes ".") then Dot
-    else (if bytes_eq piece (codes "~") then Not
-    else (if bytes_eq piece (codes "/\\") then And
-    else (if bytes_eq piece (codes "\\/") then Or
-    else (if bytes_eq piece (codes "=>") then Implies
-    else Arrow)))))))))))
+symbol_terminal piece = find_spelling piece symbols Arrow
 
 -- what a text's quotes enclose
 abbrev pub content : List ℕ → List ℕ

@@ -106,18 +106,18 @@ impl<'a> Cursor<'a> {
         ensures { IfOk result (λ w. w ≡ word_spec self.now) }
     {
         let Some(token) = self.token() else {
-            return copied(alloc, b"", Place { offset: 0 });
+            return copy_word(alloc, b"", Place { offset: 0 });
         };
         match Terminal::from_token(token) {
-            Terminal::Name => copied(alloc, token.piece, token.at),
-            Terminal::Quoted => copied(alloc, content(token.piece), token.at),
-            _ => copied(alloc, b"", Place { offset: 0 }),
+            Terminal::Name => copy_word(alloc, token.piece, token.at),
+            Terminal::Quoted => copy_word(alloc, content(token.piece), token.at),
+            _ => copy_word(alloc, b"", Place { offset: 0 }),
         }
     }
 }
 
 /// A word of these bytes.
-fn copied(alloc: Global, bytes: &[u8], at: Place) -> Result<Word, Memory>
+fn copy_word(alloc: Global, bytes: &[u8], at: Place) -> Result<Word, Memory>
     ensures { IfOk result (λ w. w ≡ record { name = bytes.now; at = at }) }
 {
     let mut name = Vec::new(alloc);

@@ -2,7 +2,7 @@ ghost use Rattle.std.specs.Prelude.{◌≡◌, IsTrue, IfOk, OnOk};
 ghost use Rattle.pc_syntax.specs.Written.{written};
 ghost use Rattle.uspec_parser.specs.Terminals.{is_placed};
 ghost use Rattle.uspec_parser.specs.Operands.{Operands, formula_of as formula_spec};
-ghost use Rattle.uspec_parser.specs.Descent.{next, behind, place, word, sort_by, Atom, Operand, Row};
+ghost use Rattle.uspec_parser.specs.Descent.{next, behind, after_tokens, place, word, sort_by, Atom, Operand, Row};
 
 use super::cursor::Cursor;
 use super::operands::{Link, connective_of, formula_of};
@@ -107,9 +107,9 @@ impl Cursor<'_> {
         ensures head { IfOk result (λ h. h ≡ record {
           at = place self.old;
           sort = sort_by (next (behind self.old));
-          name = (word (behind (behind self.old))).name;
+          name = (word (after_tokens 2 self.old)).name;
         }) }
-        ensures rest { OnOk result (self.new ≡ behind (behind (behind (behind self.old)))) }
+        ensures rest { OnOk result (self.new ≡ after_tokens 4 self.old) }
     {
         let at = self.place();
         self.skip();
@@ -161,9 +161,9 @@ impl Cursor<'_> {
         ensures head { IfOk result (λ q. q.0 ≡ record {
           at = place self.old;
           sort = sort_by (next (behind self.old));
-          name = (word (behind (behind self.old))).name;
+          name = (word (after_tokens 2 self.old)).name;
         }) }
-        ensures body { IfOk result (λ q. (l : Operands) × Row (behind (behind (behind (behind self.old)))) l self.new
+        ensures body { IfOk result (λ q. (l : Operands) × Row (after_tokens 4 self.old) l self.new
             × (written q.1 ≡ formula_spec l)) }
     {
         let head = self.head(alloc)?;

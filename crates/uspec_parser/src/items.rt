@@ -4,7 +4,7 @@ ghost use Rattle.pc_syntax.specs.declared.term.Word.{Word};
 ghost use Rattle.pc_syntax.specs.Written.{WrittenItem, written_item, axiom_};
 ghost use Rattle.uspec_parser.specs.Terminals.{Lexeme, is_placed};
 ghost use Rattle.uspec_parser.specs.Operands.{Operands, formula_of as formula_spec};
-ghost use Rattle.uspec_parser.specs.Descent.{next, behind, place, is_quoted, Parameters, begins_item, stage_item, macro_item, Row, Item as ItemLine, Items as ItemLines};
+ghost use Rattle.uspec_parser.specs.Descent.{next, behind, after_tokens, place, is_quoted, Parameters, begins_item, stage_item, macro_item, Row, Item as ItemLine, Items as ItemLines};
 
 use super::cursor::Cursor;
 use super::terminal::Terminal;
@@ -33,7 +33,7 @@ impl Cursor<'_> {
 
     fn stage(&mut self, alloc: Global) -> Result<StageItem, Memory>
         ensures value { IfOk result (λ s. s ≡ stage_item self.old) }
-        ensures rest { OnOk result (self.new ≡ behind (behind (behind (behind self.old)))) }
+        ensures rest { OnOk result (self.new ≡ after_tokens 4 self.old) }
     {
         self.skip();
         let (number, number_at) = self.number();
@@ -51,7 +51,7 @@ impl Cursor<'_> {
     fn axiom(&mut self, alloc: Global) -> Result<Item, Memory>
         requires { IsTrue (is_placed (next self.old)) }
         ensures { IfOk result (λ i. (l : Operands) × (rest : List Lexeme)
-            × Row (behind (behind (behind self.old))) l rest
+            × Row (after_tokens 3 self.old) l rest
             × (written_item i ≡ axiom_ (place self.old) (formula_spec l)) × (self.new ≡ behind rest)) }
     {
         let at = self.place();
@@ -65,7 +65,7 @@ impl Cursor<'_> {
 
     fn macro_definition(&mut self, alloc: Global) -> Result<Item, Memory>
         ensures { IfOk result (λ i. (ws : List Word) × (between : List Lexeme) × (l : Operands) × (rest : List Lexeme)
-            × Parameters (behind (behind self.old)) ws between × Row (behind between) l rest
+            × Parameters (after_tokens 2 self.old) ws between × Row (behind between) l rest
             × (written_item i ≡ macro_item self.old ws l) × (self.new ≡ behind rest)) }
     {
         self.skip();

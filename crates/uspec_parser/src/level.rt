@@ -1,6 +1,6 @@
 ghost use Rattle.std.specs.Prelude.{◌≡◌, ◌<◌};
 ghost use Rattle.uspec_parser.specs.declared.level.TheConstants.{MAX_OPENERS};
-ghost use Rattle.uspec_parser.specs.Levels.{level_of, behind_implies as behind_implies_spec, behind_or as behind_or_spec, behind_and as behind_and_spec};
+ghost use Rattle.uspec_parser.specs.Levels.{level_of, level_after_implies as level_after_implies_spec, level_after_or as level_after_or_spec, level_after_and as level_after_and_spec};
 
 /// How many openers of a formula may be open at once.
 pub const MAX_OPENERS: u8 = 128;
@@ -26,16 +26,16 @@ impl Level {
         }
     }
 
-    pub(crate) fn behind_implies(self) -> Self
+    pub(crate) fn deepen_implies(self) -> Self
         requires { self.at_implies < MAX_OPENERS }
-        ensures { result ≡ behind_implies_spec self }
+        ensures { result ≡ level_after_implies_spec self }
     {
         Level::new(self.at_implies + 1)
     }
 
-    pub(crate) fn behind_or(self) -> Self
+    pub(crate) fn deepen_or(self) -> Self
         requires { self.at_or < MAX_OPENERS }
-        ensures { result ≡ behind_or_spec self }
+        ensures { result ≡ level_after_or_spec self }
     {
         Level {
             at_implies: self.at_implies,
@@ -44,9 +44,9 @@ impl Level {
         }
     }
 
-    pub(crate) fn behind_and(self) -> Self
+    pub(crate) fn deepen_and(self) -> Self
         requires { self.at_and < MAX_OPENERS }
-        ensures { result ≡ behind_and_spec self }
+        ensures { result ≡ level_after_and_spec self }
     {
         Level {
             at_implies: self.at_implies,

@@ -49,7 +49,7 @@ struct Grouping {
 }
 
 impl Grouping {
-    fn whole(self, alloc: Global) -> Result<Formula, Memory>
+    fn formula(self, alloc: Global) -> Result<Formula, Memory>
         ensures { IfOk result (λ f. written f ≡ whole_spec (written_grouping self)) }
     {
         let disjunction = disjunction(alloc, self.now, self.disjoined)?;
@@ -57,7 +57,7 @@ impl Grouping {
     }
 
     /// The same after an operand and a `/\`.
-    fn behind_and(self, alloc: Global, operand: Formula) -> Result<Grouping, Memory>
+    fn prepend_and(self, alloc: Global, operand: Formula) -> Result<Grouping, Memory>
         ensures { IfOk result (λ g. written_grouping g
             ≡ before_spec (written operand) conjoins (written_grouping self)) }
     {
@@ -69,7 +69,7 @@ impl Grouping {
     }
 
     /// The same after an operand and a `\/`.
-    fn behind_or(self, alloc: Global, operand: Formula) -> Result<Grouping, Memory>
+    fn prepend_or(self, alloc: Global, operand: Formula) -> Result<Grouping, Memory>
         ensures { IfOk result (λ g. written_grouping g
             ≡ before_spec (written operand) disjoins (written_grouping self)) }
     {
@@ -81,26 +81,26 @@ impl Grouping {
     }
 
     /// The same after an operand and a `=>`.
-    fn behind_implies(self, alloc: Global, operand: Formula) -> Result<Grouping, Memory>
+    fn prepend_implies(self, alloc: Global, operand: Formula) -> Result<Grouping, Memory>
         ensures { IfOk result (λ g. written_grouping g
             ≡ before_spec (written operand) implies (written_grouping self)) }
     {
         Ok(Grouping {
             now: operand,
             disjoined: None,
-            implied: Some(self.whole(alloc)?),
+            implied: Some(self.formula(alloc)?),
         })
     }
 
     /// The same after an operand and its connective.
-    fn before(self, alloc: Global, link: Link) -> Result<Grouping, Memory>
+    fn prepend(self, alloc: Global, link: Link) -> Result<Grouping, Memory>
         ensures { IfOk result (λ g. written_grouping g
             ≡ before_spec (written link.operand) link.connective (written_grouping self)) }
     {
         match link.connective {
-            Connective::And => self.behind_and(alloc, link.operand),
-            Connective::Or => self.behind_or(alloc, link.operand),
-            Connective::Implies => self.behind_implies(alloc, link.operand),
+            Connective::And => self.prepend_and(alloc, link.operand),
+            Connective::Or => self.prepend_or(alloc, link.operand),
+            Connective::Implies => self.prepend_implies(alloc, link.operand),
         }
     }
 }
@@ -141,7 +141,7 @@ pub(crate) fn formula_of(
         implied: None,
     };
     while let Some(link) = before.pop() {
-        grouping = grouping.before(alloc, link)?;
+        grouping = grouping.prepend(alloc, link)?;
     }
-    grouping.whole(alloc)
+    grouping.formula(alloc)
 }

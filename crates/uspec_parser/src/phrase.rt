@@ -1,6 +1,7 @@
 ghost use Rattle.std.specs.Prelude.{◌≡◌, IfOk};
 ghost use Rattle.uspec_parser.specs.Levels.{level_of};
-ghost use Rattle.uspec_parser.specs.Phrases.{IsPush, rules as rules_spec, follow as follow_spec, is_predictable, has_texts as texts_spec};
+ghost use Rattle.ll_grammar.specs.Steps.{IsPush};
+ghost use Rattle.uspec_parser.specs.Phrases.{rules as rules_spec, follow as follow_spec, is_predictable, has_texts as texts_spec};
 
 use self::Phrase::*;
 use super::level::{Level, MAX_OPENERS};
@@ -84,25 +85,25 @@ impl Grammar<Terminal> for Phrase {
 }
 
 /// A formula within this many openers.
-fn within(opened: u8) -> Phrase
+fn formula_within(opened: u8) -> Phrase
     ensures { result ≡ Phrase.Operand (level_of opened) opened }
 {
     Operand(Level::new(opened), opened)
 }
 
 fn push_items(class: Terminal, stack: &mut Vec<Waiting>) -> Result<Step, Memory>
-    ensures { IfOk result (IsPush Phrase.Items class stack.old.items stack.new.items) }
+    ensures { IfOk result (IsPush rules_spec Phrase.Items class stack.old.items stack.new.items) }
 {
     match class {
         StageName => push!(stack; Number Quoted Dot [Items]),
-        Axiom => push!(stack; [Label] Colon [within(0)] Dot [Items]),
-        DefineMacro => push!(stack; Quoted [Parameters] Colon [within(0)] Dot [Items]),
+        Axiom => push!(stack; [Label] Colon [formula_within(0)] Dot [Items]),
+        DefineMacro => push!(stack; Quoted [Parameters] Colon [formula_within(0)] Dot [Items]),
         _ => Ok(Step::Absent),
     }
 }
 
 fn push_parameters(class: Terminal, stack: &mut Vec<Waiting>) -> Result<Step, Memory>
-    ensures { IfOk result (IsPush Phrase.Parameters class stack.old.items stack.new.items) }
+    ensures { IfOk result (IsPush rules_spec Phrase.Parameters class stack.old.items stack.new.items) }
 {
     match class {
         Quoted => push!(stack; [Parameters]),
@@ -111,7 +112,7 @@ fn push_parameters(class: Terminal, stack: &mut Vec<Waiting>) -> Result<Step, Me
 }
 
 fn push_label(class: Terminal, stack: &mut Vec<Waiting>) -> Result<Step, Memory>
-    ensures { IfOk result (IsPush Phrase.Label class stack.old.items stack.new.items) }
+    ensures { IfOk result (IsPush rules_spec Phrase.Label class stack.old.items stack.new.items) }
 {
     match class {
         Quoted | Text => push!(stack;),
@@ -125,7 +126,7 @@ fn push_operand(
     class: Terminal,
     stack: &mut Vec<Waiting>,
 ) -> Result<Step, Memory>
-    ensures { IfOk result (IsPush (Phrase.Operand level opened) class stack.old.items stack.new.items) }
+    ensures { IfOk result (IsPush rules_spec (Phrase.Operand level opened) class stack.old.items stack.new.items) }
 {
     match class {
         Open | Not | Forall | Exists if opened >= MAX_OPENERS => Ok(Step::Deep),
@@ -135,29 +136,29 @@ fn push_operand(
         NodeList => push!(stack; OpenBracket [Nodes] [More(level)]),
         ExpandMacro => push!(stack; Name [Arguments] [More(level)]),
         Name => push!(stack; [Arguments] [More(level)]),
-        Open => push!(stack; [within(opened + 1)] Close [More(level)]),
+        Open => push!(stack; [formula_within(opened + 1)] Close [More(level)]),
         Not => push!(stack; [Operand(level, opened + 1)]),
-        Forall | Exists => push!(stack; [SortWord] Quoted Comma [within(opened + 1)]),
+        Forall | Exists => push!(stack; [SortWord] Quoted Comma [formula_within(opened + 1)]),
         _ => Ok(Step::Absent),
     }
 }
 
 fn push_more(level: Level, class: Terminal, stack: &mut Vec<Waiting>) -> Result<Step, Memory>
-    ensures { IfOk result (IsPush (Phrase.More level) class stack.old.items stack.new.items) }
+    ensures { IfOk result (IsPush rules_spec (Phrase.More level) class stack.old.items stack.new.items) }
 {
     match class {
         And if level.at_and >= MAX_OPENERS => Ok(Step::Deep),
         Or if level.at_or >= MAX_OPENERS => Ok(Step::Deep),
         Implies if level.at_implies >= MAX_OPENERS => Ok(Step::Deep),
-        And => push!(stack; [Operand(level.behind_and(), level.at_and + 1)]),
-        Or => push!(stack; [Operand(level.behind_or(), level.at_or + 1)]),
-        Implies => push!(stack; [Operand(level.behind_implies(), level.at_implies + 1)]),
+        And => push!(stack; [Operand(level.deepen_and(), level.at_and + 1)]),
+        Or => push!(stack; [Operand(level.deepen_or(), level.at_or + 1)]),
+        Implies => push!(stack; [Operand(level.deepen_implies(), level.at_implies + 1)]),
         _ => Ok(Step::Absent),
     }
 }
 
 fn push_arguments(class: Terminal, stack: &mut Vec<Waiting>) -> Result<Step, Memory>
-    ensures { IfOk result (IsPush Phrase.Arguments class stack.old.items stack.new.items) }
+    ensures { IfOk result (IsPush rules_spec Phrase.Arguments class stack.old.items stack.new.items) }
 {
     match class {
         Name | Number => push!(stack; [Arguments]),
@@ -166,7 +167,7 @@ fn push_arguments(class: Terminal, stack: &mut Vec<Waiting>) -> Result<Step, Mem
 }
 
 fn push_argument(class: Terminal, stack: &mut Vec<Waiting>) -> Result<Step, Memory>
-    ensures { IfOk result (IsPush Phrase.Argument class stack.old.items stack.new.items) }
+    ensures { IfOk result (IsPush rules_spec Phrase.Argument class stack.old.items stack.new.items) }
 {
     match class {
         Name | Number => push!(stack;),
@@ -175,7 +176,7 @@ fn push_argument(class: Terminal, stack: &mut Vec<Waiting>) -> Result<Step, Memo
 }
 
 fn push_node(class: Terminal, stack: &mut Vec<Waiting>) -> Result<Step, Memory>
-    ensures { IfOk result (IsPush Phrase.Node class stack.old.items stack.new.items) }
+    ensures { IfOk result (IsPush rules_spec Phrase.Node class stack.old.items stack.new.items) }
 {
     match class {
         Open => push!(stack; Name Comma [Location] Close),
@@ -184,7 +185,7 @@ fn push_node(class: Terminal, stack: &mut Vec<Waiting>) -> Result<Step, Memory>
 }
 
 fn push_location(class: Terminal, stack: &mut Vec<Waiting>) -> Result<Step, Memory>
-    ensures { IfOk result (IsPush Phrase.Location class stack.old.items stack.new.items) }
+    ensures { IfOk result (IsPush rules_spec Phrase.Location class stack.old.items stack.new.items) }
 {
     match class {
         Name => push!(stack;),
@@ -194,7 +195,7 @@ fn push_location(class: Terminal, stack: &mut Vec<Waiting>) -> Result<Step, Memo
 }
 
 fn push_edge(class: Terminal, stack: &mut Vec<Waiting>) -> Result<Step, Memory>
-    ensures { IfOk result (IsPush Phrase.Edge class stack.old.items stack.new.items) }
+    ensures { IfOk result (IsPush rules_spec Phrase.Edge class stack.old.items stack.new.items) }
 {
     match class {
         Open => push!(stack; [Node] Comma [Node] [Labels] Close),
@@ -203,7 +204,7 @@ fn push_edge(class: Terminal, stack: &mut Vec<Waiting>) -> Result<Step, Memory>
 }
 
 fn push_labels(class: Terminal, stack: &mut Vec<Waiting>) -> Result<Step, Memory>
-    ensures { IfOk result (IsPush Phrase.Labels class stack.old.items stack.new.items) }
+    ensures { IfOk result (IsPush rules_spec Phrase.Labels class stack.old.items stack.new.items) }
 {
     match class {
         Comma => push!(stack; [Label] [SecondLabel]),
@@ -212,7 +213,7 @@ fn push_labels(class: Terminal, stack: &mut Vec<Waiting>) -> Result<Step, Memory
 }
 
 fn push_second_label(class: Terminal, stack: &mut Vec<Waiting>) -> Result<Step, Memory>
-    ensures { IfOk result (IsPush Phrase.SecondLabel class stack.old.items stack.new.items) }
+    ensures { IfOk result (IsPush rules_spec Phrase.SecondLabel class stack.old.items stack.new.items) }
 {
     match class {
         Comma => push!(stack; [Label]),
@@ -221,7 +222,7 @@ fn push_second_label(class: Terminal, stack: &mut Vec<Waiting>) -> Result<Step, 
 }
 
 fn push_sort_word(class: Terminal, stack: &mut Vec<Waiting>) -> Result<Step, Memory>
-    ensures { IfOk result (IsPush Phrase.SortWord class stack.old.items stack.new.items) }
+    ensures { IfOk result (IsPush rules_spec Phrase.SortWord class stack.old.items stack.new.items) }
 {
     match class {
         Microop | Core => push!(stack;),
@@ -230,7 +231,7 @@ fn push_sort_word(class: Terminal, stack: &mut Vec<Waiting>) -> Result<Step, Mem
 }
 
 fn push_nodes(class: Terminal, stack: &mut Vec<Waiting>) -> Result<Step, Memory>
-    ensures { IfOk result (IsPush Phrase.Nodes class stack.old.items stack.new.items) }
+    ensures { IfOk result (IsPush rules_spec Phrase.Nodes class stack.old.items stack.new.items) }
 {
     match class {
         CloseBracket => push!(stack;),
@@ -240,7 +241,7 @@ fn push_nodes(class: Terminal, stack: &mut Vec<Waiting>) -> Result<Step, Memory>
 }
 
 fn push_more_nodes(class: Terminal, stack: &mut Vec<Waiting>) -> Result<Step, Memory>
-    ensures { IfOk result (IsPush Phrase.MoreNodes class stack.old.items stack.new.items) }
+    ensures { IfOk result (IsPush rules_spec Phrase.MoreNodes class stack.old.items stack.new.items) }
 {
     match class {
         CloseBracket => push!(stack;),
@@ -250,7 +251,7 @@ fn push_more_nodes(class: Terminal, stack: &mut Vec<Waiting>) -> Result<Step, Me
 }
 
 fn push_edges(class: Terminal, stack: &mut Vec<Waiting>) -> Result<Step, Memory>
-    ensures { IfOk result (IsPush Phrase.Edges class stack.old.items stack.new.items) }
+    ensures { IfOk result (IsPush rules_spec Phrase.Edges class stack.old.items stack.new.items) }
 {
     match class {
         CloseBracket => push!(stack;),
@@ -260,7 +261,7 @@ fn push_edges(class: Terminal, stack: &mut Vec<Waiting>) -> Result<Step, Memory>
 }
 
 fn push_more_edges(class: Terminal, stack: &mut Vec<Waiting>) -> Result<Step, Memory>
-    ensures { IfOk result (IsPush Phrase.MoreEdges class stack.old.items stack.new.items) }
+    ensures { IfOk result (IsPush rules_spec Phrase.MoreEdges class stack.old.items stack.new.items) }
 {
     match class {
         CloseBracket => push!(stack;),

@@ -1,10 +1,9 @@
 ghost use Rattle.std.specs.Prelude.{◌≡◌};
-ghost use Rattle.std.specs.Str.{bytes_eq};
 ghost use Rattle.uspec_lexer.specs.View.{plain};
 ghost use Rattle.uspec_parser.specs.Terminals.{terminal_of as terminal_spec, word_terminal as word_spec, symbol_terminal as symbol_spec, text_terminal as text_spec, content as content_spec};
 
 use ll_grammar::TokenClass;
-use uspec_lexer::{FromToken, Token, TokenKind, is_name};
+use uspec_lexer::{FromToken, Token, TokenKind, by_spelling, is_name};
 
 /// The classes of a model's tokens: the terminals of its grammar. Words that are alike to the grammar
 /// and to the tree are one class.
@@ -70,44 +69,21 @@ impl FromToken for Terminal {
     }
 }
 
-fn is(piece: &[u8], bytes: &[u8]) -> bool
-    ensures { result ≡ bytes_eq piece.now bytes.now }
-{
-    piece == bytes
-}
-
 /// The terminal of a word: its own, if it is reserved.
 #[tactic(auto, unfolding(crate::specs::Terminals::word_terminal))]
 fn word_terminal(word: &[u8]) -> Terminal
     ensures { result ≡ word_spec word.now }
 {
-    if is(word, b"StageName") {
-        Terminal::StageName
-    } else if is(word, b"Axiom") {
-        Terminal::Axiom
-    } else if is(word, b"DefineMacro") {
-        Terminal::DefineMacro
-    } else if is(word, b"ExpandMacro") {
-        Terminal::ExpandMacro
-    } else if is(word, b"forall") {
-        Terminal::Forall
-    } else if is(word, b"exists") {
-        Terminal::Exists
-    } else if is(word, b"microop") || is(word, b"microops") {
-        Terminal::Microop
-    } else if is(word, b"core") || is(word, b"cores") {
-        Terminal::Core
-    } else if is(word, b"AddEdge") || is(word, b"EdgeExists") {
-        Terminal::OneEdge
-    } else if is(word, b"AddEdges") || is(word, b"EdgesExist") {
-        Terminal::EdgeList
-    } else if is(word, b"NodeExists") {
-        Terminal::OneNode
-    } else if is(word, b"NodesExist") {
-        Terminal::NodeList
-    } else {
-        Terminal::Name
-    }
+    by_spelling!(word;
+        b"StageName" => Terminal::StageName, b"Axiom" => Terminal::Axiom,
+        b"DefineMacro" => Terminal::DefineMacro, b"ExpandMacro" => Terminal::ExpandMacro,
+        b"forall" => Terminal::Forall, b"exists" => Terminal::Exists,
+        b"microop" => Terminal::Microop, b"microops" => Terminal::Microop,
+        b"core" => Terminal::Core, b"cores" => Terminal::Core, b"AddEdge" => Terminal::OneEdge,
+        b"EdgeExists" => Terminal::OneEdge, b"AddEdges" => Terminal::EdgeList,
+        b"EdgesExist" => Terminal::EdgeList, b"NodeExists" => Terminal::OneNode,
+        b"NodesExist" => Terminal::NodeList;
+        Terminal::Name)
 }
 
 /// The terminal of a symbol. A token of this kind has the bytes of a symbol.
@@ -115,33 +91,12 @@ fn word_terminal(word: &[u8]) -> Terminal
 fn symbol_terminal(symbol: &[u8]) -> Terminal
     ensures { result ≡ symbol_spec symbol.now }
 {
-    if is(symbol, b"(") {
-        Terminal::Open
-    } else if is(symbol, b")") {
-        Terminal::Close
-    } else if is(symbol, b"[") {
-        Terminal::OpenBracket
-    } else if is(symbol, b"]") {
-        Terminal::CloseBracket
-    } else if is(symbol, b",") {
-        Terminal::Comma
-    } else if is(symbol, b";") {
-        Terminal::Semicolon
-    } else if is(symbol, b":") {
-        Terminal::Colon
-    } else if is(symbol, b".") {
-        Terminal::Dot
-    } else if is(symbol, b"~") {
-        Terminal::Not
-    } else if is(symbol, b"/\\") {
-        Terminal::And
-    } else if is(symbol, b"\\/") {
-        Terminal::Or
-    } else if is(symbol, b"=>") {
-        Terminal::Implies
-    } else {
-        Terminal::Arrow
-    }
+    by_spelling!(symbol;
+        b"(" => Terminal::Open, b")" => Terminal::Close, b"[" => Terminal::OpenBracket,
+        b"]" => Terminal::CloseBracket, b"," => Terminal::Comma, b";" => Terminal::Semicolon,
+        b":" => Terminal::Colon, b"." => Terminal::Dot, b"~" => Terminal::Not,
+        b"/\\" => Terminal::And, b"\\/" => Terminal::Or, b"=>" => Terminal::Implies;
+        Terminal::Arrow)
 }
 
 /// The terminal of a text, which is given with its quotes.

@@ -12,15 +12,11 @@ use Rattle.pc_ground.specs.declared.version.Version.{Version}
 use Rattle.pc_ground.specs.Keys.{key_node}
 use Rattle.pc_ground.specs.Tree.{Tree}
 use Rattle.pc_ground.specs.Numbers.{nodes_of_tree, numbered}
-use Rattle.pc_ground.specs.GroundTree.{ground_tree, axioms_unfolded, closed_ground_tree}
-use Rattle.pc_ground.specs.Rows.{rows_of}
-use Rattle.pc_ground.specs.Folded.{IsFolded}
-use Rattle.pc_ground.proofs.NormalForms.{normal_folded}
-use Rattle.pc_ground.specs.Stages.{plain_stage, plain_axioms, numbers_of}
+use Rattle.pc_ground.specs.GroundTree.{ground_tree}
+use Rattle.pc_ground.specs.Stages.{plain_stage, numbers_of}
 use Rattle.pc_ground.specs.NodeForm.{names_of, IsNodeIn}
 use Rattle.pc_ground.proofs.TreeNodes.{nodes_are_of}
 use Rattle.pc_ground.proofs.FirstSeen.{numbered_lists}
-use Rattle.pc_ground.proofs.FlatRows.{rows_injective}
 use Rattle.pc_front.specs.Front.{IsFrontOf}
 use Rattle.graph_text.specs.Graphs.{key_edge, graph_nodes}
 use Rattle.solver.specs.Answers.{IsAnswer}

@@ -1,5 +1,6 @@
 -- The answer of `verify-lifted` to three files, and the status that is due.
-use Rattle.std.specs.Prelude.{◌≡◌, ℕ, List, Some}
+use Rattle.std.specs.Prelude.{◌≡◌, ℕ, List, Some, Result}
+use Rattle.pc_common.specs.Outside.{FilesView}
 use Rattle.pc_common.specs.Case.{Case}
 use Rattle.pc_common.specs.declared.fault.InputFault.{InputFault}
 use Rattle.pc_common.specs.declared.status.Status.{Status}
@@ -7,7 +8,11 @@ use Rattle.pc_syntax.specs.Written.{WrittenModel}
 use Rattle.lifted_check.specs.declared.lifted.Lifted.{Lifted}
 use Rattle.lifted_check.specs.LiftedTexts.{Question}
 use Rattle.lifted_check.specs.Fed.{IsFound}
-use Rattle.command_base.specs.Inputs.{Inputs, Contents}
+use Rattle.command_base.specs.declared.inputs.Inputs.{Inputs as CodeInputs}
+use Rattle.command_base.specs.declared.ending.Ending.{Ending}
+use Rattle.command_base.specs.Inputs.{Inputs, Contents, plain_inputs}
+use Rattle.command_base.specs.Endings.{HasOutcome}
+use Rattle.command_base.specs.Outcomes.{IsThirdOutcome}
 use Rattle.command_base.specs.FileAnswers.{AnswersFiles, IsDueOfFiles}
 use Rattle.verify_command.specs.LiftedTexts.{lifted_status, lifted_text}
 use Rattle.command_base.specs.LiftedQuestions.{lifted_question}
@@ -35,3 +40,10 @@ module _ (case_of : List ℕ → Case → Type 0) (first_fault : List ℕ → Li
 
   abbrev pub IsLiftedDue : Status → Type 0
   IsLiftedDue = IsDueOfFiles case_of first_fault holds i (IsDueCheck holds certificate)
+
+-- what `verify-lifted` returns: what the third file is, or the ending
+abbrev pub ReturnsLifted : {F : Type 0} → (F → FilesView) → (List ℕ → Case → Type 0)
+    → (List ℕ → List ℕ → InputFault → Type 0) → CodeInputs → List ℕ → F → F → Result Lifted Ending → Type 0
+ReturnsLifted view case_of first_fault i third old new result =
+    HasOutcome result lifted_status lifted_text
+    (IsThirdOutcome view case_of first_fault (plain_inputs i) third (IsJudged (view old).holds third) old new)

@@ -1,9 +1,5 @@
 ghost use Rattle.std.specs.Prelude.{◌≡◌};
-ghost use Rattle.command_base.specs.Inputs.{plain_inputs};
-ghost use Rattle.command_base.specs.Endings.{returned_status, returned_text};
-ghost use Rattle.command_base.specs.Outcomes.{IsThirdOutcome};
-ghost use Rattle.command_base.specs.CheckedTexts.{checked_status, checked_text};
-ghost use Rattle.verify_command.specs.VerifyAnswers.{IsJudged};
+ghost use Rattle.verify_command.specs.VerifyAnswers.{ReturnsChecked};
 
 use super::checking::check_file;
 use cert_check::Checked;
@@ -19,9 +15,7 @@ pub fn verify<S: SecondFile, F: Files>(
     certificate: &str,
     files: &mut F,
 ) -> Result<Checked, Ending>
-    ensures { IsThirdOutcome F.view S.case_of S.first_fault (plain_inputs inputs.entry) certificate.now
-        (IsJudged ((F.view files.old).holds) certificate.now)
-        files.old files.new (returned_status checked_status result) (returned_text checked_text result) }
+    ensures { ReturnsChecked F.view S.case_of S.first_fault inputs.entry certificate.now files.old files.new result }
 {
     let parts = match read_parts::<S, F>(alloc, inputs, files) {
         Ok(parts) => parts,

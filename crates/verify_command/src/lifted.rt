@@ -3,12 +3,8 @@ ghost use Rattle.pc_common.specs.Faults.{Rose};
 ghost use Rattle.pc_common.specs.Reads.{Reads};
 ghost use Rattle.lifted_check.specs.LiftedTexts.{asked};
 ghost use Rattle.lifted_check.specs.Fed.{IsFound};
-ghost use Rattle.command_base.specs.Inputs.{plain_inputs};
-ghost use Rattle.command_base.specs.Endings.{returned_status, returned_text};
-ghost use Rattle.command_base.specs.Outcomes.{IsThirdOutcome};
 ghost use Rattle.command_base.specs.declared.feed_end.FeedEnd.TheVariants.{ReadFault as a_read_fault};
-ghost use Rattle.verify_command.specs.LiftedTexts.{lifted_status, lifted_text};
-ghost use Rattle.verify_command.specs.LiftedAnswers.{IsJudged};
+ghost use Rattle.verify_command.specs.LiftedAnswers.{ReturnsLifted};
 
 use super::reading::feed_named;
 use command_base::{Ending, FeedEnd, Inputs, SecondFile, read_parts};
@@ -45,9 +41,7 @@ pub fn verify_lifted<S: SecondFile, F: Files>(
     certificate: &str,
     files: &mut F,
 ) -> Result<Lifted, Ending>
-    ensures { IsThirdOutcome F.view S.case_of S.first_fault (plain_inputs inputs.entry) certificate.now
-        (IsJudged ((F.view files.old).holds) certificate.now)
-        files.old files.new (returned_status lifted_status result) (returned_text lifted_text result) }
+    ensures { ReturnsLifted F.view S.case_of S.first_fault inputs.entry certificate.now files.old files.new result }
 {
     let parts = match read_parts::<S, F>(alloc, inputs, files) {
         Ok(parts) => parts,

@@ -1,6 +1,5 @@
 -- The table reads exactly the terminals of the listings.
 use Rattle.std.proofs.Common.{◌≡◌, ℕ, Bool, true, false, List, [], ◌∷◌, ◌++◌, Some, IsTrue, MatchOption, map, codes, refl, sym, ap, subst, ◌∙◌, append_assoc}
-use Rattle.std.proofs.lemmas.Bool.{eqb-true}
 use Rattle.std.proofs.lemmas.List.{append-nil, map-append}
 use Rattle.ll_grammar.specs.Rules.{Derives}
 use Rattle.ll_grammar.specs.Texts.{IsText}
@@ -8,22 +7,24 @@ use Rattle.ll_grammar.specs.declared.grammar.Symbol.{Symbol}
 use Rattle.ll_grammar.specs.declared.grammar.Symbol.TheVariants.{Terminal as a_terminal, Nonterminal as a_nonterminal}
 use Rattle.ll_grammar.proofs.DerivesLaws.{Each, meaning, derives-begin, derives-end}
 use Rattle.ll_grammar.proofs.DerivesLaws.Each.{none, class, part}
-use Rattle.uspec_lexer.specs.Token.{Token, Kind}
+use Rattle.uspec_lexer.specs.Token.{Token}
+use Rattle.uspec_lexer.specs.Vocabulary.{expected_terminal}
 use Rattle.x86_litmus.specs.Listing.{Named, Location, bare, bracketed, Stated, Block, no_values, values, Action, fence, store, load, Cell, empty, instruction, Row, Equation, of_register, of_location, Condition, Listing}
-use Rattle.x86_litmus.specs.Expected.{Expected, a_name, a_word, a_number, number_at, a_symbol, symbol_at, Is, Spell}
-use Rattle.x86_litmus.specs.Syntax.{word_at, spelled_location, spelled_stated, spelled_values, spelled_block, spelled_columns, spelled_action, spelled_cell, spelled_cells, spelled_row, spelled_equation, spelled_equations, spelled_conjunction, spelled_asked, spelled_denial, spelled_rows, spelled_listing, IsListing}
-use Rattle.x86_litmus.specs.Terminals.{spelling, word_terminal, symbol_terminal, kind_terminal, terminal_of, is_name}
+use Rattle.uspec_lexer.specs.Expected.{Expected, a_word, placed_word, a_number, a_symbol, Is, Spell}
+use Rattle.x86_litmus.specs.Syntax.{a_name, spelled_location, spelled_stated, spelled_values, spelled_block, spelled_columns, spelled_action, spelled_cell, spelled_cells, spelled_row, spelled_equation, spelled_equations, spelled_conjunction, spelled_asked, spelled_denial, spelled_rows, spelled_listing, IsListing}
+use Rattle.x86_litmus.specs.Terminals.{word_terminal, symbol_terminal, vocabulary, terminal_of, is_name}
 use Rattle.x86_litmus.specs.Phrases.{number_and, bracketed_and, register_and, production, is_nullable, deep, rules}
 use Rattle.x86_litmus.specs.declared.terminal.Terminal.{Terminal}
-use Rattle.x86_litmus.specs.declared.terminal.Terminal.TheVariants.{Mov, Mfence, Exists, Name, Number, OpenBrace, CloseBrace, Semicolon, Bar, OpenBracket, CloseBracket, Comma, Dollar, Colon, Equals, Open, Close, Tilde, And, Other}
+use Rattle.x86_litmus.specs.declared.terminal.Terminal.TheVariants.{Mov, Mfence, Exists, Name, Number, OpenBrace, CloseBrace, Semicolon, Bar, OpenBracket, CloseBracket, Comma, Dollar, Colon, Equals, Open, Close, Tilde, And}
 use Rattle.x86_litmus.specs.declared.phrase.Phrase.{Phrase}
 use Rattle.x86_litmus.specs.declared.phrase.Phrase.TheVariants.{Listing as ListingPart, Values, MoreValues, Columns, MoreColumns, Rows, Cells, MoreCells, Move, Asked, Equations, MoreEquations, AnyName}
-use Rattle.x86_litmus.proofs.Words.{sort_of, name-of_kind, number-of_kind, word-of_kind, symbol-of_kind, is_name-sort, word_is_name}
-use Rattle.x86_litmus.proofs.Spelling.{spell-append, map-head, map-part}
+use Rattle.x86_litmus.proofs.Words.{sorted}
+use Rattle.uspec_lexer.proofs.Spelling.{spell-append, map-head, map-part}
+use Rattle.uspec_lexer.proofs.Words.{is_word, is_placed_word, is_symbol, is_placed_symbol, is_number, is_named, word_is_name, terminals-of_tokens}
 
 -- From the table to the grammar: tokens of these terminals spell a listing.
 
-named_of : Token → Named
+abbrev named_of : Token → Named
 named_of t = record { word = t.piece; at = t.at }
 
 -- what a phrase's tokens spell
@@ -37,7 +38,7 @@ Spelled Rows ts = (rs : List Row) × (c : Condition) × Spell (spelled_rows rs c
 Spelled Cells ts = (r : Row) × (rs : List Row) × (c : Condition) × Spell (spelled_row r ++ spelled_rows rs c) ts
 Spelled MoreCells ts =
     (cs : List Cell) × (end : ℕ) × (rs : List Row) × (c : Condition) × Spell (spelled_cells cs end ++ spelled_rows rs c) ts
-Spelled Move ts = (a : Action) × ((m : Token) → Is (word_at (codes "MOV") m.at) m → Spell (spelled_action m.at a) (m ∷ ts))
+Spelled Move ts = (a : Action) × ((m : Token) → Is (placed_word (codes "MOV") m.at) m → Spell (spelled_action m.at a) (m ∷ ts))
 Spelled Asked ts = (b : Bool) × (e : Equation) × (es : List Equation) × Spell (spelled_asked b e es) ts
 Spelled Equations ts = (e : Equation) × (es : List Equation) × Spell (spelled_conjunction e es) ts
 Spelled MoreEquations ts = (es : List Equation) × Spell (spelled_equations es) ts
@@ -48,45 +49,14 @@ Means n cs marks = (ts : List Token) → map terminal_of ts ≡ cs → Spelled n
 
 means-end : (n : Phrase) → IsTrue (is_nullable n) → Means n [] []
 means-end MoreEquations h [] e = ([], tt)
-means-end MoreEquations h (t ∷ ts) e = absurd (cc)
-means-end ListingPart h ts e = absurd (cc)
-means-end Values h ts e = absurd (cc)
-means-end MoreValues h ts e = absurd (cc)
-means-end Columns h ts e = absurd (cc)
-means-end MoreColumns h ts e = absurd (cc)
-means-end Rows h ts e = absurd (cc)
-means-end Cells h ts e = absurd (cc)
-means-end MoreCells h ts e = absurd (cc)
-means-end Move h ts e = absurd (cc)
-means-end Asked h ts e = absurd (cc)
-means-end Equations h ts e = absurd (cc)
-means-end AnyName h ts e = absurd (cc)
+means-end n h ts e = absurd (cc)
 
 abbrev IsRule : Phrase → Terminal → List (Symbol Terminal Phrase) → Type 0
 IsRule n c body = (cs : List Terminal) (marks : List Bool) → Each Means body cs marks → Means n (c ∷ cs) (false ∷ marks)
 
--- what a token of a terminal is
-is_word : (t : Token) (c : Terminal) → sort_of c ≡ 0 → (c ≡ Name → ⊥) → terminal_of t ≡ c → Is (a_word (spelling c)) t
-is_word t c s own e = word-of_kind t.kind t.piece c s own e
-
-is_word_at : (t : Token) (c : Terminal) → sort_of c ≡ 0 → (c ≡ Name → ⊥) → terminal_of t ≡ c → Is (word_at (spelling c) t.at) t
-is_word_at t c s own e = let w = word-of_kind t.kind t.piece c s own e in (w.0, w.1, refl)
-
-is_symbol : (t : Token) (c : Terminal) → sort_of c ≡ 3 → (c ≡ Other → ⊥) → terminal_of t ≡ c → Is (a_symbol (spelling c)) t
-is_symbol t c s own e = symbol-of_kind t.kind t.piece c s own e
-
-is_symbol_at : (t : Token) (c : Terminal) → sort_of c ≡ 3 → (c ≡ Other → ⊥) → terminal_of t ≡ c → Is (symbol_at (spelling c) t.at) t
-is_symbol_at t c s own e = let w = symbol-of_kind t.kind t.piece c s own e in (w.0, w.1, refl)
-
-is_number : (t : Token) → terminal_of t ≡ Number → (n : ℕ) × Is (a_number n) t
-is_number t e = number-of_kind t.kind t.piece e
-
-is_named : (t : Token) (c : Terminal) → is_name c ≡ true → c ≡ terminal_of t → Is (a_name (named_of t)) t
-unfolding named_of
-is_named t c h same =
-    let is : is_name (terminal_of t) ≡ true = ap is_name (sym same) ∙ h in
-    let s : sort_of (terminal_of t) ≡ 0 = eqb-true (sort_of (terminal_of t)) 0 (sym (is_name-sort (terminal_of t)) ∙ is) in
-    (name-of_kind t.kind t.piece (terminal_of t) s refl, refl, refl)
+-- what a token of a name's terminal is
+is_name_at : (t : Token) (c : Terminal) → is_name c ≡ true → c ≡ terminal_of t → Is (a_name (named_of t)) t
+is_name_at t c h same = (is_named sorted t c h (sym same), refl, refl)
 
 -- what stands after a token of the front
 behind_first : (t : Token) (ts : List Token) (c : Terminal) (cs : List Terminal) → map terminal_of (t ∷ ts) ≡ c ∷ (cs ++ []) → map terminal_of ts ≡ cs
@@ -97,8 +67,8 @@ number_of : (ts : List Token) (cs : List Terminal) → map terminal_of ts ≡ Eq
     → (v : ℕ) × (rest : List Token) × (map terminal_of rest ≡ cs)
     × ((es : List Expected) → Spell es rest → Spell (a_symbol (codes "=") ∷ a_number v ∷ es) ts)
 number_of (q ∷ d ∷ rest) cs e =
-    let (v, is_v) = is_number d cc in
-    let equals : Is (a_symbol (codes "=")) q = is_symbol q Equals refl (λ h. cc) cc in
+    let (v, is_v) = is_number sorted d cc in
+    let equals : Is (a_symbol (codes "=")) q = is_symbol sorted q Equals refl (λ h. cc) cc in
     (v, rest, cc, λ es s. (equals, (is_v, s)))
 number_of (q ∷ []) cs e = absurd (cc)
 number_of [] cs e = absurd (cc)
@@ -113,7 +83,7 @@ bracketed_of xs any ts cs e =
     let (n, s) = any us here in
     let (z, zs, at, is_z, left) = map-head terminal_of vs CloseBracket (Equals ∷ Number ∷ cs) production in
     let (v, rest, more, spells) = number_of zs cs left in
-    let closes : Is (a_symbol (codes "]")) z = is_symbol z CloseBracket refl (λ h. cc) is_z in (
+    let closes : Is (a_symbol (codes "]")) z = is_symbol sorted z CloseBracket refl (λ h. cc) is_z in (
       n,
       v,
       rest,
@@ -133,7 +103,7 @@ register_of xs any (c ∷ ts) cs e =
     let (us, vs, same, here, production) = map-part terminal_of ts xs (Equals ∷ Number ∷ cs) cc in
     let (n, s) = any us here in
     let (v, rest, more, spells) = number_of vs cs production in
-    let colon : Is (a_symbol (codes ":")) c = is_symbol c Colon refl (λ h. cc) cc in (
+    let colon : Is (a_symbol (codes ":")) c = is_symbol sorted c Colon refl (λ h. cc) cc in (
       n,
       v,
       rest,
@@ -145,7 +115,7 @@ register_of xs any [] cs e = absurd (cc)
 
 -- the block
 block_ends : IsRule Values CloseBrace []
-block_ends _ _ none (t ∷ []) e = (no_values, (is_symbol t CloseBrace refl (λ h. cc) cc, tt))
+block_ends _ _ none (t ∷ []) e = (no_values, (is_symbol sorted t CloseBrace refl (λ h. cc) cc, tt))
 block_ends _ _ none (t ∷ u ∷ ts) e = absurd (cc)
 block_ends _ _ none [] e = absurd (cc)
 
@@ -153,7 +123,7 @@ block_named : (c : Terminal) → is_name c ≡ true → IsRule Values c (number_
 block_named c h _ _ (class (class (part {cs = cs} more none))) (n ∷ ts) e =
     let (v, rest, left, spells) = number_of ts (cs ++ []) cc in
     let (ss, last, s) = more rest (left ∙ append-nil cs) in
-    let named : Is (a_name (named_of n)) n = is_named n c h cc in
+    let named : Is (a_name (named_of n)) n = is_name_at n c h cc in
     (values (record { location = bare (named_of n); value = v }) ss last, (named, spells (spelled_values ss last) s))
 block_named c h _ _ (class (class (part more none))) [] e = absurd (cc)
 
@@ -161,18 +131,18 @@ block_bracketed : IsRule Values OpenBracket (bracketed_and MoreValues)
 block_bracketed _ _ (part {cs = xs} {ds = ys} any (class (class (class (part {cs = cs} more none))))) (o ∷ ts) e =
     let (n, v, rest, left, spells) = bracketed_of xs any ts (cs ++ []) cc in
     let (ss, last, s) = more rest (left ∙ append-nil cs) in
-    let opens : Is (a_symbol (codes "[")) o = is_symbol o OpenBracket refl (λ h. cc) cc in
+    let opens : Is (a_symbol (codes "[")) o = is_symbol sorted o OpenBracket refl (λ h. cc) cc in
     (values (record { location = bracketed n; value = v }) ss last, (opens, spells (spelled_values ss last) s))
 block_bracketed _ _ (part any (class (class (class (part more none))))) [] e = absurd (cc)
 
 values_end : IsRule MoreValues CloseBrace []
-values_end _ _ none (t ∷ []) e = ([], false, (is_symbol t CloseBrace refl (λ h. cc) cc, tt))
+values_end _ _ none (t ∷ []) e = ([], false, (is_symbol sorted t CloseBrace refl (λ h. cc) cc, tt))
 values_end _ _ none (t ∷ u ∷ ts) e = absurd (cc)
 values_end _ _ none [] e = absurd (cc)
 
 values_more : IsRule MoreValues Semicolon (a_nonterminal Values ∷ [])
 values_more _ _ (part {cs = cs} inside none) (t ∷ ts) e =
-    let semicolon : Is (a_symbol (codes ";")) t = is_symbol t Semicolon refl (λ h. cc) cc in
+    let semicolon : Is (a_symbol (codes ";")) t = is_symbol sorted t Semicolon refl (λ h. cc) cc in
     by semicolon (inside ts (behind_first t ts Semicolon cs e))
   where
     by : Is (a_symbol (codes ";")) t → (b : Block) × Spell (spelled_block b) ts → Spelled MoreValues (t ∷ ts)
@@ -184,17 +154,17 @@ values_more _ _ (part inside none) [] e = absurd (cc)
 columns_named : (c : Terminal) → is_name c ≡ true → IsRule Columns c (a_nonterminal MoreColumns ∷ [])
 columns_named c h _ _ (part {cs = cs} more none) (n ∷ ts) e =
     let (ns, s) = more ts (behind_first n ts c cs e) in
-    (named_of n, ns, (is_named n c h cc, s))
+    (named_of n, ns, (is_name_at n c h cc, s))
 columns_named c h _ _ (part more none) [] e = absurd (cc)
 
 columns_more : IsRule MoreColumns Bar (a_nonterminal Columns ∷ [])
 columns_more _ _ (part {cs = cs} more none) (t ∷ ts) e =
     let (n, ns, s) = more ts (behind_first t ts Bar cs e) in
-    (n ∷ ns, (is_symbol t Bar refl (λ h. cc) cc, s))
+    (n ∷ ns, (is_symbol sorted t Bar refl (λ h. cc) cc, s))
 columns_more _ _ (part more none) [] e = absurd (cc)
 
 columns_end : IsRule MoreColumns Semicolon []
-columns_end _ _ none (t ∷ []) e = ([], (is_symbol t Semicolon refl (λ h. cc) cc, tt))
+columns_end _ _ none (t ∷ []) e = ([], (is_symbol sorted t Semicolon refl (λ h. cc) cc, tt))
 columns_end _ _ none (t ∷ u ∷ ts) e = absurd (cc)
 columns_end _ _ none [] e = absurd (cc)
 
@@ -203,15 +173,15 @@ store_move : IsRule Move OpenBracket (a_nonterminal AnyName ∷ a_terminal Close
 store_move _ _ (part {cs = xs} any (class (class (class (class none))))) (o ∷ ts) e =
     let (us, vs, same, here, production) = map-part terminal_of ts xs (CloseBracket ∷ Comma ∷ Dollar ∷ Number ∷ []) cc in
     let (n, s) = any us here in
-    by n (is_symbol o OpenBracket refl (λ h. cc) cc) us vs (sym same) s production
+    by n (is_symbol sorted o OpenBracket refl (λ h. cc) cc) us vs (sym same) s production
   where
     by : (n : Named) → Is (a_symbol (codes "[")) o → (us vs : List Token) → us ++ vs ≡ ts → Spell (a_name n ∷ []) us
         → map terminal_of vs ≡ CloseBracket ∷ Comma ∷ Dollar ∷ Number ∷ [] → Spelled Move (o ∷ ts)
     by n opens us (z ∷ c ∷ d ∷ v ∷ []) same s f =
-        let (value, is_value) = is_number v cc in
-        let closes : Is (a_symbol (codes "]")) z = is_symbol z CloseBracket refl (λ h. cc) cc in
-        let comma : Is (a_symbol (codes ",")) c = is_symbol c Comma refl (λ h. cc) cc in
-        let dollar : Is (a_symbol (codes "$")) d = is_symbol d Dollar refl (λ h. cc) cc in
+        let (value, is_value) = is_number sorted v cc in
+        let closes : Is (a_symbol (codes "]")) z = is_symbol sorted z CloseBracket refl (λ h. cc) cc in
+        let comma : Is (a_symbol (codes ",")) c = is_symbol sorted c Comma refl (λ h. cc) cc in
+        let dollar : Is (a_symbol (codes "$")) d = is_symbol sorted d Dollar refl (λ h. cc) cc in
         let tail : List Expected = a_symbol (codes "]") ∷ a_symbol (codes ",") ∷ a_symbol (codes "$") ∷ a_number value ∷ [] in
         let spells : Spell (a_name n ∷ tail) ts = subst (Spell (a_name n ∷ tail)) same
         (spell-append (a_name n ∷ []) tail us (z ∷ c ∷ d ∷ v ∷ []) s (closes, (comma, (dollar, (is_value, tt))))) in
@@ -223,12 +193,12 @@ load_move : (c : Terminal) → is_name c ≡ true → IsRule Move c (a_terminal 
 load_move c h _ _ (class (class (part {cs = xs} any (class none)))) (r ∷ k ∷ o ∷ ts) e =
     let (us, vs, same, here, production) = map-part terminal_of ts xs (CloseBracket ∷ []) cc in
     let (n, s) = any us here in
-    by n (is_named r c h cc) (is_symbol k Comma refl (λ h. cc) cc) (is_symbol o OpenBracket refl (λ h. cc) cc) us vs (sym same) s production
+    by n (is_name_at r c h cc) (is_symbol sorted k Comma refl (λ h. cc) cc) (is_symbol sorted o OpenBracket refl (λ h. cc) cc) us vs (sym same) s production
   where
     by : (n : Named) → Is (a_name (named_of r)) r → Is (a_symbol (codes ",")) k → Is (a_symbol (codes "[")) o → (us vs : List Token)
         → us ++ vs ≡ ts → Spell (a_name n ∷ []) us → map terminal_of vs ≡ CloseBracket ∷ [] → Spelled Move (r ∷ k ∷ o ∷ ts)
     by n named comma opens us (z ∷ []) same s f =
-        let closes : Is (a_symbol (codes "]")) z = is_symbol z CloseBracket refl (λ h. cc) cc in
+        let closes : Is (a_symbol (codes "]")) z = is_symbol sorted z CloseBracket refl (λ h. cc) cc in
         let tail : List Expected = a_symbol (codes "]") ∷ [] in
         let spells : Spell (a_name n ∷ tail) ts = subst (Spell (a_name n ∷ tail)) same
         (spell-append (a_name n ∷ []) tail us (z ∷ []) s (closes, tt)) in
@@ -242,7 +212,7 @@ cells_move _ _ (part {cs = xs} move (part {cs = cs} more none)) (m ∷ ts) e =
     let (us, vs, same, here, production) = map-part terminal_of ts xs (cs ++ []) cc in
     let (a, spells) = move us here in
     let (cells, end, rs, c, s) = more vs (production ∙ append-nil cs) in
-    let moves : Is (word_at (codes "MOV") m.at) m = is_word_at m Mov refl (λ h. cc) cc in
+    let moves : Is (placed_word (codes "MOV") m.at) m = is_placed_word sorted m Mov refl (λ h. cc) cc in
     let front : List Expected = spelled_action m.at a in
     let all : m ∷ (us ++ vs) ≡ m ∷ ts = ap (λ (xs : List Token). m ∷ xs) (sym same) in (
       record { first = instruction m.at a; others = cells; end = end },
@@ -257,31 +227,31 @@ cells_move _ _ (part move (part more none)) [] e = absurd (cc)
 cells_fence : IsRule Cells Mfence (a_nonterminal MoreCells ∷ [])
 cells_fence _ _ (part {cs = cs} more none) (m ∷ ts) e =
     let (cells, end, rs, c, s) = more ts (behind_first m ts Mfence cs e) in
-    (record { first = instruction m.at fence; others = cells; end = end }, rs, c, (is_word_at m Mfence refl (λ h. cc) cc, s))
+    (record { first = instruction m.at fence; others = cells; end = end }, rs, c, (is_placed_word sorted m Mfence refl (λ h. cc) cc, s))
 cells_fence _ _ (part more none) [] e = absurd (cc)
 
 cells_bar : IsRule Cells Bar (a_nonterminal Cells ∷ [])
 cells_bar _ _ (part {cs = cs} more none) (t ∷ ts) e =
     let (r, rs, c, s) = more ts (behind_first t ts Bar cs e) in
-    (record { first = empty; others = r.first ∷ r.others; end = r.end }, rs, c, (is_symbol t Bar refl (λ h. cc) cc, s))
+    (record { first = empty; others = r.first ∷ r.others; end = r.end }, rs, c, (is_symbol sorted t Bar refl (λ h. cc) cc, s))
 cells_bar _ _ (part more none) [] e = absurd (cc)
 
 cells_end : IsRule Cells Semicolon (a_nonterminal Rows ∷ [])
 cells_end _ _ (part {cs = cs} more none) (t ∷ ts) e =
     let (rs, c, s) = more ts (behind_first t ts Semicolon cs e) in
-    (record { first = empty; others = []; end = t.at }, rs, c, (is_symbol_at t Semicolon refl (λ h. cc) cc, s))
+    (record { first = empty; others = []; end = t.at }, rs, c, (is_placed_symbol sorted t Semicolon refl (λ h. cc) cc, s))
 cells_end _ _ (part more none) [] e = absurd (cc)
 
 more_bar : IsRule MoreCells Bar (a_nonterminal Cells ∷ [])
 more_bar _ _ (part {cs = cs} more none) (t ∷ ts) e =
     let (r, rs, c, s) = more ts (behind_first t ts Bar cs e) in
-    (r.first ∷ r.others, r.end, rs, c, (is_symbol t Bar refl (λ h. cc) cc, s))
+    (r.first ∷ r.others, r.end, rs, c, (is_symbol sorted t Bar refl (λ h. cc) cc, s))
 more_bar _ _ (part more none) [] e = absurd (cc)
 
 more_end : IsRule MoreCells Semicolon (a_nonterminal Rows ∷ [])
 more_end _ _ (part {cs = cs} more none) (t ∷ ts) e =
     let (rs, c, s) = more ts (behind_first t ts Semicolon cs e) in
-    ([], t.at, rs, c, (is_symbol_at t Semicolon refl (λ h. cc) cc, s))
+    ([], t.at, rs, c, (is_placed_symbol sorted t Semicolon refl (λ h. cc) cc, s))
 more_end _ _ (part more none) [] e = absurd (cc)
 
 -- a line begins as a cell does
@@ -291,8 +261,8 @@ row_of body k cells cs marks each ts e = let (r, rs, c, s) = cells cs marks each
 denied_condition : IsRule Rows Tilde (a_terminal Exists ∷ a_nonterminal Asked ∷ [])
 denied_condition _ _ (class (part {cs = cs} asked none)) (t ∷ x ∷ ts) e =
     let (b, q, qs, s) = asked ts (let rest : map terminal_of ts ≡ cs ++ [] = cc in rest ∙ append-nil cs) in
-    let tilde : Is (a_symbol (codes "~")) t = is_symbol t Tilde refl (λ h. cc) cc in
-    let exists_ : Is (a_word (codes "exists")) x = is_word x Exists refl (λ h. cc) cc in
+    let tilde : Is (a_symbol (codes "~")) t = is_symbol sorted t Tilde refl (λ h. cc) cc in
+    let exists_ : Is (a_word (codes "exists")) x = is_word sorted x Exists refl (λ h. cc) cc in
     ([], record { denied = true; in_brackets = b; first = q; others = qs }, (tilde, (exists_, s)))
 denied_condition _ _ (class (part asked none)) (t ∷ []) e = absurd (cc)
 denied_condition _ _ (class (part asked none)) [] e = absurd (cc)
@@ -300,7 +270,7 @@ denied_condition _ _ (class (part asked none)) [] e = absurd (cc)
 plain_condition : IsRule Rows Exists (a_nonterminal Asked ∷ [])
 plain_condition _ _ (part {cs = cs} asked none) (x ∷ ts) e =
     let (b, q, qs, s) = asked ts (behind_first x ts Exists cs e) in
-    ([], record { denied = false; in_brackets = b; first = q; others = qs }, (is_word x Exists refl (λ h. cc) cc, s))
+    ([], record { denied = false; in_brackets = b; first = q; others = qs }, (is_word sorted x Exists refl (λ h. cc) cc, s))
 plain_condition _ _ (part asked none) [] e = absurd (cc)
 
 -- equations
@@ -308,7 +278,7 @@ equation_register : IsRule Equations Number (register_and MoreEquations)
 equation_register _ _ (class (part {cs = xs} {ds = ys} any (class (class (part {cs = cs} more none))))) (t ∷ ts) e =
     let (n, v, rest, left, spells) = register_of xs any ts (cs ++ []) cc in
     let (es, s) = more rest (left ∙ append-nil cs) in
-    let (thread, is_thread) = is_number t cc in
+    let (thread, is_thread) = is_number sorted t cc in
     (of_register thread t.at n v, es, ((is_thread, refl), spells (spelled_equations es) s))
 equation_register _ _ (class (part any (class (class (part more none))))) [] e = absurd (cc)
 
@@ -316,7 +286,7 @@ equation_bracketed : IsRule Equations OpenBracket (bracketed_and MoreEquations)
 equation_bracketed _ _ (part {cs = xs} {ds = ys} any (class (class (class (part {cs = cs} more none))))) (o ∷ ts) e =
     let (n, v, rest, left, spells) = bracketed_of xs any ts (cs ++ []) cc in
     let (es, s) = more rest (left ∙ append-nil cs) in
-    let opens : Is (a_symbol (codes "[")) o = is_symbol o OpenBracket refl (λ h. cc) cc in
+    let opens : Is (a_symbol (codes "[")) o = is_symbol sorted o OpenBracket refl (λ h. cc) cc in
     (of_location (record { location = bracketed n; value = v }), es, (opens, spells (spelled_equations es) s))
 equation_bracketed _ _ (part any (class (class (class (part more none))))) [] e = absurd (cc)
 
@@ -324,7 +294,7 @@ equation_named : (c : Terminal) → is_name c ≡ true → IsRule Equations c (n
 equation_named c h _ _ (class (class (part {cs = cs} more none))) (n ∷ ts) e =
     let (v, rest, left, spells) = number_of ts (cs ++ []) cc in
     let (es, s) = more rest (left ∙ append-nil cs) in
-    let named : Is (a_name (named_of n)) n = is_named n c h cc in
+    let named : Is (a_name (named_of n)) n = is_name_at n c h cc in
     (of_location (record { location = bare (named_of n); value = v }), es, (named, spells (spelled_equations es) s))
 equation_named c h _ _ (class (class (part more none))) [] e = absurd (cc)
 
@@ -336,12 +306,12 @@ asked_brackets : IsRule Asked Open (a_nonterminal Equations ∷ a_terminal Close
 asked_brackets _ _ (part {cs = xs} equations (class none)) (o ∷ ts) e =
     let (us, vs, same, here, production) = map-part terminal_of ts xs (Close ∷ []) cc in
     let (q, qs, s) = equations us here in
-    by q qs (is_symbol o Open refl (λ h. cc) cc) us vs (sym same) s production
+    by q qs (is_symbol sorted o Open refl (λ h. cc) cc) us vs (sym same) s production
   where
     by : (q : Equation) (qs : List Equation) → Is (a_symbol (codes "(")) o → (us vs : List Token) → us ++ vs ≡ ts
         → Spell (spelled_conjunction q qs) us → map terminal_of vs ≡ Close ∷ [] → Spelled Asked (o ∷ ts)
     by q qs opens us (z ∷ []) same s f =
-        let closes : Is (a_symbol (codes ")")) z = is_symbol z Close refl (λ h. cc) cc in (
+        let closes : Is (a_symbol (codes ")")) z = is_symbol sorted z Close refl (λ h. cc) cc in (
           true,
           q,
           qs,
@@ -357,11 +327,11 @@ asked_brackets _ _ (part equations (class none)) [] e = absurd (cc)
 equations_more : IsRule MoreEquations And (a_nonterminal Equations ∷ [])
 equations_more _ _ (part {cs = cs} more none) (t ∷ ts) e =
     let (q, qs, s) = more ts (behind_first t ts And cs e) in
-    (q ∷ qs, (is_symbol t And refl (λ h. cc) cc, s))
+    (q ∷ qs, (is_symbol sorted t And refl (λ h. cc) cc, s))
 equations_more _ _ (part more none) [] e = absurd (cc)
 
 any_name : (c : Terminal) → is_name c ≡ true → IsRule AnyName c []
-any_name c h _ _ none (t ∷ []) e = (named_of t, (is_named t c h cc, tt))
+any_name c h _ _ none (t ∷ []) e = (named_of t, (is_name_at t c h cc, tt))
 any_name c h _ _ none (t ∷ u ∷ ts) e = absurd (cc)
 any_name c h _ _ none [] e = absurd (cc)
 
@@ -373,7 +343,7 @@ listing_rule _ _ (part {cs = xs} {ds = ys} block (part {cs = zs} {ds = ws} colum
     let (n, ns, s1) = columns vs1 here1 in
     let (rs, c, s2) = rows vs2 (behind1 ∙ append-nil cs) in
     let all : us ++ (vs1 ++ vs2) ≡ ts = cc in
-    let opens : Is (a_symbol (codes "{")) o = is_symbol o OpenBrace refl (λ h. cc) cc in
+    let opens : Is (a_symbol (codes "{")) o = is_symbol sorted o OpenBrace refl (λ h. cc) cc in
     let head : List Expected = a_name n ∷ spelled_columns ns in (
       record { block = b; first_column = n; columns = ns; rows = rs; condition = c },
       (
@@ -452,37 +422,15 @@ rule AnyName Name = any_name Name refl
 rule AnyName _ = tt
 
 -- tokens whose terminals the table reads are a listing
-pub listing_of_derives : (ts : List Token) (marks : List Bool) → Derives rules ListingPart (map terminal_of ts) marks → IsListing ts
-listing_of_derives ts marks reads =
+pub listing_of_derives : (ts : List Token) → IsText (Derives rules ListingPart) (map terminal_of ts) → IsListing ts
+listing_of_derives ts (marks, reads) =
     meaning rules Means (record { empty = means-end; rule = rule }) ListingPart (map terminal_of ts) marks reads ts refl
 
 -- From the grammar to the table: the terminals of a listing are read.
 
 -- the terminal of what is expected
 abbrev terminal : Expected → Terminal
-terminal (a_name n) = word_terminal n.word
-terminal (a_word w) = word_terminal w
-terminal (a_number n) = Number
-terminal (number_at n at) = Number
-terminal (a_symbol s) = symbol_terminal s
-terminal (symbol_at s at) = symbol_terminal s
-
-terminal-of_token : (e : Expected) (t : Token) → Is e t → terminal_of t ≡ terminal e
-terminal-of_token (a_name n) t h = ap (λ (k : Kind). kind_terminal k t.piece) h.0 ∙ ap word_terminal h.1
-terminal-of_token (a_word w) t h = ap (λ (k : Kind). kind_terminal k t.piece) h.0 ∙ ap word_terminal h.1
-terminal-of_token (a_number n) t h = ap (λ (k : Kind). kind_terminal k t.piece) h
-terminal-of_token (number_at n at) t h = ap (λ (k : Kind). kind_terminal k t.piece) h.0
-terminal-of_token (a_symbol s) t h = ap (λ (k : Kind). kind_terminal k t.piece) h.0 ∙ ap symbol_terminal h.1
-terminal-of_token (symbol_at s at) t h = ap (λ (k : Kind). kind_terminal k t.piece) h.0 ∙ ap symbol_terminal h.1
-
-terminals-of_tokens : (es : List Expected) (ts : List Token) → Spell es ts → map terminal_of ts ≡ map terminal es
-terminals-of_tokens [] [] s = refl
-terminals-of_tokens [] (t ∷ ts) s = absurd s
-terminals-of_tokens (e ∷ es) [] s = absurd s
-terminals-of_tokens (e ∷ es) (t ∷ ts) s =
-    let here = terminal-of_token e t s.0 in
-    let others = terminals-of_tokens es ts s.1 in
-    λ i. here i ∷ others i
+terminal e = expected_terminal vocabulary e
 
 abbrev Reads : Phrase → List Terminal → Type 0
 Reads n cs = IsText (Derives rules n) cs
@@ -499,50 +447,34 @@ lead n c m e cs (_, d) =
 abbrev TakesNames : Phrase → List (Symbol Terminal Phrase) → Type 0
 TakesNames n body = (c : Terminal) → is_name c ≡ true → production n c ≡ Some body
 
+names_by : (n : Phrase) (body : List (Symbol Terminal Phrase)) → production n Mov ≡ Some body → production n Mfence ≡ Some body
+    → production n Exists ≡ Some body → production n Name ≡ Some body → TakesNames n body
+names_by n body mov mfence exists_ name Mov h = mov
+names_by n body mov mfence exists_ name Mfence h = mfence
+names_by n body mov mfence exists_ name Exists h = exists_
+names_by n body mov mfence exists_ name Name h = name
+names_by n body mov mfence exists_ name c h = absurd (cc)
+
 values_names : TakesNames Values (number_and MoreValues)
-values_names Mov h = refl
-values_names Mfence h = refl
-values_names Exists h = refl
-values_names Name h = refl
-values_names c h = absurd (cc)
+values_names = names_by Values (number_and MoreValues) refl refl refl refl
 
 columns_names : TakesNames Columns (a_nonterminal MoreColumns ∷ [])
-columns_names Mov h = refl
-columns_names Mfence h = refl
-columns_names Exists h = refl
-columns_names Name h = refl
-columns_names c h = absurd (cc)
+columns_names = names_by Columns (a_nonterminal MoreColumns ∷ []) refl refl refl refl
 
 move_names : TakesNames Move (a_terminal Comma ∷ a_terminal OpenBracket ∷ a_nonterminal AnyName ∷ a_terminal CloseBracket ∷ [])
-move_names Mov h = refl
-move_names Mfence h = refl
-move_names Exists h = refl
-move_names Name h = refl
-move_names c h = absurd (cc)
+move_names = names_by Move (a_terminal Comma ∷ a_terminal OpenBracket ∷ a_nonterminal AnyName ∷ a_terminal CloseBracket ∷ []) refl refl refl refl
 
 asked_names : TakesNames Asked (number_and MoreEquations)
-asked_names Mov h = refl
-asked_names Mfence h = refl
-asked_names Exists h = refl
-asked_names Name h = refl
-asked_names c h = absurd (cc)
+asked_names = names_by Asked (number_and MoreEquations) refl refl refl refl
 
 equations_names : TakesNames Equations (number_and MoreEquations)
-equations_names Mov h = refl
-equations_names Mfence h = refl
-equations_names Exists h = refl
-equations_names Name h = refl
-equations_names c h = absurd (cc)
+equations_names = names_by Equations (number_and MoreEquations) refl refl refl refl
 
 any_names : TakesNames AnyName []
-any_names Mov h = refl
-any_names Mfence h = refl
-any_names Exists h = refl
-any_names Name h = refl
-any_names c h = absurd (cc)
+any_names = names_by AnyName [] refl refl refl refl
 
 read_any : (w : List ℕ) → Reads AnyName (word_terminal w ∷ [])
-read_any w = begin AnyName (word_terminal w) [] (any_names (word_terminal w) (word_is_name w)) none (word_terminal w ∷ []) refl
+read_any w = begin AnyName (word_terminal w) [] (any_names (word_terminal w) (word_is_name sorted w)) none (word_terminal w ∷ []) refl
 
 -- loc "=" NUMBER, and what stands after it
 read_stated : (n m : Phrase) → production n OpenBracket ≡ Some (bracketed_and m) → TakesNames n (number_and m) → (s : Stated)
@@ -552,7 +484,7 @@ read_stated n m bracket names s es (_, q) = by s.location
   where
     by : (l : Location) → Reads n (map terminal ((spelled_location l ++ (a_symbol (codes "=") ∷ a_number s.value ∷ [])) ++ es))
     by (bare x) =
-        begin n (word_terminal x.word) (number_and m) (names (word_terminal x.word) (word_is_name x.word)) (class (class (part q none)))
+        begin n (word_terminal x.word) (number_and m) (names (word_terminal x.word) (word_is_name sorted x.word)) (class (class (part q none)))
         (word_terminal x.word ∷ Equals ∷ Number ∷ map terminal es)
         (ap (λ (cs : List Terminal). word_terminal x.word ∷ Equals ∷ Number ∷ cs) (sym (append-nil (map terminal es))))
     by (bracketed x) =
@@ -575,7 +507,7 @@ read_block no_values = begin Values CloseBrace [] refl none (CloseBrace ∷ []) 
 read_block (values s ss last) = read_stated Values MoreValues refl values_names s (spelled_values ss last) (read_values ss last)
 
 read_columns_of : (n : Named) (es : List Expected) → Reads MoreColumns (map terminal es) → Reads Columns (word_terminal n.word ∷ map terminal es)
-read_columns_of n es q = lead Columns (word_terminal n.word) MoreColumns (columns_names (word_terminal n.word) (word_is_name n.word)) (map terminal es) q
+read_columns_of n es q = lead Columns (word_terminal n.word) MoreColumns (columns_names (word_terminal n.word) (word_is_name sorted n.word)) (map terminal es) q
 
 read_columns : (ns : List Named) → Reads MoreColumns (map terminal (spelled_columns ns))
 unfolding symbol_terminal
@@ -594,7 +526,7 @@ read_load : (register location : Named) → Reads Move (word_terminal register.w
 read_load register location =
     let (_, a) = read_any location.word in
     begin Move (word_terminal register.word) (a_terminal Comma ∷ a_terminal OpenBracket ∷ a_nonterminal AnyName ∷ a_terminal CloseBracket ∷ [])
-    (move_names (word_terminal register.word) (word_is_name register.word)) (class (class (part a (class none))))
+    (move_names (word_terminal register.word) (word_is_name sorted register.word)) (class (class (part a (class none))))
     (word_terminal register.word ∷ Comma ∷ OpenBracket ∷ word_terminal location.word ∷ CloseBracket ∷ []) refl
 
 -- MOV, what it moves, and what stands after it
@@ -688,4 +620,4 @@ read_listing l =
 -- the terminals of a listing are read
 pub derives_of_listing : (ts : List Token) → IsListing ts → IsText (Derives rules ListingPart) (map terminal_of ts)
 derives_of_listing ts (l, s) =
-    subst (Reads ListingPart) (sym (terminals-of_tokens (spelled_listing l) ts s)) (read_listing l)
+    subst (Reads ListingPart) (sym (terminals-of_tokens vocabulary (spelled_listing l) ts s)) (read_listing l)

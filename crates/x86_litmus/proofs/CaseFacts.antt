@@ -15,9 +15,6 @@ use Rattle.x86_litmus.specs.Cases.{seen, seen_value, seen_in, seen_by, locations
 use Rattle.x86_litmus.specs.Sound.{IsOnce, IsSound}
 use Rattle.x86_litmus.proofs.Bytes.{same_is, same_self}
 
-in_column : ℕ → List Instruction → List Instruction
-in_column k is = filter (λ (i : Instruction). i.thread == k) is
-
 -- an instruction stands in one column at most
 cons_none : (k : ℕ) (i : Instruction) (is : List Instruction) → k ≤ i.thread → length (test_order k (i ∷ is)) ≡ length (test_order k is)
 cons_none zero i is le = refl

@@ -1,8 +1,6 @@
 mod Words
-pub mod Spelling
 pub mod Bridge
 pub mod SyntaxFaults
-pub mod SyntaxTotality
 pub mod Readings
 pub mod OneReading
 pub mod OneFault
@@ -15,5 +13,4 @@ mod LookUps
 mod Loops
 mod Walks
 pub mod Outcomes
-mod LexFaults
 pub mod HeaderLines

@@ -1,9 +1,9 @@
 -- A text has one first fault at most.
-use Rattle.std.proofs.Common.{◌≡◌, ◌≢◌, ℕ, ◌+◌, ◌<◌, ◌≤◌, inl, inr, List, length, refl, sym, ap, subst, ◌∙◌, arith}
+use Rattle.std.proofs.Common.{◌≡◌, ◌≢◌, ℕ, inl, inr, List, refl, sym, ap, subst, ◌∙◌}
 use Rattle.pc_common.specs.declared.place.Place.{Place}
 use Rattle.pc_common.specs.declared.fault.FaultKind.{FaultKind}
 use Rattle.ll_grammar.specs.FirstFault.{IsFaultAt}
-use Rattle.ll_grammar.proofs.Faults.{viable-take}
+use Rattle.ll_grammar.proofs.Faults.{one_place}
 use Rattle.uspec_lexer.specs.Token.{Token, token_place}
 use Rattle.x86_litmus.specs.Tokens.{IsLexicalFault}
 use Rattle.x86_litmus.specs.Header.{fault}
@@ -15,18 +15,11 @@ use Rattle.x86_litmus.specs.declared.fault.X86Fault.{X86Fault}
 use Rattle.x86_litmus.specs.declared.fault.X86Fault.TheVariants.{Lexical, Syntax, Content, Memory}
 use Rattle.x86_litmus.proofs.OneReading.{one_body, no_body, one_list, one_outcome, no_lexical, no_token_fault}
 
-later_syntax : (ts : List Token) (j k : ℕ) → IsFaultAt IsListing ts j → IsFaultAt IsListing ts k → j < k → ⊥
-later_syntax ts j k f g below =
-    let within : k ≤ length ts = g.within in
-    f.through (omega arith) (viable-take IsListing ts (j + 1) k (omega arith) g.before)
-
 one_token_fault : (bytes : List ℕ) (p q : Place) → IsTokenFault bytes p → IsTokenFault bytes q → p.offset ≡ q.offset
 one_token_fault bytes p q f g =
     let tokens = one_list g.spelled f.spelled in
     let there : IsFaultAt IsListing f.tokens g.k = subst (λ (ts : List Token). IsFaultAt IsListing ts g.k) tokens g.fault_at in
-    let below = later_syntax f.tokens f.k g.k f.fault_at there in
-    let above = later_syntax f.tokens g.k f.k there f.fault_at in
-    let one : f.k ≡ g.k = omega arith in
+    let one = one_place IsListing f.tokens f.k g.k f.fault_at there in
     f.at ∙ ap (λ (k : ℕ). token_place bytes f.tokens k) one
     ∙ ap (λ (ts : List Token). token_place bytes ts g.k) (sym tokens) ∙ sym g.at
 

@@ -1,8 +1,8 @@
 -- A text has one case at most, and none where it has a first fault.
-use Rattle.std.proofs.Common.{◌≡◌, ◌≢◌, ℕ, ◌+◌, ◌≤◌, inl, inr, List, length, drop, refl, sym, ap, subst, ◌∙◌, arith}
-use Rattle.std.proofs.lemmas.List.{take-append-drop}
+use Rattle.std.proofs.Common.{◌≡◌, ◌≢◌, ℕ, inl, inr, List, refl, sym, ap, subst, ◌∙◌}
 use Rattle.pc_common.specs.Case.{Case}
 use Rattle.ll_grammar.specs.FirstFault.{IsFaultAt}
+use Rattle.ll_grammar.proofs.Faults.{no_place}
 use Rattle.uspec_lexer.specs.Token.{Token}
 use Rattle.x86_litmus.specs.Tokens.{Spells, IsLexicalFault}
 use Rattle.x86_litmus.specs.Header.{body, fault, header_of}
@@ -41,12 +41,6 @@ one_case bytes c d (s, x, e) (t, y, f) =
     let same : s ≡ t = cc in
     e ∙ ap case_of same ∙ sym f
 
-pub no_syntax_fault : (ts : List Token) (k : ℕ) → IsListing ts → IsFaultAt IsListing ts k → ⊥
-no_syntax_fault ts k l f =
-    let within : k ≤ length ts = f.within in
-    let not_end : k ≡ length ts → ⊥ = λ end. f.at_end end l in
-    f.through (omega arith) (drop (k + 1) ts, subst IsListing (sym (take-append-drop (k + 1) ts)) l)
-
 -- a text that is a listing has no fault but one of content
 pub no_lexical : {bytes : List ℕ} {x : Outcome} {from k : ℕ} → ComesTo bytes x → header_of bytes ≡ body from → IsLexicalFault bytes from k → ⊥
 no_lexical {bytes} {k = k} s e f =
@@ -54,7 +48,7 @@ no_lexical {bytes} {k = k} s e f =
 
 pub no_token_fault : {bytes : List ℕ} {x : Outcome} (s : ComesTo bytes x) → (f : (k : ℕ) × (ts : List Token) × IsBody bytes ts × IsFaultAt IsListing ts k) → ⊥
 no_token_fault s (k, ts, spelled, f) =
-    no_syntax_fault ts k (s.listing, subst (IsListingOf s.listing) (one_list s.spelled spelled) s.is_listing) f
+    no_place IsListing ts k (s.listing, subst (IsListingOf s.listing) (one_list s.spelled spelled) s.is_listing) f
 
 pub no_fault : (bytes : List ℕ) (c : Case) (f : X86Fault) → CaseOf bytes c → f ≢ Memory → IsX86Fault bytes f → ⊥
 no_fault bytes c (Lexical place) (s, x, e) not (from, header, f) = no_lexical x header f

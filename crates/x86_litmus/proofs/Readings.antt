@@ -3,10 +3,10 @@ use Rattle.std.proofs.Common.{◌≡◌, ℕ, ◌+◌, Bool, true, false, List, 
 use Rattle.std.proofs.lemmas.List.{append-nil}
 use Rattle.uspec_lexer.specs.Token.{Token, Kind}
 use Rattle.x86_litmus.specs.Listing.{Named, Location, bare, bracketed, Stated, Block, no_values, values, fence, store, load, Cell, empty, instruction, Row, Equation, of_register, of_location, Condition, Listing}
-use Rattle.x86_litmus.specs.Expected.{Expected, a_name, a_word, a_number, number_at, a_symbol, symbol_at, Spell}
-use Rattle.x86_litmus.specs.Syntax.{spelled_location, spelled_stated, spelled_values, spelled_block, spelled_columns, spelled_cell, spelled_cells, spelled_row, spelled_equation, spelled_equations, spelled_conjunction, spelled_asked, spelled_denial, spelled_rows, IsListingOf}
+use Rattle.uspec_lexer.specs.Expected.{Expected, a_word, placed_word, a_number, placed_number, a_text, a_symbol, placed_symbol, Is, Spell}
+use Rattle.x86_litmus.specs.Syntax.{a_name, spelled_location, spelled_stated, spelled_values, spelled_block, spelled_columns, spelled_cell, spelled_cells, spelled_row, spelled_equation, spelled_equations, spelled_conjunction, spelled_asked, spelled_denial, spelled_rows, IsListingOf}
 use Rattle.x86_litmus.specs.Items.{Item, initial, column, instructed, denied, final, name_of, initial_of, items_of_block, items_of_cell, items_of_cells, items_of_row, item_of_equation, items_of_denial, items_of_rows, items_of}
-use Rattle.x86_litmus.specs.Spots.{Spot, block, valued, head, row, moving, storing, stored, loading, asking, thread, register, behind, Step, after_name, after_number, after_symbol, after_kind, with_item, items_from}
+use Rattle.x86_litmus.specs.Spots.{Spot, block, valued, head, row, moving, storing, stored, loading, asking, thread, register, behind, Step, goes, after_name, after_number, after_symbol, after_kind, after, with_item, items_from}
 use Rattle.x86_litmus.specs.Reading.{items_in}
 
 -- what is said after a step
@@ -26,64 +26,37 @@ record Takes (s : Spot) (ts : List Token) (es : List Expected) (step : ℕ → S
   pub spell : Spell es rest
   pub reads : items_from s ts ≡ told (step at) rest
 
-takes_name : (s : Spot) (n : Named) (es : List Expected) (ts : List Token) → Spell (a_name n ∷ es) ts → Takes s ts es (λ at. after_name s n)
-takes_name s n es [] h = absurd h
-takes_name s n es (t ∷ ts) h = record {
-  at = t.at;
-  rest = ts;
-  spell = h.1;
-  reads = ap (λ (k : Kind). told (after_kind s k t.piece t.at) ts) h.0.0
-      ∙ (λ i. told (after_name s (record { word = h.0.1 i; at = h.0.2 i })) ts);
-}
+-- the step at what is expected; `at` is where a token stands whose place is not expected
+abbrev step_of : Spot → Expected → ℕ → Step
+step_of s (a_word w) at = after_name s (record { word = w; at = at })
+step_of s (placed_word w place) at = after_name s (record { word = w; at = place })
+step_of s (a_number v) at = after_number s v at
+step_of s (placed_number v place) at = after_number s v place
+step_of s a_text at = goes s
+step_of s (a_symbol w) at = after_symbol s w at
+step_of s (placed_symbol w place) at = after_symbol s w place
 
-takes_word : (s : Spot) (w : List ℕ) (es : List Expected) (ts : List Token) → Spell (a_word w ∷ es) ts
-    → Takes s ts es (λ at. after_name s (record { word = w; at = at }))
-takes_word s w es [] h = absurd h
-takes_word s w es (t ∷ ts) h = record {
-  at = t.at;
-  rest = ts;
-  spell = h.1;
-  reads = ap (λ (k : Kind). told (after_kind s k t.piece t.at) ts) h.0.0
-      ∙ ap (λ (p : List ℕ). told (after_name s (record { word = p; at = t.at })) ts) h.0.1;
-}
+step_is : (s : Spot) (e : Expected) (t : Token) → Is e t → after s t ≡ step_of s e t.at
+step_is s (a_word w) t h =
+    ap (λ (k : Kind). after_kind s k t.piece t.at) h.0 ∙ ap (λ (p : List ℕ). after_name s (record { word = p; at = t.at })) h.1
+step_is s (placed_word w place) t h =
+    ap (λ (k : Kind). after_kind s k t.piece t.at) h.0 ∙ (λ i. after_name s (record { word = h.1 i; at = h.2 i }))
+step_is s (a_number v) t h = ap (λ (k : Kind). after_kind s k t.piece t.at) h
+step_is s (placed_number v place) t h =
+    ap (λ (k : Kind). after_kind s k t.piece t.at) h.0 ∙ ap (λ (a : ℕ). after_number s v a) h.1
+step_is s a_text t h = ap (λ (k : Kind). after_kind s k t.piece t.at) h
+step_is s (a_symbol w) t h =
+    ap (λ (k : Kind). after_kind s k t.piece t.at) h.0 ∙ ap (λ (p : List ℕ). after_symbol s p t.at) h.1
+step_is s (placed_symbol w place) t h =
+    ap (λ (k : Kind). after_kind s k t.piece t.at) h.0 ∙ (λ i. after_symbol s (h.1 i) (h.2 i))
 
-takes_number : (s : Spot) (v : ℕ) (es : List Expected) (ts : List Token) → Spell (a_number v ∷ es) ts → Takes s ts es (λ at. after_number s v at)
-takes_number s v es [] h = absurd h
-takes_number s v es (t ∷ ts) h = record {
+takes : (s : Spot) (e : Expected) (es : List Expected) (ts : List Token) → Spell (e ∷ es) ts → Takes s ts es (step_of s e)
+takes s e es [] h = absurd h
+takes s e es (t ∷ ts) h = record {
   at = t.at;
   rest = ts;
   spell = h.1;
-  reads = ap (λ (k : Kind). told (after_kind s k t.piece t.at) ts) h.0;
-}
-
-takes_number_at : (s : Spot) (v at : ℕ) (es : List Expected) (ts : List Token) → Spell (number_at v at ∷ es) ts
-    → Takes s ts es (λ any. after_number s v at)
-takes_number_at s v at es [] h = absurd h
-takes_number_at s v at es (t ∷ ts) h = record {
-  at = t.at;
-  rest = ts;
-  spell = h.1;
-  reads = ap (λ (k : Kind). told (after_kind s k t.piece t.at) ts) h.0.0 ∙ ap (λ a. told (after_number s v a) ts) h.0.1;
-}
-
-takes_symbol : (s : Spot) (w : List ℕ) (es : List Expected) (ts : List Token) → Spell (a_symbol w ∷ es) ts → Takes s ts es (λ at. after_symbol s w at)
-takes_symbol s w es [] h = absurd h
-takes_symbol s w es (t ∷ ts) h = record {
-  at = t.at;
-  rest = ts;
-  spell = h.1;
-  reads = ap (λ (k : Kind). told (after_kind s k t.piece t.at) ts) h.0.0 ∙ ap (λ (p : List ℕ). told (after_symbol s p t.at) ts) h.0.1;
-}
-
-takes_symbol_at : (s : Spot) (w : List ℕ) (at : ℕ) (es : List Expected) (ts : List Token) → Spell (symbol_at w at ∷ es) ts
-    → Takes s ts es (λ any. after_symbol s w at)
-takes_symbol_at s w at es [] h = absurd h
-takes_symbol_at s w at es (t ∷ ts) h = record {
-  at = t.at;
-  rest = ts;
-  spell = h.1;
-  reads = ap (λ (k : Kind). told (after_kind s k t.piece t.at) ts) h.0.0 ∙ ap (λ (p : List ℕ). told (after_symbol s p t.at) ts) h.0.1
-      ∙ ap (λ a. told (after_symbol s w a) ts) h.0.2;
+  reads = ap (λ (x : Step). told x ts) (step_is s e t h.0);
 }
 
 subst_spell : (es fs : List Expected) (ts : List Token) → es ≡ fs → Spell es ts → Spell fs ts
@@ -97,16 +70,16 @@ block_stated s es ts h = by s.location h
     by : (l : Location) → Spell ((spelled_location l ++ (a_symbol (codes "=") ∷ a_number s.value ∷ [])) ++ es) ts
         → IsBehind block ts es block (initial (name_of l) s.value ∷ [])
     by (bare x) h =
-        let a = takes_name block x (a_symbol (codes "=") ∷ a_number s.value ∷ es) ts h in
-        let b = takes_symbol (valued x) (codes "=") (a_number s.value ∷ es) a.rest a.spell in
-        let c = takes_number (valued x) s.value es b.rest b.spell in
+        let a = takes block (a_name x) (a_symbol (codes "=") ∷ a_number s.value ∷ es) ts h in
+        let b = takes (valued x) (a_symbol (codes "=")) (a_number s.value ∷ es) a.rest a.spell in
+        let c = takes (valued x) (a_number s.value) es b.rest b.spell in
         record { rest = c.rest; spell = c.spell; reads = a.reads ∙ b.reads ∙ c.reads }
     by (bracketed x) h =
-        let o = takes_symbol block (codes "[") (a_name x ∷ a_symbol (codes "]") ∷ a_symbol (codes "=") ∷ a_number s.value ∷ es) ts h in
-        let a = takes_name block x (a_symbol (codes "]") ∷ a_symbol (codes "=") ∷ a_number s.value ∷ es) o.rest o.spell in
-        let z = takes_symbol (valued x) (codes "]") (a_symbol (codes "=") ∷ a_number s.value ∷ es) a.rest a.spell in
-        let b = takes_symbol (valued x) (codes "=") (a_number s.value ∷ es) z.rest z.spell in
-        let c = takes_number (valued x) s.value es b.rest b.spell in
+        let o = takes block (a_symbol (codes "[")) (a_name x ∷ a_symbol (codes "]") ∷ a_symbol (codes "=") ∷ a_number s.value ∷ es) ts h in
+        let a = takes block (a_name x) (a_symbol (codes "]") ∷ a_symbol (codes "=") ∷ a_number s.value ∷ es) o.rest o.spell in
+        let z = takes (valued x) (a_symbol (codes "]")) (a_symbol (codes "=") ∷ a_number s.value ∷ es) a.rest a.spell in
+        let b = takes (valued x) (a_symbol (codes "=")) (a_number s.value ∷ es) z.rest z.spell in
+        let c = takes (valued x) (a_number s.value) es b.rest b.spell in
         record { rest = c.rest; spell = c.spell; reads = o.reads ∙ a.reads ∙ z.reads ∙ b.reads ∙ c.reads }
 
 asked_stated : (s : Stated) (es : List Expected) (ts : List Token) → Spell (spelled_stated s ++ es) ts
@@ -116,29 +89,29 @@ asked_stated s es ts h = by s.location h
     by : (l : Location) → Spell ((spelled_location l ++ (a_symbol (codes "=") ∷ a_number s.value ∷ [])) ++ es) ts
         → IsBehind asking ts es asking (final (name_of l) s.value ∷ [])
     by (bare x) h =
-        let a = takes_name asking x (a_symbol (codes "=") ∷ a_number s.value ∷ es) ts h in
-        let b = takes_symbol (behind x) (codes "=") (a_number s.value ∷ es) a.rest a.spell in
-        let c = takes_number (behind x) s.value es b.rest b.spell in
+        let a = takes asking (a_name x) (a_symbol (codes "=") ∷ a_number s.value ∷ es) ts h in
+        let b = takes (behind x) (a_symbol (codes "=")) (a_number s.value ∷ es) a.rest a.spell in
+        let c = takes (behind x) (a_number s.value) es b.rest b.spell in
         record { rest = c.rest; spell = c.spell; reads = a.reads ∙ b.reads ∙ c.reads }
     by (bracketed x) h =
-        let o = takes_symbol asking (codes "[") (a_name x ∷ a_symbol (codes "]") ∷ a_symbol (codes "=") ∷ a_number s.value ∷ es) ts h in
-        let a = takes_name asking x (a_symbol (codes "]") ∷ a_symbol (codes "=") ∷ a_number s.value ∷ es) o.rest o.spell in
-        let z = takes_symbol (behind x) (codes "]") (a_symbol (codes "=") ∷ a_number s.value ∷ es) a.rest a.spell in
-        let b = takes_symbol (behind x) (codes "=") (a_number s.value ∷ es) z.rest z.spell in
-        let c = takes_number (behind x) s.value es b.rest b.spell in
+        let o = takes asking (a_symbol (codes "[")) (a_name x ∷ a_symbol (codes "]") ∷ a_symbol (codes "=") ∷ a_number s.value ∷ es) ts h in
+        let a = takes asking (a_name x) (a_symbol (codes "]") ∷ a_symbol (codes "=") ∷ a_number s.value ∷ es) o.rest o.spell in
+        let z = takes (behind x) (a_symbol (codes "]")) (a_symbol (codes "=") ∷ a_number s.value ∷ es) a.rest a.spell in
+        let b = takes (behind x) (a_symbol (codes "=")) (a_number s.value ∷ es) z.rest z.spell in
+        let c = takes (behind x) (a_number s.value) es b.rest b.spell in
         record { rest = c.rest; spell = c.spell; reads = o.reads ∙ a.reads ∙ z.reads ∙ b.reads ∙ c.reads }
 
 -- the values of the block and its brace
 read_values : (ss : List Stated) (last : Bool) (es : List Expected) (ts : List Token) → Spell (spelled_values ss last ++ es) ts
     → IsBehind block ts es head (map initial_of ss)
 read_values [] false es ts h =
-    let a = takes_symbol block (codes "}") es ts h in record { rest = a.rest; spell = a.spell; reads = a.reads }
+    let a = takes block (a_symbol (codes "}")) es ts h in record { rest = a.rest; spell = a.spell; reads = a.reads }
 read_values [] true es ts h =
-    let s = takes_symbol block (codes ";") (a_symbol (codes "}") ∷ es) ts h in
-    let a = takes_symbol block (codes "}") es s.rest s.spell in
+    let s = takes block (a_symbol (codes ";")) (a_symbol (codes "}") ∷ es) ts h in
+    let a = takes block (a_symbol (codes "}")) es s.rest s.spell in
     record { rest = a.rest; spell = a.spell; reads = s.reads ∙ a.reads }
 read_values (x ∷ ss) last es ts h =
-    let s = takes_symbol block (codes ";") ((spelled_stated x ++ spelled_values ss last) ++ es) ts h in
+    let s = takes block (a_symbol (codes ";")) ((spelled_stated x ++ spelled_values ss last) ++ es) ts h in
     let parts = subst_spell _ _ s.rest (append_assoc (spelled_stated x) (spelled_values ss last) es) s.spell in
     let a = block_stated x (spelled_values ss last ++ es) s.rest parts in
     let b = read_values ss last es a.rest a.spell in
@@ -146,7 +119,7 @@ read_values (x ∷ ss) last es ts h =
 
 read_block : (b : Block) (es : List Expected) (ts : List Token) → Spell (spelled_block b ++ es) ts → IsBehind block ts es head (items_of_block b)
 read_block no_values es ts h =
-    let a = takes_symbol block (codes "}") es ts h in record { rest = a.rest; spell = a.spell; reads = a.reads }
+    let a = takes block (a_symbol (codes "}")) es ts h in record { rest = a.rest; spell = a.spell; reads = a.reads }
 read_block (values x ss last) es ts h =
     let a = block_stated x (spelled_values ss last ++ es) ts (subst_spell _ _ ts (append_assoc (spelled_stated x) (spelled_values ss last) es) h) in
     let b = read_values ss last es a.rest a.spell in
@@ -156,10 +129,10 @@ read_block (values x ss last) es ts h =
 read_columns : (ns : List Named) (es : List Expected) (ts : List Token) → Spell (spelled_columns ns ++ es) ts
     → IsBehind head ts es (row 0) (map column ns)
 read_columns [] es ts h =
-    let a = takes_symbol head (codes ";") es ts h in record { rest = a.rest; spell = a.spell; reads = a.reads }
+    let a = takes head (a_symbol (codes ";")) es ts h in record { rest = a.rest; spell = a.spell; reads = a.reads }
 read_columns (n ∷ ns) es ts h =
-    let b = takes_symbol head (codes "|") (a_name n ∷ (spelled_columns ns ++ es)) ts h in
-    let a = takes_name head n (spelled_columns ns ++ es) b.rest b.spell in
+    let b = takes head (a_symbol (codes "|")) (a_name n ∷ (spelled_columns ns ++ es)) ts h in
+    let a = takes head (a_name n) (spelled_columns ns ++ es) b.rest b.spell in
     let c = read_columns ns es a.rest a.spell in
     record { rest = c.rest; spell = c.spell; reads = b.reads ∙ a.reads ∙ ap (λ (is : List Item). column n ∷ is) c.reads }
 
@@ -168,29 +141,29 @@ read_cell : (k : ℕ) (c : Cell) (es : List Expected) (ts : List Token) → Spel
     → IsBehind (row k) ts es (row k) (items_of_cell k c)
 read_cell k empty es ts h = record { rest = ts; spell = h; reads = refl }
 read_cell k (instruction at fence) es ts h =
-    let a = takes_name (row k) (record { word = codes "MFENCE"; at = at }) es ts h in
+    let a = takes (row k) (placed_word (codes "MFENCE") at) es ts h in
     record { rest = a.rest; spell = a.spell; reads = a.reads }
 read_cell k (instruction at (store x v)) es ts h =
     let e4 : List Expected = a_symbol (codes "$") ∷ a_number v ∷ es in
     let e3 : List Expected = a_symbol (codes ",") ∷ e4 in
     let e2 : List Expected = a_symbol (codes "]") ∷ e3 in
-    let m = takes_name (row k) (record { word = codes "MOV"; at = at }) (a_symbol (codes "[") ∷ a_name x ∷ e2) ts h in
-    let o = takes_symbol (moving k at) (codes "[") (a_name x ∷ e2) m.rest m.spell in
-    let a = takes_name (storing k at) x e2 o.rest o.spell in
-    let z = takes_symbol (stored k at x) (codes "]") e3 a.rest a.spell in
-    let y = takes_symbol (stored k at x) (codes ",") e4 z.rest z.spell in
-    let d = takes_symbol (stored k at x) (codes "$") (a_number v ∷ es) y.rest y.spell in
-    let n = takes_number (stored k at x) v es d.rest d.spell in
+    let m = takes (row k) (placed_word (codes "MOV") at) (a_symbol (codes "[") ∷ a_name x ∷ e2) ts h in
+    let o = takes (moving k at) (a_symbol (codes "[")) (a_name x ∷ e2) m.rest m.spell in
+    let a = takes (storing k at) (a_name x) e2 o.rest o.spell in
+    let z = takes (stored k at x) (a_symbol (codes "]")) e3 a.rest a.spell in
+    let y = takes (stored k at x) (a_symbol (codes ",")) e4 z.rest z.spell in
+    let d = takes (stored k at x) (a_symbol (codes "$")) (a_number v ∷ es) y.rest y.spell in
+    let n = takes (stored k at x) (a_number v) es d.rest d.spell in
     record { rest = n.rest; spell = n.spell; reads = m.reads ∙ o.reads ∙ a.reads ∙ z.reads ∙ y.reads ∙ d.reads ∙ n.reads }
 read_cell k (instruction at (load r x)) es ts h =
     let e3 : List Expected = a_symbol (codes "]") ∷ es in
     let e2 : List Expected = a_symbol (codes "[") ∷ a_name x ∷ e3 in
-    let m = takes_name (row k) (record { word = codes "MOV"; at = at }) (a_name r ∷ a_symbol (codes ",") ∷ e2) ts h in
-    let g = takes_name (moving k at) r (a_symbol (codes ",") ∷ e2) m.rest m.spell in
-    let y = takes_symbol (loading k at r) (codes ",") e2 g.rest g.spell in
-    let o = takes_symbol (loading k at r) (codes "[") (a_name x ∷ e3) y.rest y.spell in
-    let a = takes_name (loading k at r) x e3 o.rest o.spell in
-    let z = takes_symbol (row k) (codes "]") es a.rest a.spell in
+    let m = takes (row k) (placed_word (codes "MOV") at) (a_name r ∷ a_symbol (codes ",") ∷ e2) ts h in
+    let g = takes (moving k at) (a_name r) (a_symbol (codes ",") ∷ e2) m.rest m.spell in
+    let y = takes (loading k at r) (a_symbol (codes ",")) e2 g.rest g.spell in
+    let o = takes (loading k at r) (a_symbol (codes "[")) (a_name x ∷ e3) y.rest y.spell in
+    let a = takes (loading k at r) (a_name x) e3 o.rest o.spell in
+    let z = takes (row k) (a_symbol (codes "]")) es a.rest a.spell in
     record {
       rest = z.rest;
       spell = z.spell;
@@ -200,9 +173,9 @@ read_cell k (instruction at (load r x)) es ts h =
 read_cells : (k : ℕ) (cs : List Cell) (end : ℕ) (es : List Expected) (ts : List Token) → Spell (spelled_cells cs end ++ es) ts
     → IsBehind (row k) ts es (row 0) (items_of_cells k cs end)
 read_cells k [] end es ts h =
-    let a = takes_symbol_at (row k) (codes ";") end es ts h in record { rest = a.rest; spell = a.spell; reads = a.reads }
+    let a = takes (row k) (placed_symbol (codes ";") end) es ts h in record { rest = a.rest; spell = a.spell; reads = a.reads }
 read_cells k (c ∷ cs) end es ts h =
-    let b = takes_symbol (row k) (codes "|") ((spelled_cell c ++ spelled_cells cs end) ++ es) ts h in
+    let b = takes (row k) (a_symbol (codes "|")) ((spelled_cell c ++ spelled_cells cs end) ++ es) ts h in
     let a = read_cell (k + 1) c (spelled_cells cs end ++ es) b.rest
     (subst_spell _ _ b.rest (append_assoc (spelled_cell c) (spelled_cells cs end) es) b.spell) in
     let d = read_cells (k + 1) cs end es a.rest a.spell in
@@ -231,18 +204,18 @@ read_equation : (e : Equation) (es : List Expected) (ts : List Token) → Spell 
 read_equation (of_location s) es ts h = asked_stated s es ts h
 read_equation (of_register t at r v) es ts h =
     let e2 : List Expected = a_symbol (codes "=") ∷ a_number v ∷ es in
-    let a = takes_number_at asking t at (a_symbol (codes ":") ∷ a_name r ∷ e2) ts h in
-    let b = takes_symbol (thread t at) (codes ":") (a_name r ∷ e2) a.rest a.spell in
-    let c = takes_name (thread t at) r e2 b.rest b.spell in
-    let d = takes_symbol (register t at r) (codes "=") (a_number v ∷ es) c.rest c.spell in
-    let f = takes_number (register t at r) v es d.rest d.spell in
+    let a = takes asking (placed_number t at) (a_symbol (codes ":") ∷ a_name r ∷ e2) ts h in
+    let b = takes (thread t at) (a_symbol (codes ":")) (a_name r ∷ e2) a.rest a.spell in
+    let c = takes (thread t at) (a_name r) e2 b.rest b.spell in
+    let d = takes (register t at r) (a_symbol (codes "=")) (a_number v ∷ es) c.rest c.spell in
+    let f = takes (register t at r) (a_number v) es d.rest d.spell in
     record { rest = f.rest; spell = f.spell; reads = a.reads ∙ b.reads ∙ c.reads ∙ d.reads ∙ f.reads }
 
 read_equations : (qs : List Equation) (es : List Expected) (ts : List Token) → Spell (spelled_equations qs ++ es) ts
     → IsBehind asking ts es asking (map item_of_equation qs)
 read_equations [] es ts h = record { rest = ts; spell = h; reads = refl }
 read_equations (q ∷ qs) es ts h =
-    let a = takes_symbol asking (codes "/\\") ((spelled_equation q ++ spelled_equations qs) ++ es) ts h in
+    let a = takes asking (a_symbol (codes "/\\")) ((spelled_equation q ++ spelled_equations qs) ++ es) ts h in
     let b = read_equation q (spelled_equations qs ++ es) a.rest
     (subst_spell _ _ a.rest (append_assoc (spelled_equation q) (spelled_equations qs) es) a.spell) in
     let c = read_equations qs es b.rest b.spell in
@@ -269,9 +242,9 @@ read_asked false q qs ts h =
     whole asking asking ts (item_of_equation q ∷ map item_of_equation qs)
     (read_conjunction q qs [] ts (subst_spell _ _ ts (sym (append-nil (spelled_conjunction q qs))) h))
 read_asked true q qs ts h =
-    let o = takes_symbol asking (codes "(") (spelled_conjunction q qs ++ a_symbol (codes ")") ∷ []) ts h in
+    let o = takes asking (a_symbol (codes "(")) (spelled_conjunction q qs ++ a_symbol (codes ")") ∷ []) ts h in
     let c = read_conjunction q qs (a_symbol (codes ")") ∷ []) o.rest o.spell in
-    let z = takes_symbol asking (codes ")") [] c.rest c.spell in
+    let z = takes asking (a_symbol (codes ")")) [] c.rest c.spell in
     let said : List Item = item_of_equation q ∷ map item_of_equation qs in
     o.reads ∙ c.reads ∙ ap (λ (is : List Item). said ++ is) (z.reads ∙ nothing_behind asking z.rest z.spell) ∙ append-nil said
 
@@ -279,10 +252,10 @@ read_condition : (d b : Bool) (q : Equation) (qs : List Equation) (ts : List Tok
     → Spell (spelled_denial d ++ (a_word (codes "exists") ∷ spelled_asked b q qs)) ts
     → items_from (row 0) ts ≡ items_of_denial d ++ (item_of_equation q ∷ map item_of_equation qs)
 read_condition false b q qs ts h =
-    let x = takes_word (row 0) (codes "exists") (spelled_asked b q qs) ts h in x.reads ∙ read_asked b q qs x.rest x.spell
+    let x = takes (row 0) (a_word (codes "exists")) (spelled_asked b q qs) ts h in x.reads ∙ read_asked b q qs x.rest x.spell
 read_condition true b q qs ts h =
-    let t = takes_symbol (row 0) (codes "~") (a_word (codes "exists") ∷ spelled_asked b q qs) ts h in
-    let x = takes_word (row 0) (codes "exists") (spelled_asked b q qs) t.rest t.spell in
+    let t = takes (row 0) (a_symbol (codes "~")) (a_word (codes "exists") ∷ spelled_asked b q qs) ts h in
+    let x = takes (row 0) (a_word (codes "exists")) (spelled_asked b q qs) t.rest t.spell in
     t.reads ∙ ap (λ (is : List Item). denied ∷ is) (x.reads ∙ read_asked b q qs x.rest x.spell)
 
 read_rows : (rs : List Row) (c : Condition) (ts : List Token) → Spell (spelled_rows rs c) ts → items_from (row 0) ts ≡ items_of_rows rs c
@@ -295,9 +268,9 @@ read_rows (r ∷ rs) c ts h =
 pub read_listing : (l : Listing) (ts : List Token) → IsListingOf l ts → items_in ts ≡ items_of l
 read_listing l ts h =
     let head_ : List Expected = a_name l.first_column ∷ (spelled_columns l.columns ++ spelled_rows l.rows l.condition) in
-    let o = takes_symbol block (codes "{") (spelled_block l.block ++ head_) ts h in
+    let o = takes block (a_symbol (codes "{")) (spelled_block l.block ++ head_) ts h in
     let b = read_block l.block head_ o.rest o.spell in
-    let n = takes_name head l.first_column (spelled_columns l.columns ++ spelled_rows l.rows l.condition) b.rest b.spell in
+    let n = takes head (a_name l.first_column) (spelled_columns l.columns ++ spelled_rows l.rows l.condition) b.rest b.spell in
     let c = read_columns l.columns (spelled_rows l.rows l.condition) n.rest n.spell in
     o.reads ∙ b.reads
     ∙ ap (λ (is : List Item). items_of_block l.block ++ is)

@@ -14,7 +14,7 @@ use Rattle.x86_litmus.specs.Cases.{case_of}
 use Rattle.x86_litmus.specs.Answer.{IsBody, ComesTo, CaseOf, IsX86Fault}
 use Rattle.x86_litmus.specs.declared.fault.X86Fault.{X86Fault}
 use Rattle.x86_litmus.specs.declared.fault.X86Fault.TheVariants.{Lexical, Syntax, Content, Memory}
-use Rattle.x86_litmus.proofs.SyntaxTotality.{listing_or_fault}
+use Rattle.x86_litmus.proofs.SyntaxFaults.{listing_or_fault}
 
 -- the bytes of lines, each with an LF
 total : List (List ℕ) → ℕ

@@ -1,5 +1,5 @@
 -- A reader's steps over the tokens of a listing.
-use Rattle.std.proofs.Common.{◌≡◌, ℕ, ◌+◌, ◌<◌, ◌≤◌, Bool, true, false, List, [], ◌∷◌, length, drop, slice_get, Option, Some, None, codes, if◌then◌else◌, refl, sym, ap, ◌∙◌, arith}
+use Rattle.std.proofs.Common.{◌≡◌, ℕ, ◌+◌, ◌<◌, ◌≤◌, Bool, true, false, List, ◌∷◌, length, drop, slice_get, Option, Some, None, codes, if◌then◌else◌, refl, sym, ap, ◌∙◌, arith}
 use Rattle.std.proofs.lemmas.List.{drop_more}
 use Rattle.std.proofs.lemmas.Option.{get_or_from_slice_get}
 use Rattle.pc_common.specs.Names.{same_name}
@@ -13,7 +13,6 @@ use Rattle.x86_litmus.specs.Reading.{items_in, IsFaultIn}
 use Rattle.x86_litmus.specs.Takes.{IsListingRefusal}
 use Rattle.x86_litmus.specs.declared.fault.X86Fault.{X86Fault}
 use Rattle.x86_litmus.specs.declared.fault.X86Fault.TheVariants.{Lexical, Syntax, Content, Memory}
-use Rattle.x86_litmus.proofs.Loops.{no_more}
 
 next_tokens : (ts : List Token) (k : ℕ) (t : Token) → slice_get ts k ≡ Some t → k < length ts → drop k ts ≡ t ∷ drop (k + 1) ts
 next_tokens ts k t at lt =
@@ -44,10 +43,6 @@ module _ (s : Spot) (said : Said) (ts : List Token) (k : ℕ) (t : Token) (at : 
   pub step_fault : (i : Item) (f : Found) → Some i ≡ (after s t).item → fault_of said i ≡ Some f → judged said (items_from s (drop k ts)) ≡ faulty f
   step_fault i f is here =
       reads_item i is ∙ ap (λ (o : Option Found). unless o (judged (add said i) (items_from next (drop (k + 1) ts)))) here
-
--- after the last token
-pub step_end : (s : Spot) (said : Said) (ts : List Token) (k : ℕ) → length ts ≡ k → judged said (items_from s (drop k ts)) ≡ judged said []
-step_end s said ts k e = ap (λ (us : List Token). judged said (items_from s us)) (no_more ts k e)
 
 -- a column rises by one at most
 column_word : (k : ℕ) (n : Named) → column_of (after_word k n).next ≤ k + 1

@@ -2,7 +2,6 @@ pub mod Header
 pub mod Lines
 pub mod Tokens
 pub mod Listing
-pub mod Expected
 pub mod Syntax
 pub mod Items
 pub mod Said
@@ -13,7 +12,6 @@ pub mod Laws
 pub mod Sound
 pub mod Terminals
 pub mod Phrases
-pub mod Answers
 pub mod Spots
 pub mod Values
 pub mod Plain

@@ -1,11 +1,9 @@
 -- The grammar of listings as a table: what stands after a token where a phrase begins with it.
-use Rattle.std.specs.Prelude.{◌≡◌, ℕ, Bool, true, false, List, [], ◌∷◌, Option, Some, None, refl, slice_get, if◌then◌else◌}
+use Rattle.std.specs.Prelude.{◌≡◌, ℕ, Bool, true, false, List, [], ◌∷◌, Option, Some, None, refl, if◌then◌else◌}
 use Rattle.ll_grammar.specs.Rules.{Rules}
-use Rattle.ll_grammar.specs.Steps.{IsStep}
 use Rattle.ll_grammar.specs.Predictable.{IsPredictable, HasTexts}
-use Rattle.ll_grammar.specs.LawsOfTables.{predictable_by, texts_by, is_predictable_part, is_ranked_part}
+use Rattle.ll_grammar.specs.LawsOfTables.{AreListed, predictable_by, texts_by, is_predictable_part, is_ranked_part}
 use Rattle.ll_grammar.specs.declared.grammar.Symbol.{Symbol}
-use Rattle.ll_grammar.specs.declared.grammar.Step.{Step}
 use Rattle.ll_grammar.specs.declared.grammar.Symbol.TheVariants.{Terminal as a_terminal, Nonterminal as a_nonterminal}
 use Rattle.x86_litmus.specs.Terminals.{is_name}
 use Rattle.x86_litmus.specs.declared.terminal.Terminal.{Terminal}
@@ -69,10 +67,6 @@ is_nullable _ = false
 abbrev pub deep : Phrase → Terminal → Bool
 deep n c = false
 
--- what the phrase makes of the stack at a token of this class
-abbrev pub IsPush : Phrase → Terminal → List (Symbol Terminal Phrase) → List (Symbol Terminal Phrase) → Step → Type 0
-IsPush n c old new step = IsStep (production n c) (deep n c) old step new
-
 abbrev pub rules : Rules Terminal Phrase
 rules = record { production = production; is_nullable = is_nullable; deep = deep }
 
@@ -105,67 +99,28 @@ terminals =
     Mov ∷ Mfence ∷ Exists ∷ Name ∷ Number ∷ OpenBrace ∷ CloseBrace ∷ Semicolon ∷ Bar ∷ OpenBracket ∷ CloseBracket
     ∷ Comma ∷ Dollar ∷ Colon ∷ Equals ∷ Open ∷ Close ∷ Tilde ∷ And ∷ Other ∷ []
 
-abbrev pub place : Terminal → ℕ
-place Mov = 0
-place Mfence = 1
-place Exists = 2
-place Name = 3
-place Number = 4
-place OpenBrace = 5
-place CloseBrace = 6
-place Semicolon = 7
-place Bar = 8
-place OpenBracket = 9
-place CloseBracket = 10
-place Comma = 11
-place Dollar = 12
-place Colon = 13
-place Equals = 14
-place Open = 15
-place Close = 16
-place Tilde = 17
-place And = 18
-place Other = 19
-
-pub listed : (c : Terminal) → slice_get terminals (place c) ≡ Some c
-listed Mov = refl
-listed Mfence = refl
-listed Exists = refl
-listed Name = refl
-listed Number = refl
-listed OpenBrace = refl
-listed CloseBrace = refl
-listed Semicolon = refl
-listed Bar = refl
-listed OpenBracket = refl
-listed CloseBracket = refl
-listed Comma = refl
-listed Dollar = refl
-listed Colon = refl
-listed Equals = refl
-listed Open = refl
-listed Close = refl
-listed Tilde = refl
-listed And = refl
-listed Other = refl
-
-predictable_part : (n : Phrase) → is_predictable_part rules follow terminals n ≡ true
-predictable_part Listing = refl
-predictable_part Values = refl
-predictable_part MoreValues = refl
-predictable_part Columns = refl
-predictable_part MoreColumns = refl
-predictable_part Rows = refl
-predictable_part Cells = refl
-predictable_part MoreCells = refl
-predictable_part Move = refl
-predictable_part Asked = refl
-predictable_part Equations = refl
-predictable_part MoreEquations = refl
-predictable_part AnyName = refl
-
-pub rules_predictable : IsPredictable rules follow
-rules_predictable = predictable_by rules follow terminals place listed predictable_part
+-- the place of a terminal among all
+abbrev pub listed : AreListed terminals
+listed Mov = (0, refl)
+listed Mfence = (1, refl)
+listed Exists = (2, refl)
+listed Name = (3, refl)
+listed Number = (4, refl)
+listed OpenBrace = (5, refl)
+listed CloseBrace = (6, refl)
+listed Semicolon = (7, refl)
+listed Bar = (8, refl)
+listed OpenBracket = (9, refl)
+listed CloseBracket = (10, refl)
+listed Comma = (11, refl)
+listed Dollar = (12, refl)
+listed Colon = (13, refl)
+listed Equals = (14, refl)
+listed Open = (15, refl)
+listed Close = (16, refl)
+listed Tilde = (17, refl)
+listed And = (18, refl)
+listed Other = (19, refl)
 
 -- a terminal that leads to shorter phrases
 abbrev first : Phrase → Terminal
@@ -195,20 +150,24 @@ rank Equations = 2
 rank MoreEquations = 1
 rank _ = 0
 
-ranked_part : (n : Phrase) → is_ranked_part rules first rank n ≡ true
-ranked_part Listing = refl
-ranked_part Values = refl
-ranked_part MoreValues = refl
-ranked_part Columns = refl
-ranked_part MoreColumns = refl
-ranked_part Rows = refl
-ranked_part Cells = refl
-ranked_part MoreCells = refl
-ranked_part Move = refl
-ranked_part Asked = refl
-ranked_part Equations = refl
-ranked_part MoreEquations = refl
-ranked_part AnyName = refl
+-- the two tests of each phrase
+tested : (n : Phrase) → (is_predictable_part rules follow terminals n ≡ true) × (is_ranked_part rules first rank n ≡ true)
+tested Listing = (refl, refl)
+tested Values = (refl, refl)
+tested MoreValues = (refl, refl)
+tested Columns = (refl, refl)
+tested MoreColumns = (refl, refl)
+tested Rows = (refl, refl)
+tested Cells = (refl, refl)
+tested MoreCells = (refl, refl)
+tested Move = (refl, refl)
+tested Asked = (refl, refl)
+tested Equations = (refl, refl)
+tested MoreEquations = (refl, refl)
+tested AnyName = (refl, refl)
+
+pub rules_predictable : IsPredictable rules follow
+rules_predictable = predictable_by rules follow terminals (λ c. (listed c).0) (λ c. (listed c).1) (λ n. (tested n).0)
 
 pub rules_texts : HasTexts rules
-rules_texts = texts_by rules first rank ranked_part
+rules_texts = texts_by rules first rank (λ n. (tested n).1)

@@ -3,12 +3,12 @@
 -- is an instruction, and what stands after the rows begins with exists or ~.
 use Rattle.std.specs.Prelude.{ℕ, Bool, true, false, List, [], ◌∷◌, ◌++◌, codes}
 use Rattle.uspec_lexer.specs.Token.{Token}
-use Rattle.x86_litmus.specs.Expected.{Expected, a_name, a_word, a_number, number_at, a_symbol, symbol_at, Spell}
+use Rattle.uspec_lexer.specs.Expected.{Expected, a_word, placed_word, a_number, placed_number, a_symbol, placed_symbol, Spell}
 use Rattle.x86_litmus.specs.Listing.{Named, Location, bare, bracketed, Stated, Block, no_values, values, Action, fence, store, load, Cell, empty, instruction, Row, Equation, of_register, of_location, Condition, Listing}
 
--- the name with this spelling at this place
-abbrev pub word_at : List ℕ → ℕ → Expected
-word_at w at = a_name (record { word = w; at = at })
+-- a name of this spelling at this place
+abbrev pub a_name : Named → Expected
+a_name n = placed_word n.word n.at
 
 -- NAME | "[" NAME "]"
 abbrev pub spelled_location : Location → List Expected
@@ -37,12 +37,12 @@ spelled_columns (n ∷ ns) = a_symbol (codes "|") ∷ a_name n ∷ spelled_colum
 
 -- MFENCE | MOV "[" NAME "]" "," "$" NUMBER | MOV NAME "," "[" NAME "]"
 abbrev pub spelled_action : ℕ → Action → List Expected
-spelled_action at fence = word_at (codes "MFENCE") at ∷ []
+spelled_action at fence = placed_word (codes "MFENCE") at ∷ []
 spelled_action at (store location value) =
-    word_at (codes "MOV") at ∷ a_symbol (codes "[") ∷ a_name location ∷ a_symbol (codes "]") ∷ a_symbol (codes ",")
+    placed_word (codes "MOV") at ∷ a_symbol (codes "[") ∷ a_name location ∷ a_symbol (codes "]") ∷ a_symbol (codes ",")
     ∷ a_symbol (codes "$") ∷ a_number value ∷ []
 spelled_action at (load register location) =
-    word_at (codes "MOV") at ∷ a_name register ∷ a_symbol (codes ",") ∷ a_symbol (codes "[") ∷ a_name location
+    placed_word (codes "MOV") at ∷ a_name register ∷ a_symbol (codes ",") ∷ a_symbol (codes "[") ∷ a_name location
     ∷ a_symbol (codes "]") ∷ []
 
 -- nothing or an instruction
@@ -52,7 +52,7 @@ spelled_cell (instruction at action) = spelled_action at action
 
 -- ("|" cell)* ";"
 abbrev pub spelled_cells : List Cell → ℕ → List Expected
-spelled_cells [] end = symbol_at (codes ";") end ∷ []
+spelled_cells [] end = placed_symbol (codes ";") end ∷ []
 spelled_cells (c ∷ cs) end = a_symbol (codes "|") ∷ (spelled_cell c ++ spelled_cells cs end)
 
 -- cell ("|" cell)* ";"
@@ -62,7 +62,7 @@ spelled_row r = spelled_cell r.first ++ spelled_cells r.others r.end
 -- NUMBER ":" NAME "=" NUMBER | loc "=" NUMBER
 abbrev pub spelled_equation : Equation → List Expected
 spelled_equation (of_register thread at register value) =
-    number_at thread at ∷ a_symbol (codes ":") ∷ a_name register ∷ a_symbol (codes "=") ∷ a_number value ∷ []
+    placed_number thread at ∷ a_symbol (codes ":") ∷ a_name register ∷ a_symbol (codes "=") ∷ a_number value ∷ []
 spelled_equation (of_location s) = spelled_stated s
 
 -- ("/\" eq)*

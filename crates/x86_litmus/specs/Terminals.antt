@@ -1,7 +1,7 @@
 -- The terminals of a listing's grammar.
-use Rattle.std.specs.Prelude.{ℕ, Bool, true, false, List, [], ◌∷◌, codes, if◌then◌else◌}
-use Rattle.std.specs.Str.{bytes_eq}
-use Rattle.uspec_lexer.specs.Token.{Token, Kind, name, number, text, symbol}
+use Rattle.std.specs.Prelude.{ℕ, ◌==◌, Bool, List, [], ◌∷◌, codes}
+use Rattle.uspec_lexer.specs.Token.{Token}
+use Rattle.uspec_lexer.specs.Vocabulary.{Vocabulary, find_terminal, token_terminal}
 use Rattle.x86_litmus.specs.declared.terminal.Terminal.{Terminal}
 use Rattle.x86_litmus.specs.declared.terminal.Terminal.TheVariants.{Mov, Mfence, Exists, Name, Number, OpenBrace, CloseBrace, Semicolon, Bar, OpenBracket, CloseBracket, Comma, Dollar, Colon, Equals, Open, Close, Tilde, And, Other}
 
@@ -34,30 +34,33 @@ symbols =
     OpenBrace ∷ CloseBrace ∷ Semicolon ∷ Bar ∷ OpenBracket ∷ CloseBracket ∷ Comma ∷ Dollar ∷ Colon ∷ Equals ∷ Open
     ∷ Close ∷ Tilde ∷ And ∷ []
 
--- the terminal among these that is spelled so, or else another
-abbrev pub find_terminal : List ℕ → Terminal → List Terminal → Terminal
-find_terminal w other [] = other
-find_terminal w other (c ∷ cs) = if bytes_eq w (spelling c) then c else find_terminal w other cs
-
 unfoldable pub word_terminal : List ℕ → Terminal
-word_terminal w = find_terminal w Name word_terminals
+word_terminal w = find_terminal spelling w Name word_terminals
 
 unfoldable pub symbol_terminal : List ℕ → Terminal
-symbol_terminal w = find_terminal w Other symbols
+symbol_terminal w = find_terminal spelling w Other symbols
 
-abbrev pub kind_terminal : Kind → List ℕ → Terminal
-kind_terminal name piece = word_terminal piece
-kind_terminal (number n) piece = Number
-kind_terminal text piece = Other
-kind_terminal symbol piece = symbol_terminal piece
+-- which terminal a token is
+abbrev pub vocabulary : Vocabulary Terminal
+vocabulary = record {
+  word_terminal = word_terminal;
+  number_terminal = Number;
+  text_terminal = Other;
+  symbol_terminal = symbol_terminal;
+}
 
 abbrev pub terminal_of : Token → Terminal
-terminal_of t = kind_terminal t.kind t.piece
+terminal_of t = token_terminal vocabulary t
+
+-- the kind of a terminal's tokens: a name 0, a number 1, a symbol 3
+abbrev pub sort_of : Terminal → ℕ
+sort_of Mov = 0
+sort_of Mfence = 0
+sort_of Exists = 0
+sort_of Name = 0
+sort_of Number = 1
+sort_of _ = 3
 
 -- whether the terminal is a name's
 abbrev pub is_name : Terminal → Bool
-is_name Mov = true
-is_name Mfence = true
-is_name Exists = true
-is_name Name = true
-is_name _ = false
+is_name c = sort_of c == 0

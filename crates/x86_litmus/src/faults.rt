@@ -28,7 +28,7 @@ fn fault(kind: FaultKind, place: Place) -> Option<ContentFault>
     Some(ContentFault { kind, place })
 }
 
-fn stated_again(when: When, first: u64, again: u64) -> FaultKind
+fn again_kind(when: When, first: u64, again: u64) -> FaultKind
     ensures { result ≡ word_of when (Value.Number first) (Value.Number again) }
 {
     let first = Value::Number(first);
@@ -40,7 +40,7 @@ fn stated_again(when: When, first: u64, again: u64) -> FaultKind
 }
 
 /// The fault of a value of a location, where these stand before it.
-pub(crate) fn again(
+pub(crate) fn again_fault(
     when: When,
     values: &Values<'_>,
     name: Named<'_>,
@@ -49,7 +49,7 @@ pub(crate) fn again(
     ensures { plain_fault result ≡ again_spec (word_of when) values.now (plain_named name.entry) value }
 {
     let first = values.get(name.word)?;
-    fault(stated_again(when, first, value), name.at)
+    fault(again_kind(when, first, value), name.at)
 }
 
 /// Whether this is `P` and the column's number.

@@ -1,6 +1,7 @@
 ghost use Rattle.std.specs.Prelude.{◌≡◌, IfOk};
 ghost use Rattle.x86_litmus.specs.Terminals.{is_name as is_name_spec};
-ghost use Rattle.x86_litmus.specs.Phrases.{rules, follow, rules_predictable, rules_texts, IsPush};
+ghost use Rattle.ll_grammar.specs.Steps.{IsPush};
+ghost use Rattle.x86_litmus.specs.Phrases.{rules, follow, rules_predictable, rules_texts};
 
 use self::Phrase::*;
 use super::terminal::Terminal::{self, *};
@@ -83,7 +84,7 @@ impl Grammar<Terminal> for Phrase {
 }
 
 fn push_listing(class: Terminal, stack: &mut Vec<Waiting>) -> Result<Step, Memory>
-    ensures { IfOk result (IsPush Phrase.Listing class stack.old.items stack.new.items) }
+    ensures { IfOk result (IsPush rules Phrase.Listing class stack.old.items stack.new.items) }
 {
     match class {
         OpenBrace => push!(stack; [Values] [Columns] [Rows]),
@@ -92,7 +93,7 @@ fn push_listing(class: Terminal, stack: &mut Vec<Waiting>) -> Result<Step, Memor
 }
 
 fn push_values(class: Terminal, stack: &mut Vec<Waiting>) -> Result<Step, Memory>
-    ensures { IfOk result (IsPush Phrase.Values class stack.old.items stack.new.items) }
+    ensures { IfOk result (IsPush rules Phrase.Values class stack.old.items stack.new.items) }
 {
     match class {
         CloseBrace => push!(stack;),
@@ -103,7 +104,7 @@ fn push_values(class: Terminal, stack: &mut Vec<Waiting>) -> Result<Step, Memory
 }
 
 fn push_more_values(class: Terminal, stack: &mut Vec<Waiting>) -> Result<Step, Memory>
-    ensures { IfOk result (IsPush Phrase.MoreValues class stack.old.items stack.new.items) }
+    ensures { IfOk result (IsPush rules Phrase.MoreValues class stack.old.items stack.new.items) }
 {
     match class {
         CloseBrace => push!(stack;),
@@ -113,7 +114,7 @@ fn push_more_values(class: Terminal, stack: &mut Vec<Waiting>) -> Result<Step, M
 }
 
 fn push_columns(class: Terminal, stack: &mut Vec<Waiting>) -> Result<Step, Memory>
-    ensures { IfOk result (IsPush Phrase.Columns class stack.old.items stack.new.items) }
+    ensures { IfOk result (IsPush rules Phrase.Columns class stack.old.items stack.new.items) }
 {
     match class {
         name if is_name(name) => push!(stack; [MoreColumns]),
@@ -122,7 +123,7 @@ fn push_columns(class: Terminal, stack: &mut Vec<Waiting>) -> Result<Step, Memor
 }
 
 fn push_more_columns(class: Terminal, stack: &mut Vec<Waiting>) -> Result<Step, Memory>
-    ensures { IfOk result (IsPush Phrase.MoreColumns class stack.old.items stack.new.items) }
+    ensures { IfOk result (IsPush rules Phrase.MoreColumns class stack.old.items stack.new.items) }
 {
     match class {
         Bar => push!(stack; [Columns]),
@@ -132,7 +133,7 @@ fn push_more_columns(class: Terminal, stack: &mut Vec<Waiting>) -> Result<Step, 
 }
 
 fn push_rows(class: Terminal, stack: &mut Vec<Waiting>) -> Result<Step, Memory>
-    ensures { IfOk result (IsPush Phrase.Rows class stack.old.items stack.new.items) }
+    ensures { IfOk result (IsPush rules Phrase.Rows class stack.old.items stack.new.items) }
 {
     match class {
         Tilde => push!(stack; Exists [Asked]),
@@ -146,7 +147,7 @@ fn push_rows(class: Terminal, stack: &mut Vec<Waiting>) -> Result<Step, Memory>
 }
 
 fn push_cells(class: Terminal, stack: &mut Vec<Waiting>) -> Result<Step, Memory>
-    ensures { IfOk result (IsPush Phrase.Cells class stack.old.items stack.new.items) }
+    ensures { IfOk result (IsPush rules Phrase.Cells class stack.old.items stack.new.items) }
 {
     match class {
         Mov => push!(stack; [Move] [MoreCells]),
@@ -158,7 +159,7 @@ fn push_cells(class: Terminal, stack: &mut Vec<Waiting>) -> Result<Step, Memory>
 }
 
 fn push_more_cells(class: Terminal, stack: &mut Vec<Waiting>) -> Result<Step, Memory>
-    ensures { IfOk result (IsPush Phrase.MoreCells class stack.old.items stack.new.items) }
+    ensures { IfOk result (IsPush rules Phrase.MoreCells class stack.old.items stack.new.items) }
 {
     match class {
         Bar => push!(stack; [Cells]),
@@ -168,7 +169,7 @@ fn push_more_cells(class: Terminal, stack: &mut Vec<Waiting>) -> Result<Step, Me
 }
 
 fn push_move(class: Terminal, stack: &mut Vec<Waiting>) -> Result<Step, Memory>
-    ensures { IfOk result (IsPush Phrase.Move class stack.old.items stack.new.items) }
+    ensures { IfOk result (IsPush rules Phrase.Move class stack.old.items stack.new.items) }
 {
     match class {
         OpenBracket => push!(stack; [AnyName] CloseBracket Comma Dollar Number),
@@ -178,7 +179,7 @@ fn push_move(class: Terminal, stack: &mut Vec<Waiting>) -> Result<Step, Memory>
 }
 
 fn push_asked(class: Terminal, stack: &mut Vec<Waiting>) -> Result<Step, Memory>
-    ensures { IfOk result (IsPush Phrase.Asked class stack.old.items stack.new.items) }
+    ensures { IfOk result (IsPush rules Phrase.Asked class stack.old.items stack.new.items) }
 {
     match class {
         Open => push!(stack; [Equations] Close),
@@ -190,7 +191,7 @@ fn push_asked(class: Terminal, stack: &mut Vec<Waiting>) -> Result<Step, Memory>
 }
 
 fn push_equations(class: Terminal, stack: &mut Vec<Waiting>) -> Result<Step, Memory>
-    ensures { IfOk result (IsPush Phrase.Equations class stack.old.items stack.new.items) }
+    ensures { IfOk result (IsPush rules Phrase.Equations class stack.old.items stack.new.items) }
 {
     match class {
         Number => push!(stack; Colon [AnyName] Equals Number [MoreEquations]),
@@ -201,7 +202,7 @@ fn push_equations(class: Terminal, stack: &mut Vec<Waiting>) -> Result<Step, Mem
 }
 
 fn push_more_equations(class: Terminal, stack: &mut Vec<Waiting>) -> Result<Step, Memory>
-    ensures { IfOk result (IsPush Phrase.MoreEquations class stack.old.items stack.new.items) }
+    ensures { IfOk result (IsPush rules Phrase.MoreEquations class stack.old.items stack.new.items) }
 {
     match class {
         And => push!(stack; [Equations]),
@@ -210,7 +211,7 @@ fn push_more_equations(class: Terminal, stack: &mut Vec<Waiting>) -> Result<Step
 }
 
 fn push_any_name(class: Terminal, stack: &mut Vec<Waiting>) -> Result<Step, Memory>
-    ensures { IfOk result (IsPush Phrase.AnyName class stack.old.items stack.new.items) }
+    ensures { IfOk result (IsPush rules Phrase.AnyName class stack.old.items stack.new.items) }
 {
     match class {
         name if is_name(name) => push!(stack;),

@@ -71,7 +71,7 @@ fn read_items<'a>(tokens: &Tokens<'a>, said: &mut Said<'a>) -> Result<(), X86Fau
 {
     let mut spot = Spot::Block;
     for k in 0..tokens.len() {
-        let (next, item) = spot.after(tokens.get(k));
+        let (next, item) = spot.step(tokens.get(k));
         if let Some(item) = item {
             said.add(item)?;
         }

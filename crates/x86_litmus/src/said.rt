@@ -6,7 +6,9 @@ ghost use Rattle.x86_litmus.specs.Takes.{IsListingRefusal};
 
 use super::content_fault::ContentFault;
 use super::fault::X86Fault;
-use super::faults::{When, again, column_fault, instruction_fault, register_fault, row_fault};
+use super::faults::{
+    When, again_fault, column_fault, instruction_fault, register_fault, row_fault,
+};
 use super::item::{Instruction, Item};
 use super::values::Values;
 use pc_common::Memory;
@@ -65,7 +67,7 @@ impl<'a> Said<'a> {
         ensures { plain_fault result ≡ fault_of (plain_said self.now) (plain_item item.entry) }
     {
         match item {
-            Item::Initial(name, value) => again(When::Before, &self.initial, name, value),
+            Item::Initial(name, value) => again_fault(When::Before, &self.initial, name, value),
             Item::Column(name) => column_fault(self.columns, name),
             Item::Instructed(instruction) => instruction_fault(&self.instructions, instruction),
             Item::RowEnded(cells, at) => row_fault(self.columns, cells, at),
@@ -73,7 +75,7 @@ impl<'a> Said<'a> {
             Item::RegisterIs(thread, register, _) => {
                 register_fault(&self.instructions, &self.asked, thread, register)
             }
-            Item::Final(name, value) => again(When::Behind, &self.final_values, name, value),
+            Item::Final(name, value) => again_fault(When::Behind, &self.final_values, name, value),
         }
     }
 

@@ -49,14 +49,14 @@ fn is(piece: &[u8], bytes: &[u8]) -> bool
     piece == bytes
 }
 
-fn instructed<'a>(thread: u64, at: Place, action: Action<'a>) -> Option<Item<'a>>
+fn instruction_item<'a>(thread: u64, at: Place, action: Action<'a>) -> Option<Item<'a>>
     ensures { result ≡ Some (Item.Instructed (record { thread = thread; at = at; action = action.entry })) }
 {
     Some(Item::Instructed(Instruction { thread, at, action }))
 }
 
 /// Behind a name in a line: a word of an instruction, or `exists`.
-fn after_row_word<'a>(column: u64, name: Named<'a>) -> Next<'a>
+fn row_word_step<'a>(column: u64, name: Named<'a>) -> Next<'a>
     ensures { IsStep (after_word column (plain_named name.entry)) result }
 {
     if is(name.word, b"MOV") {
@@ -64,14 +64,14 @@ fn after_row_word<'a>(column: u64, name: Named<'a>) -> Next<'a>
     } else if is(name.word, b"MFENCE") {
         (
             Spot::Row(column),
-            instructed(column, name.at, Action::Fence),
+            instruction_item(column, name.at, Action::Fence),
         )
     } else {
         (Spot::Asking, None)
     }
 }
 
-fn after_row_sign<'a>(column: u64, piece: &[u8], at: Place) -> Next<'a>
+fn row_sign_step<'a>(column: u64, piece: &[u8], at: Place) -> Next<'a>
     requires { column < 2 ^ 63 }
     ensures { IsStep (after_row_symbol column piece.now at.offset) result }
 {
@@ -87,18 +87,18 @@ fn after_row_sign<'a>(column: u64, piece: &[u8], at: Place) -> Next<'a>
 }
 
 impl<'a> Spot<'a> {
-    fn after_name(self, name: Named<'a>) -> Next<'a>
+    fn name_step(self, name: Named<'a>) -> Next<'a>
         ensures { IsStep (after_name (plain_spot self.entry) (plain_named name.entry)) result }
     {
         match self {
             Spot::Block => (Spot::Valued(name), None),
             Spot::Head => (Spot::Head, Some(Item::Column(name))),
-            Spot::Row(column) => after_row_word(column, name),
+            Spot::Row(column) => row_word_step(column, name),
             Spot::Moving(column, at) => (Spot::Loading(column, at, name), None),
             Spot::Storing(column, at) => (Spot::Stored(column, at, name), None),
             Spot::Loading(column, at, register) => (
                 Spot::Row(column),
-                instructed(
+                instruction_item(
                     column,
                     at,
                     Action::Load {
@@ -113,14 +113,14 @@ impl<'a> Spot<'a> {
         }
     }
 
-    fn after_number(self, value: u64, at: Place) -> Next<'a>
+    fn number_step(self, value: u64, at: Place) -> Next<'a>
         ensures { IsStep (after_number (plain_spot self.entry) value at.offset) result }
     {
         match self {
             Spot::Valued(name) => (Spot::Block, Some(Item::Initial(name, value))),
             Spot::Stored(column, word, location) => (
                 Spot::Row(column),
-                instructed(column, word, Action::Store { location, value }),
+                instruction_item(column, word, Action::Store { location, value }),
             ),
             Spot::Asking => (Spot::Thread(ThreadNumber { number: value, at }), None),
             Spot::Register(thread, register) => (
@@ -132,33 +132,33 @@ impl<'a> Spot<'a> {
         }
     }
 
-    fn after_symbol(self, piece: &[u8], at: Place) -> Next<'a>
+    fn symbol_step(self, piece: &[u8], at: Place) -> Next<'a>
         requires { column_of (plain_spot self) < 2 ^ 63 }
         ensures { IsStep (after_symbol (plain_spot self.entry) piece.now at.offset) result }
     {
         match self {
             Spot::Block if is(piece, b"}") => (Spot::Head, None),
             Spot::Head if is(piece, b";") => (Spot::Row(0), None),
-            Spot::Row(column) => after_row_sign(column, piece, at),
+            Spot::Row(column) => row_sign_step(column, piece, at),
             Spot::Moving(column, word) => (Spot::Storing(column, word), None),
             spot => (spot, None),
         }
     }
 
     /// The spot after this token, and what the listing says there.
-    pub(crate) fn after(self, token: Token<'a>) -> Next<'a>
+    pub(crate) fn step(self, token: Token<'a>) -> Next<'a>
         requires { column_of (plain_spot self) < 2 ^ 63 }
         ensures { IsStep (after (plain_spot self.entry) (plain token.entry)) result }
     {
         let at = token.at;
         match token.kind {
-            TokenKind::Name => self.after_name(Named {
+            TokenKind::Name => self.name_step(Named {
                 word: token.piece,
                 at,
             }),
-            TokenKind::Number(value) => self.after_number(value, at),
+            TokenKind::Number(value) => self.number_step(value, at),
             TokenKind::Text => (self, None),
-            TokenKind::Symbol => self.after_symbol(token.piece, at),
+            TokenKind::Symbol => self.symbol_step(token.piece, at),
         }
     }
 }

@@ -1,9 +1,8 @@
 ghost use Rattle.std.specs.Prelude.{◌≡◌};
-ghost use Rattle.std.specs.Str.{bytes_eq};
 ghost use Rattle.x86_litmus.specs.Terminals.{terminal_of as terminal_spec, word_terminal as word_spec, symbol_terminal as symbol_spec};
 
 use ll_grammar::TokenClass;
-use uspec_lexer::{FromToken, Token, TokenKind};
+use uspec_lexer::{FromToken, Token, TokenKind, by_spelling};
 
 /// The classes of a listing's tokens: the terminals of its grammar.
 #[derive(Clone, Copy, PartialEq, Eq)]
@@ -51,60 +50,24 @@ impl FromToken for Terminal {
     }
 }
 
-fn is(piece: &[u8], bytes: &[u8]) -> bool
-    ensures { result ≡ bytes_eq piece.now bytes.now }
-{
-    piece == bytes
-}
-
 #[tactic(auto, unfolding(crate::specs::Terminals::word_terminal))]
 fn word_terminal(word: &[u8]) -> Terminal
     ensures { result ≡ word_spec word.now }
 {
-    if is(word, b"MOV") {
-        Terminal::Mov
-    } else if is(word, b"MFENCE") {
-        Terminal::Mfence
-    } else if is(word, b"exists") {
-        Terminal::Exists
-    } else {
-        Terminal::Name
-    }
+    by_spelling!(word;
+        b"MOV" => Terminal::Mov, b"MFENCE" => Terminal::Mfence, b"exists" => Terminal::Exists;
+        Terminal::Name)
 }
 
 #[tactic(auto, unfolding(crate::specs::Terminals::symbol_terminal))]
 fn symbol_terminal(symbol: &[u8]) -> Terminal
     ensures { result ≡ symbol_spec symbol.now }
 {
-    if is(symbol, b"{") {
-        Terminal::OpenBrace
-    } else if is(symbol, b"}") {
-        Terminal::CloseBrace
-    } else if is(symbol, b";") {
-        Terminal::Semicolon
-    } else if is(symbol, b"|") {
-        Terminal::Bar
-    } else if is(symbol, b"[") {
-        Terminal::OpenBracket
-    } else if is(symbol, b"]") {
-        Terminal::CloseBracket
-    } else if is(symbol, b",") {
-        Terminal::Comma
-    } else if is(symbol, b"$") {
-        Terminal::Dollar
-    } else if is(symbol, b":") {
-        Terminal::Colon
-    } else if is(symbol, b"=") {
-        Terminal::Equals
-    } else if is(symbol, b"(") {
-        Terminal::Open
-    } else if is(symbol, b")") {
-        Terminal::Close
-    } else if is(symbol, b"~") {
-        Terminal::Tilde
-    } else if is(symbol, b"/\\") {
-        Terminal::And
-    } else {
-        Terminal::Other
-    }
+    by_spelling!(symbol;
+        b"{" => Terminal::OpenBrace, b"}" => Terminal::CloseBrace, b";" => Terminal::Semicolon,
+        b"|" => Terminal::Bar, b"[" => Terminal::OpenBracket, b"]" => Terminal::CloseBracket,
+        b"," => Terminal::Comma, b"$" => Terminal::Dollar, b":" => Terminal::Colon,
+        b"=" => Terminal::Equals, b"(" => Terminal::Open, b")" => Terminal::Close,
+        b"~" => Terminal::Tilde, b"/\\" => Terminal::And;
+        Terminal::Other)
 }

@@ -15,7 +15,7 @@ pub returns-in-Err-clause-err : goal.returns-in-Err-clause-err
 returns-in-Err-clause-err c =
     let n = written_model c.args.model.now in
     let fault = macro_fault_of c.in-Err.fault in
-    rw (c.moved.ensures, c.from.ensures)
+    rw (c.move_end.ensures, c.from.ensures)
     (λ m f is. (Query, fault, denial_macro_first n m f is fault c.in-Err.ensures.err, refl))
 
 pub close_query-requires-clause-denial : goal.close_query-requires-clause-denial
@@ -33,5 +33,5 @@ returns-clause-err c =
     let n = written_model c.args.model.now in
     let file = c.in-Err-close_query.file in
     let fault = name_fault_of c.in-Err-close_query.fault in
-    rw (c.moved-in-Err-close_query.ensures, c.from-in-Err-close_query.ensures)
+    rw (c.move_end-in-Err-close_query.ensures, c.from-in-Err-close_query.ensures)
     (λ m f is. (file, fault, denial_name_first n m f is c.in-Ok.denied c.in-Ok.ensures.ok file fault c.in-Err-close_query.ensures.err, refl))

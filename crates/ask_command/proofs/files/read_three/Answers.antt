@@ -18,7 +18,7 @@ returns-in-Err-read_all g c =
     let third = c.in-Err-read_all.ensures in
     let holds = (g.F.Files.view c.args.files.now).holds in
     query_end (g.met.F.Files.failing_modelled c.args.files.now) (reads_then two.keeps third.keeps) (plain_inputs c.args.inputs) c.args.query.now
-    c.in-Err-read_all.end c.unread.result c.unread.ensures
+    c.in-Err-read_all.end c.unread_ending.result c.unread_ending.ensures
     (λ e. rose_later two.keeps.count (third.cause (ap (λ x. Err x) e)))
     (λ calm e. rw two.keeps.same_held at ((third.sure (rw two.keeps.same_failing calm)).0 (ap (λ x. Err x) e)))
     (λ told e. large_of holds c.args.query.now (rw two.keeps.same_held at (third.too_large (ap (λ x. Err x) e) (rw two.keeps.same_modelled told))))

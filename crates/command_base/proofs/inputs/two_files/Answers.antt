@@ -12,7 +12,7 @@ pub returns-in-Err : goal.returns-in-Err
 returns-in-Err g c =
     let first = c.in-Err.ensures in
     unread_ends (g.met.F.Files.failing_modelled c.args.files.now) first.keeps (plain_inputs c.args.inputs) Model tt
-    c.in-Err.end c.unread.result c.unread.ensures
+    c.in-Err.end c.unread_ending.result c.unread_ending.ensures
     (λ e. first.cause (ap (λ x. Err x) e))
     (λ calm e. inl ((first.sure calm).0 (ap (λ x. Err x) e)))
     (λ told e. large_of ((g.F.Files.view c.args.files.now).holds) c.args.inputs.model.now (first.too_large (ap (λ x. Err x) e) told))
@@ -26,7 +26,7 @@ returns-in-Err-read_all g c =
     let read = λ (told : IsTrue (g.F.Files.view c.args.files.now).modelled).
     read_of ((g.F.Files.view c.args.files.now).holds) c.args.inputs.model.now c.in-Ok.bytes.items (first.whole told) (let h = first.within in omega arith) in
     unread_ends failing_modelled (reads_then first.keeps second.keeps) (plain_inputs c.args.inputs) Test tt c.in-Err-read_all.end
-    c.unread-in-Err-read_all.result c.unread-in-Err-read_all.ensures
+    c.unread_ending-in-Err-read_all.result c.unread_ending-in-Err-read_all.ensures
     (λ e. rose_later first.keeps.count (second.cause (ap (λ x. Err x) e)))
     (λ calm e. inr (
       (c.in-Ok.bytes.items, read (failing_modelled calm)),

@@ -8,13 +8,13 @@ returns-in_err-n c =
     (no_form
     _
     c.in_default.ensures
-    c.in_default-inputs_behind.ensures
-    c.in_default-three_behind.ensures
-    c.in_default-inputs_behind-2.ensures
-    c.in_default-inputs_behind-3.ensures
-    c.in_default-three_behind-2.ensures
-    c.in_default-inputs_behind-4.ensures
-    c.in_default-three_behind-3.ensures
-    c.in_default-three_behind-4.ensures
-    c.in_default-three_behind-5.ensures
+    c.in_default-take_inputs.ensures
+    c.in_default-take_three.ensures
+    c.in_default-take_inputs-2.ensures
+    c.in_default-take_inputs-3.ensures
+    c.in_default-take_three-2.ensures
+    c.in_default-take_inputs-4.ensures
+    c.in_default-take_three-3.ensures
+    c.in_default-take_three-4.ensures
+    c.in_default-take_three-5.ensures
     c.in_err-n.ensures)

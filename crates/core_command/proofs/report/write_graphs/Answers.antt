@@ -5,7 +5,7 @@ use Rattle.pc_ground.specs.NodeForm.{names_of}
 use Rattle.graph_text.specs.declared.graph.Graph.{Graph}
 use Rattle.solver.specs.declared.answer.Answer.TheVariants.{Observable as a_graph}
 use Rattle.verdicts.specs.Verdicts.{IsWritable}
-use Rattle.core_command.specs.CoreTexts.{beside, without_text}
+use Rattle.core_command.specs.CoreTexts.{pairs, without_text}
 use Rattle.core_command.specs.Found.{graph_text}
 use Rattle.core_command.proofs.BesideTexts.{images_beside, image_at}
 use Rattle.core_command.proofs.report.write_graphs.Goals as goal
@@ -24,10 +24,10 @@ returns-in_err-write_without g c =
     let n = c.get.result.now in
     let x = c.shown-item.result in
     let inside : c.loop-k.k < length shown = rw c.as_slice-shown-items.ensures.value at c.loop-k-test.true in
-    let size : length (beside numbers (map graph_text shown)) ≡ length shown = images_beside graph_text numbers shown c.requires.beside in
+    let size : length (pairs numbers (map graph_text shown)) ≡ length shown = images_beside graph_text numbers shown c.requires.beside in
     let at = image_at graph_text numbers shown c.requires.beside c.loop-k.k n x inside c.get.ensures
     (rw c.as_slice-shown-items.ensures.value at c.shown-item.is) in
-    writes_cut without_text (beside numbers (map graph_text shown)) c.loop-k.k (n, graph_text x) (omega (arith, inside, size)) refl
+    writes_cut without_text (pairs numbers (map graph_text shown)) c.loop-k.k (n, graph_text x) (omega (arith, inside, size)) refl
     c.from_residual.ensures.0 c.loop-k.invariant (writes_text _ (ap without_text (sym at)) c.in_err-write_without.ensures)
 
 pub loop-k-preserved : goal.loop-k-preserved
@@ -37,10 +37,10 @@ loop-k-preserved g c =
     let n = c.get.result.now in
     let x = c.shown-item.result in
     let inside : c.loop-k.k < length shown = rw c.as_slice-shown-items.ensures.value at c.loop-k-test.true in
-    let size : length (beside numbers (map graph_text shown)) ≡ length shown = images_beside graph_text numbers shown c.requires.beside in
+    let size : length (pairs numbers (map graph_text shown)) ≡ length shown = images_beside graph_text numbers shown c.requires.beside in
     let at = image_at graph_text numbers shown c.requires.beside c.loop-k.k n x inside c.get.ensures
     (rw c.as_slice-shown-items.ensures.value at c.shown-item.is) in
-    writes_more without_text (beside numbers (map graph_text shown)) c.loop-k.k (n, graph_text x) (omega (arith, inside, size)) refl
+    writes_more without_text (pairs numbers (map graph_text shown)) c.loop-k.k (n, graph_text x) (omega (arith, inside, size)) refl
     c.loop-k.invariant (writes_text _ (ap without_text (sym at)) c.in_ok-write_without.ensures)
 
 pub returns : goal.returns
@@ -48,5 +48,5 @@ returns g c =
     let numbers = c.args.kept.now in
     let shown = c.args.without.now in
     let past : length shown ≤ c.loop-k.k = rw c.as_slice-shown-items.ensures.value at c.loop-k-test.false in
-    let size : length (beside numbers (map graph_text shown)) ≡ length shown = images_beside graph_text numbers shown c.requires.beside in
-    writes_all without_text (beside numbers (map graph_text shown)) c.loop-k.k (omega (arith, past, size)) refl c.loop-k.invariant
+    let size : length (pairs numbers (map graph_text shown)) ≡ length shown = images_beside graph_text numbers shown c.requires.beside in
+    writes_all without_text (pairs numbers (map graph_text shown)) c.loop-k.k (omega (arith, past, size)) refl c.loop-k.invariant

@@ -1,14 +1,14 @@
 use Rattle.std.proofs.Common.{◌++◌, map, append_assoc}
 use Rattle.std.specs.Prelude.{codes}
 use Rattle.std.specs.Fmt.{decimal}
-use Rattle.lift_command.specs.WrittenLines.{spaced}
+use Rattle.lift_command.specs.WrittenLines.{spaced_words}
 use Rattle.lift_command.proofs.PutLines.{put_then, put_as}
 use Rattle.lift_command.proofs.lines.put_many.Goals as goal
 
 pub returns : goal.returns
 returns c =
     let first = codes " " ++ decimal c.args.first in
-    let more = spaced (map decimal c.args.more.now) in
+    let more = spaced_words (map decimal c.args.more.now) in
     put_as c.put_numbers.result c.args.text.now.items c.put_numbers.new.text.items ((c.args.keyword.now ++ first) ++ more)
     (c.args.keyword.now ++ (first ++ more))
     (append_assoc c.args.keyword.now first more)

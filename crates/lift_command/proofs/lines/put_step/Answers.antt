@@ -4,7 +4,7 @@ use Rattle.std.specs.Fmt.{decimal}
 use Rattle.lifted_facts.specs.Lifted.{close, cycle, path}
 use Rattle.lifter.specs.declared.line.Line.{Line}
 use Rattle.lifter.specs.WrittenSteps.{plain_line}
-use Rattle.lift_command.specs.WrittenLines.{line_of, spaced}
+use Rattle.lift_command.specs.WrittenLines.{line_of, spaced_words}
 use Rattle.lift_command.proofs.PutLines.{put_then, put_as, cycle_line, path_line}
 use Rattle.lift_command.proofs.lines.put_step.Goals as goal
 
@@ -16,10 +16,10 @@ returns-in-Cycle c =
     let new = c.put_many.new.text.items in
     let k = c.in-Cycle.first in
     let ks = c.in-Cycle.more in
-    let P : List ℕ → Type 0 = λ ns. OnOk r (new ≡ old ++ (codes "cycle" ++ ((codes " " ++ decimal k) ++ spaced (map decimal ns)))) in
+    let P : List ℕ → Type 0 = λ ns. OnOk r (new ≡ old ++ (codes "cycle" ++ ((codes " " ++ decimal k) ++ spaced_words (map decimal ns)))) in
     let L : Line → Type 0 = λ l. OnOk r (new ≡ old ++ line_of ops (plain_line l)) in
     subst L (sym c.in-Cycle.is)
-    (put_as r old new (codes "cycle" ++ ((codes " " ++ decimal k) ++ spaced (map decimal ks))) (line_of ops (close (cycle k ks))) (cycle_line ops k ks)
+    (put_as r old new (codes "cycle" ++ ((codes " " ++ decimal k) ++ spaced_words (map decimal ks))) (line_of ops (close (cycle k ks))) (cycle_line ops k ks)
     (subst P c.as_slice.ensures.value c.put_many.ensures))
 
 pub returns-in_ok-put_many-in-Path : goal.returns-in_ok-put_many-in-Path
@@ -32,9 +32,9 @@ returns-in_ok-put_many-in-Path c =
     let k = c.in-Path.first in
     let ks = c.in-Path.more in
     let denial = c.in-Path.denial in
-    let P : List ℕ → Type 0 = λ ns. mid ≡ old ++ (codes "path" ++ ((codes " " ++ decimal k) ++ spaced (map decimal ns))) in
+    let P : List ℕ → Type 0 = λ ns. mid ≡ old ++ (codes "path" ++ ((codes " " ++ decimal k) ++ spaced_words (map decimal ns))) in
     let L : Line → Type 0 = λ l. OnOk r (new ≡ old ++ line_of ops (plain_line l)) in
-    let front = codes "path" ++ ((codes " " ++ decimal k) ++ spaced (map decimal ks)) in
+    let front = codes "path" ++ ((codes " " ++ decimal k) ++ spaced_words (map decimal ks)) in
     let last = codes " " ++ decimal denial in
     subst L (sym c.in-Path.is)
     (put_as r old new (front ++ last) (line_of ops (close (path k ks denial))) (path_line ops k ks denial)

@@ -50,7 +50,7 @@ kind_of_two-returns t c =
     let slots = meanings c.args.env.now.items in
     let first = said_tree c.args.case.now c.args.left_plus (plain_closed c.args.left.now) slots in
     let second = said_tree c.args.case.now c.args.right_plus (plain_closed c.args.right.now) slots in
-    c.joined.ensures ∙ ap (λ k. joined_kind c.args.all k c.kind_of_formula.result) c.kind_of_formula-first.ensures
+    c.join_kinds.ensures ∙ ap (λ k. joined_kind c.args.all k c.kind_of_formula.result) c.kind_of_formula-first.ensures
     ∙ ap (joined_kind c.args.all (kind_of first)) c.kind_of_formula.ensures ∙ sym (kind_joined c.args.all first second)
 
 pub kind_of_range-kind_of_formula-member-requires : goal.kind_of_range-kind_of_formula-member-requires
@@ -98,5 +98,5 @@ kind_of_range-loop-k-preserved t c =
     ∙ ap (λ m. joined_kind all m rest) (sym c.kind_of_formula-member.ensures) in
     record {
       begins = c.bind_next.ensures.begins;
-      whole = ap (λ x. joined_kind all x rest) c.joined-kind.ensures ∙ walked_on all c.loop-k.kind member here rest _ next c.loop-k.invariant.whole;
+      whole = ap (λ x. joined_kind all x rest) c.join_kinds-kind.ensures ∙ walked_on all c.loop-k.kind member here rest _ next c.loop-k.invariant.whole;
     }

@@ -4,7 +4,7 @@ use Rattle.pc_ground.specs.Stages.{plain_axioms}
 use Rattle.lifted_facts.specs.PlainFacts.{root}
 use Rattle.lifter.specs.declared.kind.Kind.TheVariants.{False}
 use Rattle.lifter.specs.Kinds.{kind_of}
-use Rattle.lifter.specs.Unfoldings.{facts_from}
+use Rattle.lifter.specs.PartLists.{facts_from}
 use Rattle.lifter.proofs.roots.false_axiom.Given as goal
 
 abbrev pub invariant-loop-k : goal.invariant-loop-k

@@ -7,7 +7,8 @@ use Rattle.lifted_facts.specs.PlainFacts.{Branch, plain_fact, root}
 use Rattle.lifted_facts.specs.Lifted.{HasFact}
 use Rattle.lifter.specs.Kinds.{kind_of}
 use Rattle.lifter.specs.KnownFacts.{IsPart}
-use Rattle.lifter.specs.Unfoldings.{facts_from, HasUnfolded}
+use Rattle.lifter.specs.PartLists.{facts_from}
+use Rattle.lifter.specs.Unfoldings.{HasUnfolded}
 use Rattle.lifter.proofs.StateMoves.{moved_fact}
 use Rattle.lifter.proofs.LiftedRoots.{axiom_said}
 use Rattle.lifter.proofs.TakenParts.{taken_start, taken_more, taken_all, last_is, IsTakenTo}

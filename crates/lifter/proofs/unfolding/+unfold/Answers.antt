@@ -7,11 +7,10 @@ use Rattle.lifted_facts.specs.PlainFacts.{PlainFact, plain_fact}
 use Rattle.lifted_facts.specs.Lifted.{HasFact}
 use Rattle.lifter.specs.Trees.{fact_tree}
 use Rattle.lifter.specs.Kinds.{kind_of}
-use Rattle.lifter.specs.PartLists.{parts}
+use Rattle.lifter.specs.PartLists.{parts, facts_from, parts_from}
 use Rattle.lifter.proofs.SideLaws.{sides_rank, part_rank}
 use Rattle.lifter.specs.KnownFacts.{IsPart}
 use Rattle.lifter.specs.States.{branch_of}
-use Rattle.lifter.specs.Unfoldings.{facts_from, parts_from}
 use Rattle.lifter.proofs.StateMoves.{moves_same, moves_then, moved_fact, gained_fact}
 use Rattle.lifter.proofs.TakenParts.{stands_here, taken_open, passed_over, true_here, taken_start, taken_more, taken_all, last_is, IsTakenTo}
 use Rattle.lifter.proofs.UnfoldedFacts.{both_ok, literal_tree, unfolded_by, first_lost, second_lost, both_stay, both_told, over_parts}

@@ -1,47 +1,37 @@
 use Rattle.std.proofs.Common.{true, Some, inl, inr, refl, sym, subst}
+use Rattle.std.specs.Prelude.{OnOk}
+use Rattle.std.proofs.lemmas.Result.{on_ok_weaker}
 use Rattle.pc_ground.specs.Keys.{key_node, literal_node}
 use Rattle.pc_ground.specs.Tree.{leaf}
 use Rattle.pc_ground.specs.declared.literal.Literal.{Literal}
-use Rattle.pc_ground.specs.declared.literal.Literal.TheVariants.{Node as a_node, Edge as an_edge, NoNode as not_node, NoEdge as not_edge}
+use Rattle.pc_ground.specs.declared.literal.Literal.TheVariants.{Edge as an_edge}
 use Rattle.pc_ground.specs.declared.node_key.NodeKey.{NodeKey}
 use Rattle.lifted_facts.specs.PlainFacts.{one_node, one_edge}
-use Rattle.lifted_facts.specs.Lifted.{HasFact}
-use Rattle.std.specs.Prelude.{OnOk}
 use Rattle.lifter.specs.KnownFacts.{IsPart, edge, present}
 use Rattle.lifter.specs.States.{branch_of}
-use Rattle.lifter.specs.Unfoldings.{fact_of, HasUnfolded}
+use Rattle.lifter.specs.Unfoldings.{HasUnfolded}
 use Rattle.lifter.proofs.StateMoves.{moves_then, moved_fact}
-use Rattle.lifter.proofs.UnfoldedFacts.{both_ok, literal_unfolded}
+use Rattle.lifter.proofs.UnfoldedFacts.{both_ok, literal_unfolded, literal_marked, fact_as}
 use Rattle.lifter.proofs.unfolding.mark_literal.Goals as goal
 
 pub mark-requires : goal.mark-requires
 mark-requires c =
-    let H : Literal NodeKey → Type 0 = λ l. HasFact (branch_of c.args.state.now) c.args.number (fact_of (literal_node l)) in
-    let has = subst H c.in-Node.is c.requires.has in
+    let has = fact_as (branch_of c.args.state.now) c.args.number c.in-Node.is c.requires.has in
     (c.args.tree.now, (one_node true (Some (key_node c.in-Node.a)), has, refl))
 
 pub returns-in-Node : goal.returns-in-Node
 returns-in-Node c =
-    let case = c.args.case.now in let rows = c.args.tree.now in let s = c.args.state.now in
-    let H : Literal NodeKey → Type 0 = λ l. HasFact (branch_of s) c.args.number (fact_of (literal_node l)) in
-    let S : Literal NodeKey → Type 0 = λ l. IsPart rows c.args.at (leaf (literal_node l)) in
-    let U : Literal NodeKey → Type 0 = λ l. OnOk c.mark.result (HasUnfolded case rows (leaf (literal_node l)) c.args.at s c.mark.new.state) in
-    let has = subst H c.in-Node.is c.requires.has in
-    let here = subst S c.in-Node.is c.requires.stands in
-    subst U (sym c.in-Node.is) (both_ok c.mark.result
-    (λ moves key. literal_unfolded case rows s c.mark.new.state (a_node (key_node c.in-Node.a)) c.args.at here
-    (moves rows (one_node true (Some (key_node c.in-Node.a)), has, refl)) key) c.mark.ensures.moves c.mark.ensures.has)
+    let rows = c.args.tree.now in
+    literal_marked c.args.case.now rows c.args.state.now c.mark.new.state c.args.number c.args.at c.mark.result c.in-Node.is c.requires.has c.requires.stands
+    (on_ok_weaker c.mark.result (λ go has. go rows (one_node true (Some (key_node c.in-Node.a)), has, refl)) c.mark.ensures.moves) c.mark.ensures.has
 
 pub mark-requires-in-Edge : goal.mark-requires-in-Edge
-mark-requires-in-Edge c =
-    let H : Literal NodeKey → Type 0 = λ l. HasFact (branch_of c.args.state.now) c.args.number (fact_of (literal_node l)) in
-    (c.args.tree.now, subst H c.in-Edge.is c.requires.has)
+mark-requires-in-Edge c = (c.args.tree.now, fact_as (branch_of c.args.state.now) c.args.number c.in-Edge.is c.requires.has)
 
 pub mark-requires-in-Edge-2 : goal.mark-requires-in-Edge-2
 mark-requires-in-Edge-2 c =
     let rows = c.args.tree.now in let s = c.args.state.now in let n = c.args.number in
-    let H : Literal NodeKey → Type 0 = λ l. HasFact (branch_of s) n (fact_of (literal_node l)) in
-    let has = subst H c.in-Edge.is c.requires.has in
+    let has = fact_as (branch_of s) n c.in-Edge.is c.requires.has in
     let f = one_edge true (Some (key_node c.in-Edge.a)) (Some (key_node c.in-Edge.b)) in
     let one = c.in_ok-mark-in-Edge.ensures.moves rows has in
     (rows, (f, moved_fact c.args.case.now rows s c.mark-in-Edge.new.state n f one has, inl refl))
@@ -49,8 +39,7 @@ mark-requires-in-Edge-2 c =
 pub mark-requires-in-Edge-3 : goal.mark-requires-in-Edge-3
 mark-requires-in-Edge-3 c =
     let case = c.args.case.now in let rows = c.args.tree.now in let s = c.args.state.now in let n = c.args.number in
-    let H : Literal NodeKey → Type 0 = λ l. HasFact (branch_of s) n (fact_of (literal_node l)) in
-    let has = subst H c.in-Edge.is c.requires.has in
+    let has = fact_as (branch_of s) n c.in-Edge.is c.requires.has in
     let f = one_edge true (Some (key_node c.in-Edge.a)) (Some (key_node c.in-Edge.b)) in
     let one = c.in_ok-mark-in-Edge.ensures.moves rows has in
     let first = moved_fact case rows s c.mark-in-Edge.new.state n f one has in
@@ -60,11 +49,10 @@ mark-requires-in-Edge-3 c =
 pub returns-in_ok-mark-in-Edge-2 : goal.returns-in_ok-mark-in-Edge-2
 returns-in_ok-mark-in-Edge-2 c =
     let case = c.args.case.now in let rows = c.args.tree.now in let s = c.args.state.now in let n = c.args.number in
-    let H : Literal NodeKey → Type 0 = λ l. HasFact (branch_of s) n (fact_of (literal_node l)) in
     let S : Literal NodeKey → Type 0 = λ l. IsPart rows c.args.at (leaf (literal_node l)) in
     let U : Literal NodeKey → Type 0 = λ l. OnOk c.mark-in-Edge-3.result
     (HasUnfolded case rows (leaf (literal_node l)) c.args.at s c.mark-in-Edge-3.new.state) in
-    let has = subst H c.in-Edge.is c.requires.has in
+    let has = fact_as (branch_of s) n c.in-Edge.is c.requires.has in
     let here = subst S c.in-Edge.is c.requires.stands in
     let x = key_node c.in-Edge.a in let y = key_node c.in-Edge.b in
     let f = one_edge true (Some x) (Some y) in
@@ -81,39 +69,19 @@ returns-in_ok-mark-in-Edge-2 c =
     c.mark-in-Edge-3.ensures.moves c.mark-in-Edge-3.ensures.has)
 
 pub mark-requires-in-NoNode : goal.mark-requires-in-NoNode
-mark-requires-in-NoNode c =
-    let H : Literal NodeKey → Type 0 = λ l. HasFact (branch_of c.args.state.now) c.args.number (fact_of (literal_node l)) in
-    let has = subst H c.in-NoNode.is c.requires.has in
-    (c.args.tree.now, has)
+mark-requires-in-NoNode c = (c.args.tree.now, fact_as (branch_of c.args.state.now) c.args.number c.in-NoNode.is c.requires.has)
 
 pub returns-in-NoNode : goal.returns-in-NoNode
 returns-in-NoNode c =
-    let case = c.args.case.now in let rows = c.args.tree.now in let s = c.args.state.now in
-    let H : Literal NodeKey → Type 0 = λ l. HasFact (branch_of s) c.args.number (fact_of (literal_node l)) in
-    let S : Literal NodeKey → Type 0 = λ l. IsPart rows c.args.at (leaf (literal_node l)) in
-    let U : Literal NodeKey → Type 0 = λ l. OnOk c.mark-in-NoNode.result
-    (HasUnfolded case rows (leaf (literal_node l)) c.args.at s c.mark-in-NoNode.new.state) in
-    let has = subst H c.in-NoNode.is c.requires.has in
-    let here = subst S c.in-NoNode.is c.requires.stands in
-    subst U (sym c.in-NoNode.is) (both_ok c.mark-in-NoNode.result
-    (λ moves key. literal_unfolded case rows s c.mark-in-NoNode.new.state (not_node (key_node c.in-NoNode.a)) c.args.at here (moves rows has) key)
-    c.mark-in-NoNode.ensures.moves c.mark-in-NoNode.ensures.has)
+    let rows = c.args.tree.now in let r = c.mark-in-NoNode.result in
+    literal_marked c.args.case.now rows c.args.state.now c.mark-in-NoNode.new.state c.args.number c.args.at r c.in-NoNode.is c.requires.has c.requires.stands
+    (on_ok_weaker r (λ go. go rows) c.mark-in-NoNode.ensures.moves) c.mark-in-NoNode.ensures.has
 
 pub mark-requires-in-NoEdge : goal.mark-requires-in-NoEdge
-mark-requires-in-NoEdge c =
-    let H : Literal NodeKey → Type 0 = λ l. HasFact (branch_of c.args.state.now) c.args.number (fact_of (literal_node l)) in
-    let has = subst H c.in-NoEdge.is c.requires.has in
-    (c.args.tree.now, has)
+mark-requires-in-NoEdge c = (c.args.tree.now, fact_as (branch_of c.args.state.now) c.args.number c.in-NoEdge.is c.requires.has)
 
 pub returns-in-NoEdge : goal.returns-in-NoEdge
 returns-in-NoEdge c =
-    let case = c.args.case.now in let rows = c.args.tree.now in let s = c.args.state.now in
-    let H : Literal NodeKey → Type 0 = λ l. HasFact (branch_of s) c.args.number (fact_of (literal_node l)) in
-    let S : Literal NodeKey → Type 0 = λ l. IsPart rows c.args.at (leaf (literal_node l)) in
-    let U : Literal NodeKey → Type 0 = λ l. OnOk c.mark-in-NoEdge.result
-    (HasUnfolded case rows (leaf (literal_node l)) c.args.at s c.mark-in-NoEdge.new.state) in
-    let has = subst H c.in-NoEdge.is c.requires.has in
-    let here = subst S c.in-NoEdge.is c.requires.stands in
-    subst U (sym c.in-NoEdge.is) (both_ok c.mark-in-NoEdge.result
-    (λ moves key. literal_unfolded case rows s c.mark-in-NoEdge.new.state (not_edge (key_node c.in-NoEdge.a) (key_node c.in-NoEdge.b)) c.args.at here
-    (moves rows has) key) c.mark-in-NoEdge.ensures.moves c.mark-in-NoEdge.ensures.has)
+    let rows = c.args.tree.now in let r = c.mark-in-NoEdge.result in
+    literal_marked c.args.case.now rows c.args.state.now c.mark-in-NoEdge.new.state c.args.number c.args.at r c.in-NoEdge.is c.requires.has c.requires.stands
+    (on_ok_weaker r (λ go. go rows) c.mark-in-NoEdge.ensures.moves) c.mark-in-NoEdge.ensures.has

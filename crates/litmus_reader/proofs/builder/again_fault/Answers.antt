@@ -13,6 +13,6 @@ returns-in-None c = λ before are.
 
 pub returns-in-Some : goal.returns-in-Some
 returns-in-Some c = λ before are.
-    rw (c.stated_again.ensures, c.value.ensures) (again-some (word_of c.args.when) before c.args.line c.in-Some.first
+    rw (c.again_kind.ensures, c.value.ensures) (again-some (word_of c.args.when) before c.args.line c.in-Some.first
     (subst (λ (lines : List Stated). IsValueAt lines c.args.line.pa (Some c.in-Some.first)) are
     (subst (IsValueAt c.args.values.now c.args.line.pa) c.in-Some.is c.get.ensures)))

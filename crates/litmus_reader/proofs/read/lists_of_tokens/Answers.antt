@@ -1,14 +1,15 @@
 use Rattle.std.proofs.Common.{ℕ, List, subst}
+use Rattle.std.proofs.lemmas.Result.{IfOk-weaker, IfErr-weaker}
 use Rattle.pc_common.specs.Case.{Case}
 use Rattle.uspec_lexer.specs.Token.{Token}
 use Rattle.uspec_lexer.specs.Spells.{Spells}
+use Rattle.litmus_reader.specs.Syntax.{IsTest}
 use Rattle.litmus_reader.specs.Answer.{CaseOf, IsCaseFault, CaseIn, IsContentFaultIn}
-use Rattle.litmus_reader.specs.Answers.{IsSyntaxAnswer}
+use Rattle.ll_grammar.specs.FirstFault.{IsSyntaxAnswer}
 use Rattle.litmus_reader.specs.Lists.{case_by}
 use Rattle.litmus_reader.specs.declared.lists.CaseLists.{CaseLists}
 use Rattle.litmus_reader.specs.declared.fault.CaseFault.{CaseFault}
 use Rattle.litmus_reader.specs.declared.fault.CaseFault.TheVariants.{Lexical, Syntax, Content, Memory}
-use Rattle.litmus_reader.proofs.BuilderFacts.{if_ok, if_err}
 use Rattle.litmus_reader.proofs.read.lists_of_tokens.Goals as goal
 
 -- what the tokens say, the bytes say
@@ -31,13 +32,15 @@ returns-in-Some-clause-err c = record {
   tokens = c.args.tokens.now;
   spelled = c.requires.spelled;
   k = c.in-Some.k;
-  fault = subst (IsSyntaxAnswer c.args.tokens.now) c.in-Some.is c.in_ok-k.ensures;
+  fault = subst (IsSyntaxAnswer IsTest c.args.tokens.now) c.in-Some.is c.in_ok-k.ensures;
   at = c.place.ensures;
 }
 
 pub returns-clause-ok : goal.returns-clause-ok
-returns-clause-ok c = if_ok c.lists_of_test.result (λ (l : CaseLists). case_of c.args.bytes.now c.args.tokens.now c.requires.spelled (case_by l))
+returns-clause-ok c =
+    IfOk-weaker c.lists_of_test.result _ _ (λ (l : CaseLists). case_of c.args.bytes.now c.args.tokens.now c.requires.spelled (case_by l))
     c.lists_of_test.ensures.ok
 
 pub returns-clause-err : goal.returns-clause-err
-returns-clause-err c = if_err c.lists_of_test.result (refusal_of c.args.bytes.now c.args.tokens.now c.requires.spelled) c.lists_of_test.ensures.err
+returns-clause-err c =
+    IfErr-weaker c.lists_of_test.result _ _ (refusal_of c.args.bytes.now c.args.tokens.now c.requires.spelled) c.lists_of_test.ensures.err

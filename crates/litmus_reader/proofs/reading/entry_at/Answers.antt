@@ -1,5 +1,6 @@
 use Rattle.std.proofs.Common.{refl}
-use Rattle.litmus_reader.specs.Expected.{a_number, number_at}
+use Rattle.uspec_lexer.specs.Expected.{a_number}
+use Rattle.litmus_reader.specs.Expected.{number_at}
 use Rattle.litmus_reader.specs.Syntax.{spelled_entry}
 use Rattle.litmus_reader.specs.declared.item.ValueText.TheVariants.{Entry}
 use Rattle.litmus_reader.proofs.Places.{stands, number-stands}

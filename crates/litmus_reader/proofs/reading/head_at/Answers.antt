@@ -1,6 +1,7 @@
 use Rattle.std.proofs.Common.{refl, codes, [], ◌∷◌}
 use Rattle.uspec_lexer.specs.View.{plain}
-use Rattle.litmus_reader.specs.Expected.{word_at, a_number, number_at}
+use Rattle.uspec_lexer.specs.Expected.{a_number}
+use Rattle.litmus_reader.specs.Expected.{word_at, number_at}
 use Rattle.litmus_reader.specs.Syntax.{spelled_head}
 use Rattle.litmus_reader.proofs.Places.{stands, stands-first, number-stands, place-stands}
 use Rattle.litmus_reader.proofs.reading.head_at.Goals as goal

@@ -1,6 +1,7 @@
 use Rattle.std.proofs.Common.{◌≡◌, ◌+◌, ℕ, List, refl, subst, arith}
 use Rattle.uspec_lexer.specs.Token.{Token}
-use Rattle.litmus_reader.specs.Expected.{a_word, a_number, number_at}
+use Rattle.uspec_lexer.specs.Expected.{a_word, a_number}
+use Rattle.litmus_reader.specs.Expected.{number_at}
 use Rattle.litmus_reader.specs.Syntax.{spelled_item}
 use Rattle.litmus_reader.specs.Reading.{StandsAt, BeginsAt, IsEndAt}
 use Rattle.litmus_reader.specs.declared.item.Relationship.{Relationship}

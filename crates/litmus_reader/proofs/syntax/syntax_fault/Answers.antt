@@ -11,6 +11,6 @@ use Rattle.litmus_reader.proofs.syntax.syntax_fault.Goals as goal
 pub returns : goal.returns
 returns c =
     let read : c.deref.result.now ≡ map terminal_spec c.args.tokens.now = c.deref.ensures.value ∙ c.in_ok-terminals.ensures in
-    rw c.place_in.ensures
+    rw c.fault_place.ensures
     (answer c.args.tokens.now c.in_ok-first_fault.field-0
     (subst (λ (cs : List Terminal). IsAnswer (Derives rules Test) cs c.in_ok-first_fault.field-0) read c.in_ok-first_fault.ensures))

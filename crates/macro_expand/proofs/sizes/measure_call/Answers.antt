@@ -13,7 +13,7 @@ returns-in-Some c = λ at args.
     let is =
     get_or_from_slice_get c.args.measures.now callee.number (measure_of (before (plain_macros c.args.macros.now) callee.number) (macro_at callee).body)
     (record { size = 0; height = 0 }) (c.requires callee.number (macro_at callee) c.in-Some.ensures.0 c.in-Some.ensures.1) in
-    c.above.ensures
+    c.raise.ensures
     ∙ measure_found at c.args.name.now args ms (macro_at callee, before (plain_macros c.args.macros.now) callee.number) m
     (ap (callee_of ms) (sym c.as_slice.ensures.value) ∙ c.in-Some.ensures.2) is
 

@@ -9,7 +9,7 @@ loop-k-preserved c =
     let made = c.in_ok-note_open.ensures in
     let few = made.few in
     let most = before.2 in (
-      c.seen_more-seen.ensures,
+      c.see_more-seen.ensures,
       made.opens ∙ ap (λ os. os ++ open_at c.args.tokens.now c.loop-k.k) before.1 ∙ opens_more c.args.tokens.now c.loop-k.k,
       omega (arith, few, most),
     )

@@ -1,10 +1,11 @@
 use Rattle.std.proofs.Common.{[], sym, subst}
+use Rattle.pc_common.specs.declared.fault.Which.TheVariants.{Query}
 use Rattle.pc_syntax.specs.Written.{written}
 use Rattle.pc_syntax.specs.IsClosed.{IsClosed}
 use Rattle.pc_syntax.specs.Closed.{plain_closed}
 use Rattle.pc_syntax.proofs.ClosingShape.{closed_axiom_closed}
 use Rattle.scope_check.proofs.ClosingOf.{closing_stages}
-use Rattle.scope_check.proofs.FiledFaults.{query_closing, query_answer}
+use Rattle.scope_check.proofs.FiledFaults.{closing_within}
 use Rattle.scope_check.proofs.query.close_asked.Goals as goal
 
 -- the closed formula keeps that it is closed
@@ -13,21 +14,17 @@ invariant_of-result c =
     let stages = c.args.stages.now in
     let w = written c.args.formula.now in
     let made = c.in-Ok.ensures.ok in
-    let closing = query_closing stages [] w (plain_closed c.in-Ok.body) made in
+    let closing = closing_within Query stages [] w (plain_closed c.in-Ok.body) made in
     record { closed = subst (IsClosed []) (sym closing.closing) (closed_axiom_closed stages c.requires.stages w closing.no_fault) }
 
 pub returns-in-Ok-clause-ok : goal.returns-in-Ok-clause-ok
 returns-in-Ok-clause-ok c =
     let made = c.in-Ok.ensures.ok in
-    query_closing c.args.stages.now [] (written c.args.formula.now) (plain_closed c.in-Ok.body) made
+    closing_within Query c.args.stages.now [] (written c.args.formula.now) (plain_closed c.in-Ok.body) made
 
 pub returns-in-Ok-clause-stages : goal.returns-in-Ok-clause-stages
 returns-in-Ok-clause-stages c =
     let stages = c.args.stages.now in
     let w = written c.args.formula.now in
     let made = c.in-Ok.ensures.ok in
-    closing_stages stages [] w (plain_closed c.in-Ok.body) (query_closing stages [] w (plain_closed c.in-Ok.body) made)
-
-pub returns-in-Err-clause-err : goal.returns-in-Err-clause-err
-returns-in-Err-clause-err c =
-    query_answer c.args.stages.now [] (written c.args.formula.now) c.in-Err.field-0.file c.in-Err.field-0.fault c.in-Err.ensures.err
+    closing_stages stages [] w (plain_closed c.in-Ok.body) (closing_within Query stages [] w (plain_closed c.in-Ok.body) made)

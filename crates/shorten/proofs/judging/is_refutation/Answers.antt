@@ -7,8 +7,8 @@ loop-k-init c = λ t flat. none_followed c.args.version t c.in_ok-branches.branc
 
 pub loop-k-preserved : goal.loop-k-preserved
 loop-k-preserved c = λ t flat.
-    next_followed c.args.version t c.args.steps.now c.loop-k.k _ c.loop-k.branches c.take_step.new.branches c.in_ok-take_step.field-0
-    c.step.ensures (c.loop-k.invariant t flat) c.if-not-branch.false (c.in_ok-take_step.ensures c.args.version t)
+    next_followed c.args.version t c.args.steps.now c.loop-k.k _ c.loop-k.branches c.take.new.self c.in_ok-take.field-0
+    c.step.ensures (c.loop-k.invariant t flat) c.if-not-branch.false ((rw c.kind.ensures at c.in_ok-take.ensures) c.args.version t)
 
 pub returns : goal.returns
 returns c = λ good t flat.

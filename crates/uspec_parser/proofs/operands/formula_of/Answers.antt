@@ -25,5 +25,5 @@ returns c =
     let last = only (written c.args.last) in
     let none : length c.loop-link.before.items ≡ 0 = omega (arith, c.in_default.ensures.cases) in
     let same = sym (none_left c.loop-link.before.items g none) ∙ c.loop-link.invariant ∙ sym (group-operands operands last) in
-    ok_map c.whole.result (λ f. written f ≡ whole g) (λ f. written f ≡ formula_of (operands_before operands last)) c.whole.ensures
+    ok_map c.formula.result (λ f. written f ≡ whole g) (λ f. written f ≡ formula_of (operands_before operands last)) c.formula.ensures
     (λ f e. e ∙ ap whole same)

@@ -1,6 +1,7 @@
 use Rattle.std.proofs.Common.{inr, subst}
 use Rattle.std.proofs.lemmas.Result.{IfOk-weaker, IfErr-weaker}
-use Rattle.x86_litmus.specs.Answers.{IsSyntaxAnswer}
+use Rattle.ll_grammar.specs.FirstFault.{IsSyntaxAnswer}
+use Rattle.x86_litmus.specs.Syntax.{IsListing}
 use Rattle.x86_litmus.proofs.Outcomes.{case_of_bytes, fault_of_bytes}
 use Rattle.x86_litmus.proofs.read.case_of_tokens.Goals as goal
 
@@ -9,7 +10,7 @@ returns-in-Some-clause-err c = inr (record {
   tokens = c.args.tokens.now;
   spelled = c.requires.spelled;
   k = c.in-Some.k;
-  fault_at = subst (IsSyntaxAnswer c.args.tokens.now) c.in-Some.is c.in_ok-k.ensures;
+  fault_at = subst (IsSyntaxAnswer IsListing c.args.tokens.now) c.in-Some.is c.in_ok-k.ensures;
   at = c.place.ensures;
 })
 

@@ -4,7 +4,7 @@ use Rattle.pc_common.specs.declared.limits.TheConstants.{MAX_CERTIFICATE}
 use Rattle.line_judge.specs.Texts.{HoldsRefused}
 use Rattle.cert_check.specs.Certificates.{Question}
 use Rattle.cert_check.specs.RawLines.{RawFirst}
-use Rattle.cert_check.specs.Fed.{judge_begins}
+use Rattle.cert_check.specs.Fed.{judge_view}
 use Rattle.cert_check.proofs.Raws.{holds_refused}
 use Rattle.cert_check.proofs.checker.Checker.feed.Goals as goal
 
@@ -15,6 +15,6 @@ returns-clause-took c = λ q text fed.
 pub returns-in_err-feed-clause-settled : goal.returns-in_err-feed-clause-settled
 returns-in_err-feed-clause-settled c = λ q text fed settled.
     let P : Question → Type 0 = λ p. HoldsRefused (RawFirst p) text in
-    let own : (MAX_CERTIFICATE < length (text ++ c.args.piece.now)) ⊎ HoldsRefused (judge_begins fed.start) text =
+    let own : (MAX_CERTIFICATE < length (text ++ c.args.piece.now)) ⊎ HoldsRefused (judge_view fed.start).begins text =
     elim settled [ inl past ↦ inl past | inr holds ↦ inr (subst P (sym fed.asks) (holds_refused q text holds)) ] in
     absurd (false≢true (c.in_err-feed.ensures.sure fed.start MAX_CERTIFICATE text fed.taken own))

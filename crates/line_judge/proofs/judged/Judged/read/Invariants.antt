@@ -6,8 +6,8 @@ use Rattle.line_judge.proofs.judged.Judged.read.Given as goal
 abbrev pub invariant-loop-line : goal.invariant-loop-line
 invariant-loop-line g l =
     (taken : List ℕ) × (l.piece ≡ taken ++ l.left)
-    × ((start : _) (text : List ℕ) → IsGood g.J.Judge.begins g.J.Judge.whole g.J.Judge.stands start text l.initial.self
-    → IsGood g.J.Judge.begins g.J.Judge.whole g.J.Judge.stands start (text ++ taken) l.self)
+    × ((start : _) (text : List ℕ) → IsGood g.J.Judge.view start text l.initial.self
+    → IsGood g.J.Judge.view start (text ++ taken) l.self)
 
 abbrev pub decreases-loop-line : goal.decreases-loop-line
 decreases-loop-line g l = length l.left

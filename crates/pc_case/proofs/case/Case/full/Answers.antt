@@ -4,7 +4,7 @@ pub invariant_of-result : goal.invariant_of-result
 invariant_of-result c = (
   c.requires.kept,
   c.core_count-cores.ensures,
-  rw c.in_ok-of.ensures c.requires.within,
-  rw c.in_ok-of-2.ensures c.requires.initial_once,
-  rw c.in_ok-of-3.ensures c.requires.final_once,
+  rw c.in_ok-from_list.ensures c.requires.within,
+  rw c.in_ok-from_list-2.ensures c.requires.initial_once,
+  rw c.in_ok-from_list-3.ensures c.requires.final_once,
 )

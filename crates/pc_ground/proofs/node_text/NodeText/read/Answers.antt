@@ -10,22 +10,22 @@ returns-in_default-clause-readable c = readable c.args.self.now c.show_kept.ensu
 pub returns-in_default-clause-again : goal.returns-in_default-clause-again
 returns-in_default-clause-again c = λ a inside is. c.in_default.ensures (formed c.args.self.now c.args.word.now a c.show_kept.ensures inside is)
 
-pub returns-in-Some-named-clause-read : goal.returns-in-Some-named-clause-read
-returns-in-Some-named-clause-read c = (
-  named_in c.args.self.now c.in-Some.words (key_node c.in-Some-named.key) c.in-Some-named.key.in_range.1 c.in-Some-named.ensures,
-  named_text c.args.self.now c.args.word.now c.in-Some.words (key_node c.in-Some-named.key) c.show_kept.ensures.stages
-      c.in-Some.ensures c.in-Some-named.ensures,
+pub returns-in-Some-find_node-clause-read : goal.returns-in-Some-find_node-clause-read
+returns-in-Some-find_node-clause-read c = (
+  named_in c.args.self.now c.in-Some.words (key_node c.in-Some-find_node.key) c.in-Some-find_node.key.in_range.1 c.in-Some-find_node.ensures,
+  named_text c.args.self.now c.args.word.now c.in-Some.words (key_node c.in-Some-find_node.key) c.show_kept.ensures.stages
+      c.in-Some.ensures c.in-Some-find_node.ensures,
 )
 
-pub returns-in-Some-named-clause-readable : goal.returns-in-Some-named-clause-readable
-returns-in-Some-named-clause-readable c = readable c.args.self.now c.show_kept.ensures
+pub returns-in-Some-find_node-clause-readable : goal.returns-in-Some-find_node-clause-readable
+returns-in-Some-find_node-clause-readable c = readable c.args.self.now c.show_kept.ensures
 
-pub returns-in-Some-named-clause-again : goal.returns-in-Some-named-clause-again
-returns-in-Some-named-clause-again c = λ a inside is.
-    (readable c.args.self.now c.show_kept.ensures).apart (key_node c.in-Some-named.key) a
-    (named_in c.args.self.now c.in-Some.words (key_node c.in-Some-named.key) c.in-Some-named.key.in_range.1 c.in-Some-named.ensures) inside
-    (sym (named_text c.args.self.now c.args.word.now c.in-Some.words (key_node c.in-Some-named.key) c.show_kept.ensures.stages
-    c.in-Some.ensures c.in-Some-named.ensures) ∙ is)
+pub returns-in-Some-find_node-clause-again : goal.returns-in-Some-find_node-clause-again
+returns-in-Some-find_node-clause-again c = λ a inside is.
+    (readable c.args.self.now c.show_kept.ensures).apart (key_node c.in-Some-find_node.key) a
+    (named_in c.args.self.now c.in-Some.words (key_node c.in-Some-find_node.key) c.in-Some-find_node.key.in_range.1 c.in-Some-find_node.ensures) inside
+    (sym (named_text c.args.self.now c.args.word.now c.in-Some.words (key_node c.in-Some-find_node.key) c.show_kept.ensures.stages
+    c.in-Some.ensures c.in-Some-find_node.ensures) ∙ is)
 
 pub returns-in-None-clause-read : goal.returns-in-None-clause-read
 returns-in-None-clause-read c = (

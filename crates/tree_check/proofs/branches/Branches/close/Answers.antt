@@ -1,4 +1,4 @@
-use Rattle.tree_check.specs.Leaves.{plain_leaf}
+use Rattle.refutation.specs.Steps.{plain_leaf}
 use Rattle.tree_check.proofs.Steps.{stands_open, no_close, did_close}
 use Rattle.tree_check.proofs.branches.Branches.close.Goals as goal
 

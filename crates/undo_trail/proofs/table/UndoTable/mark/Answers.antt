@@ -4,7 +4,7 @@ use Rattle.undo_trail.proofs.Grows.{is_bit_table}
 use Rattle.undo_trail.proofs.table.UndoTable.mark.Goals as goal
 
 pub returns-clause-last : goal.returns-clause-last
-returns-clause-last c = rw (← c.self.view_is) (c.at.ensures ∙ c.len.ensures ∙ c.self.inside.trail.ok.0
+returns-clause-last c = rw (← c.self.view_is) (c.from_changes.ensures ∙ c.len.ensures ∙ c.self.inside.trail.ok.0
     ∙ sym (length-past c.self.inside.trail.items c.self.inside.table.items))
 
 pub returns-clause-table : goal.returns-clause-table

@@ -1,7 +1,0 @@
-use Rattle.std.proofs.Common.{map, take}
-use Rattle.pc_case.specs.Plain.{stated_value}
-use Rattle.pc_case.specs.Tables.{AreValuesOf}
-use Rattle.pc_case.proofs.stated.ValueTable.of.Given as goal
-
-abbrev pub invariant-loop-line : goal.invariant-loop-line
-invariant-loop-line l = AreValuesOf l.by_address.entries (map stated_value (take l.line-index l.line-items))

@@ -1,5 +1,0 @@
-use Rattle.pc_ground.proofs.StageWalks.{NoneNamed}
-use Rattle.pc_ground.proofs.node_text.stage_named.Given as goal
-
-abbrev pub invariant-loop-k : goal.invariant-loop-k
-invariant-loop-k l = NoneNamed l.stages l.name l.k
